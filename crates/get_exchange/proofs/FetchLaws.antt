@@ -1,5 +1,5 @@
 -- A helper that reads window after window: what is left to be read gives the whole.
-use Rattle.get_exchange.proofs.Words.{◌≡◌, ℕ, ◌+◌, ◌-◌, ◌≤◌, inl, inr, refl, sym, ◌∙◌, ap, subst, List, [], ◌∷◌, ◌++◌, length, drop, suc, Option, Some, None, Result, Ok, Err, append_assoc, arith, append-nil, length-append, flat_map, slice_get, IfSome, IsOk, OnOk, Extent, Owned, DiskCall, with_end-nil, with_end-with_end, with_end, DiskErr, load_calls, In, read, Window, told_window, drop_at, HasFetched, get_turns, reading_of, AreRead, HasGot, IsGetPlan, LieOnPart, IsDomainOf, PartState, domain_of, IsStartedFor, Told, turns_of, Reading, Hull, ReadWorker, GetPlan, domain_part}
+use Rattle.get_exchange.proofs.Words.{◌≡◌, ℕ, ◌+◌, ◌-◌, ◌≤◌, inl, inr, refl, sym, ◌∙◌, ap, subst, List, [], ◌∷◌, ◌++◌, length, drop, suc, Option, Some, None, Result, append_assoc, arith, append-nil, length-append, flat_map, slice_get, IfSome, IsOk, OnOk, Extent, Owned, DiskCall, with_end-nil, with_end-with_end, with_end, DiskErr, load_calls, In, read, Window, told_window, drop_at, HasFetched, get_turns, reading_of, AreRead, HasGot, IsGetPlan, LieOnPart, IsDomainOf, PartState, domain_of, IsStartedFor, Told, turns_of, Reading, Hull, ReadWorker, GetPlan, domain_part, nat_tests}
 use Rattle.std.specs.Prelude.{map}
 use mathlib.Core.List.{IsPrefix}
 
@@ -25,16 +25,7 @@ windows_left windows i window at =
 
 pub fetch_begin : (from len : ℕ) (all : List Told) (put : List Reading) (held : Option (List ℕ)) (calls : Option (List DiskCall)) → LieOnPart from len all → put ≡ []
     → IsFetching from len all all put held calls calls
-fetch_begin from len all put held calls on none = record {
-  on_part = on;
-  many = (let b = ap (λ (rs : List Reading). length rs) none in omega arith);
-  read = by_held held;
-  device = refl;
-}
-  where
-    by_held : (told : Option (List ℕ)) → IfSome told (λ file. put ++ readings from file all ≡ readings from file all)
-    by_held None = tt
-    by_held (Some file) = ap (λ (rs : List Reading). rs ++ readings from file all) none
+fetch_begin from len all put held calls on none = grind (arith, nat_tests)
 
 ahead_on : (from len : ℕ) (all ahead rest : List Told) (t : Told) (put : List Reading) (held : Option (List ℕ)) (calls made : Option (List DiskCall))
     → IsFetching from len all ahead put held calls made → ahead ≡ t ∷ rest → (from ≤ t.0) × (t.0 + t.1 ≤ from + len)
@@ -55,50 +46,27 @@ pub fetch_next : (from here len : ℕ) (all ahead rest : List Told) (t : Told) (
     → here ≡ from → told ≡ held → IfSome told (λ file. hull ≡ read file (t.0 - here) t.1) → drawn ≡ with_end made (load_calls t) → IsFetching from len all rest now held calls drawn
 fetch_next from here len all ahead rest t put now hull held told calls made drawn s e more same kept got device = record {
   on_part = λ u m. s.on_part u (subst (λ (ts : List Told). In ts u) (sym e) (inr m));
-  many = (
-      let a = ap (λ (ts : List Told). length ts) e in
-      let b = ap (λ (rs : List Reading). length rs) more in
-      let c = length-append put (Hull hull ∷ []) in
-      let d = s.many in
-      omega arith
-      );
+  many = (omega (arith, ap (λ (ts : List Told). length ts) e, ap (λ (rs : List Reading). length rs) more, length-append put (Hull hull ∷ []), s.many));
   read = by_held held s.read (subst (λ (m : Option (List ℕ)). IfSome m (λ file. hull ≡ read file (t.0 - from) t.1)) kept (subst (λ (n : ℕ). IfSome told (λ file. hull ≡ read file (t.0 - n) t.1)) same got));
-  device =
-      ap (λ (m : Option (List DiskCall)). with_end m (flat_map load_calls rest)) device
-      ∙ with_end-with_end made (load_calls t) (flat_map load_calls rest)
-      ∙ sym (ap (λ (ts : List Told). with_end made (flat_map load_calls ts)) e)
-      ∙ s.device;
+  device = ap (λ (m : Option (List DiskCall)). with_end m (flat_map load_calls rest)) device ∙ with_end-with_end made (load_calls t) (flat_map load_calls rest)
+      ∙ sym (ap (λ (ts : List Told). with_end made (flat_map load_calls ts)) e) ∙ s.device;
 }
   where
     by_held : (o : Option (List ℕ)) → IfSome o (λ file. put ++ readings from file ahead ≡ readings from file all) → IfSome o (λ file. hull ≡ read file (t.0 - from) t.1)
         → IfSome o (λ file. now ++ readings from file rest ≡ readings from file all)
     by_held None r g = tt
-    by_held (Some file) r g =
-        ap (λ (rs : List Reading). rs ++ readings from file rest) more
-        ∙ append_assoc put (Hull hull ∷ []) (readings from file rest)
-        ∙ ap (λ (b : List ℕ). put ++ (Hull b ∷ readings from file rest)) g
-        ∙ sym (ap (λ (ts : List Told). put ++ readings from file ts) e)
-        ∙ r
+    by_held (Some file) r g = ap (λ (rs : List Reading). rs ++ readings from file rest) more ∙ append_assoc put (Hull hull ∷ []) (readings from file rest)
+        ∙ ap (λ (b : List ℕ). put ++ (Hull b ∷ readings from file rest)) g ∙ sym (ap (λ (ts : List Told). put ++ readings from file ts) e) ∙ r
 
 pub fetch_end : (from len : ℕ) (all ahead : List Told) (put : List Reading) (held : Option (List ℕ)) (calls made : Option (List DiskCall)) → IsFetching from len all ahead put held calls made
     → ahead ≡ [] → (length put ≡ length all) × IfSome held (λ file. put ≡ readings from file all) × (made ≡ with_end calls (flat_map load_calls all))
-fetch_end from len all ahead put held calls made s none = (
-  (let a = ap (λ (ts : List Told). length ts) none in let b = s.many in omega arith),
-  by_held held s.read,
-  sym (ap (λ (ts : List Told). with_end made (flat_map load_calls ts)) none ∙ with_end-nil made) ∙ s.device,
-)
-  where
-    by_held : (o : Option (List ℕ)) → IfSome o (λ file. put ++ readings from file ahead ≡ readings from file all) → IfSome o (λ file. put ≡ readings from file all)
-    by_held None r = tt
-    by_held (Some file) r = sym (append-nil put) ∙ sym (ap (λ (ts : List Told). put ++ readings from file ts) none) ∙ r
+fetch_end from len all ahead put held calls made s none = grind (arith, nat_tests, with_end-nil made, append-nil put)
 
 -- ---- a helper that was joined
 
 -- reads that were done, or cut off by what came later
 pub got_later : {T E : Type 0} (ts : List Told) (old new : PartState) (end came : Result T E) → OnOk came (IsOk end) → HasGot ts old new end → HasGot ts old new came
-got_later ts old new (Ok x) (Ok y) ok h = record { from = h.from; len = h.len; held = h.held; device = h.device; later = h.later }
-got_later ts old new (Err x) (Ok y) ok h = absurd cc
-got_later ts old new end (Err y) ok h = record { from = h.from; len = h.len; held = h.held; device = tt; later = h.later }
+got_later ts old new end came ok h = grind (arith, nat_tests)
 
 pub joined_fetched : {D T : Type 0} (plan : GetPlan) (worker : ReadWorker D) (old new : PartState) (put : List Reading) (end : Result T DiskErr) → IsStartedFor plan worker
     → HasFetched (map told_window worker.helper.awaited.windows.value.items) old new put end → HasFetched (get_turns plan (domain_of worker)) old new put end
@@ -117,8 +85,4 @@ whole_read ts from (Some file) put taken e same = same ∙ e
 -- what was taken off the line is what was put, as far as it goes
 pub taken_read : {T : Type 0} (ts : List Told) (old new : PartState) (put taken : List Reading) (end : Result T DiskErr) → HasFetched ts old new put end → IsPrefix taken put
     → (length taken ≡ length put → taken ≡ put) → OnOk end (AreRead ts old.from old.held taken)
-taken_read ts old new put taken (Err x) f front whole = tt
-taken_read ts old new put taken (Ok x) f front whole = record {
-  front = front_read ts old.from old.held put taken f.read front;
-  whole = λ long. whole_read ts old.from old.held put taken f.read (whole (long ∙ sym f.many));
-}
+taken_read ts old new put taken end f front whole = grind (arith, nat_tests, front_read, whole_read)

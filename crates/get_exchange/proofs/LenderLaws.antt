@@ -13,7 +13,6 @@ each_pushed {X} P xs now y e all own k x g = pushed xs all k (subst (λ (zs : Li
 
 -- some of the first
 pub each_taken : {X : Type 0} (P : X → Type 0) (n : ℕ) (xs : List X) → ((k : ℕ) (x : X) → slice_get xs k ≡ Some x → P x) → (k : ℕ) (x : X) → slice_get (take n xs) k ≡ Some x → P x
-each_taken P zero xs all k x h = absurd cc
-each_taken P (suc n) [] all k x h = absurd cc
 each_taken P (suc n) (y ∷ xs) all zero x h = all zero x h
 each_taken P (suc n) (y ∷ xs) all (suc k) x h = each_taken P n xs (λ r z e. all (suc r) z e) k x h
+each_taken _ _ _ all k x h = absurd cc

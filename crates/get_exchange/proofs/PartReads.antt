@@ -1,5 +1,5 @@
 -- The windows of all parts, each read of its own part, are the file's bytes of all entries.
-use Rattle.get_exchange.proofs.Words.{◌≡◌, ℕ, ◌+◌, ◌-◌, ◌<◌, ◌≤◌, ◌⊎◌, inl, inr, refl, sym, ◌∙◌, ap, subst, List, [], ◌∷◌, ◌++◌, length, map, Option, Some, None, Result, Ok, Err, arith, slice_get_within, append-nil, length-map, slice_get, zip, IfErr, IfSome, IsErrOf, IsOk, OnOk, AllZip, result_and, entry_below, Extent, DiskErr, Failed, Memory, at, read, read_at, read_same, In, in_either, in_left, in_right, at_in, in_at, in_map, in_zip, map_in, zip_in, IsCovered, AreAsLong, FitTable, HasRead, HaveOnePlaces, get_turns, AreRead, HasGot, IsGetPlanned, told_in, HasReadParts, HasReadTurns, HasTaken, HaveTakenTurns, IsKept, IsReadOf, Log, IsDomainOf, PartState, domain_of, part_of, turns_due, IsFresh, Told, Reading, Hull, ReadWorker, GetPlan, map_new, AreOf, domain_part, domain_windows}
+use Rattle.get_exchange.proofs.Words.{◌≡◌, ℕ, ◌+◌, ◌-◌, ◌<◌, ◌≤◌, ◌⊎◌, inl, inr, refl, sym, ◌∙◌, ap, subst, List, [], ◌∷◌, ◌++◌, length, map, Option, Some, None, Result, Ok, Err, arith, slice_get_within, append-nil, length-map, slice_get, zip, IfErr, IfSome, IsErrOf, IsOk, OnOk, AllZip, result_and, entry_below, Extent, DiskErr, Failed, Memory, at, read, read_at, read_same, In, in_either, in_left, in_right, at_in, in_at, in_map, in_zip, map_in, zip_in, IsCovered, AreAsLong, FitTable, HasRead, HaveOnePlaces, get_turns, AreRead, HasGot, IsGetPlanned, told_in, HasReadParts, HasReadTurns, HasTaken, HaveTakenTurns, IsKept, IsReadOf, Log, IsDomainOf, PartState, domain_of, part_of, turns_due, IsFresh, Told, ReadWorker, GetPlan, map_new, AreOf, domain_part, domain_windows, nat_tests}
 use Rattle.get_exchange.proofs.FetchLaws.{got_later}
 use Rattle.get_exchange.proofs.ReadLaws.{log_joined, read_law}
 use Rattle.get_exchange.proofs.TakeLaws.{items_read}
@@ -52,33 +52,23 @@ pub parts_on : {D T E : Type 0} (from : D → ℕ) (held : D → Option (List �
     → OnOk came (HasReadTurns plan.list.now (get_turns plan pair.1) (from pair.0) (held pair.0) mid now) → OnOk came (HasReadParts from held plan more old now)
 parts_on from held plan pairs more pair old mid now end (Err x) e ok h t = tt
 parts_on from held plan pairs more pair old mid now (Err y) (Ok x) e ok h t = absurd cc
-parts_on {D} from held plan pairs more pair old mid now (Ok y) (Ok x) e ok h t =
-    subst (λ (ps : List (D × Extent)). HasReadParts from held plan ps old now) (sym e) (parts_more from held plan pairs pair old mid now h t)
+parts_on {D} from held plan pairs more pair old mid now (Ok y) (Ok x) e ok h t = grind (arith, nat_tests, parts_more from held plan pairs pair old mid now h t)
 
 -- ---- helpers of which all was taken
 
 own_told : {D : Type 0} (plan : GetPlan) (mid last : ReadWorker D) (own : Log) → IsFresh plan mid → IsKept mid last → turns_due last.shelf ≡ [] → HasTaken own mid.shelf last.shelf
     → told_in own ≡ get_turns plan (domain_of last)
-own_told plan mid last own r k none t =
-    sym (append-nil (told_in own))
-    ∙ ap (λ (ts : List Told). told_in own ++ ts) (sym none)
-    ∙ t.turns
-    ∙ r.due
-    ∙ sym (ap (λ helper. get_turns plan helper.domain) k.helper)
+own_told plan mid last own r k none t = grind (arith, nat_tests, append-nil (told_in own))
 
 own_read : {D : Type 0} (from : D → ℕ) (held : D → Option (List ℕ)) (plan : GetPlan) (mid last : ReadWorker D) (own : Log) → IsFresh plan mid → IsKept mid last → turns_due last.shelf ≡ []
     → HasTaken own mid.shelf last.shelf → AreRead (get_turns plan (domain_of last)) (from (part_of last)) (held (part_of last)) last.shelf.line.items
     → IfSome (held (part_of last)) (λ file. (e : Told × List ℕ) → In own e → e.1 ≡ read file (e.0.0 - from (part_of last)) e.0.1)
-own_read from held plan mid last own r k none t read =
-    items_read (from (part_of last)) (held (part_of last)) own last.shelf.line.items
-    (t.items ∙ ap (λ (rs : List Reading). rs ++ map (λ e. Hull e.1) own) r.taken)
-    (subst (λ (ts : List Told). AreRead ts (from (part_of last)) (held (part_of last)) last.shelf.line.items) (sym (own_told plan mid last own r k none t)) read)
+own_read from held plan mid last own r k none t read = grind (arith, nat_tests, own_told plan mid last own r k none t, items_read)
 
-pub workers_read : {D : Type 0} (from : D → ℕ) (held : D → Option (List ℕ)) (plan : GetPlan) (mids lasts : List (ReadWorker D)) (old now : List (List (List ℕ))) → length lasts ≡ length mids
-    → ((worker : ReadWorker D) → In mids worker → IsFresh plan worker)
+pub workers_read : {D : Type 0} (from : D → ℕ) (held : D → Option (List ℕ)) (plan : GetPlan) (mids lasts : List (ReadWorker D)) (old now : List (List (List ℕ)))
+    → length lasts ≡ length mids → ((worker : ReadWorker D) → In mids worker → IsFresh plan worker)
     → ((k : ℕ) (a b : ReadWorker D) → slice_get mids k ≡ Some a → slice_get lasts k ≡ Some b → IsKept a b)
-    → ((k : ℕ) (worker : ReadWorker D) → slice_get lasts k ≡ Some worker → turns_due worker.shelf ≡ [])
-    → HaveTakenTurns plan.list.now mids lasts old now
+    → ((k : ℕ) (worker : ReadWorker D) → slice_get lasts k ≡ Some worker → turns_due worker.shelf ≡ []) → HaveTakenTurns plan.list.now mids lasts old now
     → ((worker : ReadWorker D) → In lasts worker → AreRead (get_turns plan (domain_of worker)) (from (part_of worker)) (held (part_of worker)) worker.shelf.line.items)
     → HasReadParts from held plan (zip (map (λ worker. part_of worker) lasts) (map (λ worker. domain_of worker) lasts)) old now
 workers_read {D} from held plan mids lasts old now long ready kept none t read = record {
@@ -124,14 +114,12 @@ workers_read {D} from held plan mids lasts old now long ready kept none t read =
 -- ---- all parts have the bytes of one file
 
 read_of_read : (file : List ℕ) (from len x n : ℕ) → from ≤ x → x + n ≤ from + len → read (read file from len) (x - from) n ≡ read file x n
-read_of_read file from len x n low high =
-    read_same (read file from len) file (x - from) x n
+read_of_read file from len x n low high = read_same (read file from len) file (x - from) x n
     (λ j l. let same : from + (x - from + j) ≡ x + j = omega arith in read_at file from len (x - from + j) (omega arith) ∙ ap (λ (k : ℕ). at file k) same)
 
 told_file : (held : Option (List ℕ)) (file : List ℕ) (from len x n : ℕ) (bytes : List ℕ) → held ≡ Some (read file from len) → from ≤ x → x + n ≤ from + len
     → IfSome held (λ f. bytes ≡ read f (x - from) n) → bytes ≡ read file x n
-told_file held file from len x n bytes e low high told =
-    subst (λ (o : Option (List ℕ)). IfSome o (λ f. bytes ≡ read f (x - from) n)) e told ∙ read_of_read file from len x n low high
+told_file held file from len x n bytes e low high told = grind (arith, nat_tests, read_of_read file from len x n low high)
 
 -- each covered byte lies on one of the parts, and in its domain
 pub parts_read : {D : Type 0} (from len : D → ℕ) (held : D → Option (List ℕ)) (plan : GetPlan) (parts : List D) (domains : List Extent) (file : List ℕ) (old now : List (List (List ℕ)))
@@ -140,11 +128,8 @@ pub parts_read : {D : Type 0} (from len : D → ℕ) (held : D → Option (List 
     → ((x : ℕ) → IsCovered plan.list.now x → (part : D) × In parts part × (from part ≤ x) × (x < from part + len part))
     → FitTable old plan.list.now → HaveOnePlaces plan.list.now → ((part : D) → In parts part → held part ≡ Some (read file (from part) (len part)))
     → HasReadParts from held plan (zip parts domains) old now → HasRead file plan.list.now old now
-parts_read {D} from len held plan parts domains file old now p long each whole fit once slices h =
-    read_law file plan.list.now h.log old now p.ends once fit
-    (λ x c. has_hull x c (whole x c))
-    (λ e m. has_bytes e (h.only e m))
-    h.collected
+parts_read {D} from len held plan parts domains file old now p long each whole fit once slices h = read_law file plan.list.now h.log old now p.ends once fit
+    (λ x c. has_hull x c (whole x c)) (λ e m. has_bytes e (h.only e m)) h.collected
   where
     size : ℕ
     size = plan.hints.now.cb_buffer
@@ -184,13 +169,11 @@ parts_done from len held plan parts domains file old now (Ok x) p long each whol
 -- each keeps its part and its domain
 pub kept_parts : {D : Type 0} (old new : List (ReadWorker D)) → length new ≡ length old → ((k : ℕ) (a b : ReadWorker D) → slice_get old k ≡ Some a → slice_get new k ≡ Some b → IsKept a b)
     → map (λ worker. part_of worker) new ≡ map (λ worker. part_of worker) old
-kept_parts old new long kept =
-    map_new (λ worker. part_of worker) (λ a b. IsKept a b) old new long kept (λ a b k. ap (λ helper. helper.awaited.ends.value.part) k.helper)
+kept_parts old new long kept = map_new (λ worker. part_of worker) (λ a b. IsKept a b) old new long kept (λ a b k. ap (λ helper. helper.awaited.ends.value.part) k.helper)
 
 pub kept_domains : {D : Type 0} (old new : List (ReadWorker D)) → length new ≡ length old → ((k : ℕ) (a b : ReadWorker D) → slice_get old k ≡ Some a → slice_get new k ≡ Some b → IsKept a b)
     → map (λ worker. domain_of worker) new ≡ map (λ worker. domain_of worker) old
-kept_domains old new long kept =
-    map_new (λ worker. domain_of worker) (λ a b. IsKept a b) old new long kept (λ a b k. ap (λ helper. helper.domain) k.helper)
+kept_domains old new long kept = map_new (λ worker. domain_of worker) (λ a b. IsKept a b) old new long kept (λ a b k. ap (λ helper. helper.domain) k.helper)
 
 -- reads that were done, where the later end is no better
 pub all_got_later : {D T E : Type 0} (turns : D × Extent → List Told) (state : D → PartState) (pairs : List (D × Extent)) (back : List D) (end came : Result T E) → OnOk came (IsOk end)
@@ -198,8 +181,7 @@ pub all_got_later : {D T E : Type 0} (turns : D × Extent → List Told) (state 
 all_got_later turns state [] [] end came ok h = h
 all_got_later turns state [] (d ∷ back) end came ok h = h
 all_got_later turns state (p ∷ pairs) [] end came ok h = h
-all_got_later turns state (p ∷ pairs) (d ∷ back) end came ok h =
-    (got_later (turns p) (state p.0) (state d) end came ok h.0, all_got_later turns state pairs back end came ok h.1)
+all_got_later turns state (p ∷ pairs) (d ∷ back) end came ok h = (got_later _ _ _ _ came ok h.0, all_got_later turns state pairs back end came ok h.1)
 
 pub all_read : {D T E : Type 0} (from : D → ℕ) (held : D → Option (List ℕ)) (plan : GetPlan) (mid last : List (ReadWorker D)) (parts : List D) (domains : List Extent)
     (old now : List (List (List ℕ))) (end came : Result T E) → AreOf (λ worker. part_of worker) (λ worker. domain_of worker) last parts domains → length last ≡ length mid
@@ -211,22 +193,15 @@ pub all_read : {D T E : Type 0} (from : D → ℕ) (held : D → Option (List �
 all_read from held plan mid last parts domains old now (Err x) came of long ready kept none taken read = tt
 all_read from held plan mid last parts domains old now (Ok y) (Err x) of long ready kept none taken read = tt
 all_read {D} from held plan mid last parts domains old now (Ok y) (Ok x) of long ready kept none taken read =
-    subst (λ (ds : List Extent). HasReadParts from held plan (zip parts ds) old now) of.of_domains
-    (subst (λ (ps : List D). HasReadParts from held plan (zip ps (map (λ worker. domain_of worker) last)) old now) of.of_parts
-    (workers_read from held plan mid last old now long ready kept none taken read))
+    grind (arith, nat_tests, workers_read from held plan mid last old now long ready kept none taken read)
 
 -- want of memory is no fault
 pub and_memory : {T : Type 0} (end came : Result T DiskErr) → IfErr came (λ e. e ≡ Memory) → IsErrOf (result_and end came) Failed → IsErrOf end Failed
-and_memory (Err x) came h f = f
-and_memory (Ok y) (Ok x) h f = absurd cc
-and_memory (Ok y) (Err x) h f = absurd cc
+and_memory end came h f = grind (arith, nat_tests)
 
 -- as many lists of blobs as before
 pub rows_long : (old now : List (List (List ℕ))) → AreAsLong old now → length now ≡ length old
-rows_long old now h =
-    sym (length-map now (λ (blobs : List (List ℕ)). map (λ (blob : List ℕ). length blob) blobs))
-    ∙ ap (λ (rows : List (List ℕ)). length rows) h
-    ∙ length-map old (λ (blobs : List (List ℕ)). map (λ (blob : List ℕ). length blob) blobs)
+rows_long old now h = grind (arith, nat_tests, length-map)
 
 -- nothing was read
 pub got_untouched : {T E : Type 0} (ts : List Told) (old : PartState) (e : E) → HasGot {T = T} ts old old (Err e)

@@ -1,5 +1,5 @@
 -- Hulls that were read and collected, in whatever order, make each blob the file's bytes of its entries.
-use Rattle.get_exchange.proofs.Words.{◌≡◌, ℕ, zero, suc, ◌+◌, ◌-◌, ◌^◌, ◌<◌, ◌≤◌, inl, inr, refl, sym, ◌∙◌, ap, subst, List, [], ◌∷◌, ◌++◌, length, map, true, append_assoc, arith, fold-append, append-nil, ext_get_or, replicate, Owned, at, read, written, Cell, said_at, said_by, Says, write_cells, IsOneValued, IsWithin, read_at, read_long, got_cell, In, extents, EndBelow, says_left, says_right, says_cases, in_extents, same_said, said_in_any_order, append_within, said_by_joined, got_cells, places_of, buffer_cell, part_in, IsCovered, IsRead, got_says, says_got, read_as, read_once, parts_within, whole_parts, buffer_cells, got_whole, blob_at, got_in_hull, of_request, FitTable, HasCollected, HasRead, HaveOnePlaces, log_cells, told_in, HasCollectedLog, Log, Told, AreServed, in_served, served_in}
+use Rattle.get_exchange.proofs.Words.{◌≡◌, ℕ, zero, suc, ◌+◌, ◌-◌, ◌^◌, ◌<◌, ◌≤◌, inl, inr, refl, sym, ◌∙◌, ap, subst, List, [], ◌∷◌, ◌++◌, length, map, true, append_assoc, arith, fold-append, append-nil, ext_get_or, replicate, Owned, at, read, written, Cell, said_at, said_by, Says, write_cells, IsOneValued, IsWithin, read_at, read_long, got_cell, In, extents, EndBelow, says_left, says_right, says_cases, in_extents, same_said, said_in_any_order, append_within, said_by_joined, got_cells, places_of, buffer_cell, part_in, IsCovered, IsRead, got_says, says_got, read_as, read_once, parts_within, whole_parts, buffer_cells, got_whole, blob_at, got_in_hull, of_request, FitTable, HasCollected, HasRead, HaveOnePlaces, log_cells, told_in, HasCollectedLog, Log, Told, AreServed, in_served, served_in, nat_tests}
 use Rattle.std.proofs.Common.{flat_map}
 use Rattle.get_exchange.proofs.CollectLaws.{fit_request, in_request, request_in}
 
@@ -12,10 +12,8 @@ from_0 : (list : List Owned) (o : Owned) → In list o → 0 ≤ o.extent.at
 from_0 list o m = omega arith
 
 hull_said : (file : List ℕ) (rank slot lo hi : ℕ) (list begun : List Owned) (y : ℕ) → IsOneValued (places_of (of_request rank slot list)) → AreServed list begun lo hi
-    → said_at (said_by (got_cells 0 file (map (λ o. part_in lo hi o) (of_request rank slot list)))) y
-    ≡ said_at (said_by (got_cells 0 file (map (λ o. part_in lo hi o) (of_request rank slot begun)))) y
-hull_said file rank slot lo hi list begun y once served =
-    said_in_any_order (said_by (got_cells 0 file (map (λ o. part_in lo hi o) (of_request rank slot list))))
+    → said_at (said_by (got_cells 0 file (map (λ o. part_in lo hi o) (of_request rank slot list)))) y ≡ said_at (said_by (got_cells 0 file (map (λ o. part_in lo hi o) (of_request rank slot begun)))) y
+hull_said file rank slot lo hi list begun y once served = said_in_any_order (said_by (got_cells 0 file (map (λ o. part_in lo hi o) (of_request rank slot list))))
     (said_by (got_cells 0 file (map (λ o. part_in lo hi o) (of_request rank slot begun))))
     (read_once 0 file lo hi (of_request rank slot list) (from_0 (of_request rank slot list)) once) there back y
   where
@@ -39,26 +37,21 @@ hull_said file rank slot lo hi list begun y once served =
 hull_same : (file blob : List ℕ) (rank slot : ℕ) (t : Told) (list begun : List Owned) → IsOneValued (places_of (of_request rank slot list)) → AreServed list begun t.0 (t.0 + t.1)
     → ((o : Owned) → In (of_request rank slot list) o → o.from + o.extent.len ≤ length blob)
     → write_cells blob (got_in_hull file (of_request rank slot begun) t) ≡ write_cells blob (got_in_hull file (of_request rank slot list) t)
-hull_same file blob rank slot t list begun once served fit =
-    same_said (got_in_hull file (of_request rank slot begun) t) (got_in_hull file (of_request rank slot list) t) blob
+hull_same file blob rank slot t list begun once served fit = same_said (got_in_hull file (of_request rank slot begun) t) (got_in_hull file (of_request rank slot list) t) blob
     (parts_within 0 file t.0 (t.0 + t.1) (length blob) (of_request rank slot begun)
     (λ o m. let r = in_request rank slot begun o m in fit o (request_in rank slot list o (served_in list begun t.0 (t.0 + t.1) o served r.0) r.1 r.2)))
-    (parts_within 0 file t.0 (t.0 + t.1) (length blob) (of_request rank slot list) fit)
-    (λ y. sym (hull_said file rank slot t.0 (t.0 + t.1) list begun y once served))
+    (parts_within 0 file t.0 (t.0 + t.1) (length blob) (of_request rank slot list) fit) (λ y. sym (hull_said file rank slot t.0 (t.0 + t.1) list begun y once served))
 
 -- ---- a buffer has the bytes of some file
 
 past_zeros : (lo j : ℕ) (bytes : List ℕ) → at (replicate lo 0 ++ bytes) (lo + j) ≡ at bytes j
 past_zeros zero j bytes = let e : zero + j ≡ j = omega arith in ap (λ (k : ℕ). at bytes k) e
-past_zeros (suc lo) j bytes =
-    let e : suc lo + j ≡ suc (lo + j) = omega arith in
-    ap (λ (k : ℕ). at (replicate (suc lo) 0 ++ bytes) k) e ∙ past_zeros lo j bytes
+past_zeros (suc lo) j bytes = grind (arith, nat_tests, past_zeros lo j bytes)
 
 some_file : (lo n : ℕ) (bytes : List ℕ) → length bytes ≡ n → bytes ≡ read (replicate lo 0 ++ bytes) (lo - 0) n
 some_file lo n bytes long =
     let none : lo ≡ lo - 0 = omega arith in
-    ext_get_or 0 bytes (read file lo n) (long ∙ sym (read_long file lo n))
-    (λ j l. sym (read_at file lo n j (omega arith) ∙ past_zeros lo j bytes))
+    ext_get_or 0 bytes (read file lo n) (long ∙ sym (read_long file lo n)) (λ j l. sym (read_at file lo n j (omega arith) ∙ past_zeros lo j bytes))
     ∙ ap (λ (k : ℕ). read file k n) none
   where
     file : List ℕ
@@ -67,9 +60,7 @@ some_file lo n bytes long =
 -- what the entries at hand have of a hull is what all entries have of it
 pub hull_collected : (lo n : ℕ) (bytes : List ℕ) (list begun : List Owned) (old now : List (List (List ℕ))) → length bytes ≡ n
     → HaveOnePlaces list → FitTable old list → AreServed list begun lo (lo + n) → HasCollected lo (lo + n) bytes begun old now → HasCollected lo (lo + n) bytes list old now
-hull_collected lo n bytes list begun old now long once fit served got = λ r s.
-    got r s
-    ∙ ap (λ (cs : List Cell). write_cells (blob_at old r s) cs) (cells r s begun)
+hull_collected lo n bytes list begun old now long once fit served got = λ r s. got r s ∙ ap (λ (cs : List Cell). write_cells (blob_at old r s) cs) (cells r s begun)
     ∙ hull_same file (blob_at old r s) r s (lo, n, true) list begun (once r s) served (fit_request r s old list fit)
     ∙ sym (ap (λ (cs : List Cell). write_cells (blob_at old r s) cs) (cells r s list))
   where
@@ -86,14 +77,12 @@ all_parts file os ts = flat_map (λ t. got_in_hull file os t) ts
 
 parts_fit : (file : List ℕ) (os : List Owned) (ts : List Told) (n : ℕ) → ((o : Owned) → In os o → o.from + o.extent.len ≤ n) → IsWithin (all_parts file os ts) n
 parts_fit file os [] n fit = tt
-parts_fit file os (t ∷ ts) n fit =
-    append_within (got_in_hull file os t) (all_parts file os ts) n (parts_within 0 file t.0 (t.0 + t.1) n os fit) (parts_fit file os ts n fit)
+parts_fit file os (t ∷ ts) n fit = grind (arith, nat_tests, parts_fit file os ts n fit, parts_within 0 file t.0 (t.0 + t.1) n os fit, append_within)
 
 parts_say : (file : List ℕ) (top : ℕ) (os : List Owned) (ts : List Told) (y v : ℕ) → ((o : Owned) → In os o → o.extent.at + o.extent.len ≤ top)
     → Says (said_by (all_parts file os ts)) y v → IsRead 0 file 0 top os y v
 parts_say file top os [] y v below h = absurd h
-parts_say file top os (t ∷ ts) y v below h =
-    elim (says_cases (said_by (got_in_hull file os t)) (said_by (all_parts file os ts)) y v
+parts_say file top os (t ∷ ts) y v below h = elim (says_cases (said_by (got_in_hull file os t)) (said_by (all_parts file os ts)) y v
     (subst (λ (ps : List (ℕ × ℕ)). Says ps y v) (said_by_joined (got_in_hull file os t) (all_parts file os ts)) h)) [
       | inl g ↦ (
           let r = got_says 0 file t.0 (t.0 + t.1) os y v (from_0 os) g in
@@ -106,14 +95,11 @@ parts_say file top os (t ∷ ts) y v below h =
 say_parts : (file : List ℕ) (top : ℕ) (os : List Owned) (ts : List Told) (t : Told) (y v : ℕ) (r : IsRead 0 file 0 top os y v) → In ts t → t.0 ≤ r.place → r.place < t.0 + t.1
     → Says (said_by (all_parts file os ts)) y v
 say_parts file top os [] t y v r m l h = absurd m
-say_parts file top os (u ∷ ts) t y v r (inl e) l h =
-    subst (λ (ps : List (ℕ × ℕ)). Says ps y v) (sym (said_by_joined (got_in_hull file os u) (all_parts file os ts)))
-    (says_left (said_by (got_in_hull file os u)) (said_by (all_parts file os ts)) y v
-    (subst (λ (z : Told). Says (said_by (got_in_hull file os z)) y v) (sym e)
+say_parts file top os (u ∷ ts) t y v r (inl e) l h = subst (λ (ps : List (ℕ × ℕ)). Says ps y v) (sym (said_by_joined (got_in_hull file os u) (all_parts file os ts)))
+    (says_left (said_by (got_in_hull file os u)) (said_by (all_parts file os ts)) y v (subst (λ (z : Told). Says (said_by (got_in_hull file os z)) y v) (sym e)
     (says_got 0 file t.0 (t.0 + t.1) os y v (from_0 os) (read_as 0 file 0 top t.0 (t.0 + t.1) os os y v r l h r.inside))))
 say_parts file top os (u ∷ ts) t y v r (inr m) l h =
-    subst (λ (ps : List (ℕ × ℕ)). Says ps y v) (sym (said_by_joined (got_in_hull file os u) (all_parts file os ts)))
-    (says_right (said_by (got_in_hull file os u)) (said_by (all_parts file os ts)) y v (say_parts file top os ts t y v r m l h))
+    grind (arith, nat_tests, say_parts file top os ts t y v r m l h, said_by_joined (got_in_hull file os u) (all_parts file os ts), says_right)
 
 -- each covered byte lies in a hull
 abbrev pub HaveHulls : List Owned → List Told → Type 0
@@ -125,38 +111,30 @@ parts_whole : (file : List ℕ) (top : ℕ) (os : List Owned) (ts : List Told) (
     → write_cells blob (all_parts file os ts) ≡ write_cells blob (map (λ o. got_cell file o) os)
 parts_whole file top os ts blob below each once fit =
     same_said (all_parts file os ts) (got_cells 0 file (map (λ o. part_in 0 top o) os)) blob (parts_fit file os ts (length blob) fit)
-    (parts_within 0 file 0 top (length blob) os fit)
-    (λ y. sym (said_in_any_order (said_by (got_cells 0 file (map (λ o. part_in 0 top o) os))) (said_by (all_parts file os ts))
-    (read_once 0 file 0 top os (from_0 os) once)
-    (λ x v h.
+    (parts_within 0 file 0 top (length blob) os fit) (λ y. sym (said_in_any_order (said_by (got_cells 0 file (map (λ o. part_in 0 top o) os))) (said_by (all_parts file os ts))
+    (read_once 0 file 0 top os (from_0 os) once) (λ x v h.
     let r = got_says 0 file 0 top os x v (from_0 os) h in
     let t = each r.place (record { by = r.by; inside = r.inside; low = r.begin; high = r.end }) in
-    say_parts file top os ts t.0 x v r t.1 t.2 t.3)
-    (λ x v h. says_got 0 file 0 top os x v (from_0 os) (parts_say file top os ts x v below h)) y))
-    ∙ ap (λ (es : List Owned). write_cells blob (got_cells 0 file es)) (whole_parts top os below)
-    ∙ ap (λ (cs : List Cell). write_cells blob cs) (got_whole file os)
+    say_parts file top os ts t.0 x v r t.1 t.2 t.3) (λ x v h. says_got 0 file 0 top os x v (from_0 os) (parts_say file top os ts x v below h)) y))
+    ∙ ap (λ (es : List Owned). write_cells blob (got_cells 0 file es)) (whole_parts top os below) ∙ ap (λ (cs : List Cell). write_cells blob cs) (got_whole file os)
 
 -- ---- a log of hulls
 
 pub log_joined : (list : List Owned) (first second : Log) (old mid now : List (List (List ℕ))) → HasCollectedLog list first old mid → HasCollectedLog list second mid now
     → HasCollectedLog list (first ++ second) old now
-log_joined list first second old mid now f g = λ r s.
-    g r s
-    ∙ ap (λ (b : List ℕ). write_cells b (log_cells (of_request r s list) second)) (f r s)
+log_joined list first second old mid now f g = λ r s. g r s ∙ ap (λ (b : List ℕ). write_cells b (log_cells (of_request r s list) second)) (f r s)
     ∙ sym (fold-append (λ b cell. written b cell.0 cell.1) (blob_at old r s) (log_cells (of_request r s list) first) (log_cells (of_request r s list) second))
     ∙ ap (λ (cs : List Cell). write_cells (blob_at old r s) cs) (sym (cells_joined (of_request r s list) first second))
   where
     cells_joined : (os : List Owned) (one two : Log) → log_cells os (one ++ two) ≡ log_cells os one ++ log_cells os two
     cells_joined os [] two = refl
-    cells_joined os (e ∷ one) two =
-        ap (λ (cs : List Cell). map (λ o. buffer_cell e.0.0 (e.0.0 + e.0.1) e.1 o) os ++ cs) (cells_joined os one two)
+    cells_joined os (e ∷ one) two = ap (λ (cs : List Cell). map (λ o. buffer_cell e.0.0 (e.0.0 + e.0.1) e.1 o) os ++ cs) (cells_joined os one two)
         ∙ sym (append_assoc (map (λ o. buffer_cell e.0.0 (e.0.0 + e.0.1) e.1 o) os) (log_cells os one) (log_cells os two))
 
 -- one hull
 pub log_one : (list : List Owned) (t : Told) (bytes : List ℕ) (old now : List (List (List ℕ))) → HasCollected t.0 (t.0 + t.1) bytes list old now
     → HasCollectedLog list ((t, bytes) ∷ []) old now
-log_one list t bytes old now h = λ r s.
-    h r s ∙ ap (λ (cs : List Cell). write_cells (blob_at old r s) cs) (sym (append-nil (map (λ o. buffer_cell t.0 (t.0 + t.1) bytes o) (of_request r s list))))
+log_one list t bytes old now h = grind (arith, nat_tests, append-nil)
 
 -- each hull has the file's bytes
 abbrev pub AreReadOf : List ℕ → Log → Type 0
@@ -166,17 +144,14 @@ log_read : (file : List ℕ) (os : List Owned) (log : Log) → AreReadOf file lo
 log_read file os [] h = refl
 log_read file os (e ∷ log) h =
     let none : e.0.0 ≡ e.0.0 - 0 = omega arith in
-    ap (λ (cs : List Cell). cs ++ log_cells os log)
-    (buffer_cells 0 file e.1 e.0.0 e.0.1 os (omega arith) (h e (inl refl) ∙ ap (λ (k : ℕ). read file k e.0.1) none))
+    ap (λ (cs : List Cell). cs ++ log_cells os log) (buffer_cells 0 file e.1 e.0.0 e.0.1 os (omega arith) (h e (inl refl) ∙ ap (λ (k : ℕ). read file k e.0.1) none))
     ∙ ap (λ (cs : List Cell). got_in_hull file os e.0 ++ cs) (log_read file os log (λ u m. h u (inr m)))
 
 -- in whatever order the hulls were collected
 pub read_law : (file : List ℕ) (list : List Owned) (log : Log) (old new : List (List (List ℕ))) → EndBelow (2 ^ 62) (extents list) → HaveOnePlaces list → FitTable old list
     → HaveHulls list (told_in log) → AreReadOf file log → HasCollectedLog list log old new → HasRead file list old new
-read_law file list log old new ends once fit each bytes got = λ r s.
-    got r s
+read_law file list log old new ends once fit each bytes got = λ r s. got r s
     ∙ ap (λ (cs : List Cell). write_cells (blob_at old r s) cs) (log_read file (of_request r s list) log bytes)
     ∙ parts_whole file (2 ^ 62) (of_request r s list) (told_in log) (blob_at old r s)
     (λ o m. let e = ends o.extent (in_extents list o (in_request r s list o m).0) in omega arith)
-    (λ x c. each x (record { by = c.by; inside = (in_request r s list c.by c.inside).0; low = c.low; high = c.high }))
-    (once r s) (fit_request r s old list fit)
+    (λ x c. each x (record { by = c.by; inside = (in_request r s list c.by c.inside).0; low = c.low; high = c.high })) (once r s) (fit_request r s old list fit)

@@ -1,14 +1,10 @@
 -- The next window of a part, whose hull is to be taken, and what is left behind it.
-use Rattle.get_exchange.proofs.Words.{◌≡◌, ℕ, ◌<◌, sym, ap, subst, List, [], ◌∷◌, length, Option, Some, None, arith, IfSome, IfNone, Owned, IsWalk, Window, WindowWalk, told_window, entries_left, IsAt, turns_due_of, IsShelfOf, Told, turns_ahead, ReadWalk}
+use Rattle.get_exchange.proofs.Words.{◌≡◌, ℕ, ◌<◌, sym, ap, List, [], ◌∷◌, length, Option, Some, None, arith, IfSome, IfNone, Owned, IsWalk, Window, WindowWalk, told_window, entries_left, IsAt, turns_due_of, IsShelfOf, Told, turns_ahead, ReadWalk, nat_tests}
 
 -- the first window
 pub shelf_first : (list left : List Owned) (room : ℕ) (next : Option Window) (ahead : List Told) (walk : ReadWalk) → IsAt list room ahead left → entries_left walk.entries ≡ left
     → IfSome next (λ _. IsWalk walk.windows) → IfSome next (λ w. ahead ≡ told_window w ∷ turns_ahead walk.windows) → IsShelfOf list room next walk
-shelf_first list left room None ahead walk a same ready some = tt
-shelf_first list left room (Some w) ahead walk a same ready some = record {
-  ready = ready;
-  at = subst (λ (os : List Owned). IsAt list room (told_window w ∷ turns_ahead walk.windows) os) (sym same) (subst (λ (ts : List Told). IsAt list room ts left) some a);
-}
+shelf_first list left room next ahead walk a same ready some = grind (arith, nat_tests)
 
 pub due_next : (next : Option Window) (ahead : List Told) (rest : WindowWalk) → IfNone next (ahead ≡ []) → IfSome next (λ w. ahead ≡ told_window w ∷ turns_ahead rest) → turns_due_of next rest ≡ ahead
 due_next None ahead rest none some = sym none
@@ -21,5 +17,4 @@ fewer_next (Some w) t ahead rest some = let same = ap (λ (ts : List Told). leng
 
 pub fewer_due : (old next : Option Window) (w : Window) (before rest : WindowWalk) → old ≡ Some w → IfSome next (λ u. turns_ahead before ≡ told_window u ∷ turns_ahead rest)
     → length (turns_due_of next rest) < length (turns_due_of old before)
-fewer_due old next w before rest is some =
-    subst (λ (o : Option Window). length (turns_due_of next rest) < length (turns_due_of o before)) (sym is) (fewer_next next (told_window w) (turns_ahead before) rest some)
+fewer_due old next w before rest is some = grind (arith, nat_tests, fewer_next next (told_window w) (turns_ahead before) rest some)

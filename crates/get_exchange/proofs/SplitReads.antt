@@ -1,14 +1,11 @@
 -- The first parts, which helpers read, and those behind them, which are read in turn.
-use Rattle.get_exchange.proofs.Words.{◌≡◌, ℕ, ◌+◌, inl, inr, sym, ◌∙◌, ap, subst, List, [], ◌∷◌, ◌++◌, length, take, drop, Option, Some, Result, Ok, Err, arith, map-append, AllZip-long, length-zip, slice_get, zip, OnOk, AllZip, result_and, Extent, DiskErr, In, in_either, in_left, in_right, get_turns, HasGot, told_in, HasReadParts, PartState, Told, GetPlan, and_first_ok, and_second_ok, zip_joined, zip_split}
+use Rattle.get_exchange.proofs.Words.{◌≡◌, ℕ, inl, inr, sym, ◌∙◌, ap, subst, List, ◌++◌, length, take, drop, Option, Result, Ok, Err, arith, map-append, AllZip-long, length-zip, zip, OnOk, AllZip, result_and, Extent, DiskErr, In, in_either, in_left, in_right, get_turns, HasGot, told_in, HasReadParts, PartState, Told, GetPlan, and_first_ok, and_second_ok, zip_joined, zip_split}
 use Rattle.get_exchange.proofs.PartReads.{all_got_later}
 use Rattle.get_exchange.proofs.ReadLaws.{log_joined}
 
 -- as many parts come back as were read
 pub back_long : {A B C : Type 0} (Q : A × B → C → Type 0) (xs : List A) (ds : List B) (ys : List C) → length ds ≡ length xs → AllZip Q (zip xs ds) ys → length ys ≡ length xs
-back_long Q xs ds ys long all =
-    let a = AllZip-long Q (zip xs ds) ys all in
-    let b = length-zip xs ds in
-    omega arith
+back_long Q xs ds ys long all = omega (arith, AllZip-long Q (zip xs ds) ys all, length-zip xs ds)
 
 -- ---- what came of both
 
@@ -18,8 +15,7 @@ pub got_joined : {D T : Type 0} (plan : GetPlan) (state : D → PartState) (part
     → AllZip (λ p d. HasGot (get_turns plan p.1) (state p.0) (state d) came) (zip rest more) others
     → AllZip (λ p d. HasGot (get_turns plan p.1) (state p.0) (state d) (result_and end came)) (zip parts domains) whole
 got_joined {D} plan state parts rest domains more back others whole end came long behind later all first second =
-    subst (λ (ds : List D). AllZip Got (zip parts domains) ds) (sym all)
-    (zip_joined Got (length back) parts domains back others long
+    subst (λ (ds : List D). AllZip Got (zip parts domains) ds) (sym all) (zip_joined Got (length back) parts domains back others long
     (all_got_later turns state (zip (take (length back) parts) (take (length back) domains)) back end (result_and end came) (and_first_ok end came) first)
     (subst (λ (ps : List (D × Extent)). AllZip Got ps others) pairs
     (all_got_later turns state (zip rest more) others came (result_and end came) (and_second_ok end came) second)))
@@ -59,7 +55,5 @@ parts_joined {D} from held plan n parts rest domains more old mid now (Ok y) (Ok
     subst (λ (ps : List (D × Extent)). HasReadParts from held plan ps old now) (sym whole) (parts_both from held plan (zip (take n parts) (take n domains)) (zip rest more) old mid now h t)
   where
     whole : zip parts domains ≡ zip (take n parts) (take n domains) ++ zip rest more
-    whole =
-        zip_split n parts domains long
-        ∙ ap (λ (ps : List D). zip (take n parts) (take n domains) ++ zip ps (drop n domains)) (sym behind)
+    whole = zip_split n parts domains long ∙ ap (λ (ps : List D). zip (take n parts) (take n domains) ++ zip ps (drop n domains)) (sym behind)
         ∙ ap (λ (ds : List Extent). zip (take n parts) (take n domains) ++ zip rest ds) (sym later)

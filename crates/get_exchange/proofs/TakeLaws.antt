@@ -1,5 +1,5 @@
 -- Hulls that are taken off the lines of helpers, one after another.
-use Rattle.get_exchange.proofs.Words.{◌≡◌, ℕ, ◌+◌, ◌-◌, inl, inr, refl, sym, ◌∙◌, ap, subst, List, [], ◌∷◌, ◌++◌, length, map, set, Bool, true, false, Option, Some, None, Result, Ok, Err, append_assoc, arith, append-nil, length-map, map-append, same_Some, slice_get_within, slice_get, ◌==◌, IfErr, IfSome, OnOk, result_and, entry_below, entry_set, entry_set_other, Owned, DiskErr, Memory, read, In, in_either, in_left, in_right, turns_due, IsFresh, IsStartedFor, FitTable, HasCollected, HaveOnePlaces, AreServed, get_turns, reading_of, AreRead, told_in, HasTaken, HasTakenOf, HasTakenTurn, HaveTakenTurns, IsKept, IsTakenOf, Log, told_window, Told, Reading, Hull, Shelf, ReadWorker, GetPlan, each_new, set_each}
+use Rattle.get_exchange.proofs.Words.{◌≡◌, ℕ, ◌+◌, ◌-◌, inl, inr, refl, sym, ◌∙◌, ap, subst, List, [], ◌∷◌, ◌++◌, length, map, set, Bool, true, false, Option, Some, Result, Ok, Err, append_assoc, arith, append-nil, length-map, map-append, same_Some, slice_get_within, slice_get, ◌==◌, IfErr, IfSome, OnOk, result_and, entry_below, entry_set, entry_set_other, Owned, DiskErr, Memory, read, In, in_either, in_left, in_right, turns_due, IsFresh, IsStartedFor, FitTable, HasCollected, HaveOnePlaces, AreServed, reading_of, AreRead, told_in, HasTaken, HasTakenOf, HasTakenTurn, HaveTakenTurns, IsKept, IsTakenOf, Log, Told, Reading, Hull, Shelf, ReadWorker, GetPlan, each_new, set_each, nat_tests}
 use borrow.Author.Tests.{eqb-true, eqb-false}
 use Rattle.get_exchange.proofs.ReadLaws.{hull_collected, log_joined, log_one}
 
@@ -7,13 +7,9 @@ use Rattle.get_exchange.proofs.ReadLaws.{hull_collected, log_joined, log_one}
 
 taken_twice : (first second : Log) (old mid new : Shelf) → HasTaken first old mid → HasTaken second mid new → HasTaken (first ++ second) old new
 taken_twice first second old mid new f g = record {
-  turns = ap (λ (ts : List Told). ts ++ turns_due new) (map-append (λ (e : Told × List ℕ). e.0) first second)
-      ∙ append_assoc (told_in first) (told_in second) (turns_due new)
-      ∙ ap (λ (ts : List Told). told_in first ++ ts) g.turns
-      ∙ f.turns;
-  items = g.items
-      ∙ ap (λ (is : List Reading). is ++ map (λ e. Hull e.1) second) f.items
-      ∙ append_assoc old.line.items (map (λ e. Hull e.1) first) (map (λ e. Hull e.1) second)
+  turns = ap (λ (ts : List Told). ts ++ turns_due new) (map-append (λ (e : Told × List ℕ). e.0) first second) ∙ append_assoc (told_in first) (told_in second) (turns_due new)
+      ∙ ap (λ (ts : List Told). told_in first ++ ts) g.turns ∙ f.turns;
+  items = g.items ∙ ap (λ (is : List Reading). is ++ map (λ e. Hull e.1) second) f.items ∙ append_assoc old.line.items (map (λ e. Hull e.1) first) (map (λ e. Hull e.1) second)
       ∙ ap (λ (is : List Reading). old.line.items ++ is) (sym (map-append (λ (e : Told × List ℕ). Hull e.1) first second));
 }
 
@@ -36,13 +32,9 @@ pub taken_more : {D : Type 0} (list : List Owned) (olds mids : List (ReadWorker 
 taken_more {D} list olds mids k mid new before between now long at h t = record {
   log = h.log ++ t.own;
   collected = log_joined list h.log t.own before between now h.collected t.collected;
-  each = λ j o n e f.
-      set_each (λ r s. (o : ReadWorker D) → slice_get olds r ≡ Some o → HasTakenOf (h.log ++ t.own) o.shelf s.shelf) mids k mid new at
+  each = λ j o n e f. set_each (λ r s. (o : ReadWorker D) → slice_get olds r ≡ Some o → HasTakenOf (h.log ++ t.own) o.shelf s.shelf) mids k mid new at
       (λ o e. grown o (h.each k o mid e at)) (λ r s e o f. wider o s (h.each r o s f e)) j n f o e;
-  only = λ e m. elim (in_either h.log t.own e m) [
-    | inl g ↦ by_number e (h.only e g) ((h.only e g).number == k) refl
-    | inr g ↦ newest e g
-  ];
+  only = λ e m. elim (in_either h.log t.own e m) [ inl g ↦ by_number e (h.only e g) ((h.only e g).number == k) refl | inr g ↦ newest e g ];
 }
   where
     grown : (o : ReadWorker D) → HasTakenOf h.log o.shelf mid.shelf → HasTakenOf (h.log ++ t.own) o.shelf new.shelf
@@ -99,9 +91,8 @@ taken_more {D} list olds mids k mid new before between now long at h t = record 
 pub taken_on : {D T E : Type 0} (list : List Owned) (olds mids : List (ReadWorker D)) (k : ℕ) (mid new : ReadWorker D) (before between now : List (List (List ℕ))) (end came : Result T E)
     → length mids ≡ length olds → slice_get mids k ≡ Some mid → OnOk end (HaveTakenTurns list olds mids before between) → OnOk came (HasTakenTurn list mid.shelf new.shelf between now)
     → OnOk (result_and end came) (HaveTakenTurns list olds (set mids k new) before now)
-taken_on list olds mids k mid new before between now (Err x) came long at h t = tt
-taken_on list olds mids k mid new before between now (Ok y) (Err x) long at h t = tt
 taken_on list olds mids k mid new before between now (Ok y) (Ok x) long at h t = taken_more list olds mids k mid new before between now long at h t
+taken_on list olds mids k mid new before between now _ _ long at h t = tt
 
 pub both_memory : {T : Type 0} (end came : Result T DiskErr) → IfErr end (λ e. e ≡ Memory) → IfErr came (λ e. e ≡ Memory) → IfErr (result_and end came) (λ e. e ≡ Memory)
 both_memory (Err x) came h g = h
@@ -129,10 +120,7 @@ taken_none {D} list workers table = record {
 
 each_read : (from : ℕ) (file : List ℕ) (own : Log) → map (λ e. Hull e.1) own ≡ map (λ t. reading_of from file t) (told_in own) → (e : Told × List ℕ) → In own e → e.1 ≡ read file (e.0.0 - from) e.0.1
 each_read from file [] h e m = absurd m
-each_read from file (u ∷ own) h e (inl same) = subst (λ (z : Told × List ℕ). z.1 ≡ read file (z.0.0 - from) z.0.1) same (first h)
-  where
-    first : Hull u.1 ∷ map (λ e. Hull e.1) own ≡ Hull (read file (u.0.0 - from) u.0.1) ∷ map (λ t. reading_of from file t) (told_in own) → u.1 ≡ read file (u.0.0 - from) u.0.1
-    first g = cc
+each_read from file (u ∷ own) h e (inl same) = grind (arith, nat_tests)
 each_read from file (u ∷ own) h e (inr m) = each_read from file own (rest h) e m
   where
     rest : Hull u.1 ∷ map (λ e. Hull e.1) own ≡ Hull (read file (u.0.0 - from) u.0.1) ∷ map (λ t. reading_of from file t) (told_in own)
@@ -141,23 +129,10 @@ each_read from file (u ∷ own) h e (inr m) = each_read from file own (rest h) e
 
 pub items_read : (from : ℕ) (held : Option (List ℕ)) (own : Log) (items : List Reading) → items ≡ map (λ e. Hull e.1) own → AreRead (told_in own) from held items
     → IfSome held (λ file. (e : Told × List ℕ) → In own e → e.1 ≡ read file (e.0.0 - from) e.0.1)
-items_read from held own items is taken = by_held held (taken.whole long)
-  where
-    long : length items ≡ length (told_in own)
-    long = ap (λ (rs : List Reading). length rs) is ∙ length-map own (λ (e : Told × List ℕ). Hull e.1) ∙ sym (length-map own (λ (e : Told × List ℕ). e.0))
-
-    by_held : (o : Option (List ℕ)) → IfSome o (λ file. items ≡ map (λ t. reading_of from file t) (told_in own))
-        → IfSome o (λ file. (e : Told × List ℕ) → In own e → e.1 ≡ read file (e.0.0 - from) e.0.1)
-    by_held None w = tt
-    by_held (Some file) w = each_read from file own (sym is ∙ w)
+items_read from held own items is taken = grind (arith, nat_tests, length-map, each_read)
 
 kept_worker : {D : Type 0} (plan : GetPlan) (old new : ReadWorker D) → IsKept old new → IsFresh plan old → IsStartedFor plan new
-kept_worker plan old new k f =
-    let s = f.started in
-    record {
-      windows = ap (λ helper. map told_window helper.awaited.windows.value.items) k.helper ∙ s.windows ∙ sym (ap (λ helper. get_turns plan helper.domain) k.helper);
-      line_of = ap (λ helper. helper.awaited.ends.value.lines.line.of) k.helper ∙ s.line_of ∙ sym k.of;
-    }
+kept_worker plan old new k f = grind (arith, nat_tests)
 
 pub kept_workers : {D : Type 0} (plan : GetPlan) (old new : List (ReadWorker D)) → length new ≡ length old
     → ((k : ℕ) (a b : ReadWorker D) → slice_get old k ≡ Some a → slice_get new k ≡ Some b → IsKept a b) → ((worker : ReadWorker D) → In old worker → IsFresh plan worker)

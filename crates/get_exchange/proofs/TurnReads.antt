@@ -1,5 +1,5 @@
 -- Hulls of a part that are read and collected one after another: what was done and what is left to be done are the whole.
-use Rattle.get_exchange.proofs.Words.{◌≡◌, ℕ, ◌+◌, ◌-◌, inl, inr, refl, sym, ◌∙◌, ap, subst, List, [], ◌∷◌, ◌++◌, Option, Some, None, append_assoc, append-nil, map-append, IfSome, Owned, DiskCall, with_end-nil, with_end-with_end, with_end, read, IsWalk, load_calls, In, in_either, entries_left, IsPast, AreAsLong, FitTable, HaveOnePlaces, AreInFront, IsAt, LieOnPart, told_in, HasCollectedLog, HasReadTurn, HasReadTurns, Log, Told, turns_ahead, ReadWalk, at_next, served_now}
+use Rattle.get_exchange.proofs.Words.{◌≡◌, ℕ, ◌+◌, ◌-◌, inr, sym, ◌∙◌, ap, subst, List, [], ◌∷◌, ◌++◌, Option, append_assoc, append-nil, map-append, IfSome, Owned, DiskCall, with_end-nil, with_end-with_end, with_end, read, IsWalk, load_calls, In, in_either, entries_left, IsPast, AreAsLong, FitTable, HaveOnePlaces, AreInFront, IsAt, LieOnPart, told_in, HasCollectedLog, HasReadTurn, HasReadTurns, Log, Told, turns_ahead, ReadWalk, at_next, served_now, arith, nat_tests}
 use Rattle.std.proofs.Common.{flat_map}
 use Rattle.get_exchange.proofs.CollectLaws.{fit_as_long}
 use Rattle.get_exchange.proofs.ReadLaws.{hull_collected, log_joined, log_one}
@@ -18,31 +18,12 @@ pub record IsReading (list : List Owned) (room from len : ℕ) (all : List Told)
 
 pub reading_begin : (list : List Owned) (room from len : ℕ) (all : List Told) (w : ReadWalk) (held : Option (List ℕ)) (table : List (List (List ℕ))) (calls : Option (List DiskCall))
     → IsWalk w.windows → IsAt list room (turns_ahead w.windows) (entries_left w.entries) → turns_ahead w.windows ≡ all → LieOnPart from len all → IsReading list room from len all w held table table calls calls
-reading_begin list room from len all w held table calls ready at ahead on = record {
-  ready = ready;
-  here = at;
-  on_part = subst (λ (ts : List Told). LieOnPart from len ts) (sym ahead) on;
-  log = [];
-  turns = ahead;
-  told = none_told held;
-  collected = λ r s. refl;
-  long = refl;
-  device = ap (λ (ts : List Told). with_end calls (flat_map load_calls ts)) ahead;
-}
-  where
-    none_told : (o : Option (List ℕ)) → IfSome o (λ file. (e : Told × List ℕ) → In {X = Told × List ℕ} [] e → e.1 ≡ read file (e.0.0 - from) e.0.1)
-    none_told None = tt
-    none_told (Some file) = λ e m. absurd m
+reading_begin list room from len all w held table calls ready at ahead on = grind (arith, nat_tests, flat_map)
 
 told_more : (held : Option (List ℕ)) (from : ℕ) (log : Log) (t : Told) (bytes : List ℕ)
     → IfSome held (λ file. (e : Told × List ℕ) → In log e → e.1 ≡ read file (e.0.0 - from) e.0.1) → IfSome held (λ file. bytes ≡ read file (t.0 - from) t.1)
     → IfSome held (λ file. (e : Told × List ℕ) → In (log ++ (t, bytes) ∷ []) e → e.1 ≡ read file (e.0.0 - from) e.0.1)
-told_more None from log t bytes h g = tt
-told_more (Some file) from log t bytes h g = λ e m. elim (in_either log ((t, bytes) ∷ []) e m) [
-  | inl k ↦ h e k
-  | inr (inl k) ↦ subst (λ (u : Told × List ℕ). u.1 ≡ read file (u.0.0 - from) u.0.1) k g
-  | inr (inr k) ↦ absurd k
-]
+told_more held from log t bytes h g = grind (arith, nat_tests, in_either)
 
 -- one window more
 pub reading_next : (list begun : List Owned) (room from len here : ℕ) (all : List Told) (w v : ReadWalk) (t : Told) (held kept : Option (List ℕ)) (old mid now : List (List (List ℕ)))
@@ -56,31 +37,17 @@ reading_next list begun room from len here all w v t held kept old mid now calls
   on_part = λ u m. s.on_part u (subst (λ (ts : List Told). In ts u) (sym e) (inr m));
   log = s.log ++ (t, r.bytes) ∷ [];
   turns = ap (λ (ts : List Told). ts ++ turns_ahead v.windows) (map-append (λ (u : Told × List ℕ). u.0) s.log ((t, r.bytes) ∷ []))
-      ∙ append_assoc (told_in s.log) (t ∷ []) (turns_ahead v.windows)
-      ∙ ap (λ (ts : List Told). told_in s.log ++ ts) (sym e)
-      ∙ s.turns;
-  told = told_more held from s.log t r.bytes s.told
-      (subst (λ (o : Option (List ℕ)). IfSome o (λ file. r.bytes ≡ read file (t.0 - from) t.1)) stays
+      ∙ append_assoc (told_in s.log) (t ∷ []) (turns_ahead v.windows) ∙ ap (λ (ts : List Told). told_in s.log ++ ts) (sym e) ∙ s.turns;
+  told = told_more held from s.log t r.bytes s.told (subst (λ (o : Option (List ℕ)). IfSome o (λ file. r.bytes ≡ read file (t.0 - from) t.1)) stays
       (subst (λ (n : ℕ). IfSome kept (λ file. r.bytes ≡ read file (t.0 - n) t.1)) same r.told));
-  collected = log_joined list s.log ((t, r.bytes) ∷ []) old mid now s.collected
-      (log_one list t r.bytes mid now
+  collected = log_joined list s.log ((t, r.bytes) ∷ []) old mid now s.collected (log_one list t r.bytes mid now
       (hull_collected t.0 t.1 r.bytes list begun mid now r.long once (fit_as_long old mid list s.long fit) (served_now list (entries_left w.entries) begun room (turns_ahead w.windows) (turns_ahead v.windows) t s.here e b) r.collected));
   long = long ∙ s.long;
-  device =
-      ap (λ (m : Option (List DiskCall)). with_end m (flat_map load_calls (turns_ahead v.windows))) device
-      ∙ with_end-with_end made (load_calls t) (flat_map load_calls (turns_ahead v.windows))
-      ∙ sym (ap (λ (ts : List Told). with_end made (flat_map load_calls ts)) e)
+  device = ap (λ (m : Option (List DiskCall)). with_end m (flat_map load_calls (turns_ahead v.windows))) device
+      ∙ with_end-with_end made (load_calls t) (flat_map load_calls (turns_ahead v.windows)) ∙ sym (ap (λ (ts : List Told). with_end made (flat_map load_calls ts)) e)
       ∙ s.device;
 }
 
 pub reading_end : (list : List Owned) (room from len : ℕ) (all : List Told) (w : ReadWalk) (held : Option (List ℕ)) (old now : List (List (List ℕ))) (calls made : Option (List DiskCall))
     → IsReading list room from len all w held old now calls made → turns_ahead w.windows ≡ [] → HasReadTurns list all from held old now × (made ≡ with_end calls (flat_map load_calls all))
-reading_end list room from len all w held old now calls made s none = (
-  record {
-    log = s.log;
-    turns = sym (append-nil (told_in s.log)) ∙ ap (λ (ts : List Told). told_in s.log ++ ts) (sym none) ∙ s.turns;
-    told = s.told;
-    collected = s.collected;
-  },
-  sym (ap (λ (ts : List Told). with_end made (flat_map load_calls ts)) none ∙ with_end-nil made) ∙ s.device,
-)
+reading_end list room from len all w held old now calls made s none = grind (arith, nat_tests, append-nil (told_in s.log), with_end-nil made, flat_map)

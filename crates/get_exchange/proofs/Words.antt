@@ -11,9 +11,10 @@ pub use Rattle.std.proofs.lemmas.Slice.Zip.{AllZip-long, length-zip}
 pub use Rattle.std.specs.List.{AllZip}
 pub use Rattle.std.specs.Prelude.{IfErr, IfNone, IfSome, IsErrOf, IsOk, OnOk, flat_map, is_some, replicate, slice_get, zip, ◌==◌}
 pub use Rattle.std.specs.Result.{result_and}
-pub use Rattle.aggregator_rounds.proofs.PastSteps.{all_left, walk_begin}
+pub use Rattle.std.proofs.lemmas.Bool.Decides.{nat_tests}
+pub use Rattle.aggregator_rounds.proofs.PastSteps.{all_left, past_extents, past_twice, walk_begin}
 pub use Rattle.aggregator_rounds.proofs.ReadParts.{IsRead, buffer_cells, got_says, got_whole, parts_within, read_as, read_once, says_got, whole_parts}
-pub use Rattle.aggregator_rounds.proofs.SplitSteps.{entry_ends, extents_left, extents_right, sorted_right}
+pub use Rattle.aggregator_rounds.proofs.SplitSteps.{dropped_past, entry_ends, extents_left, extents_right, sorted_right}
 pub use Rattle.aggregator_rounds.specs.EntryParts.{AreFilled, IsCovered, buffer_cell, got_cells, part_in, places_of}
 pub use Rattle.aggregator_rounds.specs.Left.{IsPast, entries_left}
 pub use Rattle.aggregator_rounds.specs.ToldWindows.{told_window}

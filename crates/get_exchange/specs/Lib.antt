@@ -4,3 +4,4 @@ pub mod Fetched
 pub mod Shelves
 pub mod Logs
 pub mod Lenders
+pub mod Readers

@@ -6,12 +6,14 @@ ghost use Rattle.aggregator_rounds.specs.ToldWindows.{told_window};
 ghost use Rattle.exchange_crew.specs.Hulls.{LieOnPart};
 ghost use Rattle.exchange_crew.specs.Plan.{IsDomainOf};
 ghost use Rattle.get_exchange.specs.Gets.{IsGetPlanned};
+ghost use Rattle.get_exchange.specs.Readers.{IsReader};
 ghost use Rattle.get_exchange.specs.Shelves.{domain_of, part_of, IsFresh};
 ghost use Rattle.get_exchange.specs.declared.handing.ReadWorker.{ReadWorker};
 
 use crate::helper::{GetDuty, GetJob, GetLines};
 use crate::reading::Reading;
 use crate::shelf::{Shelf, shelf_of};
+use crate::walk::{Ahead, Reader};
 use crossbeam_channel::Sender;
 use exchange_crew::{Aggregator, Errand, GetPlan, PartBack, PartEnds, Shares, Tools, window_list};
 use file_domains::Window;
@@ -68,6 +70,7 @@ pub(crate) fn hand_all<'a, R: Wait, D: Disk, G, P: Send + Drop>(
     ensures workers { (worker : ReadWorker D) → In shares.new.workers.items worker → IsFresh plan.now worker }
 {
     let Supply { parts, mut lines } = supply;
+    let mut ahead = Ahead::new(plan);
     for part in parts {
         if shares.rest.is_empty() {
             let number = shares.workers.len();
@@ -75,7 +78,12 @@ pub(crate) fn hand_all<'a, R: Wait, D: Disk, G, P: Send + Drop>(
                 number: number as u32,
                 domain: domains[number],
             };
-            match hand_one(tools, helpers, plan, aggregator, part, lines.pop()) {
+            let entries = ahead.reach(plan, aggregator.domain);
+            let reader = Reader {
+                aggregator,
+                entries,
+            };
+            match hand_one(tools, helpers, plan, &reader, part, lines.pop()) {
                 Ok(worker) => shares.workers.push_reserved(worker),
                 Err(part) => shares.rest.push_reserved(part),
             }
@@ -90,20 +98,21 @@ fn hand_one<'a, R: Wait, D: Disk, G, P: Send + Drop>(
     tools: &Tools<R, G>,
     helpers: &[Sender<Errand<P, GetJob<D>>>],
     plan: &GetPlan<'a>,
-    aggregator: Aggregator,
+    reader: &Reader<'a>,
     part: D,
     spare: Option<LineTake<Blob>>,
 ) -> Result<ReadWorker<'a, D>, D>
     requires plan { IsGetPlanned plan.now }
     requires line_low { 1 ≤ plan.now.hints.now.line_room }
     requires line_high { plan.now.hints.now.line_room ≤ 64 }
-    requires domain { IsDomainOf plan.now.list.now (D.from part) (D.len part) aggregator.domain }
+    requires reader { IsReader plan.now reader.now }
+    requires domain { IsDomainOf plan.now.list.now (D.from part) (D.len part) reader.now.aggregator.domain }
     ensures kept { IfErr result (λ back. back ≡ part) }
     ensures worker { IfOk result (λ worker. IsFresh plan.now worker) }
     ensures part { IfOk result (λ worker. part_of worker ≡ part) }
-    ensures domain { IfOk result (λ worker. domain_of worker ≡ aggregator.domain) }
+    ensures domain { IfOk result (λ worker. domain_of worker ≡ reader.now.aggregator.domain) }
 {
-    let Aggregator { number, domain } = aggregator;
+    let Aggregator { number, domain } = reader.aggregator;
     let Some(spare) = spare else {
         return Err(part);
     };
@@ -119,7 +128,7 @@ fn hand_one<'a, R: Wait, D: Disk, G, P: Send + Drop>(
     };
     let awaited = ask(tools, helpers, number, windows, ends)?;
     let helper = GetHelper { domain, awaited };
-    let shelf = shelf_of(tools.alloc, plan, domain, taken);
+    let shelf = shelf_of(tools.alloc, plan, reader, taken);
     Ok(ReadWorker { helper, shelf })
 }
 

@@ -12,12 +12,13 @@ ghost use Rattle.aggregator_rounds.specs.ToldWindows.{told_window};
 ghost use Rattle.aggregator_rounds.specs.EntryParts.{AreFilled};
 ghost use Rattle.get_exchange.specs.Blobs.{AreAsLong, FitTable, HaveOnePlaces};
 ghost use Rattle.get_exchange.specs.Gets.{entries_in, get_turns, HasGot, IsGetPlanned};
+ghost use Rattle.get_exchange.specs.Readers.{IsReader};
 ghost use Rattle.get_exchange.specs.Logs.{HasReadParts, HasReadTurn, HasReadTurns};
 ghost use Rattle.exchange_crew.specs.Plan.{IsDomainOf};
 ghost use Rattle.exchange_crew.specs.Parts.{part_state, SomeZip};
 
 use crate::collecting::collect_entries;
-use crate::walk::{ReadTurn, ReadWalk};
+use crate::walk::{Ahead, ReadTurn, ReadWalk, Reader};
 use aggregator_rounds::get_window;
 use exchange_crew::{Aggregator, GetPlan, Spares, Tools, longest_window, next_window};
 use nc_base::{BlobList, Extent, GotTable};
@@ -99,13 +100,19 @@ fn read_parts<R: Wait, D: Disk, G: Gate>(
 {
     let mut back = back;
     let mut end = Ok(());
+    let mut ahead = Ahead::new(plan);
     for part in parts {
         let number = back.len();
         let aggregator = Aggregator {
             number: first + number as u32,
             domain: domains[number],
         };
-        let (part, came) = read_next(tools, plan, aggregator, part, room, end);
+        let entries = ahead.reach(plan, aggregator.domain);
+        let reader = Reader {
+            aggregator,
+            entries,
+        };
+        let (part, came) = read_next(tools, plan, &reader, part, room, end);
         back.push_reserved(part);
         end = came;
     }
@@ -113,23 +120,24 @@ fn read_parts<R: Wait, D: Disk, G: Gate>(
 }
 
 // Reads a part, unless something was refused before.
-fn read_next<R: Wait, D: Disk, G: Gate>(
+fn read_next<'a, R: Wait, D: Disk, G: Gate>(
     tools: &Tools<R, G>,
-    plan: &GetPlan,
-    aggregator: Aggregator,
+    plan: &GetPlan<'a>,
+    reader: &Reader<'a>,
     part: D,
     room: &mut ReadRoom,
     before: Result<(), DiskErr>,
 ) -> (D, Result<(), DiskErr>)
     requires plan { IsGetPlanned plan.now }
-    requires domain { IsDomainOf plan.now.list.now (D.from part) (D.len part) aggregator.domain }
-    requires room { min plan.now.hints.now.cb_buffer aggregator.domain.len ≤ length room.old.buf.items }
+    requires reader { IsReader plan.now reader.now }
+    requires domain { IsDomainOf plan.now.list.now (D.from part) (D.len part) reader.now.aggregator.domain }
+    requires room { min plan.now.hints.now.cb_buffer reader.now.aggregator.domain.len ≤ length room.old.buf.items }
     requires fit { FitTable room.old.table.items plan.now.list.now }
     requires one_place { HaveOnePlaces plan.now.list.now }
-    ensures got { HasGot (get_turns plan.now aggregator.domain)
+    ensures got { HasGot (get_turns plan.now reader.now.aggregator.domain)
         (part_state D.Disk part) (part_state D.Disk result.0) result.1 }
     ensures ok { OnOk result.1 (IsOk before) }
-    ensures read { OnOk result.1 (HasReadTurns plan.now.list.now (get_turns plan.now aggregator.domain) (D.from part) (D.held part) room.old.table.items room.new.table.items) }
+    ensures read { OnOk result.1 (HasReadTurns plan.now.list.now (get_turns plan.now reader.now.aggregator.domain) (D.from part) (D.held part) room.old.table.items room.new.table.items) }
     ensures blobs { AreAsLong room.old.table.items room.new.table.items }
     ensures buf { length room.new.buf.items ≡ length room.old.buf.items }
     ensures failed { IsErrOf result.1 Failed → IsErrOf before Failed ⊎ Rose (D.faults part) (D.faults result.0) }
@@ -141,7 +149,7 @@ fn read_next<R: Wait, D: Disk, G: Gate>(
     let end = collect_part(
         tools,
         plan,
-        aggregator,
+        reader,
         &mut part,
         &mut room.buf,
         &mut room.table,
@@ -150,30 +158,32 @@ fn read_next<R: Wait, D: Disk, G: Gate>(
 }
 
 // Reads the hulls of the windows of an aggregator's domain, and copies the entries' bytes out of them.
-fn collect_part<R: Wait, D: Disk, G: Gate>(
+fn collect_part<'a, R: Wait, D: Disk, G: Gate>(
     tools: &Tools<R, G>,
-    plan: &GetPlan,
-    aggregator: Aggregator,
+    plan: &GetPlan<'a>,
+    reader: &Reader<'a>,
     part: &mut D,
     buf: &mut [u8],
     table: &mut [BlobList],
 ) -> Result<(), DiskErr>
     requires plan { IsGetPlanned plan.now }
-    requires domain { IsDomainOf plan.now.list.now (D.from part.old) (D.len part.old) aggregator.domain }
-    requires room { min plan.now.hints.now.cb_buffer aggregator.domain.len ≤ length buf.old }
+    requires reader { IsReader plan.now reader.now }
+    requires domain { IsDomainOf plan.now.list.now (D.from part.old) (D.len part.old) reader.now.aggregator.domain }
+    requires room { min plan.now.hints.now.cb_buffer reader.now.aggregator.domain.len ≤ length buf.old }
     requires fit { FitTable table.old plan.now.list.now }
     requires one_place { HaveOnePlaces plan.now.list.now }
-    ensures got { HasGot (get_turns plan.now aggregator.domain)
+    ensures got { HasGot (get_turns plan.now reader.now.aggregator.domain)
         (part_state D.Disk part.old) (part_state D.Disk part.new) result }
-    ensures read { OnOk result (HasReadTurns plan.now.list.now (get_turns plan.now aggregator.domain) (D.from part.old) (D.held part.old) table.old table.new) }
+    ensures read { OnOk result (HasReadTurns plan.now.list.now (get_turns plan.now reader.now.aggregator.domain) (D.from part.old) (D.held part.old) table.old table.new) }
     ensures blobs { AreAsLong table.old table.new }
     ensures failed { IsErrOf result Failed → Rose (D.faults part.old) (D.faults part.new) }
 {
-    let mut walk = ReadWalk::new(tools.alloc, plan, aggregator.domain);
+    let mut walk = ReadWalk::new(tools.alloc, plan, reader);
     'turns: while let Some(window) = next_window(&mut walk.windows) {
-        tools
-            .gate
-            .pass(tools.rt, Point::Window(aggregator.number, window.round));
+        tools.gate.pass(
+            tools.rt,
+            Point::Window(reader.aggregator.number, window.round),
+        );
         let turn = walk.turn(window);
         collect_turn(tools.alloc, part, &turn, buf, table)?;
         walk.go_past(window);

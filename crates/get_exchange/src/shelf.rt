@@ -1,13 +1,13 @@
 // The calling thread's end of the line of a helper, and the windows whose hulls are still to be taken.
 ghost use Rattle.std.specs.Prelude.{◌≡◌, min};
 ghost use Rattle.get_exchange.specs.Gets.{get_turns, IsGetPlanned};
+ghost use Rattle.get_exchange.specs.Readers.{IsReader};
 ghost use Rattle.get_exchange.specs.Shelves.{turns_due, IsShelf};
 
 use crate::reading::Reading;
-use crate::walk::ReadWalk;
+use crate::walk::{ReadWalk, Reader};
 use exchange_crew::{GetPlan, next_window};
 use file_domains::Window;
-use nc_base::Extent;
 use ruled_line::LineTake;
 use std::alloc::Global;
 
@@ -23,15 +23,16 @@ pub(crate) struct Shelf<'a> {
 pub(crate) fn shelf_of<'a>(
     alloc: Global,
     plan: &GetPlan<'a>,
-    domain: Extent,
+    reader: &Reader<'a>,
     line: LineTake<Reading>,
 ) -> Shelf<'a>
     requires plan { IsGetPlanned plan.now }
-    ensures ready { IsShelf plan.now.list.now (min plan.now.hints.now.cb_buffer domain.len) result }
-    ensures due { turns_due result ≡ get_turns plan.now domain }
+    requires reader { IsReader plan.now reader.now }
+    ensures ready { IsShelf plan.now.list.now (min plan.now.hints.now.cb_buffer reader.now.aggregator.domain.len) result }
+    ensures due { turns_due result ≡ get_turns plan.now reader.now.aggregator.domain }
     ensures line { result.line ≡ line }
 {
-    let mut walk = ReadWalk::new(alloc, plan, domain);
+    let mut walk = ReadWalk::new(alloc, plan, reader);
     let next = next_window(&mut walk.windows);
     Shelf { line, next, walk }
 }

@@ -13,12 +13,10 @@ pub collect_get-requires-clause-end : goal.collect_get-requires-clause-end
 collect_get-requires-clause-end c = entry_ends c.args.entries.now c.loop-entry.entry-index none c.requires.ends c.loop-entry-test.true
 
 pub collect_get-requires-clause-filled : goal.collect_get-requires-clause-filled
-collect_get-requires-clause-filled c =
-    c.requires.filled (get_or c.args.entries.now c.loop-entry.entry-index none) (entry_in c.args.entries.now c.loop-entry.entry-index none c.loop-entry-test.true)
+collect_get-requires-clause-filled c = c.requires.filled (get_or c.args.entries.now c.loop-entry.entry-index none) (entry_in c.args.entries.now _ none c.loop-entry-test.true)
 
 pub collect_get-requires-clause-fit : goal.collect_get-requires-clause-fit
-collect_get-requires-clause-fit c =
-    fit_as_long c.args.table.now c.loop-entry.table c.args.entries.now c.loop-entry.invariant.long c.requires.fit
+collect_get-requires-clause-fit c = fit_as_long c.args.table.now c.loop-entry.table c.args.entries.now c.loop-entry.invariant.long c.requires.fit
     (get_or c.args.entries.now c.loop-entry.entry-index none) (entry_in c.args.entries.now c.loop-entry.entry-index none c.loop-entry-test.true)
 
 pub loop-entry-preserved : goal.loop-entry-preserved
@@ -35,7 +33,6 @@ loop-entry-preserved c =
     }
 
 pub returns-clause-each : goal.returns-clause-each
-returns-clause-each c = λ r s.
-    c.loop-entry.invariant.each r s
+returns-clause-each c = λ r s. c.loop-entry.invariant.each r s
     ∙ ap (λ (os : List Owned). write_cells (blob_at c.args.table.now r s) (map (λ o. buffer_cell c.args.hull.at (c.args.hull.at + c.args.hull.len) c.args.buf.now o) (of_request r s os)))
     (take_all c.loop-entry.entry-index c.args.entries.now c.loop-entry-test.false)

@@ -19,8 +19,7 @@ pub collect_all-requires-2-clause-filled : goal.collect_all-requires-2-clause-fi
 collect_all-requires-2-clause-filled c = λ o m. c.requires.filled o (in_right c.args.turn.now.carried.now c.args.turn.now.fresh.now o m)
 
 pub collect_all-requires-2-clause-fit : goal.collect_all-requires-2-clause-fit
-collect_all-requires-2-clause-fit c =
-    fit_as_long c.args.table.now c.collect_all.new.table c.args.turn.now.fresh.now c.collect_all.ensures.long
+collect_all-requires-2-clause-fit c = fit_as_long c.args.table.now c.collect_all.new.table c.args.turn.now.fresh.now c.collect_all.ensures.long
     (λ o m. c.requires.fit o (in_right c.args.turn.now.carried.now c.args.turn.now.fresh.now o m))
 
 pub returns-clause-each : goal.returns-clause-each

@@ -1,95 +1,48 @@
 -- The bytes of the window's hull were copied, and the next window is the part's next.
-use Rattle.get_exchange.proofs.Words.{◌+◌, ◌<◌, ◌∙◌, ◌∷◌, length, List, Option, refl, sym, ap, subst, rules, arith, common_steps, IsWalk, Window, WindowWalk, told_window, entries_left, entries_in, turns_due_of, IsNextUp, IsShelfOf, Told, turns_ahead, at_next, left_ends, left_filled, left_sorted, served_ends, served_now, turn_limit}
+use Rattle.get_exchange.proofs.Words.{◌<◌, ◌∙◌, ◌∷◌, length, List, Option, refl, sym, ap, subst, rules, arith, common_steps, IsWalk, Window, WindowWalk, told_window, entries_left, turns_due_of, IsNextUp, IsShelfOf, Told, turns_ahead, at_next, left_ends, left_filled, left_sorted, served_ends, served_now, turn_limit}
 use Rattle.get_exchange.proofs.CollectLaws.{filled_served, fit_served}
 use Rattle.get_exchange.proofs.ShelfLaws.{due_next, fewer_due, shelf_first}
 use Rattle.get_exchange.proofs.TakeLaws.{taken_turn}
 use Rattle.get_exchange.proofs.collecting.take_turn.Goals as goal
 
-pub turn-turn-requires-clause-sorted : goal.turn-turn-requires-clause-sorted
-turn-turn-requires-clause-sorted g c =
+pub turn-turn-requires : goal.turn-turn-requires
+turn-turn-requires g c =
     let list = c.args.plan.now.list.now in
     let walk = c.args.shelf.now.walk in
     let room = c.requires.ready.0 in
     let up : IsNextUp list room c.in-Some.window walk = subst (λ (o : Option Window). IsShelfOf list room o walk) c.in-Some.is c.requires.ready.1 in
-    left_sorted list (entries_left walk.entries) room (told_window c.in-Some.window ∷ turns_ahead walk.windows) (turns_ahead walk.windows) (told_window c.in-Some.window) c.requires.plan.sorted up.at refl
+    record {
+      sorted = left_sorted _ _ _ _ (turns_ahead walk.windows) (told_window c.in-Some.window) c.requires.plan.sorted up.at refl;
+      end = turn_limit _ _ _ _ (turns_ahead walk.windows) (told_window c.in-Some.window) c.requires.plan.ends up.at refl;
+    }
 
-pub turn-turn-requires-clause-end : goal.turn-turn-requires-clause-end
-turn-turn-requires-clause-end g c =
-    let list = c.args.plan.now.list.now in
-    let walk = c.args.shelf.now.walk in
-    let room = c.requires.ready.0 in
-    let up : IsNextUp list room c.in-Some.window walk = subst (λ (o : Option Window). IsShelfOf list room o walk) c.in-Some.is c.requires.ready.1 in
-    turn_limit list (entries_left walk.entries) room (told_window c.in-Some.window ∷ turns_ahead walk.windows) (turns_ahead walk.windows) (told_window c.in-Some.window) c.requires.plan.ends up.at refl
-
-pub collect_hull-came-requires-clause-hull : goal.collect_hull-came-requires-clause-hull
-collect_hull-came-requires-clause-hull g c =
+pub collect_hull-came-requires : goal.collect_hull-came-requires
+collect_hull-came-requires g c =
     let list = c.args.plan.now.list.now in
     let walk = c.args.shelf.now.walk in
     let room = c.requires.ready.0 in
     let up : IsNextUp list room c.in-Some.window walk = subst (λ (o : Option Window). IsShelfOf list room o walk) c.in-Some.is c.requires.ready.1 in
     let t : Told = told_window c.turn-turn.result.window in
     let same = ap (λ (w : Window). told_window w ∷ turns_ahead walk.windows) c.turn-turn.ensures.window in
-    turn_limit list (entries_left walk.entries) room (told_window c.in-Some.window ∷ turns_ahead walk.windows) (turns_ahead walk.windows) t c.requires.plan.ends up.at (sym same)
+    let served = served_now _ _ _ _ _ (turns_ahead walk.windows) t up.at (sym same) c.turn-turn.ensures.front in
+    record {
+      hull = turn_limit _ _ _ _ (turns_ahead walk.windows) t c.requires.plan.ends up.at (sym same);
+      ends = served_ends _ _ _ _ served c.requires.plan.ends;
+      filled = filled_served _ _ _ _ served c.requires.plan.filled;
+      fit = fit_served c.args.table.now _ _ _ _ served c.requires.fit;
+    }
 
-pub collect_hull-came-requires-clause-ends : goal.collect_hull-came-requires-clause-ends
-collect_hull-came-requires-clause-ends g c =
+pub go_past-requires : goal.go_past-requires
+go_past-requires g c =
     let list = c.args.plan.now.list.now in
     let walk = c.args.shelf.now.walk in
     let room = c.requires.ready.0 in
     let up : IsNextUp list room c.in-Some.window walk = subst (λ (o : Option Window). IsShelfOf list room o walk) c.in-Some.is c.requires.ready.1 in
-    let t : Told = told_window c.turn-turn.result.window in
-    let same = ap (λ (w : Window). told_window w ∷ turns_ahead walk.windows) c.turn-turn.ensures.window in
-    let served = served_now list (entries_left walk.entries) (entries_in c.turn-turn.result) room (told_window c.in-Some.window ∷ turns_ahead walk.windows) (turns_ahead walk.windows) t up.at
-    (sym same) c.turn-turn.ensures.front in
-    served_ends list (entries_in c.turn-turn.result) t.0 (t.0 + t.1) served c.requires.plan.ends
-
-pub collect_hull-came-requires-clause-filled : goal.collect_hull-came-requires-clause-filled
-collect_hull-came-requires-clause-filled g c =
-    let list = c.args.plan.now.list.now in
-    let walk = c.args.shelf.now.walk in
-    let room = c.requires.ready.0 in
-    let up : IsNextUp list room c.in-Some.window walk = subst (λ (o : Option Window). IsShelfOf list room o walk) c.in-Some.is c.requires.ready.1 in
-    let t : Told = told_window c.turn-turn.result.window in
-    let same = ap (λ (w : Window). told_window w ∷ turns_ahead walk.windows) c.turn-turn.ensures.window in
-    let served = served_now list (entries_left walk.entries) (entries_in c.turn-turn.result) room (told_window c.in-Some.window ∷ turns_ahead walk.windows) (turns_ahead walk.windows) t up.at
-    (sym same) c.turn-turn.ensures.front in
-    filled_served list (entries_in c.turn-turn.result) t.0 (t.0 + t.1) served c.requires.plan.filled
-
-pub collect_hull-came-requires-clause-fit : goal.collect_hull-came-requires-clause-fit
-collect_hull-came-requires-clause-fit g c =
-    let list = c.args.plan.now.list.now in
-    let walk = c.args.shelf.now.walk in
-    let room = c.requires.ready.0 in
-    let up : IsNextUp list room c.in-Some.window walk = subst (λ (o : Option Window). IsShelfOf list room o walk) c.in-Some.is c.requires.ready.1 in
-    let t : Told = told_window c.turn-turn.result.window in
-    let same = ap (λ (w : Window). told_window w ∷ turns_ahead walk.windows) c.turn-turn.ensures.window in
-    let served = served_now list (entries_left walk.entries) (entries_in c.turn-turn.result) room (told_window c.in-Some.window ∷ turns_ahead walk.windows) (turns_ahead walk.windows) t up.at
-    (sym same) c.turn-turn.ensures.front in
-    fit_served c.args.table.now list (entries_in c.turn-turn.result) t.0 (t.0 + t.1) served c.requires.fit
-
-pub go_past-requires-clause-ends : goal.go_past-requires-clause-ends
-go_past-requires-clause-ends g c =
-    let list = c.args.plan.now.list.now in
-    let walk = c.args.shelf.now.walk in
-    let room = c.requires.ready.0 in
-    let up : IsNextUp list room c.in-Some.window walk = subst (λ (o : Option Window). IsShelfOf list room o walk) c.in-Some.is c.requires.ready.1 in
-    left_ends list (entries_left walk.entries) room (told_window c.in-Some.window ∷ turns_ahead walk.windows) (turns_ahead walk.windows) (told_window c.in-Some.window) c.requires.plan.ends up.at refl
-
-pub go_past-requires-clause-filled : goal.go_past-requires-clause-filled
-go_past-requires-clause-filled g c =
-    let list = c.args.plan.now.list.now in
-    let walk = c.args.shelf.now.walk in
-    let room = c.requires.ready.0 in
-    let up : IsNextUp list room c.in-Some.window walk = subst (λ (o : Option Window). IsShelfOf list room o walk) c.in-Some.is c.requires.ready.1 in
-    left_filled list (entries_left walk.entries) room (told_window c.in-Some.window ∷ turns_ahead walk.windows) (turns_ahead walk.windows) (told_window c.in-Some.window) c.requires.plan.filled up.at refl
-
-pub go_past-requires-clause-end : goal.go_past-requires-clause-end
-go_past-requires-clause-end g c =
-    let list = c.args.plan.now.list.now in
-    let walk = c.args.shelf.now.walk in
-    let room = c.requires.ready.0 in
-    let up : IsNextUp list room c.in-Some.window walk = subst (λ (o : Option Window). IsShelfOf list room o walk) c.in-Some.is c.requires.ready.1 in
-    turn_limit list (entries_left walk.entries) room (told_window c.in-Some.window ∷ turns_ahead walk.windows) (turns_ahead walk.windows) (told_window c.in-Some.window) c.requires.plan.ends up.at refl
+    record {
+      ends = left_ends _ _ _ _ (turns_ahead walk.windows) (told_window c.in-Some.window) c.requires.plan.ends up.at refl;
+      filled = left_filled _ _ _ _ (turns_ahead walk.windows) (told_window c.in-Some.window) c.requires.plan.filled up.at refl;
+      end = turn_limit _ _ _ _ (turns_ahead walk.windows) (told_window c.in-Some.window) c.requires.plan.ends up.at refl;
+    }
 
 pub next_window-shelf-requires : goal.next_window-shelf-requires
 next_window-shelf-requires g c =
@@ -115,8 +68,7 @@ returns-in-Hull-clause-ready g c =
     )
 
 pub returns-in-Hull-clause-fewer : goal.returns-in-Hull-clause-fewer
-returns-in-Hull-clause-fewer g c =
-    λ some.
+returns-in-Hull-clause-fewer g c = λ some.
     subst (λ (ws : WindowWalk). length (turns_due_of c.next_window-shelf.result c.next_window-shelf.new.windows) < length (turns_due_of c.args.shelf.now.next ws)) c.go_past.ensures.windows
     (fewer_due c.args.shelf.now.next c.next_window-shelf.result c.in-Some.window c.go_past.new.self.windows c.next_window-shelf.new.windows c.in-Some.is c.next_window-shelf.ensures.some)
 
@@ -128,13 +80,12 @@ returns-in-Hull-clause-taken g c =
     let up : IsNextUp list room c.in-Some.window walk = subst (λ (o : Option Window). IsShelfOf list room o walk) c.in-Some.is c.requires.ready.1 in
     let t : Told = told_window c.turn-turn.result.window in
     let same = ap (λ (w : Window). told_window w ∷ turns_ahead walk.windows) c.turn-turn.ensures.window in
-    let served = served_now list (entries_left walk.entries) (entries_in c.turn-turn.result) room (told_window c.in-Some.window ∷ turns_ahead walk.windows) (turns_ahead walk.windows) t up.at
-    (sym same) c.turn-turn.ensures.front in
+    let served = served_now _ _ _ _ _ (turns_ahead walk.windows) t up.at (sym same) c.turn-turn.ensures.front in
     let next = c.next_window-shelf.ensures in
     let due = due_next c.next_window-shelf.result (turns_ahead c.go_past.new.self.windows) c.next_window-shelf.new.windows next.none next.some
     ∙ ap (λ (ws : WindowWalk). turns_ahead ws) c.go_past.ensures.windows in
-    taken_turn list (entries_in c.turn-turn.result) t c.in-Hull.blob c.args.shelf.now
-    (record { line = _; next = c.next_window-shelf.result; walk = record { windows = c.next_window-shelf.new.windows; entries = c.go_past.new.self.entries } })
-    c.args.table.now c.collect_hull-came.new.table c.collect_hull-came.result
-    (ap (λ (ts : List Told). t ∷ ts) due ∙ same ∙ sym (ap (λ (o : Option Window). turns_due_of o walk.windows) c.in-Some.is))
-    (first_of (search rules, grind (arith, common_steps))) c.requires.one_place c.requires.fit served c.collect_hull-came.ensures.long c.collect_hull-came.ensures.collected
+    taken_turn _ _ t c.in-Hull.blob c.args.shelf.now (record
+    { line = _; next = c.next_window-shelf.result; walk = record { windows = c.next_window-shelf.new.windows; entries = c.go_past.new.self.entries } }) c.args.table.now
+    c.collect_hull-came.new.table c.collect_hull-came.result (ap (λ (ts : List Told). t ∷ ts) due ∙ same ∙ sym
+    (ap (λ (o : Option Window). turns_due_of o walk.windows) c.in-Some.is)) (first_of
+    (search rules, grind (arith, common_steps))) c.requires.one_place c.requires.fit served c.collect_hull-came.ensures.long c.collect_hull-came.ensures.collected

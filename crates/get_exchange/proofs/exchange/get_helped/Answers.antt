@@ -38,24 +38,8 @@ give_back-requires g c =
     long c.get_in_turn-others.ensures.got in
     omega arith
 
-pub returns-clause-got : goal.returns-clause-got
-returns-clause-got g c =
-    let plan = c.args.plan.now in
-    let parts = c.args.parts.items in
-    let domains = c.args.domains.now in
-    let served = c.get_served-back.result in
-    let others = c.get_in_turn-others.result in
-    let whole = c.give_back.new.back.items in
-    let count = c.len-served.result in
-    let number : count ≡ length served.back.items = first_of (search rules, grind (arith, common_steps)) in
-    let state = part_state g.D.Disk in
-    subst (λ (r : Result (Unit {0}) DiskErr). AllZip (λ p d. HasGot (get_turns plan p.1) (state p.0) (state d) r) (zip parts domains) whole) (sym c.and.ensures)
-    (got_joined plan state parts served.rest.items domains (take (length domains - count) (drop count domains)) served.back.items others.0.items whole served.end others.1
-    c.requires.one_each c.get_served-back.ensures.rest (take_rest domains count ∙ ap (λ (n : ℕ). drop n domains) number) c.give_back.ensures
-    c.get_served-back.ensures.got c.get_in_turn-others.ensures.got)
-
-pub returns-clause-read : goal.returns-clause-read
-returns-clause-read g c =
+pub returns : goal.returns
+returns g c =
     let plan = c.args.plan.now in
     let parts = c.args.parts.items in
     let domains = c.args.domains.now in
@@ -63,19 +47,22 @@ returns-clause-read g c =
     let others = c.get_in_turn-others.result in
     let count = c.len-served.result in
     let number : count ≡ length served.back.items = first_of (search rules, grind (arith, common_steps)) in
-    let from = λ (d : g.row.D.Denot). g.D.Disk.from d in
-    let held = λ (d : g.row.D.Denot). g.D.Disk.held d in
-    subst (λ (r : Result (Unit {0}) DiskErr). OnOk r (HasReadParts from held plan (zip parts domains) c.args.into.now c.get_in_turn-others.new.into)) (sym c.and.ensures)
-    (parts_joined from held plan (length served.back.items) parts served.rest.items domains (take (length domains - count) (drop count domains))
-    c.args.into.now c.get_served-back.new.into c.get_in_turn-others.new.into served.end others.1
-    c.requires.one_each c.get_served-back.ensures.rest (take_rest domains count ∙ ap (λ (n : ℕ). drop n domains) number)
-    c.get_served-back.ensures.read c.get_in_turn-others.ensures.read)
-
-pub returns-clause-failed : goal.returns-clause-failed
-returns-clause-failed g c =
-    let served = c.get_served-back.result in
-    let others = c.get_in_turn-others.result in
-    λ f.
-    failed_joined (λ (a b : g.row.D.Denot). Rose (g.D.Disk.faults a) (g.D.Disk.faults b)) c.args.parts.items served.rest.items served.back.items others.0.items c.give_back.new.back.items served.end others.1
-    c.get_served-back.ensures.rest c.give_back.ensures c.get_served-back.ensures.failed c.get_in_turn-others.ensures.failed
-    (subst (λ (r : Result (Unit {0}) DiskErr). IsErrOf r Failed) c.and.ensures f)
+    record {
+      got =
+          let whole = c.give_back.new.back.items in
+          let state = part_state g.D.Disk in
+          subst (λ (r : Result (Unit {0}) DiskErr). AllZip (λ p d. HasGot (get_turns plan p.1) (state p.0) (state d) r) (zip parts domains) whole) (sym c.and.ensures)
+          (got_joined plan state parts _ domains _ served.back.items others.0.items _ served.end others.1 c.requires.one_each c.get_served-back.ensures.rest
+          (take_rest domains count ∙ ap (λ (n : ℕ). drop n domains) number) c.give_back.ensures c.get_served-back.ensures.got c.get_in_turn-others.ensures.got);
+      read =
+          let from = λ (d : g.row.D.Denot). g.D.Disk.from d in
+          let held = λ (d : g.row.D.Denot). g.D.Disk.held d in
+          subst (λ (r : Result (Unit {0}) DiskErr). OnOk r (HasReadParts from held plan (zip parts domains) c.args.into.now c.get_in_turn-others.new.into)) (sym c.and.ensures)
+          (parts_joined from held plan (length served.back.items) parts _ domains _ c.args.into.now c.get_served-back.new.into c.get_in_turn-others.new.into served.end
+          others.1 c.requires.one_each c.get_served-back.ensures.rest (take_rest domains count ∙ ap (λ (n : ℕ). drop n domains) number) c.get_served-back.ensures.read
+          c.get_in_turn-others.ensures.read);
+      blobs = first_of (search rules, grind (arith, common_steps));
+      failed = λ f. failed_joined (λ (a b : g.row.D.Denot). Rose (g.D.Disk.faults a) (g.D.Disk.faults b)) c.args.parts.items _ served.back.items others.0.items _ served.end
+          others.1 c.get_served-back.ensures.rest c.give_back.ensures c.get_served-back.ensures.failed c.get_in_turn-others.ensures.failed
+          (subst (λ (r : Result (Unit {0}) DiskErr). IsErrOf r Failed) c.and.ensures f);
+    }

@@ -20,11 +20,10 @@ take_back-end-requires-clause-workers g c κs within =
     let long : length last ≡ length first = c.take_all-came.ensures.long ∙ ap (λ (ws : List (ReadWorker g.row.D.Denot)). length ws) lent in
     let whole = slice_kept count last first n long in
     let kept = subst (λ (ws : List (ReadWorker g.row.D.Denot)). (k : ℕ) (a b : ReadWorker g.row.D.Denot) → slice_get ws k ≡ Some a → slice_get last k ≡ Some b → IsKept a b) lent c.take_all-came.ensures.kept in
-    λ worker m.
-    kept_workers c.args.plan.now first last long kept c.hand_all.ensures.workers worker (subst (λ (ws : List (ReadWorker g.row.D.Denot)). In ws worker) whole m)
+    λ worker m. kept_workers c.args.plan.now first last long kept c.hand_all.ensures.workers worker (subst (λ (ws : List (ReadWorker g.row.D.Denot)). In ws worker) whole m)
 
-pub returns-clause-rest : goal.returns-clause-rest
-returns-clause-rest g c =
+pub returns : goal.returns
+returns g c =
     let first = c.hand_all.new.shares.workers.items in
     let last = c.take_all-came.new.workers in
     let count = c.hand_all.new.shares.workers.len in
@@ -34,83 +33,17 @@ returns-clause-rest g c =
     let whole = slice_kept count last first n long in
     let back = c.take_back-end.new.back.items in
     let many : length back ≡ length first = c.take_back-end.ensures.long ∙ ap (λ (ws : List (ReadWorker g.row.D.Denot)). length ws) whole ∙ long in
-    parts_behind (λ worker. part_of worker) first c.hand_all.new.shares.rest.items c.args.parts.items (length back) many c.hand_all.ensures.parts
-
-pub returns-clause-got : goal.returns-clause-got
-returns-clause-got g c =
     let plan = c.args.plan.now in
-    let first = c.hand_all.new.shares.workers.items in
-    let last = c.take_all-came.new.workers in
-    let count = c.hand_all.new.shares.workers.len in
-    let n : count ≡ length first = first_of (search rules, grind (arith, common_steps)) in
-    let lent : c.deref_mut.result.now ≡ first = c.deref_mut.ensures.value in
-    let long : length last ≡ length first = c.take_all-came.ensures.long ∙ ap (λ (ws : List (ReadWorker g.row.D.Denot)). length ws) lent in
-    let whole = slice_kept count last first n long in
-    let kept = subst (λ (ws : List (ReadWorker g.row.D.Denot)). (k : ℕ) (a b : ReadWorker g.row.D.Denot) → slice_get ws k ≡ Some a → slice_get last k ≡ Some b → IsKept a b) lent c.take_all-came.ensures.kept in
-    let back = c.take_back-end.new.back.items in
+    let kept = subst (λ (ws : List (ReadWorker g.row.D.Denot)). (k : ℕ) (a b : ReadWorker g.row.D.Denot) → slice_get ws k ≡ Some a → slice_get last k ≡ Some b → IsKept a b)
+    lent c.take_all-came.ensures.kept in
     let parts = c.args.parts.items in
     let domains = c.args.domains.now in
-    let many : length back ≡ length first = c.take_back-end.ensures.long ∙ ap (λ (ws : List (ReadWorker g.row.D.Denot)). length ws) whole ∙ long in
-    let of_parts : map (λ worker. part_of worker) last ≡ take (length back) parts =
-    kept_parts first last long kept ∙ sym (first_parts (λ worker. part_of worker) first c.hand_all.new.shares.rest.items parts (length back) many c.hand_all.ensures.parts) in
-    let of_domains : map (λ worker. domain_of worker) last ≡ take (length back) domains =
-    kept_domains first last long kept ∙ c.hand_all.ensures.domains ∙ ap (λ (k : ℕ). take k domains) (sym many) in
-    let of : AreOf (λ worker. part_of worker) (λ worker. domain_of worker) last (take (length back) parts) (take (length back) domains) = record { of_parts = of_parts; of_domains = of_domains } in
-    let state = part_state g.D.Disk in
-    let Got : g.row.D.Denot × Extent → g.row.D.Denot → Type 0
-    = λ p d. HasGot (get_turns plan p.1) (state p.0) (state d) c.take_back-end.result in
-    all_got_later (λ (p : g.row.D.Denot × Extent). get_turns plan p.1) state _ back c.take_back-end.result c.and.result
-    (subst (λ (r : Result (Unit {0}) DiskErr). OnOk r (IsOk c.take_back-end.result)) (sym c.and.ensures) (and_first_ok c.take_back-end.result c.take_all-came.result))
-    (all_of (λ worker. part_of worker) (λ worker. domain_of worker) last (take (length back) parts) back (take (length back) domains) Got of
-    (subst (λ (ws : List (ReadWorker g.row.D.Denot)). AllZip (λ worker d. Got (part_of worker, domain_of worker) d) ws back) whole c.take_back-end.ensures.got))
-
-pub returns-clause-failed : goal.returns-clause-failed
-returns-clause-failed g c =
-    let first = c.hand_all.new.shares.workers.items in
-    let last = c.take_all-came.new.workers in
-    let count = c.hand_all.new.shares.workers.len in
-    let n : count ≡ length first = first_of (search rules, grind (arith, common_steps)) in
-    let lent : c.deref_mut.result.now ≡ first = c.deref_mut.ensures.value in
-    let long : length last ≡ length first = c.take_all-came.ensures.long ∙ ap (λ (ws : List (ReadWorker g.row.D.Denot)). length ws) lent in
-    let whole = slice_kept count last first n long in
-    let kept = subst (λ (ws : List (ReadWorker g.row.D.Denot)). (k : ℕ) (a b : ReadWorker g.row.D.Denot) → slice_get ws k ≡ Some a → slice_get last k ≡ Some b → IsKept a b) lent c.take_all-came.ensures.kept in
-    let back = c.take_back-end.new.back.items in
-    let parts = c.args.parts.items in
-    let domains = c.args.domains.now in
-    let many : length back ≡ length first = c.take_back-end.ensures.long ∙ ap (λ (ws : List (ReadWorker g.row.D.Denot)). length ws) whole ∙ long in
-    let of_parts : map (λ worker. part_of worker) last ≡ take (length back) parts =
-    kept_parts first last long kept ∙ sym (first_parts (λ worker. part_of worker) first c.hand_all.new.shares.rest.items parts (length back) many c.hand_all.ensures.parts) in
-    let of_domains : map (λ worker. domain_of worker) last ≡ take (length back) domains =
-    kept_domains first last long kept ∙ c.hand_all.ensures.domains ∙ ap (λ (k : ℕ). take k domains) (sym many) in
-    let of : AreOf (λ worker. part_of worker) (λ worker. domain_of worker) last (take (length back) parts) (take (length back) domains) = record { of_parts = of_parts; of_domains = of_domains } in
-    let Failing : g.row.D.Denot → g.row.D.Denot → Type 0 = λ a b. Rose (g.D.Disk.faults a) (g.D.Disk.faults b) in
-    λ f.
-    some_of (λ worker. part_of worker) (λ worker. domain_of worker) last (take (length back) parts) back (take (length back) domains) Failing of
-    (subst (λ (ws : List (ReadWorker g.row.D.Denot)). SomeZip (λ worker d. Failing (part_of worker) d) ws back) whole (c.take_back-end.ensures.failed
-    (and_memory c.take_back-end.result c.take_all-came.result c.take_all-came.ensures.memory (subst (λ (r : Result (Unit {0}) DiskErr). IsErrOf r Failed) c.and.ensures f))))
-
-pub returns-clause-served : goal.returns-clause-served
-returns-clause-served g c =
-    let first = c.hand_all.new.shares.workers.items in
-    let last = c.take_all-came.new.workers in
-    let count = c.hand_all.new.shares.workers.len in
-    let n : count ≡ length first = first_of (search rules, grind (arith, common_steps)) in
-    let lent : c.deref_mut.result.now ≡ first = c.deref_mut.ensures.value in
-    let long : length last ≡ length first = c.take_all-came.ensures.long ∙ ap (λ (ws : List (ReadWorker g.row.D.Denot)). length ws) lent in
-    let whole = slice_kept count last first n long in
-    let many : length c.take_back-end.new.back.items ≡ length first = c.take_back-end.ensures.long ∙ ap (λ (ws : List (ReadWorker g.row.D.Denot)). length ws) whole ∙ long in
-    let few = workers_few (λ worker. part_of worker) first c.hand_all.new.shares.rest.items c.args.parts.items c.hand_all.ensures.parts in
-    omega arith
-
-pub returns-clause-room : goal.returns-clause-room
-returns-clause-room g c =
-    let rooms = c.requires.rooms.for_back in
-    let handed = ap (λ back. vec_capacity back) c.hand_all.ensures.back in
-    let taken = c.take_back-end.ensures.room in
-    omega arith
-
-pub returns-clause-blobs : goal.returns-clause-blobs
-returns-clause-blobs g c =
+    let of_parts : map (λ worker. part_of worker) last ≡ take (length back) parts = kept_parts first last long kept ∙ sym
+    (first_parts (λ worker. part_of worker) first c.hand_all.new.shares.rest.items parts (length back) many c.hand_all.ensures.parts) in
+    let of_domains : map (λ worker. domain_of worker) last ≡ take (length back) domains = kept_domains first last long kept ∙ c.hand_all.ensures.domains ∙ ap
+    (λ (k : ℕ). take k domains) (sym many) in
+    let of : AreOf (λ worker. part_of worker) (λ worker. domain_of worker) last (take (length back) parts) (take (length back) domains) = record
+    { of_parts = of_parts; of_domains = of_domains } in
     let table = c.into_vec-table.result.items in
     let filled = c.take_all-came.new.table in
     let given : c.deref_mut-2.result.now ≡ table = c.deref_mut-2.ensures.value in
@@ -119,45 +52,35 @@ returns-clause-blobs g c =
     let stays = slice_kept c.into_vec-table.result.len filled table room rows in
     let begun : table ≡ c.args.into.now = first_of (search rules, grind (arith, common_steps)) in
     let made : c.from_vec.result ≡ filled = first_of (search (rules, stays), grind (arith, common_steps)) in
-    subst (λ (t : List (List (List ℕ))). AreAsLong c.args.into.now t) (sym made)
-    (subst (λ (t : List (List (List ℕ))). AreAsLong t filled) (given ∙ begun) c.take_all-came.ensures.blobs)
-
-pub returns-clause-read : goal.returns-clause-read
-returns-clause-read g c =
-    let plan = c.args.plan.now in
-    let first = c.hand_all.new.shares.workers.items in
-    let last = c.take_all-came.new.workers in
-    let count = c.hand_all.new.shares.workers.len in
-    let n : count ≡ length first = first_of (search rules, grind (arith, common_steps)) in
-    let lent : c.deref_mut.result.now ≡ first = c.deref_mut.ensures.value in
-    let long : length last ≡ length first = c.take_all-came.ensures.long ∙ ap (λ (ws : List (ReadWorker g.row.D.Denot)). length ws) lent in
-    let whole = slice_kept count last first n long in
-    let kept = subst (λ (ws : List (ReadWorker g.row.D.Denot)). (k : ℕ) (a b : ReadWorker g.row.D.Denot) → slice_get ws k ≡ Some a → slice_get last k ≡ Some b → IsKept a b) lent c.take_all-came.ensures.kept in
-    let back = c.take_back-end.new.back.items in
-    let parts = c.args.parts.items in
-    let domains = c.args.domains.now in
-    let many : length back ≡ length first = c.take_back-end.ensures.long ∙ ap (λ (ws : List (ReadWorker g.row.D.Denot)). length ws) whole ∙ long in
-    let of_parts : map (λ worker. part_of worker) last ≡ take (length back) parts =
-    kept_parts first last long kept ∙ sym (first_parts (λ worker. part_of worker) first c.hand_all.new.shares.rest.items parts (length back) many c.hand_all.ensures.parts) in
-    let of_domains : map (λ worker. domain_of worker) last ≡ take (length back) domains =
-    kept_domains first last long kept ∙ c.hand_all.ensures.domains ∙ ap (λ (k : ℕ). take k domains) (sym many) in
-    let of : AreOf (λ worker. part_of worker) (λ worker. domain_of worker) last (take (length back) parts) (take (length back) domains) = record { of_parts = of_parts; of_domains = of_domains } in
-    let table = c.into_vec-table.result.items in
-    let filled = c.take_all-came.new.table in
-    let given : c.deref_mut-2.result.now ≡ table = c.deref_mut-2.ensures.value in
-    let rows : length filled ≡ length table = rows_long c.deref_mut-2.result.now filled c.take_all-came.ensures.blobs ∙ ap (λ (t : List (List (List ℕ))). length t) given in
-    let room : c.into_vec-table.result.len ≡ length table = first_of (search rules, grind (arith, common_steps)) in
-    let stays = slice_kept c.into_vec-table.result.len filled table room rows in
-    let begun : table ≡ c.args.into.now = first_of (search rules, grind (arith, common_steps)) in
-    let made : c.from_vec.result ≡ filled = first_of (search (rules, stays), grind (arith, common_steps)) in
-    let from = λ (d : g.row.D.Denot). g.D.Disk.from d in
-    let held = λ (d : g.row.D.Denot). g.D.Disk.held d in
-    let pairs = zip (take (length back) parts) (take (length back) domains) in
-    subst (λ (t : List (List (List ℕ))). OnOk c.and.result (HasReadParts from held plan pairs c.args.into.now t)) (sym made)
-    (subst (λ (r : Result (Unit {0}) DiskErr). OnOk r (HasReadParts from held plan pairs c.args.into.now filled)) (sym c.and.ensures)
-    (all_read from held plan first last (take (length back) parts) (take (length back) domains) c.args.into.now filled c.take_back-end.result c.take_all-came.result of long
-    c.hand_all.ensures.workers kept c.take_all-came.ensures.none
-    (subst (λ (t : List (List (List ℕ))). OnOk c.take_all-came.result (HaveTakenTurns plan.list.now first last t filled)) (given ∙ begun)
-    (subst (λ (ws : List (ReadWorker g.row.D.Denot)). OnOk c.take_all-came.result (HaveTakenTurns plan.list.now ws last c.deref_mut-2.result.now filled)) lent c.take_all-came.ensures.taken))
-    (subst (λ (ws : List (ReadWorker g.row.D.Denot)). OnOk c.take_back-end.result ((worker : ReadWorker g.row.D.Denot) → In ws worker
-    → AreRead (get_turns plan (domain_of worker)) (from (part_of worker)) (held (part_of worker)) worker.shelf.line.items)) whole c.take_back-end.ensures.read)))
+    record {
+      rest = parts_behind (λ worker. part_of worker) first c.hand_all.new.shares.rest.items c.args.parts.items (length back) many c.hand_all.ensures.parts;
+      served = omega (arith, workers_few (λ worker. part_of worker) first c.hand_all.new.shares.rest.items c.args.parts.items c.hand_all.ensures.parts);
+      room = omega (arith, c.requires.rooms.for_back, ap (λ back. vec_capacity back) c.hand_all.ensures.back, c.take_back-end.ensures.room);
+      got =
+          let state = part_state g.D.Disk in
+          let Got : g.row.D.Denot × Extent → g.row.D.Denot → Type 0 = λ p d. HasGot (get_turns plan p.1) (state p.0) (state d) c.take_back-end.result in
+          all_got_later (λ (p : g.row.D.Denot × Extent). get_turns plan p.1) state _ back c.take_back-end.result c.and.result
+          (subst (λ (r : Result (Unit {0}) DiskErr). OnOk r (IsOk c.take_back-end.result)) (sym c.and.ensures) (and_first_ok c.take_back-end.result c.take_all-came.result))
+          (all_of (λ worker. part_of worker) (λ worker. domain_of worker) last (take (length back) parts) back (take (length back) domains) Got of
+          (subst (λ (ws : List (ReadWorker g.row.D.Denot)). AllZip (λ worker d. Got (part_of worker, domain_of worker) d) ws back) whole c.take_back-end.ensures.got));
+      read =
+          let from = λ (d : g.row.D.Denot). g.D.Disk.from d in
+          let held = λ (d : g.row.D.Denot). g.D.Disk.held d in
+          let pairs = zip (take (length back) parts) (take (length back) domains) in
+          subst (λ (t : List (List (List ℕ))). OnOk c.and.result (HasReadParts from held plan pairs c.args.into.now t)) (sym made)
+          (subst (λ (r : Result (Unit {0}) DiskErr). OnOk r (HasReadParts from held plan pairs c.args.into.now filled)) (sym c.and.ensures)
+          (all_read from held plan first last (take (length back) parts) (take (length back) domains) c.args.into.now filled c.take_back-end.result c.take_all-came.result
+          of long c.hand_all.ensures.workers kept c.take_all-came.ensures.none
+          (subst (λ (t : List (List (List ℕ))). OnOk c.take_all-came.result (HaveTakenTurns plan.list.now first last t filled)) (given ∙ begun)
+          (subst (λ (ws : List (ReadWorker g.row.D.Denot)). OnOk c.take_all-came.result (HaveTakenTurns plan.list.now ws last c.deref_mut-2.result.now filled)) lent
+          c.take_all-came.ensures.taken)) (subst (λ (ws : List (ReadWorker g.row.D.Denot)). OnOk c.take_back-end.result
+          ((worker : ReadWorker g.row.D.Denot) → In ws worker → AreRead (get_turns plan (domain_of worker)) (from (part_of worker)) (held (part_of worker))
+          worker.shelf.line.items)) whole c.take_back-end.ensures.read)));
+      blobs = subst (λ (t : List (List (List ℕ))). AreAsLong c.args.into.now t) (sym made)
+          (subst (λ (t : List (List (List ℕ))). AreAsLong t filled) (given ∙ begun) c.take_all-came.ensures.blobs);
+      failed =
+          let Failing : g.row.D.Denot → g.row.D.Denot → Type 0 = λ a b. Rose (g.D.Disk.faults a) (g.D.Disk.faults b) in
+          λ f. some_of (λ worker. part_of worker) (λ worker. domain_of worker) last (take (length back) parts) back (take (length back) domains) Failing of
+          (subst (λ (ws : List (ReadWorker g.row.D.Denot)). SomeZip (λ worker d. Failing (part_of worker) d) ws back) whole (c.take_back-end.ensures.failed
+          (and_memory c.take_back-end.result c.take_all-came.result c.take_all-came.ensures.memory (subst (λ (r : Result (Unit {0}) DiskErr). IsErrOf r Failed) c.and.ensures f))));
+    }

@@ -46,4 +46,5 @@ loop-part-preserved-in-Ok g c =
       workers_room = c.push_reserved.ensures.capacity ∙ c.loop-part.invariant.workers_room;
       rest_room = c.loop-part.invariant.rest_room;
       back = c.loop-part.invariant.back;
+      past = c.reach-entries.ensures.past;
     }

@@ -1,5 +1,5 @@
 -- Each part so far was handed to a helper, or the part is among the rest.
-use Rattle.get_exchange.proofs.Words.{◌≡◌, ◌++◌, length, map, take, vec_capacity, In, domain_of, part_of, IsFresh, ReadWorker}
+use Rattle.get_exchange.proofs.Words.{◌≡◌, ◌++◌, length, map, take, vec_capacity, In, domain_of, part_of, IsFresh, IsPast, ReadWorker}
 use Rattle.get_exchange.proofs.handing.hand_all.Given as goal
 
 abbrev pub invariant-loop-part : goal.invariant-loop-part
@@ -11,4 +11,5 @@ invariant-loop-part g l = record {
   workers_room : vec_capacity l.shares.workers ≡ vec_capacity l.initial.shares.workers;
   rest_room : vec_capacity l.shares.rest ≡ vec_capacity l.initial.shares.rest;
   back : l.shares.back ≡ l.initial.shares.back;
+  past : IsPast l.ahead.place l.plan.list.now l.ahead.entries.now;
 }

@@ -7,5 +7,5 @@ pub ask-requires-clause-on_part : goal.ask-requires-clause-on_part
 ask-requires-clause-on_part g c κs within =
     let plan = c.args.plan.now in
     λ t m.
-    get_on plan.list.now plan.cover.now plan.hints.now.cb_buffer (g.D.Disk.from c.args.part) (g.D.Disk.len c.args.part) c.args.aggregator.domain c.requires.plan c.requires.domain
+    get_on plan.list.now plan.cover.now plan.hints.now.cb_buffer (g.D.Disk.from c.args.part) (g.D.Disk.len c.args.part) c.args.reader.now.aggregator.domain c.requires.plan c.requires.domain
     t (subst (λ (ts : List Told). In ts t) c.in-Ok-window_list.ensures m)

@@ -4,15 +4,11 @@ use Rattle.get_exchange.proofs.PartReads.{got_untouched}
 use Rattle.get_exchange.proofs.in_turn.get_in_turn.Goals as goal
 
 pub returns-in_default-clause-got : goal.returns-in_default-clause-got
-returns-in_default-clause-got g c =
-    zip_same _ c.args.parts.items c.args.domains.now c.requires.one_each
-    (λ p domain. got_untouched (get_turns c.args.plan.now domain)
+returns-in_default-clause-got g c = zip_same _ c.args.parts.items c.args.domains.now c.requires.one_each (λ p domain. got_untouched (get_turns c.args.plan.now domain)
     (part_state g.D.Disk p) _)
 
 pub returns-in_default-take-clause-got : goal.returns-in_default-take-clause-got
-returns-in_default-take-clause-got g c =
-    zip_same _ c.args.parts.items c.args.domains.now c.requires.one_each
-    (λ p domain. got_untouched (get_turns c.args.plan.now domain)
+returns-in_default-take-clause-got g c = zip_same _ c.args.parts.items c.args.domains.now c.requires.one_each (λ p domain. got_untouched (get_turns c.args.plan.now domain)
     (part_state g.D.Disk p) _)
 
 pub returns-clause-read : goal.returns-clause-read

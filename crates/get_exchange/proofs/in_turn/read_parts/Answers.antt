@@ -11,8 +11,7 @@ none = record { at = 0; len = 0 }
 pub loop-part-init : goal.loop-part-init
 loop-part-init g c =
     let state = part_state g.D.Disk in
-    let Got : Result (Unit {0}) DiskErr → g.row.D.Denot × Extent → g.row.D.Denot → Type 0
-    = λ r p d. HasGot (get_turns c.args.plan.now p.1) (state p.0) (state d) r in
+    let Got : Result (Unit {0}) DiskErr → g.row.D.Denot × Extent → g.row.D.Denot → Type 0 = λ r p d. HasGot (get_turns c.args.plan.now p.1) (state p.0) (state d) r in
     record {
       all = first_of (search rules, grind (arith, common_steps));
       long = ap (λ (ds : List g.row.D.Denot). length ds) c.requires.none;
@@ -21,6 +20,7 @@ loop-part-init g c =
       got = none_zip (Got (Ok tt)) c.args.back.items c.requires.none;
       read = parts_none (λ d. g.D.Disk.from d) (λ d. g.D.Disk.held d) c.args.plan.now c.args.room.now.table.items;
       blobs = refl;
+      past = c.new-ahead.ensures.past;
       failed = λ f. absurd cc;
     }
 
@@ -44,9 +44,7 @@ read_next-part-requires-clause-room g c κs within =
     let long = c.requires.one_each in
     let domain = get_or c.args.domains.now c.len-number.result none in
     let at = at_index c.args.domains.now c.len-number.result c.len-number.result none (omega arith) (omega arith) in
-    let most = c.requires.buf_room domain (at_in c.args.domains.now c.len-number.result domain at) in
-    let kept = c.loop-part.invariant.buf in
-    omega arith
+    omega (arith, c.requires.buf_room domain (at_in c.args.domains.now c.len-number.result domain at), c.loop-part.invariant.buf)
 
 pub read_next-part-requires-clause-fit : goal.read_next-part-requires-clause-fit
 read_next-part-requires-clause-fit g c κs within =
@@ -68,8 +66,7 @@ loop-part-preserved g c =
     let plan = c.args.plan.now in
     let more = zip_push c.loop-part.yielded c.args.domains.now c.in-Some.part domain at in
     let state = part_state g.D.Disk in
-    let Got : Result (Unit {0}) DiskErr → g.row.D.Denot × Extent → g.row.D.Denot → Type 0
-    = λ r p d. HasGot (get_turns plan p.1) (state p.0) (state d) r in
+    let Got : Result (Unit {0}) DiskErr → g.row.D.Denot × Extent → g.row.D.Denot → Type 0 = λ r p d. HasGot (get_turns plan p.1) (state p.0) (state d) r in
     record {
       all = append_assoc c.loop-part.yielded (c.in-Some.part ∷ []) _ ∙ middle;
       long = both_long c.loop-part.yielded c.in-Some.part c.loop-part.back.items _ part pushed many;
@@ -83,6 +80,7 @@ loop-part-preserved g c =
           (c.in-Some.part, domain) c.args.room.now.table.items c.loop-part.room.table.items c.read_next-part.new.room.table.items c.loop-part.end came
           more c.read_next-part.ensures.ok c.loop-part.invariant.read c.read_next-part.ensures.read;
       blobs = c.read_next-part.ensures.blobs ∙ c.loop-part.invariant.blobs;
+      past = c.reach-entries.ensures.past;
       failed = failed_more (λ (a b : g.row.D.Denot). Rose (g.D.Disk.faults a) (g.D.Disk.faults b)) c.loop-part.yielded c.loop-part.back.items _ c.in-Some.part part c.loop-part.end came
           many c.loop-part.invariant.failed c.read_next-part.ensures.failed pushed;
     }

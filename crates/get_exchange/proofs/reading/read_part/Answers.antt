@@ -1,5 +1,5 @@
 -- Each window is read, and its hull put on the line.
-use Rattle.get_exchange.proofs.Words.{◌+◌, ◌∙◌, ◌++◌, ◌∷◌, [], ℕ, List, ap, refl, drop, map, false, get_or, arith, drop_all, told_window, at_index, Window, Hull}
+use Rattle.get_exchange.proofs.Words.{◌∙◌, ◌++◌, ◌∷◌, [], ℕ, List, ap, refl, map, false, get_or, arith, drop_all, told_window, at_index, Window, Hull, rules, common_steps}
 use Rattle.get_exchange.proofs.FetchLaws.{fetch_begin, fetch_end, fetch_high, fetch_low, fetch_next, windows_left}
 use Rattle.get_exchange.proofs.reading.read_part.Goals as goal
 
@@ -21,19 +21,14 @@ pub read_turn-requires-clause-low : goal.read_turn-requires-clause-low
 read_turn-requires-clause-low g c κs within =
     let windows = c.args.windows.now in
     let i = c.loop-window.window-index in
-    let window = get_or windows i none in
-    fetch_low (g.D.Disk.from c.args.part.now) (g.D.Disk.from c.loop-window.part) (g.D.Disk.len c.args.part.now) (map told_window windows) (map told_window (drop i windows)) (map told_window (drop (i + 1) windows))
-    (told_window window) c.loop-window.lines.line.items (g.D.Disk.held c.args.part.now) (g.D.Disk.calls c.args.part.now) (g.D.Disk.calls c.loop-window.part)
-    c.loop-window.invariant.fetching (windows_left windows i window (at_index windows i i none c.loop-window-test.true refl)) c.loop-window.invariant.from
+    fetch_low _ _ _ _ _ _ _ _ _ _ _ c.loop-window.invariant.fetching (windows_left windows i _ (at_index windows i i none c.loop-window-test.true refl)) c.loop-window.invariant.from
 
 pub read_turn-requires-clause-high : goal.read_turn-requires-clause-high
 read_turn-requires-clause-high g c κs within =
     let windows = c.args.windows.now in
     let i = c.loop-window.window-index in
-    let window = get_or windows i none in
-    fetch_high (g.D.Disk.from c.args.part.now) (g.D.Disk.from c.loop-window.part) (g.D.Disk.len c.args.part.now) (g.D.Disk.len c.loop-window.part) (map told_window windows) (map told_window (drop i windows))
-    (map told_window (drop (i + 1) windows)) (told_window window) c.loop-window.lines.line.items (g.D.Disk.held c.args.part.now) (g.D.Disk.calls c.args.part.now) (g.D.Disk.calls c.loop-window.part)
-    c.loop-window.invariant.fetching (windows_left windows i window (at_index windows i i none c.loop-window-test.true refl)) c.loop-window.invariant.from c.loop-window.invariant.len
+    fetch_high _ _ _ _ _ _ _ _ _ _ _ _ c.loop-window.invariant.fetching (windows_left windows i _ (at_index windows i i none c.loop-window-test.true refl)) c.loop-window.invariant.from
+    c.loop-window.invariant.len
 
 pub loop-window-preserved : goal.loop-window-preserved
 loop-window-preserved g c =
@@ -44,43 +39,33 @@ loop-window-preserved g c =
     let before = c.loop-window.invariant.later in
     record {
       of = c.put.ensures.of ∙ c.loop-window.invariant.of;
-      fetching = fetch_next (g.D.Disk.from c.args.part.now) (g.D.Disk.from c.loop-window.part) (g.D.Disk.len c.args.part.now) (map told_window windows) (map told_window (drop i windows))
-          (map told_window (drop (i + 1) windows)) (told_window window) c.loop-window.lines.line.items c.put.new.self.items c.read_turn.new.bytes.items (g.D.Disk.held c.args.part.now) (g.D.Disk.held c.loop-window.part)
-          (g.D.Disk.calls c.args.part.now) (g.D.Disk.calls c.loop-window.part) (g.D.Disk.calls c.read_turn.new.part)
-          c.loop-window.invariant.fetching (windows_left windows i window (at_index windows i i none c.loop-window-test.true refl))
-          (c.put.ensures.items ∙ ap (λ (hull : List ℕ). c.loop-window.lines.line.items ++ Hull hull ∷ []) c.from_vec.ensures) c.loop-window.invariant.from c.loop-window.invariant.held c.in-Ok.ensures.read c.in-Ok.ensures.calls;
+      fetching = fetch_next _ _ _ _ _ _ _ _ _ c.read_turn.new.bytes.items _ _ _ _ _ c.loop-window.invariant.fetching
+          (windows_left windows i _ (at_index windows i i none c.loop-window-test.true refl))
+          (c.put.ensures.items ∙ ap (λ (hull : List ℕ). c.loop-window.lines.line.items ++ Hull hull ∷ []) c.from_vec.ensures) c.loop-window.invariant.from
+          c.loop-window.invariant.held c.in-Ok.ensures.read c.in-Ok.ensures.calls;
       held = c.in-Ok.ensures.bytes ∙ c.loop-window.invariant.held;
       from = c.in-Ok.ensures.from ∙ c.loop-window.invariant.from;
       len = c.in-Ok.ensures.len ∙ c.loop-window.invariant.len;
       later = omega arith;
     }
 
-pub returns-clause-many : goal.returns-clause-many
-returns-clause-many g c =
+pub returns : goal.returns
+returns g c =
     let windows = c.args.windows.now in
     let i = c.loop-window.window-index in
-    (fetch_end (g.D.Disk.from c.args.part.now) (g.D.Disk.len c.args.part.now) (map told_window windows) (map told_window (drop i windows)) c.loop-window.lines.line.items
-    (g.D.Disk.held c.args.part.now) (g.D.Disk.calls c.args.part.now) (g.D.Disk.calls c.loop-window.part) c.loop-window.invariant.fetching
-    (ap (λ (ws : List Window). map told_window ws) (drop_all i windows c.loop-window-test.false))).0
-
-pub returns-clause-read : goal.returns-clause-read
-returns-clause-read g c =
-    let windows = c.args.windows.now in
-    let i = c.loop-window.window-index in
-    (fetch_end (g.D.Disk.from c.args.part.now) (g.D.Disk.len c.args.part.now) (map told_window windows) (map told_window (drop i windows)) c.loop-window.lines.line.items
-    (g.D.Disk.held c.args.part.now) (g.D.Disk.calls c.args.part.now) (g.D.Disk.calls c.loop-window.part) c.loop-window.invariant.fetching
-    (ap (λ (ws : List Window). map told_window ws) (drop_all i windows c.loop-window-test.false))).1
-
-pub returns-clause-got : goal.returns-clause-got
-returns-clause-got g c =
-    let windows = c.args.windows.now in
-    let i = c.loop-window.window-index in
+    let got = fetch_end _ _ _ _ _ _ _ _ c.loop-window.invariant.fetching (ap (λ (ws : List Window). map told_window ws) (drop_all i windows c.loop-window-test.false)) in
     record {
-      from = c.loop-window.invariant.from;
-      len = c.loop-window.invariant.len;
-      held = c.loop-window.invariant.held;
-      device = (fetch_end (g.D.Disk.from c.args.part.now) (g.D.Disk.len c.args.part.now) (map told_window windows) (map told_window (drop i windows)) c.loop-window.lines.line.items
-          (g.D.Disk.held c.args.part.now) (g.D.Disk.calls c.args.part.now) (g.D.Disk.calls c.loop-window.part) c.loop-window.invariant.fetching
-          (ap (λ (ws : List Window). map told_window ws) (drop_all i windows c.loop-window-test.false))).2;
-      later = c.loop-window.invariant.later;
+      of = first_of (search rules, grind (arith, common_steps));
+      many = got.0;
+      read = got.1;
+      got = record {
+        from = c.loop-window.invariant.from;
+        len = c.loop-window.invariant.len;
+        held = c.loop-window.invariant.held;
+        device =
+            (fetch_end _ _ _ _ _ _ _ _ c.loop-window.invariant.fetching (ap (λ (ws : List Window). map told_window ws) (drop_all i windows c.loop-window-test.false))).2;
+        later =
+            c.loop-window.invariant.later;
+      };
+      failed = first_of (search rules, grind (arith, common_steps));
     }

@@ -19,8 +19,7 @@ loop-worker-preserved g c =
     let both = c.and-end.result in
     let plan = c.args.plan.now in
     let state = part_state g.D.Disk in
-    let Got : Result (Unit {0}) DiskErr → ReadWorker g.row.D.Denot → g.row.D.Denot → Type 0
-    = λ r s d. HasGot (get_turns plan (domain_of s)) (state (part_of s)) (state d) r in
+    let Got : Result (Unit {0}) DiskErr → ReadWorker g.row.D.Denot → g.row.D.Denot → Type 0 = λ r s d. HasGot (get_turns plan (domain_of s)) (state (part_of s)) (state d) r in
     let first : OnOk both (IsOk end) = subst (λ (r : Result (Unit {0}) DiskErr). OnOk r (IsOk end)) (sym c.and-end.ensures) (and_first_ok end came) in
     let second : OnOk both (IsOk came) = subst (λ (r : Result (Unit {0}) DiskErr). OnOk r (IsOk came)) (sym c.and-end.ensures) (and_second_ok end came) in
     record {

@@ -7,7 +7,7 @@ pub returns-clause-ready : goal.returns-clause-ready
 returns-clause-ready c =
     let plan = c.args.plan.now in
     let walk = c.new-walk.result in
-    shelf_first plan.list.now (entries_left walk.entries) (min plan.hints.now.cb_buffer c.args.domain.len) c.next_window-next.result (turns_ahead walk.windows)
+    shelf_first plan.list.now (entries_left walk.entries) (min plan.hints.now.cb_buffer c.args.reader.now.aggregator.domain.len) c.next_window-next.result (turns_ahead walk.windows)
     (record { windows = c.next_window-next.new.windows; entries = walk.entries }) c.new-walk.ensures.at refl c.next_window-next.ensures.ready c.next_window-next.ensures.some
 
 pub returns-clause-due : goal.returns-clause-due
