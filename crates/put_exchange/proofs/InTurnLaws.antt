@@ -9,8 +9,8 @@ use Rattle.put_exchange.proofs.ServeLaws.{calls_more}
 pub served_filled : (source : Source) (list begun : List Owned) (room : ℕ) (t : Told) → AreServed list begun t.0 (t.0 + t.1) → ArePieces source list → IsTurn list room t
     → IsFilledBy t (cells_in source t begun)
 served_filled source list begun room t s pieces turn f x l h =
-    covered_place source begun t.0 (t.0 + t.1) x (pieces_found source begun (served_are source list begun t.0 (t.0 + t.1) s pieces)) l h
-    (served_covered list begun t.0 (t.0 + t.1) x s l h (turn.full f x l h))
+    covered_place _ _ _ _ x (pieces_found _ _ (served_are _ _ _ _ _ s pieces)) l h
+    (served_covered _ _ _ _ x s l h (turn.full f x l h))
 
 pub record IsInTurn (source : Source) (from len room : ℕ) (list : List Owned) (all : List Told) (w : TurnWalk) (held now : Option (List ℕ)) (calls made : Option (List DiskCall)) : Type 0 where
   pub ready : IsTurnWalk w

@@ -1,5 +1,5 @@
 -- The messages of a domain, window after window.
-use Rattle.put_exchange.proofs.Words.{◌≡◌, ℕ, ◌+◌, ◌^◌, ◌<◌, ◌≤◌, inl, refl, subst, arith, sym, ◌∙◌, ap, List, [], ◌∷◌, ◌++◌, length, append_assoc, append-nil, flat_map-append, Extent, Owned, In, Source, IsByPlace, IsDomainOf, IsWalk, LieOnPart, AreTurns, WindowWalk, at_begin, past_extents, past_sorted, past_twice, extents, EndBelow, IsPast, AreInFront, AreServed, IsAt, ArePieces, Told, turns_ahead, IsTurnWalk, TurnWalk, Window, told_window, map-append, counts_due, turns_due, Due, at_next, served_are, served_ends, served_in, served_now, turn_limit, sent_in, message_counts, messages_in, messages_of, Sent, Round}
+use Rattle.put_exchange.proofs.Words.{◌≡◌, ℕ, ◌+◌, ◌^◌, ◌<◌, ◌≤◌, inl, refl, subst, arith, sym, ◌∙◌, ap, List, [], ◌∷◌, ◌++◌, length, append_assoc, append-nil, flat_map-append, Extent, Owned, In, Source, IsByPlace, IsDomainOf, LieOnPart, AreTurns, at_begin, past_extents, past_sorted, past_twice, extents, EndBelow, IsPast, AreInFront, AreServed, IsAt, ArePieces, Told, turns_ahead, IsTurnWalk, TurnWalk, Window, told_window, map-append, counts_due, turns_due, Due, at_next, served_are, served_ends, served_in, served_now, turn_limit, sent_in, message_counts, messages_in, messages_of, Sent, Round, nat_tests}
 use Rattle.put_exchange.proofs.SentLaws.{messages_served}
 
 -- what was packed and what is left of the windows are the whole
@@ -12,13 +12,7 @@ pub record IsPacking (source : Source) (ranks room : ℕ) (list : List Owned) (a
 
 pub packing_begin : (source : Source) (ranks room : ℕ) (list : List Owned) (all : List Told) (w : TurnWalk) (rounds : List Round) (dues : List Due) → IsTurnWalk w
     → IsAt list room (turns_ahead w.windows) w.entries.now → turns_ahead w.windows ≡ all → rounds ≡ [] → dues ≡ [] → IsPacking source ranks room list all w rounds dues
-packing_begin source ranks room list all w rounds dues ready at ahead none nothing = record {
-  ready = ready;
-  here = at;
-  messages = (λ i. sent_in (none i) ++ messages_of source ranks list (ahead i));
-  windows = (λ i. turns_due (nothing i) ++ ahead i);
-  many = (λ i. counts_due (nothing i) ++ message_counts source ranks list (ahead i));
-}
+packing_begin source ranks room list all w rounds dues ready at ahead none nothing = grind (arith, nat_tests)
 
 -- ---- where packing has come to
 
@@ -29,16 +23,7 @@ pub record IsOnward (list : List Owned) (room : ℕ) (w : TurnWalk) : Type 0 whe
 
 pub walk_onward : (place : ℕ) (list : List Owned) (room : ℕ) (domain : Extent) (w v : TurnWalk) → IsByPlace (extents list) → EndBelow (2 ^ 62) (extents list) → IsPast place list v.entries.now
     → place ≤ domain.at → LieOnPart domain.at domain.len (turns_ahead w.windows) → v.windows ≡ w.windows → IsTurnWalk w → AreTurns list room (turns_ahead w.windows) → IsOnward list room v
-walk_onward place list room domain w v sorted ends past low on same ready turns = record {
-  ready = record {
-    walk = subst (λ (ws : WindowWalk). IsWalk ws) (sym same) ready.walk;
-    sorted = past_sorted place list v.entries.now sorted past;
-    ends = λ e m. ends e (past_extents place list v.entries.now e past m);
-    limit = subst (λ (ws : WindowWalk). (t : Told) → In (turns_ahead ws) t → t.0 + t.1 < 2 ^ 62) (sym same) ready.limit;
-  };
-  at = subst (λ (ws : WindowWalk). IsAt list room (turns_ahead ws) v.entries.now) (sym same)
-      (at_begin list v.entries.now room place (turns_ahead w.windows) past (λ t m. let here = (on t m).0 in omega arith) turns);
-}
+walk_onward place list room domain w v sorted ends past low on same ready turns = grind (arith, nat_tests, past_sorted _ _ _ sorted past, past_extents, at_begin)
 
 -- the whole domain has what it has
 pub own_domain : (list : List Owned) (domain : Extent) → IsDomainOf list domain.at domain.len domain
@@ -46,7 +31,7 @@ own_domain list domain = record { low = omega arith; high = omega arith; whole =
 
 pub past_turn : (list left later : List Owned) (room : ℕ) (ahead rest : List Told) (t : Told) → IsAt list room ahead left → ahead ≡ t ∷ rest → IsPast (t.0 + t.1) left later → IsPast (t.0 + t.1) list later
 past_turn list left later room ahead rest t a e p =
-    past_twice t.0 (t.0 + t.1) list left later (omega arith) (a.past t (subst (λ (ts : List Told). In ts t) (sym e) (inl refl))) p
+    past_twice _ _ _ _ _ (omega arith) (a.past t (subst (λ (ts : List Told). In ts t) (sym e) (inl refl))) p
 
 -- ---- one window more
 
@@ -115,8 +100,4 @@ pub record IsPacked (source : Source) (ranks : ℕ) (list : List Owned) (all : L
 
 pub packing_end : (source : Source) (ranks room : ℕ) (list : List Owned) (all : List Told) (w : TurnWalk) (rounds : List Round) (dues : List Due)
     → IsPacking source ranks room list all w rounds dues → turns_ahead w.windows ≡ [] → IsPacked source ranks list all rounds dues
-packing_end source ranks room list all w rounds dues p none = record {
-  messages = sym (append-nil (sent_in rounds)) ∙ ap (λ (ts : List Told). sent_in rounds ++ messages_of source ranks list ts) (sym none) ∙ p.messages;
-  windows = sym (append-nil (turns_due dues)) ∙ ap (λ (ts : List Told). turns_due dues ++ ts) (sym none) ∙ p.windows;
-  many = sym (append-nil (counts_due dues)) ∙ ap (λ (ts : List Told). counts_due dues ++ message_counts source ranks list ts) (sym none) ∙ p.many;
-}
+packing_end source ranks room list all w rounds dues p none = grind (arith, nat_tests, append-nil (sent_in rounds), append-nil (turns_due dues), append-nil (counts_due dues))

@@ -1,5 +1,5 @@
 -- Packing: one entry more goes into the list of its rank, and one list more into a message.
-use Rattle.put_exchange.proofs.Words.{◌≡◌, ℕ, zero, suc, ◌+◌, ◌<◌, ◌≤◌, inl, inr, refl, sym, ◌∙◌, ap, subst, List, [], ◌∷◌, ◌++◌, length, map, take, set, get_or, Bool, true, false, cond, Some, ◌&&◌, arith, and_parts, and_right, eqb-true, append-nil, length-map, map-append, take_more, length-range_with_len, filter, filter-append, slice_get-get_or, slice_get, ◌==◌, range_with_len, range_push, equal_true, Batch, Extent, Owned, Post, Cell, Vec, Global, In, map_in, filter_in, cell_of, clip, part_at, part_bytes, slot_in, meets, of_rank, ArePieces, Told, puts_of_some, source_of, AreCuts, IsCut, binned, bytes_of, cells_in, cells_of, cut_in, cuts_by, has_pieces, hull_of, posts_of, sent, sent_by, Cut, Sent}
+use Rattle.put_exchange.proofs.Words.{◌≡◌, ℕ, zero, suc, ◌+◌, ◌<◌, ◌≤◌, inl, inr, refl, sym, ◌∙◌, ap, List, [], ◌∷◌, ◌++◌, length, map, take, set, get_or, Bool, true, false, cond, Some, ◌&&◌, arith, and_parts, and_right, eqb-true, append-nil, length-map, map-append, take_more, length-range_with_len, filter, filter-append, slice_get-get_or, slice_get, ◌==◌, range_with_len, range_push, equal_true, Batch, Owned, Vec, Global, In, map_in, filter_in, cell_of, clip, part_bytes, slot_in, meets, of_rank, ArePieces, Told, puts_of_some, source_of, AreCuts, binned, bytes_of, cells_in, cells_of, cut_in, cuts_by, has_pieces, hull_of, posts_of, sent, sent_by, Cut, Sent, nat_tests}
 
 -- ---- the bytes of an entry's post
 
@@ -15,9 +15,7 @@ batch_puts batches rank d l = sym (ap puts_of_some (slice_get-get_or batches ran
 
 -- an entry of a rank, as a cut and as a cell
 cut_cell : (batches : List Batch) (lo hi r : ℕ) (o : Owned) → o.rank ≡ r → ((cut_in lo hi o).at, bytes_of (posts_of batches r) (cut_in lo hi o)) ≡ clip lo hi (cell_of (source_of batches) o)
-cut_cell batches lo hi r o e =
-    sym (ap (λ (k : ℕ). ((cut_in lo hi o).at, bytes_of (posts_of batches k) (cut_in lo hi o))) e)
-    ∙ ap (λ (b : List ℕ). (part_at lo hi o, b)) (part_bytes lo hi o (source_of batches o.rank o.slot))
+cut_cell batches lo hi r o e = grind (arith, nat_tests, part_bytes lo hi o (source_of batches o.rank o.slot))
 
 cut_cells : (batches : List Batch) (t : Told) (r : ℕ) (os : List Owned) → ((o : Owned) → In os o → o.rank ≡ r)
     → cells_of (posts_of batches r) (map (λ o. cut_in t.0 (t.0 + t.1) o) os) ≡ cells_in (source_of batches) t os
@@ -33,39 +31,20 @@ pub record IsOfRank (list : List Owned) (lo hi r : ℕ) (o : Owned) : Type 0 whe
   pub rank : o.rank ≡ r
 
 of_rank_in : (list : List Owned) (lo hi r : ℕ) (o : Owned) → In (of_rank lo hi r list) o → IsOfRank list lo hi r o
-of_rank_in list lo hi r o m =
-    let f = filter_in (λ p. p.rank == r && meets lo hi p) list o m in
-    record { inside = f.0; rank = eqb-true _ _ (and_parts (o.rank == r) (meets lo hi o) f.1).0 }
+of_rank_in list lo hi r o m = grind (arith, nat_tests, filter_in, eqb-true, and_parts)
 
 pub cuts_cells : (batches : List Batch) (t : Told) (r : ℕ) (list : List Owned)
     → cells_of (posts_of batches r) (cuts_by t list r) ≡ cells_in (source_of batches) t (of_rank t.0 (t.0 + t.1) r list)
 cuts_cells batches t r list = cut_cells batches t r (of_rank t.0 (t.0 + t.1) r list) (λ o m. (of_rank_in list t.0 (t.0 + t.1) r o m).rank)
 
 pub cuts_are : (batches : List Batch) (t : Told) (r : ℕ) (list : List Owned) → ArePieces (source_of batches) list → r < length batches → AreCuts batches (hull_of t) r (cuts_by t list r)
-cuts_are batches t r list pieces l = record {
-  batch = l;
-  each = λ c m.
-      (let found = map_in (λ o. cut_in t.0 (t.0 + t.1) o) (of_rank t.0 (t.0 + t.1) r list) c m in
-      let of = of_rank_in list t.0 (t.0 + t.1) r found.0 found.1 in
-      subst (λ (d : Cut). IsCut (posts_of batches r) (hull_of t) d) found.2 (one found.0 of.inside of.rank));
-}
-  where
-    one : (o : Owned) → In list o → o.rank ≡ r → IsCut (posts_of batches r) (hull_of t) (cut_in t.0 (t.0 + t.1) o)
-    one o m e =
-        let p = pieces o m in
-        let some = p.some in
-        let room = p.found in
-        let same : length (source_of batches o.rank o.slot) ≡ length (source_of batches r o.slot) = ap (λ (k : ℕ). length (source_of batches k o.slot)) e in
-        record { low = omega arith; high = omega arith; put = slot_in (posts_of batches r) o.slot (omega arith); found = omega arith }
+cuts_are batches t r list pieces l = grind (arith, nat_tests, map_in, of_rank_in, slot_in)
 
 -- ---- what one entry more changes
 
 cuts_tested : (xs : List Owned) (o : Owned) (t : Told) (r : ℕ) (test : Bool) → (o.rank == r && meets t.0 (t.0 + t.1) o) ≡ test
     → cuts_by t (xs ++ o ∷ []) r ≡ cuts_by t xs r ++ map (λ p. cut_in t.0 (t.0 + t.1) p) (cond test (o ∷ []) [])
-cuts_tested xs o t r test e =
-    ap (λ (os : List Owned). map (λ p. cut_in t.0 (t.0 + t.1) p) os) (filter-append (λ p. p.rank == r && meets t.0 (t.0 + t.1) p) xs (o ∷ [])
-    ∙ ap (λ (b : Bool). of_rank t.0 (t.0 + t.1) r xs ++ cond b (o ∷ []) []) e)
-    ∙ map-append (λ p. cut_in t.0 (t.0 + t.1) p) (of_rank t.0 (t.0 + t.1) r xs) (cond test (o ∷ []) [])
+cuts_tested xs o t r test e = grind (arith, nat_tests, filter-append, map-append)
 
 cuts_kept : (xs : List Owned) (o : Owned) (t : Told) (r : ℕ) → (o.rank == r && meets t.0 (t.0 + t.1) o) ≡ false → cuts_by t xs r ≡ cuts_by t (xs ++ o ∷ []) r
 cuts_kept xs o t r e = sym (cuts_tested xs o t r false e ∙ append-nil (cuts_by t xs r))
@@ -82,10 +61,7 @@ same_map f g a (suc n) h = λ i. h a (omega arith) i ∷ same_map f g (a + 1) n 
 set_map : {X : Type 0} (f g : ℕ → X) (a n k : ℕ) (y : X) → k < n → y ≡ g (a + k) → ((j : ℕ) → (j ≡ a + k → ⊥) → f j ≡ g j)
     → set (map f (range_with_len a n)) k y ≡ map g (range_with_len a n)
 set_map f g a zero k y l e h = absurd (omega arith)
-set_map f g a (suc n) zero y l e h =
-    let here : a + 0 ≡ a = omega arith in
-    let first = e ∙ ap g here in
-    λ i. first i ∷ same_map f g (a + 1) n (λ j m. h j (λ s. omega arith)) i
+set_map f g a (suc n) zero y l e h = grind (arith, nat_tests, same_map)
 set_map f g a (suc n) (suc k) y l e h =
     let next : a + suc k ≡ a + 1 + k = omega arith in
     let rest = set_map f g (a + 1) n k y (omega arith) (e ∙ ap g next) (λ j m. h j (λ s. m (s ∙ next))) in
@@ -94,9 +70,8 @@ set_map f g a (suc n) (suc k) y l e h =
 -- ---- the lists themselves
 
 bins_set : (bins : List (Vec Cut Global)) (k : ℕ) (bin : Vec Cut Global) → binned (set bins k bin) ≡ set (binned bins) k bin.items
-bins_set [] k bin = refl
-bins_set (b ∷ bins) zero bin = refl
 bins_set (b ∷ bins) (suc k) bin = ap (λ (r : List (List Cut)). b.items ∷ r) (bins_set bins k bin)
+bins_set _ _ bin = refl
 
 pub bins_long : (f : ℕ → List Cut) (n : ℕ) (bins : List (Vec Cut Global)) → binned bins ≡ map f (range_with_len 0 n) → length bins ≡ n
 bins_long f n bins e =
@@ -144,8 +119,7 @@ binned_more n xs o t bins bin d below meet is put =
 -- one that has none changes nothing
 binned_kept : (n : ℕ) (xs : List Owned) (o : Owned) (t : Told) (bins : List (List Cut)) → meets t.0 (t.0 + t.1) o ≡ false
     → bins ≡ map (λ r. cuts_by t xs r) (range_with_len 0 n) → bins ≡ map (λ r. cuts_by t (xs ++ o ∷ []) r) (range_with_len 0 n)
-binned_kept n xs o t bins none is =
-    is ∙ same_map (λ r. cuts_by t xs r) (λ r. cuts_by t (xs ++ o ∷ []) r) 0 n (λ j l. cuts_kept xs o t j (and_right (o.rank == j) (meets t.0 (t.0 + t.1) o) none))
+binned_kept n xs o t bins none is = grind (arith, nat_tests, same_map, cuts_kept, and_right)
 
 -- ---- the same along a list
 
@@ -161,27 +135,16 @@ entry_binned n i list e t bins now bin d cut l below meet is of pushed put =
 
 pub entry_kept : (n i : ℕ) (list : List Owned) (e : Owned) (t : Told) (bins : List (List Cut)) → i < length list → meets t.0 (t.0 + t.1) (get_or list i e) ≡ false
     → bins ≡ map (λ r. cuts_by t (take i list) r) (range_with_len 0 n) → bins ≡ map (λ r. cuts_by t (take (i + 1) list) r) (range_with_len 0 n)
-entry_kept n i list e t bins l none is =
-    binned_kept n (take i list) (get_or list i e) t bins none is ∙ ap (λ (os : List Owned). map (λ r. cuts_by t os r) (range_with_len 0 n)) (sym (take_more list i e l))
+entry_kept n i list e t bins l none is = grind (arith, nat_tests, binned_kept n (take i list) (get_or list i e) t bins none is, take_more list i e l)
 
 -- ---- one rank more
 
 pub map_push : {X : Type 0} (f : ℕ → X) (k : ℕ) → map f (range_with_len 0 (k + 1)) ≡ map f (range_with_len 0 k) ++ f k ∷ []
-map_push f k =
-    let next : k + 1 ≡ suc k = omega arith in
-    ap (λ (n : ℕ). map f (range_with_len 0 n)) next ∙ ap (λ (ns : List ℕ). map f ns) (range_push 0 k k (omega arith)) ∙ map-append f (range_with_len 0 k) (k ∷ [])
+map_push f k = grind (arith, nat_tests, range_push 0 k k (omega arith), map-append f (range_with_len 0 k) (k ∷ []))
 
 -- the messages of so many ranks, and of one more
 pub messages_push : (batches : List Batch) (list : List Owned) (t : Told) (k : ℕ) (now before : List Sent) (cuts : List Cut) → cuts ≡ cuts_by t list k
     → before ≡ filter has_pieces (map (λ r. sent_by (source_of batches) list t r) (range_with_len 0 k))
     → now ≡ before ++ filter has_pieces (sent (hull_of t) k (cells_of (posts_of batches k) cuts) ∷ [])
     → now ≡ filter has_pieces (map (λ r. sent_by (source_of batches) list t r) (range_with_len 0 (k + 1)))
-messages_push batches list t k now before cuts of is put =
-    let f : ℕ → Sent = λ r. sent_by (source_of batches) list t r in
-    let own : sent (hull_of t) k (cells_of (posts_of batches k) cuts) ≡ f k
-    = ap (λ (cs : List Cut). sent (hull_of t) k (cells_of (posts_of batches k) cs)) of ∙ ap (λ (cells : List Cell). sent (hull_of t) k cells) (cuts_cells batches t k list) in
-    put
-    ∙ ap (λ (m : Sent). before ++ filter has_pieces (m ∷ [])) own
-    ∙ ap (λ (ms : List Sent). ms ++ filter has_pieces (f k ∷ [])) is
-    ∙ sym (filter-append has_pieces (map f (range_with_len 0 k)) (f k ∷ []))
-    ∙ ap (λ (ms : List Sent). filter has_pieces ms) (sym (map_push f k))
+messages_push batches list t k now before cuts of is put = grind (arith, nat_tests, cuts_cells batches t k list, filter-append, map_push)

@@ -1,5 +1,5 @@
 -- The pieces of a window are those of the entries that a walk gives with it, and have each covered byte of it.
-use Rattle.put_exchange.proofs.Words.{◌≡◌, ℕ, ◌+◌, ◌<◌, ◌≤◌, inl, inr, refl, sym, ◌∙◌, ap, List, [], ◌∷◌, ◌++◌, Bool, false, ◌&&◌, arith, append-nil, filter, nat_lt, ◌==◌, range_with_len, and_from, and_right, lt-ltb, le-ltb, filter-append, Owned, In, Source, AreFound, in_flat, flat_in, in_range, equal_true, in_filter, filter_in, filter_none, IsCovered, past_same, meets, of_rank, pieces_in, ArePieces, Told, AreServed, in_served, served_in}
+use Rattle.put_exchange.proofs.Words.{◌≡◌, ℕ, ◌+◌, ◌<◌, ◌≤◌, inl, inr, refl, sym, ◌∙◌, ap, List, [], ◌∷◌, ◌++◌, Bool, false, ◌&&◌, arith, append-nil, filter, nat_lt, ◌==◌, range_with_len, and_from, and_right, lt-ltb, le-ltb, filter-append, Owned, In, Source, AreFound, in_flat, flat_in, in_range, equal_true, in_filter, filter_in, filter_none, IsCovered, past_same, meets, of_rank, pieces_in, ArePieces, Told, AreServed, in_served, served_in, nat_tests}
 use Rattle.put_exchange.proofs.PutLaws.{ArePicked}
 
 -- ---- tests
@@ -25,9 +25,7 @@ rank_served list begun lo hi r s =
     t o = o.rank == r && meets lo hi o
 
 pub piece_from : (ranks : ℕ) (list : List Owned) (t : Told) (o : Owned) → In (pieces_in ranks list t) o → In list o
-piece_from ranks list t o m =
-    let r = flat_in (λ r. of_rank t.0 (t.0 + t.1) r list) (range_with_len 0 ranks) o m in
-    (filter_in (λ o. o.rank == r.0 && meets t.0 (t.0 + t.1) o) list o r.2).0
+piece_from ranks list t o m = grind (arith, nat_tests, flat_in, filter_in)
 
 pub pieces_are : (source : Source) (ranks : ℕ) (list : List Owned) (t : Told) → ArePieces source list → ArePieces source (pieces_in ranks list t)
 pieces_are source ranks list t h o m = h o (piece_from ranks list t o m)
@@ -45,17 +43,11 @@ in_pieces ranks list t o m r b e =
     (and_from (nat_lt o.extent.at (t.0 + t.1)) (nat_lt t.0 (o.extent.at + o.extent.len)) (lt-ltb o.extent.at (t.0 + t.1) b) (lt-ltb t.0 (o.extent.at + o.extent.len) e))))
 
 pub pieces_picked : (ranks : ℕ) (list : List Owned) (t : Told) → ((o : Owned) → In list o → o.rank < ranks) → ArePicked list t (pieces_in ranks list t)
-pieces_picked ranks list t below = record {
-  inside = λ o m. piece_from ranks list t o m;
-  all = λ o m b e. in_pieces ranks list t o m (below o m) b e;
-}
+pieces_picked ranks list t below = grind (arith, nat_tests, piece_from, in_pieces)
 
 pub pieces_covered : (ranks : ℕ) (list : List Owned) (t : Told) (x : ℕ) → ((o : Owned) → In list o → o.rank < ranks) → t.0 ≤ x → x < t.0 + t.1 → IsCovered list x
     → IsCovered (pieces_in ranks list t) x
-pieces_covered ranks list t x below l h c =
-    let low = c.low in
-    let high = c.high in
-    record { by = c.by; inside = in_pieces ranks list t c.by c.inside (below c.by c.inside) (omega arith) (omega arith); low = c.low; high = c.high }
+pieces_covered ranks list t x below l h c = grind (arith, nat_tests, in_pieces ranks list t c.by c.inside (below c.by c.inside) (omega arith) (omega arith))
 
 pub served_picked : (list begun : List Owned) (t : Told) → AreServed list begun t.0 (t.0 + t.1) → ArePicked list t begun
 served_picked list begun t s = record {

@@ -1,5 +1,5 @@
 -- A window that is put on a part: each byte is old or new, and once no window is ahead each byte that the entries say is new.
-use Rattle.put_exchange.proofs.Words.{◌≡◌, ℕ, ◌+◌, ◌-◌, ◌<◌, ◌≤◌, ◌⊎◌, inl, inr, refl, sym, ◌∙◌, ap, subst, List, [], ◌∷◌, length, drop, Bool, true, false, Option, Some, None, arith, Result, Ok, Err, length-take, ltb-true, ltb-false, nat_lt, IfSome, OnOk, IsOk, enumerate_from, no_none_some, Owned, after, BothTold, at, Cell, byte_or, said_at, said_by, write_cells, moved_down, IsFrom, IsWithin, IsOneValued, Says, cells_said, IsBetween, In, Source, cell_of, clips, IsPart, between_next, says_cases, says_left, says_right, cells_long, one_said, said_is, same_file, clips_from, clips_in, clips_within, moved_said, none_below, none_past, within_lowered, within_more, from_less, put_part, HasPut, cells_in, put_window, Told, HaveWindows, PartState, entry_cells}
+use Rattle.put_exchange.proofs.Words.{◌≡◌, ℕ, ◌+◌, ◌-◌, ◌<◌, ◌≤◌, ◌⊎◌, inl, inr, refl, sym, ◌∙◌, ap, subst, List, [], ◌∷◌, length, drop, Bool, true, false, Option, Some, None, arith, Result, Err, length-take, ltb-true, ltb-false, nat_lt, IfSome, OnOk, IsOk, enumerate_from, no_none_some, Owned, after, BothTold, at, Cell, byte_or, said_at, said_by, write_cells, moved_down, IsFrom, IsWithin, IsOneValued, Says, cells_said, IsBetween, In, Source, cell_of, clips, IsPart, between_next, says_cases, says_left, says_right, cells_long, one_said, said_is, same_file, clips_from, clips_in, clips_within, moved_said, none_below, none_past, within_lowered, within_more, from_less, put_part, HasPut, cells_in, put_window, Told, HaveWindows, PartState, entry_cells, nat_tests}
 use Rattle.std.specs.Prelude.{map}
 
 -- ---- which entry says a byte
@@ -17,26 +17,17 @@ record IsSaidBy (source : Source) (list : List Owned) (x v : ℕ) : Type 0 where
 says_by : (source : Source) (list : List Owned) (x v : ℕ) → Says (said_by (entry_cells source list)) x v → IsSaidBy source list x v
 says_by source [] x v h = absurd h
 says_by source (o ∷ list) x v h =
-    elim (says_cases (enumerate_from (cell_of source o).0 (cell_of source o).1) (said_by (entry_cells source list)) x v h) [
-      | inl a ↦ record { by = o; inside = inl refl; says = a }
-      | inr b ↦ (let r = says_by source list x v b in record { by = r.by; inside = inr r.inside; says = r.says })
-    ]
+    grind (arith, nat_tests, says_by source list x v, says_cases (enumerate_from (cell_of source o).0 (cell_of source o).1) (said_by (entry_cells source list)) x v h)
 
 by_says : (source : Source) (list : List Owned) (x v : ℕ) (o : Owned) → In list o → Says (enumerate_from (cell_of source o).0 (cell_of source o).1) x v
     → Says (said_by (entry_cells source list)) x v
 by_says source [] x v o m h = absurd m
-by_says source (p ∷ list) x v o (inl e) h =
-    says_left (enumerate_from (cell_of source p).0 (cell_of source p).1) (said_by (entry_cells source list)) x v
-    (subst (λ (q : Owned). Says (enumerate_from (cell_of source q).0 (cell_of source q).1) x v) (sym e) h)
-by_says source (p ∷ list) x v o (inr m) h =
-    says_right (enumerate_from (cell_of source p).0 (cell_of source p).1) (said_by (entry_cells source list)) x v (by_says source list x v o m h)
+by_says source (p ∷ list) x v o (inl e) h = grind (arith, nat_tests, says_left)
+by_says source (p ∷ list) x v o (inr m) h = grind (arith, nat_tests, by_says source list x v o m h, says_right)
 
 said_inside : (source : Source) (list : List Owned) (x v : ℕ) (s : IsSaidBy source list x v) → (s.by.extent.at ≤ x) × (x < s.by.extent.at + s.by.extent.len)
 said_inside source list x v s =
-    let r = says_at (cell_of source s.by).0 (cell_of source s.by).1 x v s.says in
-    let low = r.0 in
-    let high = r.1 in
-    (low, omega (arith, length-take s.by.extent.len (drop s.by.from (source s.by.rank s.by.slot))))
+    grind (arith, nat_tests, says_at (cell_of source s.by).0 (cell_of source s.by).1 x v s.says, length-take s.by.extent.len (drop s.by.from (source s.by.rank s.by.slot)))
 
 -- ---- the entries that are laid in a window
 
@@ -47,18 +38,11 @@ pub record ArePicked (list : List Owned) (t : Told) (picked : List Owned) : Type
 
 piece_says : (source : Source) (list picked : List Owned) (t : Told) (x v : ℕ) → ArePicked list t picked → Says (said_by (entry_cells source picked)) x v
     → Says (said_by (entry_cells source list)) x v
-piece_says source list picked t x v p h =
-    let s = says_by source picked x v h in
-    by_says source list x v s.by (p.inside s.by s.inside) s.says
+piece_says source list picked t x v p h = grind (arith, nat_tests, says_by source picked x v h, by_says)
 
 entry_says : (source : Source) (list picked : List Owned) (t : Told) (x v : ℕ) → ArePicked list t picked → t.0 ≤ x → x < t.0 + t.1
     → Says (said_by (entry_cells source list)) x v → Says (said_by (entry_cells source picked)) x v
-entry_says source list picked t x v p l k h =
-    let s = says_by source list x v h in
-    let r = said_inside source list x v s in
-    let low = r.0 in
-    let high = r.1 in
-    by_says source picked x v s.by (p.all s.by s.inside (omega arith) (omega arith)) s.says
+entry_says source list picked t x v p l k h = grind (arith, nat_tests, says_by source list x v h, said_inside source list x v (says_by source list x v h), by_says)
 
 -- ---- cells seen from the part's begin
 
@@ -75,25 +59,22 @@ hull_said cells from lo hi y v low order h = by_front (nat_lt (y + from) lo) ref
 
     here : said_at (said_by (clips lo hi cells)) (y + from) ≡ Some v
     here =
-        sym (moved_said from (clips lo hi cells) (y + from) (from_less from lo (clips lo hi cells) low least) (omega arith))
+        sym (moved_said _ _ (y + from) (from_less _ lo _ low least) (omega arith))
         ∙ ap (λ (k : ℕ). said_at (said_by (moved_down from (clips lo hi cells))) k) place ∙ h
 
     by_back : (t : Bool) → nat_lt (y + from) hi ≡ t → lo ≤ y + from → (lo ≤ y + from) × (y + from < hi) × (said_at (said_by cells) (y + from) ≡ Some v)
-    by_back true e l = (l, ltb-true _ _ e, sym (clips_in lo hi cells (y + from) l (ltb-true _ _ e)) ∙ here)
-    by_back false e l = no_none_some v (sym (none_past hi (clips lo hi cells) (y + from) (clips_within lo hi cells order) (ltb-false _ _ e)) ∙ here)
+    by_back true e l = (l, ltb-true _ _ e, sym (clips_in lo hi cells _ l (ltb-true _ _ e)) ∙ here)
+    by_back false e l = no_none_some v (sym (none_past hi _ _ (clips_within lo hi cells order) (ltb-false _ _ e)) ∙ here)
 
     by_front : (t : Bool) → nat_lt (y + from) lo ≡ t → (lo ≤ y + from) × (y + from < hi) × (said_at (said_by cells) (y + from) ≡ Some v)
-    by_front true e = no_none_some v (sym (none_below lo (clips lo hi cells) (y + from) least (ltb-true _ _ e)) ∙ here)
+    by_front true e = no_none_some v (sym (none_below lo _ _ least (ltb-true _ _ e)) ∙ here)
     by_front false e = by_back (nat_lt (y + from) hi) refl (ltb-false _ _ e)
 
 -- ... and the other way
 said_hull : (cells : List Cell) (from lo hi y v : ℕ) → from ≤ lo → lo ≤ y + from → y + from < hi → said_at (said_by cells) (y + from) ≡ Some v
     → said_at (said_by (moved_down from (clips lo hi cells))) y ≡ Some v
 said_hull cells from lo hi y v low l h e =
-    let place : (y + from) - from ≡ y = omega arith in
-    ap (λ (k : ℕ). said_at (said_by (moved_down from (clips lo hi cells))) k) (sym place)
-    ∙ moved_said from (clips lo hi cells) (y + from) (from_less from lo (clips lo hi cells) low (clips_from lo hi cells (omega arith))) (omega arith)
-    ∙ clips_in lo hi cells (y + from) l h ∙ e
+    grind (arith, nat_tests, from_less from lo (clips lo hi cells) low (clips_from lo hi cells (omega arith)), clips_in lo hi cells (y + from) l h, moved_said, clips_from)
 
 -- the cells of a part that has so many bytes
 abbrev part_cells : Source → List Owned → ℕ → ℕ → List Cell
@@ -103,9 +84,7 @@ abbrev turn_cells : Source → List Owned → ℕ → Told → List Cell
 turn_cells source picked from t = moved_down from (cells_in source t picked)
 
 part_within : (source : Source) (list : List Owned) (from len : ℕ) → IsWithin (part_cells source list from len) len
-part_within source list from len =
-    within_lowered from len (clips from (from + len) (entry_cells source list))
-    (clips_from from (from + len) (entry_cells source list) (omega arith)) (clips_within from (from + len) (entry_cells source list) (omega arith))
+part_within source list from len = grind (arith, nat_tests, within_lowered, clips_from, clips_within)
 
 turn_within : (source : Source) (picked : List Owned) (from len : ℕ) (t : Told) → from ≤ t.0 → t.0 + t.1 ≤ from + len → IsWithin (turn_cells source picked from t) len
 turn_within source picked from len t low high =
@@ -129,10 +108,9 @@ part_turn : (source : Source) (list picked : List Owned) (from len : ℕ) (t : T
     → said_at (said_by (turn_cells source picked from t)) y ≡ Some v
 part_turn source list picked from len t y v one p low l h e =
     let whole = (hull_said (entry_cells source list) from from (from + len) y v (omega arith) (omega arith) e).2 in
-    let says = entry_says source list picked t (y + from) v p l h (said_is (said_by (entry_cells source list)) (y + from) v whole) in
-    said_hull (entry_cells source picked) from t.0 (t.0 + t.1) y v low l h
-    (one_said (said_by (entry_cells source picked))
-    (λ x a b f g. one x a b (piece_says source list picked t x a p f) (piece_says source list picked t x b p g)) (y + from) v says)
+    let says = entry_says source _ _ t _ v p l h (said_is (said_by (entry_cells source list)) (y + from) v whole) in
+    said_hull (entry_cells source picked) _ _ _ y v low l h
+    (one_said _ (λ x a b f g. one x a b (piece_says source _ _ t x a p f) (piece_says source _ _ t x b p g)) _ v says)
 
 -- ---- a part on its way
 
@@ -166,14 +144,7 @@ put_begin source list from ts old windows = record { between = nothing_put (put_
 -- cells that say nothing but what the whole says
 between_more : (whole cells : List Cell) (old mid : List ℕ) → IsPart (said_by whole) cells → IsWithin cells (length mid) → IsBetween old (write_cells old whole) mid
     → IsBetween old (write_cells old whole) (write_cells mid cells)
-between_more whole cells old mid part within b = record {
-  len = cells_long cells mid within ∙ b.len;
-  each = λ x. by_said x (said_at (said_by cells) x) refl;
-}
-  where
-    by_said : (x : ℕ) (o : Option ℕ) → said_at (said_by cells) x ≡ o → (at (write_cells mid cells) x ≡ at old x) ⊎ (at (write_cells mid cells) x ≡ at (write_cells old whole) x)
-    by_said x None e = elim (b.each x) [ inl k ↦ inl (unsaid cells mid x e ∙ k) | inr k ↦ inr (unsaid cells mid x e ∙ k) ]
-    by_said x (Some v) e = inr (said cells mid x v e ∙ sym (said whole old x v (part x v e)))
+between_more whole cells old mid part within b = grind (arith, nat_tests, cells_long cells mid within, unsaid, said)
 
 window_between : (source : Source) (list picked : List Owned) (from : ℕ) (t : Told) (old mid : List ℕ) → IsOneValued (said_by (entry_cells source list)) → ArePicked list t picked
     → from ≤ t.0 → t.0 + t.1 ≤ from + length old → IsBetween old (put_part source list from old) mid → IsBetween old (put_part source list from old) (put_window source from t picked mid)
@@ -218,10 +189,7 @@ put_next source list picked from t ts old mid one p low high s = record {
         by_done (inr r) = by_turn r.0 r.1 r.2 r.3
 
 put_end : (source : Source) (list : List Owned) (from : ℕ) (old now : List ℕ) → IsPutSoFar source list from [] old now → now ≡ put_part source list from old
-put_end source list from old now s =
-    same_file now (put_part source list from old)
-    (s.between.len ∙ sym (cells_long (part_cells source list from (length old)) old (part_within source list from (length old))))
-    (λ x. elim (s.done x) [ inl k ↦ k | inr r ↦ absurd r.1 ])
+put_end source list from old now s = grind (arith, nat_tests, cells_long _ old (part_within source list from (length old)), same_file, part_within)
 
 -- ---- the same of a part that may tell its bytes
 
@@ -241,15 +209,7 @@ told_kept held now whole e = subst (λ (m : Option (List ℕ)). BothTold (λ old
 -- a window that was put in whole
 pub told_whole : (source : Source) (picked : List Owned) (from len : ℕ) (t : Told) (mid now : Option (List ℕ)) → IfSome mid (λ file. length file ≡ len) → from ≤ t.0 → t.0 + t.1 ≤ from + len
     → now ≡ after (put_window source from t picked) mid → BothTold (λ old left. IsBetween old (put_window source from t picked old) left) mid now
-told_whole source picked from len t None now told low high e = e
-told_whole source picked from len t (Some mid) now told low high e = (
-  put_window source from t picked mid,
-  e,
-  record {
-    len = cells_long (turn_cells source picked from t) mid (turn_within source picked from (length mid) t low (subst (λ (n : ℕ). t.0 + t.1 ≤ from + n) (sym told) high));
-    each = λ x. inr refl;
-  },
-)
+told_whole source picked from len t mid now told low high e = grind (arith, nat_tests, cells_long, turn_within)
 
 pub told_next : (source : Source) (list picked : List Owned) (from len : ℕ) (t : Told) (ts : List Told) (held mid now : Option (List ℕ)) → IfSome held (λ file. length file ≡ len)
     → IsOneValued (said_by (map (λ o. cell_of source o) list)) → ArePicked list t picked → from ≤ t.0 → t.0 + t.1 ≤ from + len
@@ -267,14 +227,12 @@ pub told_more : (source : Source) (list picked : List Owned) (from len : ℕ) (t
     → BothTold (λ old left. IsBetween old (put_part source list from old) left) held mid
     → BothTold (λ old left. IsBetween old (put_window source from t picked old) left) mid now
     → BothTold (λ old left. IsBetween old (put_part source list from old) left) held now
-told_more source list picked from len t None mid now told one p low high b c =
-    subst (λ (m : Option (List ℕ)). BothTold (λ old left. IsBetween old (put_window source from t picked old) left) m now) b c
+told_more source list picked from len t None mid now told one p low high b c = grind (arith, nat_tests)
 told_more source list picked from len t (Some old) mid now told one p low high b c =
     let d = subst (λ (m : Option (List ℕ)). BothTold (λ old left. IsBetween old (put_window source from t picked old) left) m now) b.1 c in (
       d.0,
       d.1,
-      between_next old (put_part source list from old) b.0 (put_window source from t picked b.0) d.0 b.2
-          (window_between source list picked from t old b.0 one p low (subst (λ (n : ℕ). t.0 + t.1 ≤ from + n) (sym told) high) b.2) d.2,
+      between_next _ _ _ _ _ b.2 (window_between source _ _ _ t _ _ one p low (subst (λ (n : ℕ). t.0 + t.1 ≤ from + n) (sym told) high) b.2) d.2,
     )
 
 pub told_between : (source : Source) (list : List Owned) (from : ℕ) (ts : List Told) (held now : Option (List ℕ)) → BothTold (λ old now. IsPutSoFar source list from ts old now) held now
@@ -291,9 +249,7 @@ told_end source list from (Some old) now b = b.1 ∙ ap Some (put_end source lis
 
 pub put_later : {T E : Type 0} (source : Source) (list : List Owned) (ts : List Told) (old new : PartState) (end came : Result T E) → OnOk came (IsOk end)
     → HasPut source list ts old new end → HasPut source list ts old new came
-put_later source list ts old new (Ok x) (Ok y) ok h = record { from = h.from; len = h.len; bytes = h.bytes; between = h.between; device = h.device; later = h.later }
-put_later source list ts old new (Err x) (Ok y) ok h = absurd cc
-put_later source list ts old new end (Err y) ok h = record { from = h.from; len = h.len; bytes = tt; between = h.between; device = tt; later = h.later }
+put_later source list ts old new end came ok h = grind (arith, nat_tests)
 
 -- nothing was done
 pub put_untouched : {T E : Type 0} (source : Source) (list : List Owned) (ts : List Told) (old : PartState) (e : E) → HasPut {T = T} source list ts old old (Err e)

@@ -1,5 +1,5 @@
 -- A helper that took the planned messages has served its part.
-use Rattle.put_exchange.proofs.Words.{◌≡◌, ℕ, ◌+◌, ◌<◌, ◌≤◌, inl, inr, refl, sym, ◌∙◌, ap, subst, List, [], ◌∷◌, ◌++◌, length, Option, Some, None, Result, Ok, Err, append_assoc, arith, append-nil, length-append, flat_map, IfSome, IsOk, IsErr, OnOk, Owned, DiskCall, with_end-nil, after, with_end, BothTold, said_by, IsOneValued, store_calls, IsBetween, In, Source, cell_of, covered_place, in_map, entry_in, drop_at, told_window, pieces_in, ArePieces, put_part, cells_in, messages_in, messages_of, Sent, turn_due, Carry, HasPutTaken, HasTaken, IsFilledBy, Told, AreTurns, HaveWindows, IsTurn, Due, counts_due, turns_due, zero, suc, drop, get_or, slice_get}
+use Rattle.put_exchange.proofs.Words.{◌≡◌, ℕ, ◌+◌, ◌<◌, ◌≤◌, refl, sym, ◌∙◌, ap, subst, List, [], ◌∷◌, ◌++◌, length, Option, Some, Result, Ok, Err, append_assoc, arith, append-nil, length-append, flat_map, IfSome, IsOk, IsErr, OnOk, Owned, DiskCall, with_end-nil, after, with_end, BothTold, said_by, IsOneValued, store_calls, IsBetween, In, Source, cell_of, covered_place, in_map, entry_in, drop_at, told_window, pieces_in, ArePieces, put_part, cells_in, messages_in, messages_of, Sent, turn_due, Carry, HasPutTaken, HasTaken, IsFilledBy, Told, AreTurns, HaveWindows, IsTurn, Due, counts_due, turns_due, zero, suc, drop, get_or, slice_get, nat_tests}
 use Rattle.std.specs.Prelude.{map}
 use Rattle.put_exchange.proofs.PieceLaws.{pieces_are, pieces_covered, pieces_found, pieces_picked}
 use Rattle.put_exchange.proofs.PutLaws.{IsPutSoFar, told_begin, told_end, told_more, told_next, told_nothing}
@@ -10,9 +10,7 @@ use Rattle.put_exchange.proofs.TakenLaws.{append_parts}
 
 pub calls_more : (t : Told) (ts : List Told) (mid now : Option (List DiskCall)) → now ≡ with_end mid (store_calls t)
     → with_end now (flat_map store_calls ts) ≡ with_end mid (flat_map store_calls (t ∷ ts))
-calls_more t ts None now e = ap (λ (m : Option (List DiskCall)). with_end m (flat_map store_calls ts)) e
-calls_more t ts (Some calls) now e =
-    ap (λ (m : Option (List DiskCall)). with_end m (flat_map store_calls ts)) e ∙ ap Some (append_assoc calls (store_calls t) (flat_map store_calls ts))
+calls_more t ts mid now e = grind (arith, nat_tests, append_assoc)
 
 -- ---- what holds of a plan and of the part that it is done on
 
@@ -26,8 +24,8 @@ pub record IsGiven (source : Source) (ranks : ℕ) (list : List Owned) (from len
 pieces_filled : (source : Source) (ranks room : ℕ) (list : List Owned) (t : Told) → ArePieces source list → ((o : Owned) → In list o → o.rank < ranks) → IsTurn list room t
     → IsFilledBy t (cells_in source t (pieces_in ranks list t))
 pieces_filled source ranks room list t pieces below turn f x l h =
-    covered_place source (pieces_in ranks list t) t.0 (t.0 + t.1) x (pieces_found source (pieces_in ranks list t) (pieces_are source ranks list t pieces)) l h
-    (pieces_covered ranks list t x below l h (turn.full f x l h))
+    covered_place _ _ _ _ x (pieces_found _ _ (pieces_are _ ranks _ t pieces)) l h
+    (pieces_covered ranks _ t x below l h (turn.full f x l h))
 
 -- ---- a helper on its way
 
@@ -44,23 +42,15 @@ pub record IsServed {T E : Type 0} (source : Source) (from ranks room : ℕ) (li
 pub served_begin : {T E : Type 0} (source : Source) (from len ranks room : ℕ) (list : List Owned) (all : List Told) (taken : List Sent) (held : Option (List ℕ))
     (calls : Option (List DiskCall)) (x : T) → AreTurns list room all → HaveWindows from len list all → IfSome held (λ file. length file ≡ len) → taken ≡ []
     → IsServed {E = E} source from ranks room list all all taken held held calls calls (Ok x)
-served_begin source from len ranks room list all taken held calls x turns windows told none = record {
-  turns = turns;
-  done = [];
-  whole = refl;
-  many = ap (λ (ms : List Sent). length ms) none;
-  between = λ e. told_nothing held (put_part source list from);
-  bytes = λ e. told_begin source list from len all held told windows;
-  device = refl;
-}
+served_begin source from len ranks room list all taken held calls x turns windows told none =
+    grind (arith, nat_tests, told_nothing held (put_part source list from), told_begin source list from len all held told windows)
 
 -- where the planned messages were taken, those of the window are the planned ones, which carry its pieces
 window_messages : {T E : Type 0} (source : Source) (from ranks count : ℕ) (list : List Owned) (t : Told) (done before now : List Sent) (held left : Option (List ℕ)) (end : Result T E)
     (put : HasPutTaken (turn_due from t count) before now held left end) → length before ≡ length done → now ≡ done ++ messages_in source ranks list t
     → (before ≡ done) × Carry source t (pieces_in ranks list t) put.got
 window_messages source from ranks count list t done before now held left end put many e =
-    let parts = append_parts before put.got done (messages_in source ranks list t) many (sym put.taken ∙ e) in
-    (parts.0, subst (λ (ms : List Sent). Carry source t (pieces_in ranks list t) ms) (sym parts.1) (messages_carry source ranks list t))
+    grind (arith, nat_tests, append_parts before put.got done (messages_in source ranks list t) many (sym put.taken ∙ e), messages_carry source ranks list t)
 
 -- a window that was put, or cut off
 put_between : {T E : Type 0} (source : Source) (from len ranks room count : ℕ) (list : List Owned) (t : Told) (before now : List Sent) (held mid left : Option (List ℕ)) (end : Result T E)
@@ -98,8 +88,7 @@ next_between source from len ranks room count list t prior taken more held mid n
     let r = window_messages source from ranks count list t prior taken more mid now end put many e in
     put_between source from len ranks room count list t taken more held mid now end given turn low high put r.1 (b r.0)
 next_between source from len ranks room count list t prior taken more held mid now made drawn (Err x) end given turn low high many d b e =
-    let r = append_parts taken d.took.got prior (messages_in source ranks list t) many (sym d.took.taken ∙ e) in
-    subst (λ (m : Option (List ℕ)). BothTold (λ old left. IsBetween old (put_part source list from old) left) held m) (sym (d.kept refl)) (b r.0)
+    grind (arith, nat_tests, append_parts taken d.took.got prior (messages_in source ranks list t) many (sym d.took.taken ∙ e))
 
 next_bytes : {T E : Type 0} (source : Source) (from len ranks room count : ℕ) (list : List Owned) (t : Told) (ts : List Told) (prior taken more : List Sent) (held mid now : Option (List ℕ))
     (made drawn : Option (List DiskCall)) (before end : Result T E)
@@ -116,9 +105,7 @@ next_bytes source from len ranks room count list t ts prior taken more held mid 
 
 next_calls : {T E : Type 0} (t : Told) (ts : List Told) (whole calls made drawn : Option (List DiskCall)) (before end : Result T E) → OnOk end (IsOk before)
     → OnOk end (drawn ≡ with_end made (store_calls t)) → OnOk before (with_end made (flat_map store_calls (t ∷ ts)) ≡ whole) → OnOk end (with_end drawn (flat_map store_calls ts) ≡ whole)
-next_calls t ts whole calls made drawn (Ok x) (Ok y) ok device b = calls_more t ts made drawn device ∙ b
-next_calls t ts whole calls made drawn (Err x) (Ok y) ok device b = absurd cc
-next_calls t ts whole calls made drawn before (Err y) ok device b = tt
+next_calls t ts whole calls made drawn before end ok device b = grind (arith, nat_tests, calls_more)
 
 pub served_next : {T E : Type 0} (source : Source) (from len ranks room count : ℕ) (list : List Owned) (all ahead rest : List Told) (t : Told) (taken more : List Sent)
     (held mid now : Option (List ℕ)) (calls made drawn : Option (List DiskCall)) (before end : Result T E)
@@ -165,13 +152,7 @@ pub served_end : {T E : Type 0} (source : Source) (from ranks room : ℕ) (list 
     (held now : Option (List ℕ)) (calls made : Option (List DiskCall)) (end : Result T E)
     → IsServed source from ranks room list all ahead taken held now calls made end → ahead ≡ [] → IsThrough source from ranks list all taken held now calls made end
 served_end source from ranks room list all ahead taken held now calls made end s none =
-    let whole : messages_of source ranks list all ≡ s.done = s.whole ∙ ap (λ (ts : List Told). s.done ++ messages_of source ranks list ts) none ∙ append-nil s.done in
-    record {
-      many = s.many ∙ sym (ap (λ (ms : List Sent). length ms) whole);
-      between = λ e. s.between (e ∙ whole);
-      bytes = λ e. bytes_end source from list taken s.done ahead held now end none (e ∙ whole) s.bytes;
-      device = calls_end ahead (with_end calls (flat_map store_calls all)) made end none s.device;
-    }
+    grind (arith, nat_tests, append-nil s.done, calls_end ahead (with_end calls (flat_map store_calls all)) made end none s.device, bytes_end)
 
 -- ---- the windows that are due, one after another
 

@@ -9,12 +9,9 @@ pub put_joined : {D T : Type 0} (source : Source) (list : List Owned) (turns : D
     → AllZip (λ p d. HasPut source list (turns p) (state p.0) (state d) (result_and end came)) (zip parts domains) whole
 put_joined {D} {T} source list turns state parts rest domains more back others whole end came long behind later all first second =
     subst (λ (ds : List D). AllZip (Put (result_and end came)) (zip parts domains) ds) (sym all)
-    (zip_joined (Put (result_and end came)) (length back) parts domains back others long
-    (zip_weaker (Put end) (Put (result_and end came)) (zip (take (length back) parts) (take (length back) domains)) back
-    (λ p d h. put_later source list (turns p) (state p.0) (state d) end (result_and end came) (and_first_ok end came) h) first)
+    (zip_joined _ (length back) parts domains _ others long (zip_weaker _ (Put (result_and end came)) _ _ (λ p d h. put_later _ _ _ _ _ _ _ (and_first_ok end came) h) first)
     (subst (λ (ps : List (D × Extent)). AllZip (Put (result_and end came)) ps others) pairs
-    (zip_weaker (Put came) (Put (result_and end came)) (zip rest more) others
-    (λ p d h. put_later source list (turns p) (state p.0) (state d) came (result_and end came) (and_second_ok end came) h) second)))
+    (zip_weaker _ (Put (result_and end came)) _ _ (λ p d h. put_later _ _ _ _ _ _ _ (and_second_ok end came) h) second)))
   where
     Put : Result T DiskErr → D × Extent → D → Type 0
     Put r p d = HasPut source list (turns p) (state p.0) (state d) r

@@ -1,20 +1,15 @@
 -- Messages that were taken off a line, and laid one after another.
-use Rattle.put_exchange.proofs.Words.{◌≡◌, ℕ, zero, suc, arith, ◌+◌, ◌-◌, ◌<◌, inl, refl, sym, ◌∙◌, ap, List, [], ◌∷◌, ◌++◌, length, take, drop, get_or, append_assoc, fold-append, drop-append_seam, take-append_seam, append-nil, length-append, map-append, take_more, flat_map-append, Extent, Owned, written, Cell, write_cells, moved_down, Source, cell_of, clip, clips, in_left, in_right, Told, Sent, pieces_in_all, HasLaid}
+use Rattle.put_exchange.proofs.Words.{◌≡◌, ℕ, arith, ◌+◌, ◌<◌, inl, refl, sym, ◌∙◌, ap, List, [], ◌∷◌, ◌++◌, length, take, get_or, append_assoc, fold-append, drop-append_seam, take-append_seam, append-nil, length-append, map-append, take_more, flat_map-append, Extent, Owned, Cell, write_cells, moved_down, Source, cell_of, clip, clips, in_left, in_right, Sent, pieces_in_all, HasLaid, nat_tests}
 use Rattle.std.specs.Prelude.{map}
 
 -- ---- lists of what was taken
 
 pub append_parts : {X : Type 0} (a b c d : List X) → length a ≡ length c → a ++ b ≡ c ++ d → (a ≡ c) × (b ≡ d)
-append_parts a b c d l e = (
-  sym (take-append_seam a b) ∙ (λ i. take (l i) (e i)) ∙ take-append_seam c d,
-  sym (drop-append_seam a b) ∙ (λ i. drop (l i) (e i)) ∙ drop-append_seam c d,
-)
+append_parts a b c d l e = grind (arith, nat_tests, take-append_seam a b, take-append_seam c d, drop-append_seam a b, drop-append_seam c d)
 
 -- cells behind others
 pub written_more : (lo : ℕ) (xs ys : List Cell) (old : List ℕ) → write_cells (write_cells old (moved_down lo xs)) (moved_down lo ys) ≡ write_cells old (moved_down lo (xs ++ ys))
-written_more lo xs ys old =
-    sym (ap (λ (cells : List Cell). write_cells old cells) (map-append (λ (cell : Cell). (cell.0 - lo, cell.1)) xs ys)
-    ∙ fold-append (λ f cell. written f cell.0 cell.1) old (moved_down lo xs) (moved_down lo ys))
+written_more lo xs ys old = grind (arith, nat_tests, map-append, fold-append)
 
 -- the pieces of one message more
 pieces_more : (got : List Sent) (m : Sent) → pieces_in_all (got ++ m ∷ []) ≡ pieces_in_all got ++ m.pieces

@@ -1,22 +1,8 @@
 -- Helpers that have their jobs, and were fed.
-use Rattle.put_exchange.proofs.Words.{◌≡◌, ℕ, sym, ◌∙◌, ap, subst, List, ◌++◌, length, map, min, Some, Result, append-nil, slice_get, In, DiskErr, DiskGhosts, feed_left, sent_in, planned_messages, Sent, domain_of, part_of, HasFed, IsFed, IsFresh, IsStartedFor, HasPut, HasServed, IsPlanOn, counts_due, turns_due, message_counts, messages_of, planned_turns, source_in, AreTurns, HaveWindows, IsPlan, PartState, Told, Round, PutPlan, Worker, AreDue, Batch, Extent, IsDomainOf, Owned, ◌≤◌, arith, each_new, map_new, plan_on, plan_turns, plan_windows, turn_end, turn_in, turns_of}
+use Rattle.put_exchange.proofs.Words.{◌≡◌, ℕ, sym, ◌∙◌, ap, subst, List, length, map, min, Some, Result, append-nil, slice_get, In, DiskErr, DiskGhosts, Sent, domain_of, part_of, HasFed, IsFed, IsFresh, IsStartedFor, HasPut, HasServed, IsPlanOn, message_counts, planned_turns, source_in, AreTurns, HaveWindows, IsPlan, PartState, Told, PutPlan, Worker, AreDue, Batch, Extent, IsDomainOf, Owned, ◌≤◌, arith, each_new, map_new, plan_on, plan_turns, plan_windows, turn_end, turn_in, turns_of, nat_tests}
 
 fed_worker : {D : Type 0} (disk : DiskGhosts D) (plan : PutPlan) (old new : Worker D) → HasFed old new → IsFresh disk plan old → IsFed disk plan new
-fed_worker disk plan old new h f = record {
-  started = subst (λ helper. IsStartedFor disk plan (record { helper = helper; feed = new.feed })) (sym h.helper) (record {
-    domain = f.started.domain;
-    windows = f.started.windows;
-    counts = f.started.counts;
-    line_of = h.fed.of ∙ f.started.line_of;
-  });
-  put =
-      sym (append-nil new.feed.line.items)
-      ∙ ap (λ (rounds : List Round). new.feed.line.items ++ sent_in rounds) (sym h.none)
-      ∙ h.fed.put
-      ∙ ap (λ (items : List Sent). items ++ feed_left old.feed) f.line
-      ∙ f.left
-      ∙ sym (ap (λ helper. planned_messages plan helper.domain) h.helper);
-}
+fed_worker disk plan old new h f = grind (arith, nat_tests, append-nil new.feed.line.items)
 
 pub fed_workers : {D : Type 0} (disk : DiskGhosts D) (plan : PutPlan) (old new : List (Worker D)) → length new ≡ length old
     → ((k : ℕ) (a b : Worker D) → slice_get old k ≡ Some a → slice_get new k ≡ Some b → HasFed a b) → ((worker : Worker D) → In old worker → IsFresh disk plan worker)
@@ -70,13 +56,4 @@ pub worker_served : {D T : Type 0} (disk : DiskGhosts D) (plan : PutPlan) (worke
     → IsPlan plan.job.now.batches plan.list.now plan.cover.now plan.hints.now.cb_buffer → IsFed disk plan worker → old.from ≡ disk.from (part_of worker) → old.len ≡ disk.len (part_of worker)
     → HasServed worker.helper.awaited.dues.value.items old new taken end → (length taken ≡ length worker.feed.line.items → taken ≡ worker.feed.line.items)
     → HasPut (source_in plan) plan.list.now (planned_turns plan (domain_of worker)) old new end
-worker_served disk plan worker old new taken end p f from len served equal =
-    let batches = plan.job.now.batches in
-    let list = plan.list.now in
-    let dues = worker.helper.awaited.dues.value.items in
-    let on = subst (λ (m : ℕ). IsPlanOn (source_in plan) (length batches) list old.from m dues) (sym len)
-    (subst (λ (n : ℕ). IsPlanOn (source_in plan) (length batches) list n (disk.len (part_of worker)) dues) (sym from) (plan_of disk plan worker p f.started)) in
-    let put : worker.feed.line.items ≡ messages_of (source_in plan) (length batches) list (turns_due dues)
-    = f.put ∙ sym (ap (λ (ts : List Told). messages_of (source_in plan) (length batches) list ts) f.started.windows) in
-    subst (λ (ts : List Told). HasPut (source_in plan) list ts old new end) f.started.windows
-    (served.put (source_in plan) (length batches) list on (equal (served.many (source_in plan) (length batches) list on ∙ sym (ap (λ (ms : List Sent). length ms) put)) ∙ put))
+worker_served disk plan worker old new taken end p f from len served equal = grind (arith, nat_tests, plan_of disk plan worker p f.started)

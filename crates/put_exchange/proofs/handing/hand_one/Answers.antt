@@ -12,4 +12,4 @@ ask-requires-clause-due g c κs within =
     let room = length c.in-Ok-take.buf.items in
     let made : min plan.hints.now.cb_buffer domain.len ≤ room = first_of (search rules, grind (arith, common_steps)) in
     subst (λ (ts : List Told). AreDue from len room ts) (sym c.in-Ok-mail_of.ensures.windows)
-    (plan_due plan.job.now.batches plan.list.now plan.cover.now plan.hints.now.cb_buffer from len room domain c.requires.plan c.requires.domain made)
+    (plan_due _ _ _ _ _ _ _ _ c.requires.plan c.requires.domain made)

@@ -8,7 +8,7 @@ none = record { extent = record { at = 0; len = 0 }; rank = 0; request = 0; slot
 
 pub lay_piece-requires-clause-piece : goal.lay_piece-requires-clause-piece
 lay_piece-requires-clause-piece c =
-    c.requires.pieces (get_or c.args.entries.now c.loop-entry.entry-index none) (entry_in c.args.entries.now c.loop-entry.entry-index none c.loop-entry-test.true)
+    c.requires.pieces (get_or c.args.entries.now c.loop-entry.entry-index none) (entry_in c.args.entries.now _ none c.loop-entry-test.true)
 
 pub loop-entry-preserved : goal.loop-entry-preserved
 loop-entry-preserved c =

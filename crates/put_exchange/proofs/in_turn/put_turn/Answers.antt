@@ -1,5 +1,5 @@
 -- The hull as it is written is the old one with the entries' bytes.
-use Rattle.put_exchange.proofs.Words.{◌≡◌, ◌+◌, length, map, rules, arith, common_steps, cell_of, clips_from, clips_within, told_window, window_told_by, window_refused_by, cells_in, put_window, source_of}
+use Rattle.put_exchange.proofs.Words.{◌≡◌, ◌+◌, length, map, rules, arith, common_steps, cell_of, clips_from, clips_within, told_window, window_told_by, window_refused_by, put_window, source_of}
 use Rattle.put_exchange.proofs.PutLaws.{told_kept, told_whole}
 use Rattle.put_exchange.proofs.in_turn.put_turn.Goals as goal
 
@@ -11,11 +11,7 @@ returns-clause-bytes g c =
     let at = window.hull.at in
     let len = window.hull.len in
     let room : length c.open_window.new.buf ≡ len = first_of (search rules, grind (arith, common_steps)) in
-    window_told_by
-    (g.D.Disk.held c.args.part.now) (g.D.Disk.held c.open_window.new.disk) (g.D.Disk.held c.close_window.new.disk) window.full
-    c.open_window.new.buf c.lay_entries.new.buf (g.D.Disk.from c.args.part.now) (g.D.Disk.from c.open_window.new.disk) at len
-    (g.D.Disk.len c.args.part.now) (cells_in source (told_window window) entries)
-    c.in_ok-open_window.ensures.from c.in_ok-open_window.ensures.bytes c.lay_entries.ensures
+    window_told_by _ _ (g.D.Disk.held c.close_window.new.disk) window.full c.open_window.new.buf _ _ _ at _ (g.D.Disk.len c.args.part.now) _ c.in_ok-open_window.ensures.from c.in_ok-open_window.ensures.bytes c.lay_entries.ensures
     c.size-size.ensures.told room c.requires.low c.requires.high
     (clips_from at (at + len) (map (λ o. cell_of source o) entries) (omega arith))
     (clips_within at (at + len) (map (λ o. cell_of source o) entries) (omega arith))
@@ -34,11 +30,7 @@ returns-in_err-close_window-clause-between g c =
     let at = window.hull.at in
     let len = window.hull.len in
     let room : length c.open_window.new.buf ≡ len = first_of (search rules, grind (arith, common_steps)) in
-    window_refused_by
-    (g.D.Disk.held c.args.part.now) (g.D.Disk.held c.open_window.new.disk) (g.D.Disk.held c.close_window.new.disk) window.full
-    c.open_window.new.buf c.lay_entries.new.buf (g.D.Disk.from c.args.part.now) (g.D.Disk.from c.open_window.new.disk) at len
-    (g.D.Disk.len c.args.part.now) (cells_in source (told_window window) entries)
-    c.in_ok-open_window.ensures.from c.in_ok-open_window.ensures.bytes c.lay_entries.ensures
+    window_refused_by _ _ _ window.full c.open_window.new.buf _ _ _ at _ (g.D.Disk.len c.args.part.now) _ c.in_ok-open_window.ensures.from c.in_ok-open_window.ensures.bytes c.lay_entries.ensures
     c.size-size.ensures.told room c.requires.low c.requires.high
     (clips_from at (at + len) (map (λ o. cell_of source o) entries) (omega arith))
     (clips_within at (at + len) (map (λ o. cell_of source o) entries) (omega arith))

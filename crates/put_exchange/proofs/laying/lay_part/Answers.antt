@@ -1,5 +1,5 @@
 -- Each window is served by the messages that are due in it.
-use Rattle.put_exchange.proofs.Words.{◌∙◌, ◌+◌, inl, inr, refl, ap, sym, subst, length, ℕ, List, drop, false, get_or, arith, at_index, drop_all, told_window, Told, counts_due, turns_due, messages_in, turn_due, Due, HasPutTaken}
+use Rattle.put_exchange.proofs.Words.{◌∙◌, inl, inr, refl, ap, subst, length, ℕ, List, false, get_or, arith, at_index, drop_all, told_window, Told, turns_due, messages_in, turn_due, Due, HasPutTaken}
 use Rattle.put_exchange.proofs.ServeLaws.{count_at, due_in, dues_left, served_begin, served_next, served_end}
 use Rattle.put_exchange.proofs.laying.lay_part.Goals as goal
 
@@ -11,8 +11,7 @@ loop-due-init g c = record {
   of = refl;
   buf = refl;
   served = λ source ranks list plan.
-      served_begin source (g.D.Disk.from c.args.part.now) (g.D.Disk.len c.args.part.now) ranks plan.room list (turns_due c.args.dues.now) c.args.line.now.items
-      (g.D.Disk.held c.args.part.now) (g.D.Disk.calls c.args.part.now) _ plan.turns plan.windows c.size-size.ensures.told c.requires.empty;
+      served_begin source _ _ ranks _ _ _ _ (g.D.Disk.held c.args.part.now) (g.D.Disk.calls c.args.part.now) _ plan.turns plan.windows c.size-size.ensures.told c.requires.empty;
   from = refl;
   len = refl;
   later = omega arith;
@@ -21,28 +20,22 @@ loop-due-init g c = record {
 
 pub serve_turn-end-requires-clause-low : goal.serve_turn-end-requires-clause-low
 serve_turn-end-requires-clause-low g c κs within =
-    let on = c.requires.due.on_part (told_window (get_or c.args.dues.now c.loop-due.due-index none).window) (due_in c.args.dues.now c.loop-due.due-index none c.loop-due-test.true) in
-    let low = on.0 in
-    let from = c.loop-due.invariant.from in
-    omega arith
+    let on = c.requires.due.on_part (told_window (get_or c.args.dues.now c.loop-due.due-index none).window) (due_in c.args.dues.now _ none c.loop-due-test.true) in
+    omega (arith, on.0, c.loop-due.invariant.from)
 
 pub serve_turn-end-requires-clause-high : goal.serve_turn-end-requires-clause-high
 serve_turn-end-requires-clause-high g c κs within =
-    let on = c.requires.due.on_part (told_window (get_or c.args.dues.now c.loop-due.due-index none).window) (due_in c.args.dues.now c.loop-due.due-index none c.loop-due-test.true) in
-    let high = on.1 in
-    let from = c.loop-due.invariant.from in
-    let len = c.loop-due.invariant.len in
-    omega arith
+    let on = c.requires.due.on_part (told_window (get_or c.args.dues.now c.loop-due.due-index none).window) (due_in c.args.dues.now _ none c.loop-due-test.true) in
+    omega (arith, on.1, c.loop-due.invariant.from, c.loop-due.invariant.len)
 
 pub serve_turn-end-requires-clause-hull : goal.serve_turn-end-requires-clause-hull
 serve_turn-end-requires-clause-hull g c κs within =
-    c.requires.due.limit (told_window (get_or c.args.dues.now c.loop-due.due-index none).window) (due_in c.args.dues.now c.loop-due.due-index none c.loop-due-test.true)
+    c.requires.due.limit (told_window (get_or c.args.dues.now c.loop-due.due-index none).window) (due_in c.args.dues.now _ none c.loop-due-test.true)
 
 pub serve_turn-end-requires-clause-room : goal.serve_turn-end-requires-clause-room
 serve_turn-end-requires-clause-room g c κs within =
-    let short = c.requires.due.short (told_window (get_or c.args.dues.now c.loop-due.due-index none).window) (due_in c.args.dues.now c.loop-due.due-index none c.loop-due-test.true) in
-    let buf = c.loop-due.invariant.buf in
-    omega arith
+    let short = c.requires.due.short (told_window (get_or c.args.dues.now c.loop-due.due-index none).window) (due_in c.args.dues.now _ none c.loop-due-test.true) in
+    omega (arith, short, c.loop-due.invariant.buf)
 
 pub loop-due-preserved : goal.loop-due-preserved
 loop-due-preserved g c =
@@ -58,12 +51,10 @@ loop-due-preserved g c =
       of = c.serve_turn-end.ensures.of ∙ c.loop-due.invariant.of;
       buf = c.serve_turn-end.auto.buf ∙ c.loop-due.invariant.buf;
       served = λ source ranks list plan.
-          served_next source from (g.D.Disk.len c.args.part.now) ranks plan.room due.count list (turns_due dues) (turns_due (drop i dues)) (turns_due (drop (i + 1) dues)) t
-          c.loop-due.line.items c.serve_turn-end.new.line.items
-          (g.D.Disk.held c.args.part.now) (g.D.Disk.held c.loop-due.part) (g.D.Disk.held c.serve_turn-end.new.part)
-          (g.D.Disk.calls c.args.part.now) (g.D.Disk.calls c.loop-due.part) (g.D.Disk.calls c.serve_turn-end.new.part) c.loop-due.end c.serve_turn-end.result
+          served_next _ _ (g.D.Disk.len c.args.part.now) _ _ _ _ _ _ _ t _ c.serve_turn-end.new.line.items _ _ (g.D.Disk.held c.serve_turn-end.new.part) _ _
+          (g.D.Disk.calls c.serve_turn-end.new.part) _ c.serve_turn-end.result
           (record { pieces = plan.pieces; below = plan.below; one = plan.one; told = c.size-size.ensures.told })
-          (c.loop-due.invariant.served source ranks list plan) (dues_left dues i due (at_index dues i i none c.loop-due-test.true refl)) on.0 on.1
+          (c.loop-due.invariant.served source ranks list plan) (dues_left dues i _ (at_index dues i i none c.loop-due-test.true refl)) on.0 on.1
           (count_at (λ (u : Told). length (messages_in source ranks list u)) dues i none c.loop-due-test.true plan.counts)
           (record {
             took = c.serve_turn-end.ensures.taken;
@@ -88,11 +79,9 @@ returns-clause-served g c =
     let none_left = ap (λ (ds : List Due). turns_due ds) (drop_all i dues c.loop-due-test.false) in
     record {
       many = λ source ranks list plan.
-          (served_end source from ranks plan.room list (turns_due dues) (turns_due (drop i dues)) c.loop-due.line.items (g.D.Disk.held c.args.part.now) (g.D.Disk.held c.loop-due.part)
-          (g.D.Disk.calls c.args.part.now) (g.D.Disk.calls c.loop-due.part) c.loop-due.end (c.loop-due.invariant.served source ranks list plan) none_left).many;
+          (served_end _ _ _ _ _ _ _ _ _ _ _ _ _ (c.loop-due.invariant.served source ranks list plan) none_left).many;
       put = λ source ranks list plan e.
-          (let through = served_end source from ranks plan.room list (turns_due dues) (turns_due (drop i dues)) c.loop-due.line.items (g.D.Disk.held c.args.part.now) (g.D.Disk.held c.loop-due.part)
-          (g.D.Disk.calls c.args.part.now) (g.D.Disk.calls c.loop-due.part) c.loop-due.end (c.loop-due.invariant.served source ranks list plan) none_left in
+          (let through = served_end _ _ _ _ _ _ _ _ _ _ _ _ _ (c.loop-due.invariant.served source ranks list plan) none_left in
           record {
             from = c.loop-due.invariant.from;
             len = c.loop-due.invariant.len;

@@ -46,13 +46,9 @@ returns-in_err-close_window-clause-put g c =
       got = got;
       taken = c.take_messages.ensures.laid.taken;
       many = c.take_messages.ensures.laid.many;
-      bytes = λ source picked carry whole. err_not_ok _ c.from_residual-in_err-close_window.result c.from_residual-in_err-close_window.ensures.0;
+      bytes = λ source picked carry whole. err_not_ok _ _ c.from_residual-in_err-close_window.ensures.0;
       between = λ source picked carry whole.
-          window_refused_by
-          (g.D.Disk.held c.args.part.now) (g.D.Disk.held c.open_window-opened.new.disk) (g.D.Disk.held c.close_window.new.disk) c.args.due.now.window.full
-          c.open_window-opened.new.buf c.take_messages.new.buf from (g.D.Disk.from c.open_window-opened.new.disk) at len
-          (g.D.Disk.len c.args.part.now) (cells_in source t picked)
-          c.in_ok-opened.ensures.from c.in_ok-opened.ensures.bytes (c.take_messages.ensures.laid.laid carry.hull ∙ ap (λ (cells : List Cell). write_cells c.open_window-opened.new.buf (moved_down at cells)) carry.cells)
+          window_refused_by _ _ _ c.args.due.now.window.full c.open_window-opened.new.buf _ _ _ at _ (g.D.Disk.len c.args.part.now) _ c.in_ok-opened.ensures.from c.in_ok-opened.ensures.bytes (c.take_messages.ensures.laid.laid carry.hull ∙ ap (λ (cells : List Cell). write_cells c.open_window-opened.new.buf (moved_down at cells)) carry.cells)
           c.size-size.ensures.told room c.requires.low c.requires.high
           (clips_from at (at + len) (map (λ o. cell_of source o) picked) (omega arith))
           (clips_within at (at + len) (map (λ o. cell_of source o) picked) (omega arith))
@@ -67,8 +63,8 @@ returns-in_err-opened-clause-put g c =
       got = got;
       taken = c.take_messages.ensures.laid.taken;
       many = c.take_messages.ensures.laid.many;
-      bytes = λ source picked carry whole. err_not_ok _ c.from_residual.result c.from_residual.ensures.0;
+      bytes = λ source picked carry whole. err_not_ok _ _ c.from_residual.ensures.0;
       between = λ source picked carry whole.
-          told_kept (g.D.Disk.held c.args.part.now) (g.D.Disk.held c.open_window-opened.new.disk) (put_window source (g.D.Disk.from c.args.part.now) t picked)
+          told_kept _ _ (put_window source (g.D.Disk.from c.args.part.now) t picked)
           c.in_err-opened.ensures.bytes;
     }

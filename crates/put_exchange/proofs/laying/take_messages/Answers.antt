@@ -10,8 +10,7 @@ messages-preserved g c =
     record {
       some = omega arith;
       of = c.take-message.ensures.of ∙ c.messages.invariant.of;
-      laid = laid_more c.args.hull (c.args.count - c.messages.left) (c.args.count - (c.messages.left - 1))
-          c.args.line.now.items c.messages.line.items c.take-message.new.self.items c.take-message.result c.args.buf.now c.messages.buf c.lay.new.buf
+      laid = laid_more _ _ (c.args.count - (c.messages.left - 1)) _ _ _ c.take-message.result _ _ c.lay.new.buf
           c.messages.invariant.laid c.take-message.ensures.items (omega arith) c.lay.ensures.laid;
       long = c.lay.ensures.long ∙ c.messages.invariant.long;
     }

@@ -12,7 +12,7 @@ lay_cut-requires-clause-cut c =
 
 pub loop-cut-preserved : goal.loop-cut-preserved
 loop-cut-preserved c = record {
-  laid = laid_cut c.args.hull.at c.loop-cut.cut-index c.args.puts.now c.args.cuts.now none c.args.buf.now c.loop-cut.buf c.lay_cut.new.buf c.loop-cut-test.true
+  laid = laid_cut c.args.hull.at _ c.args.puts.now c.args.cuts.now none c.args.buf.now _ _ c.loop-cut-test.true
       c.loop-cut.invariant.laid c.lay_cut.ensures;
   long = c.lay_cut.auto.buf ∙ c.loop-cut.invariant.long;
 }

@@ -1,5 +1,5 @@
 -- One rank more.
-use Rattle.put_exchange.proofs.Words.{◌≡◌, ◌∙◌, ◌++◌, ◌∷◌, [], ◌+◌, ◌<◌, ℕ, List, Vec, Global, ap, sym, length, map, rules, arith, common_steps, length-append, map-append, range_with_len, binned, Cut}
+use Rattle.put_exchange.proofs.Words.{◌≡◌, ◌∙◌, ◌++◌, ◌∷◌, [], ◌<◌, ℕ, List, Vec, Global, ap, sym, length, map, rules, arith, common_steps, length-append, map-append, range_with_len, binned, Cut}
 use Rattle.put_exchange.proofs.PackLaws.{map_push}
 use Rattle.put_exchange.proofs.packing.empty_bins.Goals as goal
 

@@ -16,10 +16,7 @@ cut_of-requires-clause-end c = entry_ends c.args.turn.now.entries.now c.loop-ent
 pub cut_of-requires-clause-from : goal.cut_of-requires-clause-from
 cut_of-requires-clause-from c =
     let piece = c.requires.pieces (get_or c.args.turn.now.entries.now c.loop-entry.entry-index none) (entry_in c.args.turn.now.entries.now c.loop-entry.entry-index none c.loop-entry-test.true) in
-    let room = piece.found in
-    let long = c.post_bytes-bytes.type_inv.0 in
-    let same = ap (λ (b : List ℕ). length b) c.post_bytes-bytes.ensures in
-    omega arith
+    omega (arith, piece.found, c.post_bytes-bytes.type_inv.0, ap (λ (b : List ℕ). length b) c.post_bytes-bytes.ensures)
 
 pub post_bytes-bytes-requires : goal.post_bytes-bytes-requires
 post_bytes-bytes-requires c =

@@ -1,5 +1,5 @@
 -- One rank more.
-use Rattle.put_exchange.proofs.Words.{ℕ, ◌≡◌, ◌<◌, ◌≤◌, ◌∙◌, ◌++◌, ◌∷◌, [], List, Vec, Global, ap, sym, subst, length, map, filter, append_assoc, arith, rules, common_steps, range_with_len, slice_get_within, middle_at, told_window, source_of, AreCuts, binned, cuts_by, has_pieces, hull_of, sent_by, Cut}
+use Rattle.put_exchange.proofs.Words.{ℕ, ◌≡◌, ◌<◌, ◌∙◌, ◌++◌, ◌∷◌, [], List, Vec, Global, ap, sym, subst, length, map, filter, append_assoc, arith, rules, common_steps, range_with_len, slice_get_within, middle_at, told_window, source_of, AreCuts, cuts_by, has_pieces, hull_of, sent_by, Cut}
 use Rattle.put_exchange.proofs.PackLaws.{bin_is, bins_long, cuts_are, messages_push}
 use Rattle.put_exchange.proofs.packing.with_bins.Goals as goal
 
@@ -25,10 +25,7 @@ overflow_add-rank c =
     let middle = ap (λ v. c.loop-cuts.yielded ++ v) (sym c.in-Some.ensures.steps.0) ∙ c.loop-cuts.invariant.all in
     let here = middle_at c.loop-cuts.yielded _ bins c.in-Some.cuts middle in
     let low : length c.loop-cuts.yielded < length bins = slice_get_within bins (length c.loop-cuts.yielded) c.in-Some.cuts here in
-    let long = bins_long (λ r. cuts_by t c.args.turn.now.entries.now r) (length c.args.job.now.batches) bins c.requires.bins in
-    let many = c.loop-cuts.invariant.many in
-    let few = c.requires.few in
-    omega arith
+    omega (arith, bins_long (λ r. cuts_by t c.args.turn.now.entries.now r) (length c.args.job.now.batches) bins c.requires.bins, c.loop-cuts.invariant.many, c.requires.few)
 
 pub loop-cuts-preserved : goal.loop-cuts-preserved
 loop-cuts-preserved c =

@@ -15,15 +15,11 @@ one_fewer {D} round i old now worker new first own before less fewer each k s l 
 
     by_order : (t : Bool) → nat_lt k i ≡ t → rounds_in (set now i new) < rounds_in old
     by_order true u =
-        let under : k < i = grind (arith, nat_tests) in
-        let earlier = each k s under e n in
-        let more = no_more_all left now i worker new own less in
-        omega arith
+        let under : k < i = grind (arith, nat_tests) in omega (arith, each k s under e n, no_more_all left now i worker new own less)
     by_order false u =
         let same : k ≡ i = grind (arith, nat_tests) in
         let is : worker ≡ s = same_Some worker s (sym first ∙ ap (slice_get old) (sym same) ∙ e) in
-        let one = fewer_all left now i worker new own (fewer (ap (λ (x : Worker D). next_round_of x.feed) is ∙ n)) in
-        omega arith
+        omega (arith, fewer_all left now i worker new own (fewer (ap (λ (x : Worker D). next_round_of x.feed) is ∙ n)))
 
 pub loop-worker-preserved : goal.loop-worker-preserved
 loop-worker-preserved g c =
