@@ -17,64 +17,37 @@ end_of-end-requires-clause-below c =
 
 -- ---- a pair
 
-pub returns-in-Shared-clause-overlap : goal.returns-in-Shared-clause-overlap
-returns-in-Shared-clause-overlap c =
-    ap (λ (p : Puts). p.overlap) c.refused.ensures
-    ∙ sym (list_shared c.args.dataset.now.header.now c.args.dataset.now.hints.now.overlap 0 c.args.batches.now c.args.batches.now c.in_ok-pair.field-0 c.in-Shared.pair refl c.in-Shared.is c.in_ok-pair.ensures)
-
-pub returns-in-Shared-clause-domains : goal.returns-in-Shared-clause-domains
-returns-in-Shared-clause-domains c =
-    refused c.in-Shared.pair
-    (list_shared c.args.dataset.now.header.now c.args.dataset.now.hints.now.overlap 0 c.args.batches.now c.args.batches.now c.in_ok-pair.field-0 c.in-Shared.pair refl c.in-Shared.is c.in_ok-pair.ensures)
-    (ap (λ (p : Puts). p.domains) c.refused.ensures)
-
-pub returns-in-Shared-clause-needed : goal.returns-in-Shared-clause-needed
-returns-in-Shared-clause-needed c =
-    ap (λ (p : Puts). p.needed) c.refused.ensures
-    ∙ sym (shared_needs (setting c.args.dataset.now.header.now c.args.dataset.now.hints.now) (puts_in c.args.batches.now) c.in-Shared.pair
-    (list_shared c.args.dataset.now.header.now c.args.dataset.now.hints.now.overlap 0 c.args.batches.now c.args.batches.now c.in_ok-pair.field-0 c.in-Shared.pair refl c.in-Shared.is c.in_ok-pair.ensures))
-
-pub returns-in-Shared-clause-size : goal.returns-in-Shared-clause-size
-returns-in-Shared-clause-size c =
-    ap (λ (p : Puts). p.size) c.refused.ensures
-    ∙ refused_size (setting c.args.dataset.now.header.now c.args.dataset.now.hints.now) (puts_in c.args.batches.now) c.args.size c.in-Shared.pair
-    (list_shared c.args.dataset.now.header.now c.args.dataset.now.hints.now.overlap 0 c.args.batches.now c.args.batches.now c.in_ok-pair.field-0 c.in-Shared.pair refl c.in-Shared.is c.in_ok-pair.ensures)
-    c.requires.long
-
-pub returns-in-Shared-clause-calls : goal.returns-in-Shared-clause-calls
-returns-in-Shared-clause-calls c =
-    ap (λ (p : Puts). grow_call p.grow ++ steps.stores_in p.domains) c.refused.ensures
-    ∙ refused_calls (setting c.args.dataset.now.header.now c.args.dataset.now.hints.now) (collective_windows c.args.dataset.now.hints.now) (puts_in c.args.batches.now) c.args.size c.in-Shared.pair
-    (list_shared c.args.dataset.now.header.now c.args.dataset.now.hints.now.overlap 0 c.args.batches.now c.args.batches.now c.in_ok-pair.field-0 c.in-Shared.pair refl c.in-Shared.is c.in_ok-pair.ensures)
+pub returns-in-Shared : goal.returns-in-Shared
+returns-in-Shared c =
+    let header = c.args.dataset.now.header.now in
+    let hints = c.args.dataset.now.hints.now in
+    let s = setting header hints in
+    let puts = puts_in c.args.batches.now in
+    let shared = list_shared header hints.overlap 0 c.args.batches.now c.args.batches.now c.in_ok-pair.field-0 c.in-Shared.pair refl c.in-Shared.is c.in_ok-pair.ensures in
+    record {
+      overlap = ap (λ (p : Puts). p.overlap) c.refused.ensures ∙ sym shared;
+      domains = refused c.in-Shared.pair shared (ap (λ (p : Puts). p.domains) c.refused.ensures);
+      needed = ap (λ (p : Puts). p.needed) c.refused.ensures ∙ sym (shared_needs s puts c.in-Shared.pair shared);
+      size = ap (λ (p : Puts). p.size) c.refused.ensures ∙ refused_size s puts c.args.size c.in-Shared.pair shared c.requires.long;
+      calls = ap (λ (p : Puts). grow_call p.grow ++ steps.stores_in p.domains) c.refused.ensures
+          ∙ refused_calls s (collective_windows hints) puts c.args.size c.in-Shared.pair shared;
+    }
 
 -- ---- none
 
-pub returns-in_ok-domains-in-Laid-clause-overlap : goal.returns-in_ok-domains-in-Laid-clause-overlap
-returns-in_ok-domains-in-Laid-clause-overlap c =
-    sym (list_laid c.args.dataset.now.header.now c.args.dataset.now.hints.now.overlap 0 c.args.batches.now c.args.batches.now c.in_ok-pair.field-0 c.in-Laid.list refl c.in-Laid.is c.in_ok-pair.ensures).0
-
-pub returns-in_ok-domains-in-Laid-clause-domains : goal.returns-in_ok-domains-in-Laid-clause-domains
-returns-in_ok-domains-in-Laid-clause-domains c =
-    let here = list_laid c.args.dataset.now.header.now c.args.dataset.now.hints.now.overlap 0 c.args.batches.now c.args.batches.now c.in_ok-pair.field-0 c.in-Laid.list refl c.in-Laid.is c.in_ok-pair.ensures in
-    laid c.in-Laid.list here.0 here.1 c.in_ok-domains-in-Laid.ensures
-
-pub returns-in_ok-domains-in-Laid-clause-needed : goal.returns-in_ok-domains-in-Laid-clause-needed
-returns-in_ok-domains-in-Laid-clause-needed c =
-    c.records_needed-needed.ensures
-    ∙ sym (laid_needs (setting c.args.dataset.now.header.now c.args.dataset.now.hints.now) (puts_in c.args.batches.now)
-    (list_laid c.args.dataset.now.header.now c.args.dataset.now.hints.now.overlap 0 c.args.batches.now c.args.batches.now c.in_ok-pair.field-0 c.in-Laid.list refl c.in-Laid.is c.in_ok-pair.ensures).0)
-
-pub returns-in_ok-domains-in-Laid-clause-size : goal.returns-in_ok-domains-in-Laid-clause-size
-returns-in_ok-domains-in-Laid-clause-size c =
-    c.max.ensures ∙ ap (max c.args.size) c.end_of-end.ensures
-    ∙ laid_size (setting c.args.dataset.now.header.now c.args.dataset.now.hints.now) (puts_in c.args.batches.now) c.args.size c.records_needed-needed.result
-    (list_laid c.args.dataset.now.header.now c.args.dataset.now.hints.now.overlap 0 c.args.batches.now c.args.batches.now c.in_ok-pair.field-0 c.in-Laid.list refl c.in-Laid.is c.in_ok-pair.ensures).0
-    c.records_needed-needed.ensures
-
-pub returns-in_ok-domains-in-Laid-clause-calls : goal.returns-in_ok-domains-in-Laid-clause-calls
-returns-in_ok-domains-in-Laid-clause-calls c =
+pub returns-in_ok-domains-in-Laid : goal.returns-in_ok-domains-in-Laid
+returns-in_ok-domains-in-Laid c =
     let header = c.args.dataset.now.header.now in
     let hints = c.args.dataset.now.hints.now in
+    let s = setting header hints in
+    let puts = puts_in c.args.batches.now in
+    let needed = c.records_needed-needed.result in
     let here = list_laid header hints.overlap 0 c.args.batches.now c.args.batches.now c.in_ok-pair.field-0 c.in-Laid.list refl c.in-Laid.is c.in_ok-pair.ensures in
-    collective_calls header hints c.args.batches.now c.args.size c.records_needed-needed.result c.grown.result c.in-Laid.list c.in_ok-domains-in-Laid.domains here.0 c.requires.long c.records_needed-needed.ensures here.1
-    c.in_ok-domains-in-Laid.ensures (c.grown.ensures ∙ ap (device.grow_to c.args.size) c.end_of-end.ensures)
+    record {
+      overlap = sym here.0;
+      domains = laid c.in-Laid.list here.0 here.1 c.in_ok-domains-in-Laid.ensures;
+      needed = c.records_needed-needed.ensures ∙ sym (laid_needs s puts here.0);
+      size = c.max.ensures ∙ ap (max c.args.size) c.end_of-end.ensures ∙ laid_size s puts c.args.size needed here.0 c.records_needed-needed.ensures;
+      calls = collective_calls header hints c.args.batches.now c.args.size needed c.grown.result c.in-Laid.list c.in_ok-domains-in-Laid.domains here.0 c.requires.long
+          c.records_needed-needed.ensures here.1 c.in_ok-domains-in-Laid.ensures (c.grown.ensures ∙ ap (device.grow_to c.args.size) c.end_of-end.ensures);
+    }

@@ -36,64 +36,40 @@ end_of-end-requires-clause-below c =
 
 -- ---- a pair
 
-pub returns-in-Shared-clause-overlap : goal.returns-in-Shared-clause-overlap
-returns-in-Shared-clause-overlap c =
-    ap (λ (p : Puts). p.overlap) c.refused.ensures
-    ∙ sym (own_shared c.args.dataset.now.header.now c.args.dataset.now.hints.now.overlap c.args.rank c.args.batch.now c.from_ref.result.now c.in_ok-pair.field-0 c.in-Shared.pair c.from_ref.ensures.value c.in-Shared.is c.in_ok-pair.ensures)
-
-pub returns-in-Shared-clause-windows : goal.returns-in-Shared-clause-windows
-returns-in-Shared-clause-windows c =
-    refused c.in-Shared.pair
-    (own_shared c.args.dataset.now.header.now c.args.dataset.now.hints.now.overlap c.args.rank c.args.batch.now c.from_ref.result.now c.in_ok-pair.field-0 c.in-Shared.pair c.from_ref.ensures.value c.in-Shared.is c.in_ok-pair.ensures)
-    (ap (λ (p : Puts). p.domains) c.refused.ensures)
-
-pub returns-in-Shared-clause-needed : goal.returns-in-Shared-clause-needed
-returns-in-Shared-clause-needed c =
-    ap (λ (p : Puts). p.needed) c.refused.ensures
-    ∙ sym (shared_needs (setting c.args.dataset.now.header.now c.args.dataset.now.hints.now) (puts_of_batch (c.args.rank, c.args.batch.now)) c.in-Shared.pair
-    (own_shared c.args.dataset.now.header.now c.args.dataset.now.hints.now.overlap c.args.rank c.args.batch.now c.from_ref.result.now c.in_ok-pair.field-0 c.in-Shared.pair c.from_ref.ensures.value c.in-Shared.is c.in_ok-pair.ensures))
-
-pub returns-in-Shared-clause-size : goal.returns-in-Shared-clause-size
-returns-in-Shared-clause-size c =
-    ap (λ (p : Puts). p.size) c.refused.ensures
-    ∙ refused_size (setting c.args.dataset.now.header.now c.args.dataset.now.hints.now) (puts_of_batch (c.args.rank, c.args.batch.now)) c.args.size c.in-Shared.pair
-    (own_shared c.args.dataset.now.header.now c.args.dataset.now.hints.now.overlap c.args.rank c.args.batch.now c.from_ref.result.now c.in_ok-pair.field-0 c.in-Shared.pair c.from_ref.ensures.value c.in-Shared.is c.in_ok-pair.ensures)
-    c.requires.long
-
-pub returns-in-Shared-clause-calls : goal.returns-in-Shared-clause-calls
-returns-in-Shared-clause-calls c =
-    ap (λ (p : Puts). grow_call p.grow ++ steps.stores_in p.domains) c.refused.ensures
-    ∙ refused_calls (setting c.args.dataset.now.header.now c.args.dataset.now.hints.now) (sieving_windows c.args.dataset.now.hints.now.wr_buffer) (puts_of_batch (c.args.rank, c.args.batch.now)) c.args.size c.in-Shared.pair
-    (own_shared c.args.dataset.now.header.now c.args.dataset.now.hints.now.overlap c.args.rank c.args.batch.now c.from_ref.result.now c.in_ok-pair.field-0 c.in-Shared.pair c.from_ref.ensures.value c.in-Shared.is c.in_ok-pair.ensures)
+pub returns-in-Shared : goal.returns-in-Shared
+returns-in-Shared c =
+    let header = c.args.dataset.now.header.now in
+    let hints = c.args.dataset.now.hints.now in
+    let s = setting header hints in
+    let puts = puts_of_batch (c.args.rank, c.args.batch.now) in
+    let shared = own_shared header hints.overlap c.args.rank c.args.batch.now c.from_ref.result.now c.in_ok-pair.field-0 c.in-Shared.pair c.from_ref.ensures.value c.in-Shared.is
+    c.in_ok-pair.ensures in
+    record {
+      overlap = ap (λ (p : Puts). p.overlap) c.refused.ensures ∙ sym shared;
+      windows = refused c.in-Shared.pair shared (ap (λ (p : Puts). p.domains) c.refused.ensures);
+      needed = ap (λ (p : Puts). p.needed) c.refused.ensures ∙ sym (shared_needs s puts c.in-Shared.pair shared);
+      size = ap (λ (p : Puts). p.size) c.refused.ensures ∙ refused_size s puts c.args.size c.in-Shared.pair shared c.requires.long;
+      calls = ap (λ (p : Puts). grow_call p.grow ++ steps.stores_in p.domains) c.refused.ensures
+          ∙ refused_calls s (sieving_windows hints.wr_buffer) puts c.args.size c.in-Shared.pair shared;
+    }
 
 -- ---- none
 
-pub returns-in_ok-domains-in-Laid-clause-overlap : goal.returns-in_ok-domains-in-Laid-clause-overlap
-returns-in_ok-domains-in-Laid-clause-overlap c =
-    sym (own_laid c.args.dataset.now.header.now c.args.dataset.now.hints.now.overlap c.args.rank c.args.batch.now c.from_ref.result.now c.in_ok-pair.field-0 c.in-Laid.list c.from_ref.ensures.value c.in-Laid.is c.in_ok-pair.ensures).0
-
-pub returns-in_ok-domains-in-Laid-clause-windows : goal.returns-in_ok-domains-in-Laid-clause-windows
-returns-in_ok-domains-in-Laid-clause-windows c =
-    let here = own_laid c.args.dataset.now.header.now c.args.dataset.now.hints.now.overlap c.args.rank c.args.batch.now c.from_ref.result.now c.in_ok-pair.field-0 c.in-Laid.list c.from_ref.ensures.value c.in-Laid.is c.in_ok-pair.ensures in
-    laid c.in-Laid.list here.0 here.1 c.in_ok-domains-in-Laid.ensures
-
-pub returns-in_ok-domains-in-Laid-clause-needed : goal.returns-in_ok-domains-in-Laid-clause-needed
-returns-in_ok-domains-in-Laid-clause-needed c =
-    (own_needs c.args.dataset.now.header.now c.args.rank c.args.batch.now c.as_slice.result.now c.records_needed_by-needed.result c.as_slice.ensures c.records_needed_by-needed.ensures)
-    ∙ sym (laid_needs (setting c.args.dataset.now.header.now c.args.dataset.now.hints.now) (puts_of_batch (c.args.rank, c.args.batch.now))
-    (own_laid c.args.dataset.now.header.now c.args.dataset.now.hints.now.overlap c.args.rank c.args.batch.now c.from_ref.result.now c.in_ok-pair.field-0 c.in-Laid.list c.from_ref.ensures.value c.in-Laid.is c.in_ok-pair.ensures).0)
-
-pub returns-in_ok-domains-in-Laid-clause-size : goal.returns-in_ok-domains-in-Laid-clause-size
-returns-in_ok-domains-in-Laid-clause-size c =
-    c.max.ensures ∙ ap (max c.args.size) c.end_of-end.ensures
-    ∙ laid_size (setting c.args.dataset.now.header.now c.args.dataset.now.hints.now) (puts_of_batch (c.args.rank, c.args.batch.now)) c.args.size c.records_needed_by-needed.result
-    (own_laid c.args.dataset.now.header.now c.args.dataset.now.hints.now.overlap c.args.rank c.args.batch.now c.from_ref.result.now c.in_ok-pair.field-0 c.in-Laid.list c.from_ref.ensures.value c.in-Laid.is c.in_ok-pair.ensures).0
-    (own_needs c.args.dataset.now.header.now c.args.rank c.args.batch.now c.as_slice.result.now c.records_needed_by-needed.result c.as_slice.ensures c.records_needed_by-needed.ensures)
-
-pub returns-in_ok-domains-in-Laid-clause-calls : goal.returns-in_ok-domains-in-Laid-clause-calls
-returns-in_ok-domains-in-Laid-clause-calls c =
+pub returns-in_ok-domains-in-Laid : goal.returns-in_ok-domains-in-Laid
+returns-in_ok-domains-in-Laid c =
     let header = c.args.dataset.now.header.now in
     let hints = c.args.dataset.now.hints.now in
-    let here = own_laid header hints.overlap c.args.rank c.args.batch.now c.from_ref.result.now c.in_ok-pair.field-0 c.in-Laid.list c.from_ref.ensures.value c.in-Laid.is c.in_ok-pair.ensures in
-    sieved_calls header hints c.args.rank c.args.batch.now c.args.size c.records_needed_by-needed.result c.grown.result c.in-Laid.list c.in_ok-domains-in-Laid.domains here.0 c.requires.long (own_needs c.args.dataset.now.header.now c.args.rank c.args.batch.now c.as_slice.result.now c.records_needed_by-needed.result c.as_slice.ensures c.records_needed_by-needed.ensures) here.1
-    c.in_ok-domains-in-Laid.ensures (c.grown.ensures ∙ ap (device.grow_to c.args.size) c.end_of-end.ensures)
+    let s = setting header hints in
+    let puts = puts_of_batch (c.args.rank, c.args.batch.now) in
+    let needed = c.records_needed_by-needed.result in
+    let here = own_laid header hints.overlap c.args.rank c.args.batch.now c.from_ref.result.now c.in_ok-pair.field-0 c.in-Laid.list c.from_ref.ensures.value c.in-Laid.is
+    c.in_ok-pair.ensures in
+    let needs = own_needs header c.args.rank c.args.batch.now c.as_slice.result.now needed c.as_slice.ensures c.records_needed_by-needed.ensures in
+    record {
+      overlap = sym here.0;
+      windows = laid c.in-Laid.list here.0 here.1 c.in_ok-domains-in-Laid.ensures;
+      needed = needs ∙ sym (laid_needs s puts here.0);
+      size = c.max.ensures ∙ ap (max c.args.size) c.end_of-end.ensures ∙ laid_size s puts c.args.size needed here.0 needs;
+      calls = sieved_calls header hints c.args.rank c.args.batch.now c.args.size needed c.grown.result c.in-Laid.list c.in_ok-domains-in-Laid.domains here.0 c.requires.long needs
+          here.1 c.in_ok-domains-in-Laid.ensures (c.grown.ensures ∙ ap (device.grow_to c.args.size) c.end_of-end.ensures);
+    }
