@@ -1,5 +1,5 @@
 -- The domains so far adjoin, and have the bytes of the shares so far.
-use Rattle.collective_round.proofs.Words.{◌≡◌, ℕ, ◌+◌, ◌-◌, ◌*◌, ◌/◌, ◌^◌, ◌<◌, ◌≤◌, inl, inr, refl, sym, ◌∙◌, ap, List, [], ◌∷◌, ◌++◌, length, map, Bool, true, false, Some, arith, append-nil, flat_map_more, length_push, map-append, leb-true, mul-le, same_Some, mul_comm, filter, flat_map, nat_lt, nat_le, ◌==◌, range_with_len, no_none_some, range_append, Extent, Hints, first_of, last_of, windows, collective_windows, are_lawful_hints, In, EndBelow, end_after, first_at, told_of, IsCover, spans, hull_told, spans_ascend, filter_in, ceil_covers, first_least, in_left, in_range, last_most, filter_none, windows_walked, border, low_of, share_of, bytes_in, turns_of, Told, begin_or, Adjoin, AreDomains}
+use Rattle.collective_round.proofs.Words.{◌≡◌, ℕ, ◌+◌, ◌-◌, ◌*◌, ◌/◌, ◌^◌, ◌<◌, ◌≤◌, inl, inr, refl, sym, ◌∙◌, ap, List, [], ◌∷◌, ◌++◌, length, map, true, Some, arith, append-nil, flat_map_more, length_push, map-append, leb-true, mul-le, same_Some, mul_comm, filter, flat_map, ◌==◌, range_with_len, no_none_some, range_append, Extent, Hints, first_of, last_of, windows, collective_windows, are_lawful_hints, In, EndBelow, end_after, first_at, told_of, IsCover, spans, hull_told, spans_ascend, filter_in, ceil_covers, first_least, in_left, in_range, last_most, filter_none, windows_walked, border, low_of, share_of, bytes_in, turns_of, Told, begin_or, Adjoin, AreDomains, nat_tests}
 use Rattle.std.proofs.Common.{slice_get}
 use borrow.Author.Tests.{ltb-true}
 use Rattle.collective_round.proofs.DomainSteps.{collective_is, in_range_hints, same_domains}
@@ -25,11 +25,7 @@ end_grows (d ∷ domains) n h = let rest = end_grows domains (d.at + d.len) h.2 
 
 pub ends_within : (domains : List Extent) (n : ℕ) (e : Extent) → Adjoin domains → In domains e → e.at + e.len ≤ end_after n domains
 ends_within [] n e h m = absurd m
-ends_within (d ∷ domains) n e h (inl same) =
-    let grown = end_grows domains (d.at + d.len) h.2 in
-    let next = h.1 in
-    let end : d.at + d.len ≡ e.at + e.len = ap (λ (z : Extent). z.at + z.len) same in
-    omega arith
+ends_within (d ∷ domains) n e h (inl same) = grind (arith, nat_tests, end_grows domains (d.at + d.len) h.2)
 ends_within (d ∷ domains) n e h (inr m) = ends_within domains (d.at + d.len) e h.2 m
 
 pub ends_below : (domains : List Extent) (n hi : ℕ) → Adjoin domains → end_after n domains ≡ hi → hi < 2 ^ 62 → EndBelow (2 ^ 62) domains
@@ -71,11 +67,7 @@ windows_none size bytes a ts s h e =
 
 -- an extent without a byte has no covered byte
 empty_bytes : (d : Extent) (cover : List Extent) → d.len ≤ 0 → bytes_in d cover ≡ []
-empty_bytes d cover h = filter_none (λ y. nat_lt y (d.at + d.len)) (filter (λ y. nat_le d.at y) (spans cover)) (λ y m. outside y (leb-true d.at y (filter_in (λ z. nat_le d.at z) (spans cover) y m).1) (nat_lt y (d.at + d.len)) refl)
-  where
-    outside : (y : ℕ) → d.at ≤ y → (t : Bool) → nat_lt y (d.at + d.len) ≡ t → nat_lt y (d.at + d.len) ≡ false
-    outside y low true g = let l = ltb-true _ _ g in absurd (omega arith)
-    outside y low false g = g
+empty_bytes d cover h = grind (arith, nat_tests, filter_none, leb-true, filter_in, ltb-true)
 
 -- ---- what is cut, a share after another
 
@@ -125,13 +117,7 @@ last_border lo hi nodes unit order h u =
 
 pub cut_domains : (lo hi nodes unit size : ℕ) (cover domains : List Extent) → lo ≤ hi → 1 ≤ nodes → 1 ≤ unit → lo ≡ first_at cover → hi ≡ end_after 0 cover
     → AreCut lo hi nodes unit size cover nodes domains → AreDomains cover domains
-cut_domains lo hi nodes unit size cover domains order n u first last h =
-    let whole : border lo hi nodes unit nodes ≡ hi = last_border lo hi nodes unit order n u in
-    record {
-      line = h.line;
-      begin = ap (λ (k : ℕ). begin_or k domains) (sym (whole ∙ last)) ∙ h.begin ∙ first;
-      end = ap (λ (k : ℕ). end_after k domains) (sym first) ∙ h.end ∙ whole ∙ last;
-    }
+cut_domains lo hi nodes unit size cover domains order n u first last h = grind (arith, nat_tests, last_border lo hi nodes unit order n u)
 
 -- ---- from the first covered byte to the last
 
@@ -147,14 +133,7 @@ cover_reach (c ∷ cover) h =
 
 -- each covered byte lies from the first covered byte to the last
 pub within_reach : (cover : List Extent) (x : ℕ) → IsCover cover → In (spans cover) x → (first_at cover ≤ x) × (x < end_after 0 cover)
-within_reach [] x h m = absurd m
-within_reach (c ∷ cover) x h m =
-    let reach = cover_reach (c ∷ cover) h in
-    let begin = reach.0 in
-    let end = reach.1 (omega arith) in
-    let least = first_least (spans (c ∷ cover)) x (spans_ascend (c ∷ cover) h) m in
-    let most = last_most (spans (c ∷ cover)) x m in
-    (omega arith, omega arith)
+within_reach cover x h m = grind (arith, nat_tests, cover_reach, first_least, spans_ascend, last_most)
 
 last_ends : (n : ℕ) (e : Extent) (cover : List Extent) (last : Extent) → slice_get (e ∷ cover) (length cover) ≡ Some last → end_after n (e ∷ cover) ≡ last.at + last.len
 last_ends n e [] last g = ap (λ (z : Extent). z.at + z.len) (same_Some e last g)

@@ -1,5 +1,5 @@
 -- Gets on the parts of a disk, which are joined again.
-use Rattle.collective_round.proofs.Words.{◌≡◌, ◌∙◌, ℕ, ◌+◌, ◌≤◌, inl, inr, refl, sym, ap, subst, List, [], ◌∷◌, length, map, Option, Some, None, Result, Ok, Err, arith, flat_map, zip, IfSome, OnOk, AllZip, Extent, DiskCall, with_end, load_calls, In, end_after, in_map, HasGot, PartState, Told, read, parts_of, with_parts, Adjoin, Follow, read_slice, zip_weaker}
+use Rattle.collective_round.proofs.Words.{◌≡◌, ◌∙◌, ℕ, ◌+◌, ◌≤◌, inl, inr, sym, ap, subst, List, [], ◌∷◌, length, map, Option, Some, Result, Ok, Err, arith, flat_map, zip, IfSome, OnOk, AllZip, Extent, DiskCall, with_end, load_calls, In, end_after, in_map, HasGot, PartState, Told, read, parts_of, with_parts, Adjoin, Follow, read_slice, zip_weaker, nat_tests}
 use Rattle.collective_round.proofs.PartDomains.{on_states, part_bytes}
 use Rattle.collective_round.proofs.PartLaws.{flat_flat, follow_again, whole_calls, whole_kept, whole_place, IsInPlace}
 use Rattle.collective_round.proofs.PartSplits.{next_begin}
@@ -9,11 +9,7 @@ use Rattle.collective_round.proofs.PutPartLaws.{AreSplit}
 
 part_within : (disk : PartState) (domains : List Extent) (m : ℕ) → Adjoin domains → end_after m domains ≤ disk.len → (p : PartState) → In (parts_of disk domains) p → p.from + p.len ≤ disk.len
 part_within disk [] m line room p h = absurd h
-part_within disk (d ∷ rest) m line room p (inl same) =
-    let next = next_begin d rest m disk.len line room in
-    let begin = next.0 in
-    let stop = next.1 in
-    subst (λ (q : PartState). q.from + q.len ≤ disk.len) same (omega arith)
+part_within disk (d ∷ rest) m line room p (inl same) = grind (arith, nat_tests, next_begin d rest m disk.len line room)
 part_within disk (d ∷ rest) m line room p (inr h) = part_within disk rest (d.at + d.len) line.2 room p h
 
 pub part_read : {D : Type 0} (state : D → PartState) (disk front : PartState) (domains : List Extent) (parts : List D) (file : List ℕ) → AreSplit state disk front domains parts
@@ -24,9 +20,7 @@ part_read state disk front domains parts file s long told part m =
 
 -- what is known of each file that a disk may tell
 pub told_read : {T E : Type 0} (r : Result T E) (held : Option (List ℕ)) (P : List ℕ → Type 0) → ((file : List ℕ) → held ≡ Some file → OnOk r (P file)) → OnOk r (IfSome held P)
-told_read (Err e) held P h = tt
-told_read (Ok x) None P h = tt
-told_read (Ok x) (Some file) P h = h file refl
+told_read r held P h = grind (arith, nat_tests)
 
 -- ---- parts that were read
 
@@ -39,15 +33,13 @@ got_states state turns disk front domains parts news end s h =
 
 got_place : {T E : Type 0} (turns : Extent → List Told) (disk : PartState) (domains : List Extent) (news : List PartState) (end : Result T E)
     → AllZip (λ p new. HasGot (turns p.1) p.0 new end) (zip (parts_of disk domains) domains) news → AllZip (λ p new. IsInPlace p.0 new) (zip (parts_of disk domains) domains) news
-got_place turns disk domains news end h =
-    zip_weaker (λ p new. HasGot (turns p.1) p.0 new end) (λ p new. IsInPlace p.0 new) (zip (parts_of disk domains) domains) news (λ p new got. record { from = got.from; len = got.len }) h
+got_place turns disk domains news end h = grind (arith, nat_tests, zip_weaker)
 
 -- the parts follow the front, as taking them back requires
 pub gets_follow : {D T E : Type 0} (state : D → PartState) (turns : Extent → List Told) (disk front : PartState) (domains : List Extent) (parts news : List D) (end : Result T E)
     → AreSplit state disk front domains parts → AllZip (λ p new. HasGot (turns p.1) (state p.0) (state new) end) (zip parts domains) news → Follow (front.from + front.len) (map state news)
 gets_follow state turns disk front domains parts news end s h =
-    follow_again disk front domains (map state news) s.begin s.line s.room s.front_is
-    (got_place turns disk domains (map state news) end (got_states state turns disk front domains parts news end s h))
+    grind (arith, nat_tests, got_place turns disk domains (map state news) end (got_states state turns disk front domains parts news end s h), follow_again, got_states)
 
 -- the gets of all parts are those of the whole disk
 pub record HasGotWhole {T E : Type 0} (ts : List Told) (old new : PartState) (end : Result T E) : Type 0 where

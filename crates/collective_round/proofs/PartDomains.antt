@@ -1,5 +1,5 @@
 -- A disk in parts: which bytes each has, and what is said of the parts and of their states.
-use Rattle.collective_round.proofs.Words.{◌≡◌, ℕ, zero, suc, ◌+◌, ◌-◌, ◌<◌, ◌≤◌, inl, inr, refl, sym, ◌∙◌, ap, subst, List, [], ◌∷◌, length, take, drop, map, Bool, true, false, Option, Some, arith, length-map, same_Some, nat_lt, zip, range_with_len, AllZip, entry_map, no_none_some, Extent, Owned, after, IsFrom, cell_of, ranges, In, HaveSame, Source, end_after, first_at, IsCover, spans, in_flat, in_range, in_map, map_in, IsCovered, IsDomainOf, PartState, SomeZip, begin_or, part_between, parts_of, Adjoin, AreDomains}
+use Rattle.collective_round.proofs.Words.{◌≡◌, ℕ, zero, suc, ◌+◌, ◌-◌, ◌<◌, ◌≤◌, inl, inr, refl, sym, ◌∙◌, ap, subst, List, [], ◌∷◌, length, take, drop, map, Bool, true, false, Some, arith, length-map, same_Some, nat_lt, zip, AllZip, entry_map, no_none_some, Extent, Owned, IsFrom, cell_of, ranges, In, HaveSame, Source, end_after, first_at, IsCover, spans, in_flat, in_range, in_map, map_in, IsCovered, IsDomainOf, PartState, SomeZip, begin_or, part_between, parts_of, Adjoin, AreDomains, nat_tests}
 use Rattle.std.proofs.Common.{slice_get}
 use borrow.Author.Tests.{ltb-true, ltb-false}
 use Rattle.collective_round.proofs.DomainCuts.{within_reach}
@@ -16,10 +16,7 @@ pub as_many_parts : {D : Type 0} (state : D → PartState) (disk : PartState) (d
 as_many_parts state disk domains parts e = sym (parts_many disk domains) ∙ sym (ap (λ (ps : List PartState). length ps) e) ∙ length-map parts state
 
 covered_in : (list : List Owned) (cover : List Extent) (x : ℕ) → HaveSame (spans cover) (ranges list) → IsCovered list x → In (spans cover) x
-covered_in list cover x same h =
-    let low = h.low in
-    let high = h.high in
-    same.1 x (in_flat (λ (o : Owned). range_with_len o.extent.at o.extent.len) list h.by x h.inside (in_range h.by.extent.at h.by.extent.len x low high))
+covered_in list cover x same h = grind (arith, nat_tests, in_range h.by.extent.at h.by.extent.len x h.low h.high, in_flat)
 
 -- what the cover's end is at most, the domains' end is
 pub domains_room : (cover domains : List Extent) (n : ℕ) → AreDomains cover domains → end_after 0 cover ≤ n → end_after 0 domains ≤ n
@@ -41,10 +38,7 @@ part_domain : (list : List Owned) (hi m : ℕ) (disk : PartState) (domains : Lis
     → (k : ℕ) (p : PartState) (domain : Extent) → slice_get (parts_of disk domains) k ≡ Some p → slice_get domains k ≡ Some domain → IsDomainOf list p.from p.len domain
 part_domain list hi m disk [] line end room high k p domain e f = no_none_some p e
 part_domain list hi m disk (d ∷ rest) line end room high zero p domain e f =
-    let part = same_Some (part_between disk d.at (begin_or disk.len rest)) p e in
-    let same = same_Some d domain f in
-    subst (λ (c : Extent). IsDomainOf list p.from p.len c) same
-    (subst (λ (q : PartState). IsDomainOf list q.from q.len d) part (first_domain list hi m disk.len d rest line end room high))
+    grind (arith, nat_tests, same_Some (part_between disk d.at (begin_or disk.len rest)) p e, same_Some d domain f, first_domain list hi m disk.len d rest line end room high)
 part_domain list hi m disk (d ∷ rest) line end room high (suc k) p domain e f =
     part_domain list hi (d.at + d.len) disk rest line.2 end room high k p domain e f
 
@@ -58,11 +52,7 @@ domain_of_part state list cover domains disk parts are h same div room k part do
 
 -- the first domain begins at the first covered byte
 begins_first : (cover domains : List Extent) (n x : ℕ) → IsCover cover → AreDomains cover domains → In (spans cover) x → begin_or n domains ≤ x
-begins_first cover domains n x h div m = by_first domains div.begin
-  where
-    by_first : (ds : List Extent) → begin_or (end_after 0 cover) ds ≡ first_at cover → begin_or n ds ≤ x
-    by_first [] e = let reach = within_reach cover x h m in let low = reach.0 in let high = reach.1 in absurd (omega arith)
-    by_first (d ∷ ds) e = let reach = within_reach cover x h m in let low = reach.0 in omega arith
+begins_first cover domains n x h div m = grind (arith, nat_tests, within_reach cover x h m)
 
 -- the cells of entries lie from the begin of the first domain on
 pub cells_behind : (source : Source) (list : List Owned) (cover domains : List Extent) (n : ℕ) → ((o : Owned) → In list o → 1 ≤ o.extent.len)
@@ -80,14 +70,12 @@ cells_behind source list cover domains n filled h same div = each list (λ o m. 
 -- the bytes of a part are those of the disk there
 held_there : (domains : List Extent) (disk : PartState) (file : List ℕ) → disk.held ≡ Some file → (p : PartState) → In (parts_of disk domains) p → p.held ≡ Some (take p.len (drop p.from file))
 held_there [] disk file told p m = absurd m
-held_there (d ∷ rest) disk file told p (inl same) =
-    subst (λ (q : PartState). q.held ≡ Some (take q.len (drop q.from file))) same (ap (λ (h : Option (List ℕ)). after (λ f. take (begin_or disk.len rest - d.at) (drop d.at f)) h) told)
+held_there (d ∷ rest) disk file told p (inl same) = grind (arith, nat_tests)
 held_there (d ∷ rest) disk file told p (inr m) = held_there rest disk file told p m
 
 pub part_bytes : {D : Type 0} (state : D → PartState) (domains : List Extent) (disk : PartState) (parts : List D) (file : List ℕ) → map state parts ≡ parts_of disk domains → disk.held ≡ Some file
     → (part : D) → In parts part → (state part).held ≡ Some (take (state part).len (drop (state part).from file))
-part_bytes state domains disk parts file are told part m =
-    held_there domains disk file told (state part) (subst (λ (ps : List PartState). In ps (state part)) are (in_map state parts part m))
+part_bytes state domains disk parts file are told part m = grind (arith, nat_tests, in_map state parts part m, held_there)
 
 -- each place from the first part on lies on a part
 pub record IsOnSome (parts : List PartState) (x : ℕ) : Type 0 where
@@ -125,15 +113,12 @@ on_some_part {D} state list cover domains disk parts are h same div room x cover
 pub on_states : {D : Type 0} (state : D → PartState) (R : PartState → Extent → PartState → Type 0) (parts : List D) (domains : List Extent) (news : List D)
     → AllZip (λ p new. R (state p.0) p.1 (state new)) (zip parts domains) news → AllZip (λ p new. R p.0 p.1 new) (zip (map state parts) domains) (map state news)
 on_states state R [] domains [] h = tt
-on_states state R [] domains (n ∷ news) h = absurd h
 on_states state R (p ∷ parts) [] [] h = tt
-on_states state R (p ∷ parts) [] (n ∷ news) h = absurd h
-on_states state R (p ∷ parts) (d ∷ domains) [] h = absurd h
 on_states state R (p ∷ parts) (d ∷ domains) (n ∷ news) h = (h.0, on_states state R parts domains news h.1)
+on_states state _ _ _ _ h = absurd h
 
 pub some_states : {D : Type 0} (state : D → PartState) (R : PartState → PartState → Type 0) (parts news : List D) → SomeZip (λ old new. R (state old) (state new)) parts news
     → SomeZip R (map state parts) (map state news)
-some_states state R [] news h = absurd h
-some_states state R (p ∷ parts) [] h = absurd h
 some_states state R (p ∷ parts) (n ∷ news) (inl r) = inl r
 some_states state R (p ∷ parts) (n ∷ news) (inr h) = inr (some_states state R parts news h)
+some_states state _ _ _ h = absurd h

@@ -1,5 +1,5 @@
 -- Parts that are one disk again: where they are, their calls, parts that were only read, and the count of faults.
-use Rattle.collective_round.proofs.Words.{◌≡◌, ℕ, ◌+◌, ◌-◌, ◌^◌, ◌≤◌, min, inl, inr, refl, sym, ◌∙◌, ap, subst, List, [], ◌∷◌, ◌++◌, length, take, drop, map, Option, Some, None, append_assoc, arith, append-nil, take_all, flat_map-append, flat_map, zip, IfSome, AllZip, Extent, DiskCall, Rose, after, joined, with_end, with_end-nil, end_after, PartState, SomeZip, begin_or, part_between, parts_of, with_part, with_parts, Adjoin, Follow, IsFront}
+use Rattle.collective_round.proofs.Words.{◌≡◌, ℕ, ◌+◌, ◌-◌, ◌^◌, ◌≤◌, min, inl, inr, refl, sym, ◌∙◌, ap, subst, List, [], ◌∷◌, ◌++◌, length, take, drop, map, Option, Some, None, append_assoc, arith, append-nil, take_all, flat_map-append, flat_map, zip, IfSome, AllZip, Extent, DiskCall, Rose, after, joined, with_end, with_end-nil, end_after, PartState, SomeZip, begin_or, part_between, parts_of, with_part, with_parts, Adjoin, Follow, IsFront, nat_tests}
 use Rattle.collective_round.proofs.PartSplits.{joined_at_least, next_begin, take_both}
 use Rattle.collective_round.proofs.PartDomains.{some_states}
 
@@ -12,23 +12,14 @@ pub record IsInPlace (old new : PartState) : Type 0 where
 follow_from : (disk : PartState) (domains : List Extent) (news : List PartState) (m : ℕ) → Adjoin domains → end_after m domains ≤ disk.len
     → AllZip (λ p new. IsInPlace p.0 new) (zip (parts_of disk domains) domains) news → Follow (begin_or disk.len domains) news
 follow_from disk [] [] m line room h = tt
-follow_from disk [] (n ∷ news) m line room h = absurd h
-follow_from disk (d ∷ rest) [] m line room h = absurd h
 follow_from disk (d ∷ rest) (n ∷ news) m line room h =
-    let next = next_begin d rest m disk.len line room in
-    let low = next.0 in
-    let long : n.len ≡ begin_or disk.len rest - d.at = h.0.len in
-    let same : begin_or disk.len rest ≡ d.at + n.len = omega arith in
-    (h.0.from, subst (λ (k : ℕ). Follow k news) same (follow_from disk rest news (d.at + d.len) line.2 room h.1))
+    grind (arith, nat_tests, follow_from disk rest news (d.at + d.len) line.2 room h.1, next_begin d rest m disk.len line room)
+follow_from disk _ _ m line room h = absurd h
 
 -- they follow the front, as taking them back requires
 pub follow_again : (disk front : PartState) (domains : List Extent) (news : List PartState) → disk.from ≡ 0 → Adjoin domains → end_after 0 domains ≤ disk.len
     → IsFront domains disk front → AllZip (λ p new. IsInPlace p.0 new) (zip (parts_of disk domains) domains) news → Follow (front.from + front.len) news
-follow_again disk front domains news whole line room f h =
-    let start = f.from in
-    let long = f.len in
-    let same : begin_or disk.len domains ≡ front.from + front.len = omega arith in
-    subst (λ (k : ℕ). Follow k news) same (follow_from disk domains news 0 line room h)
+follow_again disk front domains news whole line room f h = grind (arith, nat_tests, follow_from disk domains news 0 line room h)
 
 from_kept : (front : PartState) (news : List PartState) → (with_parts front news).from ≡ front.from
 from_kept front [] = refl
@@ -37,13 +28,12 @@ from_kept front (n ∷ news) = from_kept (with_part front n) news
 len_from : (disk front : PartState) (domains : List Extent) (news : List PartState) (m : ℕ) → front.len ≡ begin_or disk.len domains → Adjoin domains → end_after m domains ≤ disk.len
     → AllZip (λ p new. IsInPlace p.0 new) (zip (parts_of disk domains) domains) news → (with_parts front news).len ≡ disk.len
 len_from disk front [] [] m e line room h = e
-len_from disk front [] (n ∷ news) m e line room h = absurd h
-len_from disk front (d ∷ rest) [] m e line room h = absurd h
 len_from disk front (d ∷ rest) (n ∷ news) m e line room h =
     let next = next_begin d rest m disk.len line room in
     let low = next.0 in
     let long : n.len ≡ begin_or disk.len rest - d.at = h.0.len in
     len_from disk (with_part front n) rest news (d.at + d.len) (omega arith) line.2 room h.1
+len_from disk front _ _ m e line room h = absurd h
 
 pub whole_place : (disk front : PartState) (domains : List Extent) (news : List PartState) → Adjoin domains → end_after 0 domains ≤ disk.len
     → IsFront domains disk front → AllZip (λ p new. IsInPlace p.0 new) (zip (parts_of disk domains) domains) news → IsInPlace disk (with_parts front news)
@@ -58,11 +48,10 @@ joined_calls (Some calls) done more = ap Some (append_assoc calls done more)
 calls_from : (disk front : PartState) (calls : Extent → List DiskCall) (domains : List Extent) (news : List PartState) (done : List DiskCall) → front.calls ≡ with_end disk.calls done
     → AllZip (λ p new. new.calls ≡ with_end p.0.calls (calls p.1)) (zip (parts_of disk domains) domains) news → (with_parts front news).calls ≡ with_end disk.calls (done ++ flat_map calls domains)
 calls_from disk front calls [] [] done e h = e ∙ ap (λ (c : List DiskCall). with_end disk.calls c) (sym (append-nil done))
-calls_from disk front calls [] (n ∷ news) done e h = absurd h
-calls_from disk front calls (d ∷ rest) [] done e h = absurd h
 calls_from disk front calls (d ∷ rest) (n ∷ news) done e h =
     calls_from disk (with_part front n) calls rest news (done ++ calls d) ((λ i. joined (e i) (h.0 i)) ∙ joined_calls disk.calls done (calls d)) h.1
     ∙ ap (λ (c : List DiskCall). with_end disk.calls c) (append_assoc done (calls d) (flat_map calls rest))
+calls_from disk front calls _ _ done e h = absurd h
 
 -- the calls of the parts, one part after another
 pub whole_calls : (disk front : PartState) (calls : Extent → List DiskCall) (domains : List Extent) (news : List PartState) → IsFront domains disk front
@@ -85,8 +74,6 @@ kept_from : (disk front : PartState) (domains : List Extent) (news : List PartSt
     → end_after m domains ≤ disk.len → front.held ≡ Some (take (begin_or disk.len domains) file)
     → AllZip (λ p new. new.held ≡ p.0.held) (zip (parts_of disk domains) domains) news → (with_parts front news).held ≡ Some file
 kept_from disk front [] [] file m told long line room e h = e ∙ ap Some (take_all disk.len file (omega arith))
-kept_from disk front [] (n ∷ news) file m told long line room e h = absurd h
-kept_from disk front (d ∷ rest) [] file m told long line room e h = absurd h
 kept_from disk front (d ∷ rest) (n ∷ news) file m told long line room e h =
     let next = next_begin d rest m disk.len line room in
     let low = next.0 in
@@ -95,6 +82,7 @@ kept_from disk front (d ∷ rest) (n ∷ news) file m told long line room e h =
     = h.0 ∙ ap (λ (o : Option (List ℕ)). after (λ f. take (begin_or disk.len rest - d.at) (drop d.at f)) o) told in
     kept_from disk (with_part front n) rest news file (d.at + d.len) told long line.2 room
     ((λ i. joined (e i) (part i)) ∙ ap Some (take_both d.at (begin_or disk.len rest) file order)) h.1
+kept_from disk front _ _ file m told long line room e h = absurd h
 
 pub whole_kept : (disk front : PartState) (domains : List Extent) (news : List PartState) → IfSome disk.held (λ file. length file ≡ disk.len) → Adjoin domains → end_after 0 domains ≤ disk.len
     → IsFront domains disk front → AllZip (λ p new. new.held ≡ p.0.held) (zip (parts_of disk domains) domains) news → (with_parts front news).held ≡ disk.held
@@ -144,10 +132,9 @@ parts_rejoined disk front domains told line room f =
 
 rose_from : (before : ℕ) (disk front : PartState) (domains : List Extent) (news : List PartState) → min before (2 ^ 64 - 1) ≤ front.faults
     → SomeZip (λ old new. Rose old.faults new.faults) (parts_of disk domains) news → Rose before (with_parts front news).faults
-rose_from before disk front [] news l h = absurd h
-rose_from before disk front (d ∷ rest) [] l h = absurd h
 rose_from before disk front (d ∷ rest) (n ∷ news) l (inl r) = joined_at_least (min (before + 1) (2 ^ 64 - 1)) (with_part front n) news (omega arith) (omega arith)
 rose_from before disk front (d ∷ rest) (n ∷ news) l (inr h) = rose_from before disk (with_part front n) rest news (omega arith) h
+rose_from before disk front _ _ l h = absurd h
 
 -- a part whose count rose makes the whole count rise
 pub joined_rose : {D : Type 0} (state : D → PartState) (before : ℕ) (disk front : PartState) (domains : List Extent) (parts news : List D) → map state parts ≡ parts_of disk domains → before ≤ front.faults

@@ -1,5 +1,5 @@
 -- A disk that is split from the last domain on, and taken back.
-use Rattle.collective_round.proofs.Words.{◌≡◌, ℕ, zero, suc, ◌+◌, ◌-◌, ◌^◌, ◌<◌, ◌≤◌, sym, ◌∙◌, ap, subst, List, [], ◌∷◌, ◌++◌, length, take, drop, get_or, map, Option, Err, arith, drop-take, drop_more, reverse-append, take-append-drop, take-take, reverse, IsErrOf, Extent, DiskCall, both_faults, after, joined, after-after, after-same, end_after, PartState, begin_or, part_between, with_part, with_parts, Adjoin, Follow, IsFront}
+use Rattle.collective_round.proofs.Words.{◌≡◌, ℕ, zero, suc, ◌+◌, ◌-◌, ◌^◌, ◌<◌, ◌≤◌, ◌∙◌, ap, subst, List, [], ◌∷◌, ◌++◌, length, take, drop, get_or, map, Option, Err, arith, drop-take, drop_more, reverse-append, take-append-drop, take-take, reverse, IsErrOf, Extent, DiskCall, both_faults, after, joined, after-after, after-same, end_after, PartState, begin_or, part_between, with_part, with_parts, Adjoin, Follow, IsFront, nat_tests}
 use Rattle.collective_round.proofs.DomainCuts.{end_grows}
 
 -- ---- the begin of what comes next
@@ -30,10 +30,7 @@ pub cut_between : (a b : ℕ) (file : List ℕ) → a ≤ b → drop a (take b f
 cut_between a b file l = let whole : b ≡ a + (b - a) = omega arith in ap (λ (n : ℕ). drop a (take n file)) whole ∙ drop-take a (b - a) file
 
 pub take_both : (a b : ℕ) (file : List ℕ) → a ≤ b → take a file ++ take (b - a) (drop a file) ≡ take b file
-take_both a b file l =
-    ap (λ (r : List ℕ). take a file ++ r) (sym (cut_between a b file l))
-    ∙ ap (λ (r : List ℕ). r ++ drop a (take b file)) (sym (take-take a b file l))
-    ∙ take-append-drop a (take b file)
+take_both a b file l = grind (arith, nat_tests, cut_between a b file l, take-take a b file l, take-append-drop a (take b file))
 
 -- ---- one domain more is split off
 
@@ -80,10 +77,7 @@ part_split disk mid part d rest whole line room f from len held calls faults =
 -- the parts so far, the last one first
 pub turned_more : {D : Type 0} (state : D → PartState) (parts now : List D) (part : D) (p : PartState) (ps : List PartState) → now ≡ parts ++ part ∷ [] → state part ≡ p
     → map state (reverse parts) ≡ ps → map state (reverse now) ≡ p ∷ ps
-turned_more {D} state parts now part p ps e same h =
-    ap (λ (ds : List D). map state (reverse ds)) e
-    ∙ ap (λ (ds : List D). map state ds) (reverse-append parts (part ∷ []))
-    ∙ (λ i. same i ∷ h i)
+turned_more {D} state parts now part p ps e same h = grind (arith, nat_tests, reverse-append parts (part ∷ []))
 
 -- the last of the domains that are left, and those behind it
 pub record IsLast (domains : List Extent) (k n : ℕ) (d : Extent) (rest : List Extent) : Type 0 where
@@ -94,24 +88,12 @@ pub record IsLast (domains : List Extent) (k n : ℕ) (d : Extent) (rest : List 
 pub last_left : (domains : List Extent) (k n : ℕ) (none : Extent) → Adjoin domains → end_after 0 domains ≤ n → 0 < k → k ≤ length domains
     → IsLast domains k n (get_or domains (k - 1) none) (drop k domains)
 last_left domains k n none line room some within =
-    let there : k - 1 + 1 ≡ k = omega arith in
-    let same : drop (k - 1) domains ≡ get_or domains (k - 1) none ∷ drop k domains
-    = drop_more domains (k - 1) none (omega arith) ∙ ap (λ (j : ℕ). get_or domains (k - 1) none ∷ drop j domains) there in
-    record {
-      same = same;
-      line = subst (λ (ds : List Extent). Adjoin ds) same (adjoin_dropped (k - 1) domains line);
-      room = subst (λ (ds : List Extent). end_after 0 ds ≤ n) same (end_dropped (k - 1) domains 0 n room);
-    }
+    grind (arith, nat_tests, drop_more domains (k - 1) none (omega arith), adjoin_dropped (k - 1) domains line, end_dropped (k - 1) domains 0 n room)
 
 -- it begins within what is left of the disk
 pub begins_there : (disk mid : PartState) (domains : List Extent) (k : ℕ) (d : Extent) (rest : List Extent) → disk.from ≡ 0 → IsLast domains k disk.len d rest → IsFront rest disk mid
     → (mid.from ≤ d.at) × (d.at ≤ mid.from + mid.len)
-begins_there disk mid domains k d rest whole h f =
-    let start = f.from in
-    let long = f.len in
-    let next = next_begin d rest 0 disk.len h.line h.room in
-    let low = next.0 in
-    (omega arith, omega arith)
+begins_there disk mid domains k d rest whole h f = grind (arith, nat_tests, next_begin d rest 0 disk.len h.line h.room)
 
 -- ---- taken back
 
@@ -122,8 +104,7 @@ joined_one disk part new from len held calls faults = λ i. record { from = from
 
 pub joined_next : {D : Type 0} (state : D → PartState) (disk new : PartState) (part : D) (rest left : List D) (whole : PartState) → left ≡ part ∷ rest → new ≡ with_part disk (state part)
     → with_parts disk (map state left) ≡ whole → with_parts new (map state rest) ≡ whole
-joined_next {D} state disk new part rest left whole e one h =
-    ap (λ (s : PartState). with_parts s (map state rest)) one ∙ ap (λ (ds : List D). with_parts disk (map state ds)) (sym e) ∙ h
+joined_next {D} state disk new part rest left whole e one h = grind (arith, nat_tests)
 
 -- what is left follows the part that was taken back
 pub follow_first : {D : Type 0} (state : D → PartState) (at : ℕ) (part : D) (rest left : List D) → left ≡ part ∷ rest → Follow at (map state left)

@@ -1,14 +1,11 @@
 -- The entries of puts or gets and their cover are a plan of what is to be done.
-use Rattle.collective_round.proofs.Words.{◌≡◌, ℕ, ◌+◌, ◌-◌, ◌<◌, ◌≤◌, inl, inr, refl, subst, List, [], ◌∷◌, length, Option, Some, None, arith, slice_get, get_is, Header, Batch, Extent, Owned, bytes_of_post, Source, In, HaveSame, ranges, AreFound, IsCover, spans, in_map, IsGetPlan, ArePieces, IsPlan, Puts, source_of, AreGot, AreLaid, AreSorted}
+use Rattle.collective_round.proofs.Words.{◌≡◌, ℕ, ◌+◌, ◌<◌, ◌≤◌, inl, inr, refl, subst, List, [], ◌∷◌, length, Option, Some, None, arith, slice_get, get_is, Header, Batch, Extent, Owned, bytes_of_post, Source, In, HaveSame, ranges, AreFound, IsCover, spans, in_map, IsGetPlan, ArePieces, IsPlan, Puts, source_of, AreGot, AreLaid, AreSorted, nat_tests}
 use Rattle.exchange_crew.specs.Turns as turns
 use Rattle.collective_round.proofs.PutLaws.{cover_ends}
 
 -- where the first batch is that of rank 0
 pub same_source : (batches : List Batch) → source_of 0 batches ≡ turns.source_of batches
-same_source batches = λ i rank slot. turns.source_of batches (same rank i) slot
-  where
-    same : (rank : ℕ) → rank - 0 ≡ rank
-    same rank = omega arith
+same_source batches = grind (arith, nat_tests)
 
 found_at : (source : Source) (list : List Owned) (o : Owned) → AreFound source list → In list o → o.from + o.extent.len ≤ length (source o.rank o.slot)
 found_at source [] o h m = absurd m
@@ -53,12 +50,4 @@ laid_plan header puts batches list cover size few laid covers bytes some = recor
 
 pub got_plan : (header : Header) (batches : List Batch) (list : List Owned) (cover : List Extent) (size : ℕ) → AreGot header 0 batches list
     → IsCover cover → HaveSame (spans cover) (ranges list) → 1 ≤ size → IsGetPlan list cover size
-got_plan header batches list cover size got covers bytes some = record {
-  sorted = got.sorted.by_place;
-  ends = got.sorted.ends;
-  filled = got.sorted.filled;
-  covers = covers;
-  cover_ends = cover_ends cover list covers bytes got.sorted.ends;
-  cover_bytes = bytes;
-  some = some;
-}
+got_plan header batches list cover size got covers bytes some = grind (arith, nat_tests, cover_ends cover list covers bytes got.sorted.ends)

@@ -1,5 +1,5 @@
 -- Puts on the parts of a disk, which are joined again.
-use Rattle.collective_round.proofs.Words.{◌≡◌, ℕ, ◌+◌, ◌-◌, ◌^◌, ◌<◌, ◌≤◌, sym, subst, List, [], ◌∷◌, length, map, Result, arith, flat_map, zip, IfSome, IsErrOf, range_with_len, AllZip, Extent, Owned, HasDiskCause, Rose, DiskErr, Failed, AreFilled, LieOn, entries_within, ranges, In, HaveSame, Source, end_after, IsCover, spans, flat_in, in_left, in_range, in_right, range_high, HasPut, PartState, SomeZip, Told, parts_of, with_parts, Adjoin, AreDomains, Follow, IsFront}
+use Rattle.collective_round.proofs.Words.{◌≡◌, ℕ, ◌+◌, ◌-◌, ◌^◌, ◌<◌, ◌≤◌, sym, subst, List, [], ◌∷◌, length, map, Result, arith, flat_map, zip, IfSome, IsErrOf, AllZip, Extent, Owned, HasDiskCause, Rose, DiskErr, Failed, AreFilled, LieOn, entries_within, ranges, In, HaveSame, Source, end_after, IsCover, spans, flat_in, in_left, in_range, in_right, range_high, HasPut, PartState, SomeZip, Told, parts_of, with_parts, Adjoin, AreDomains, Follow, IsFront, nat_tests}
 use Rattle.collective_round.proofs.PartSplits.{joined_at_least}
 use Rattle.collective_round.proofs.PartDomains.{cells_behind, domains_room}
 use Rattle.collective_round.proofs.PartLaws.{joined_rose}
@@ -8,22 +8,12 @@ use Rattle.collective_round.proofs.PutParts.{puts_follow, puts_joined, HasPutWho
 -- ---- the domains lie on the disk
 
 cover_last : (n : ℕ) (e : Extent) (cover : List Extent) → IsCover (e ∷ cover) → (1 ≤ end_after n (e ∷ cover)) × In (spans (e ∷ cover)) (end_after n (e ∷ cover) - 1)
-cover_last n e [] h =
-    let some = h.0 in
-    (omega arith, in_left (range_with_len e.at e.len) [] (e.at + e.len - 1) (in_range e.at e.len (e.at + e.len - 1) (omega arith) (omega arith)))
-cover_last n e (f ∷ cover) h =
-    let last = cover_last (e.at + e.len) f cover h.2 in
-    (last.0, in_right (range_with_len e.at e.len) (spans (f ∷ cover)) (end_after (e.at + e.len) (f ∷ cover) - 1) last.1)
+cover_last n e [] h = grind (arith, nat_tests, in_range e.at e.len (e.at + e.len - 1) (omega arith) (omega arith), in_left)
+cover_last n e (f ∷ cover) h = grind (arith, nat_tests, cover_last (e.at + e.len) f cover h.2, in_right)
 
 pub cover_room : (cover : List Extent) (list : List Owned) (len : ℕ) → IsCover cover → HaveSame (spans cover) (ranges list) → LieOn 0 len list → end_after 0 cover ≤ len
 cover_room [] list len h same on = omega arith
-cover_room (e ∷ cover) list len h same on =
-    let last = cover_last 0 e cover h in
-    let some = last.0 in
-    let by = flat_in (λ (o : Owned). range_with_len o.extent.at o.extent.len) list (end_after 0 (e ∷ cover) - 1) (same.0 (end_after 0 (e ∷ cover) - 1) last.1) in
-    let high = range_high by.0.extent.at by.0.extent.len (end_after 0 (e ∷ cover) - 1) by.2 in
-    let end = (on by.0 by.1).1 in
-    omega arith
+cover_room (e ∷ cover) list len h same on = grind (arith, nat_tests, cover_last 0 e cover h, flat_in, range_high)
 
 pub plan_room : (cover domains : List Extent) (list : List Owned) (len : ℕ) → IsCover cover → HaveSame (spans cover) (ranges list) → LieOn 0 len list → AreDomains cover domains
     → end_after 0 domains ≤ len
@@ -42,13 +32,7 @@ pub record AreSplit {D : Type 0} (state : D → PartState) (disk front : PartSta
 pub are_split : {D : Type 0} (state : D → PartState) (disk front : PartState) (cover domains : List Extent) (list : List Owned) (parts : List D) → disk.from ≡ 0
     → IsCover cover → HaveSame (spans cover) (ranges list) → LieOn 0 disk.len list → AreDomains cover domains → IsFront domains disk front → map state parts ≡ parts_of disk domains
     → AreSplit state disk front domains parts
-are_split state disk front cover domains list parts begin h same on div front_is are = record {
-  begin = begin;
-  line = div.line;
-  room = plan_room cover domains list disk.len h same on div;
-  front_is = front_is;
-  parts_are = are;
-}
+are_split state disk front cover domains list parts begin h same on div front_is are = grind (arith, nat_tests, plan_room cover domains list disk.len h same on div)
 
 -- the parts fail only where a count rose
 pub parts_cause : {D T : Type 0} (state : D → PartState) (disk front new : PartState) (domains : List Extent) (parts news : List D) (end : Result T DiskErr)
@@ -56,11 +40,7 @@ pub parts_cause : {D T : Type 0} (state : D → PartState) (disk front new : Par
     → (IsErrOf end Failed → SomeZip (λ old new. Rose (state old).faults (state new).faults) parts news) → new ≡ with_parts front (map state news)
     → HasDiskCause disk.faults new.faults end
 parts_cause state disk front new domains parts news end are counted later failed joined =
-    subst (λ (n : PartState). HasDiskCause disk.faults n.faults end) (sym joined)
-    (record {
-      later = joined_at_least disk.faults front (map state news) counted later;
-      failed = λ e. joined_rose state disk.faults disk front domains parts news are later (failed e);
-    })
+    grind (arith, nat_tests, joined_at_least disk.faults front (map state news) counted later, joined_rose)
 
 pub parts_follow : {D T E : Type 0} (state : D → PartState) (source : Source) (list : List Owned) (turns : Extent → List Told) (disk front : PartState) (domains : List Extent) (parts news : List D) (end : Result T E)
     → AreSplit state disk front domains parts

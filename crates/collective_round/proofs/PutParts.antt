@@ -1,5 +1,5 @@
 -- Parts that were put, or of which each byte is old or new: what the disk is once they are joined again.
-use Rattle.collective_round.proofs.Words.{◌≡◌, ℕ, ◌+◌, ◌-◌, ◌≤◌, ◌⊎◌, max, min, inl, inr, refl, sym, ◌∙◌, ap, subst, List, [], ◌∷◌, ◌++◌, length, take, drop, map, Bool, true, false, Option, Some, None, Result, Ok, Err, append_assoc, arith, append-nil, length-drop, length-take, get_or_append_left, get_or-append_right, take_all, flat_map, nat_lt, zip, IfSome, OnOk, AllZip, Extent, Owned, DiskCall, after, joined, with_end, BothTold, laid_none, at, Cell, write_cells, moved_down, IsFrom, IsWithin, store_calls, IsBetween, cell_of, Source, end_after, clips, parts_done, cells_long, within_lowered, clips_within, clips_from, put_part, HasPut, PartState, Told, begin_or, parts_of, with_part, with_parts, Adjoin, Follow, IsFront, zip_weaker}
+use Rattle.collective_round.proofs.Words.{◌≡◌, ℕ, ◌+◌, ◌-◌, ◌≤◌, inl, refl, sym, ◌∙◌, ap, subst, List, [], ◌∷◌, ◌++◌, length, take, drop, map, Option, Some, None, Result, Ok, Err, append_assoc, arith, append-nil, length-drop, length-take, get_or_append_left, get_or-append_right, take_all, flat_map, zip, IfSome, OnOk, AllZip, Extent, Owned, DiskCall, after, joined, with_end, BothTold, laid_none, at, Cell, write_cells, moved_down, IsFrom, IsWithin, store_calls, IsBetween, cell_of, Source, end_after, clips, parts_done, cells_long, within_lowered, clips_within, clips_from, put_part, HasPut, PartState, Told, begin_or, parts_of, with_part, with_parts, Adjoin, Follow, IsFront, zip_weaker, nat_tests}
 use Rattle.std.proofs.lemmas.List.{length-append}
 use borrow.Author.Tests.{ltb-true, ltb-false}
 use Rattle.overlay_laws.specs.Parts.{written_parts, joined as bytes_joined}
@@ -22,8 +22,6 @@ put_from : (source : Source) (list : List Owned) (disk front : PartState) (domai
     → AllZip (λ p new. new.held ≡ after (put_part source list p.0.from) p.0.held) (zip (parts_of disk domains) domains) news
     → (with_parts front news).held ≡ Some (done ++ written_parts (begin_or disk.len domains) (slices disk.len domains file) (map (λ o. cell_of source o) list))
 put_from source list disk front [] [] file done m told long line room e h = e ∙ ap Some (sym (append-nil done))
-put_from source list disk front [] (n ∷ news) file done m told long line room e h = absurd h
-put_from source list disk front (d ∷ rest) [] file done m told long line room e h = absurd h
 put_from source list disk front (d ∷ rest) (n ∷ news) file done m told long line room e h =
     let next = next_begin d rest m disk.len line room in
     let low = next.0 in
@@ -37,17 +35,12 @@ put_from source list disk front (d ∷ rest) (n ∷ news) file done m told long 
     put_from source list disk (with_part front n) rest news file (done ++ put_part source list d.at slice) (d.at + d.len) told long line.2 room (λ i. joined (e i) (part i)) h.1
     ∙ ap Some (append_assoc done (put_part source list d.at slice) (written_parts to (slices disk.len rest file) (map (λ o. cell_of source o) list))
     ∙ ap (λ (k : ℕ). done ++ (put_part source list d.at slice ++ written_parts k (slices disk.len rest file) (map (λ o. cell_of source o) list))) same)
+put_from source list disk front _ _ file done m told long line room e h = absurd h
 
 -- no cell has a byte of the front
 front_same : (cs : List Cell) (p : List ℕ) (hi : ℕ) → hi ≤ length p → IsFrom hi cs → write_cells p (moved_down 0 (clips 0 hi cs)) ≡ p
 front_same [] p hi l h = refl
-front_same (c ∷ cs) p hi l h =
-    let low = h.0 in
-    let last : hi - min hi (max 0 c.0) ≡ 0 = omega arith in
-    let none : take (hi - min hi (max 0 c.0)) (drop (0 - c.0) c.1) ≡ [] = ap (λ (k : ℕ). take k (drop (0 - c.0) c.1)) last in
-    ap (λ (f : List ℕ). write_cells f (moved_down 0 (clips 0 hi cs)))
-    (laid_none p (take (hi - min hi (max 0 c.0)) (drop (0 - c.0) c.1)) (min hi (max 0 c.0) - 0) none (omega arith))
-    ∙ front_same cs p hi l h.1
+front_same (c ∷ cs) p hi l h = grind (arith, nat_tests, front_same cs p hi l h.1, laid_none)
 
 slices_joined : (n : ℕ) (domains : List Extent) (file : List ℕ) (m : ℕ) → length file ≡ n → Adjoin domains → end_after m domains ≤ n
     → take (begin_or n domains) file ++ bytes_joined (slices n domains file) ≡ file
@@ -97,32 +90,10 @@ whole_put source list disk front domains news told line room f behind within h =
 -- ---- parts of which each byte is old or new
 
 pub between_append : (a p x b q y : List ℕ) → length p ≡ length a → IsBetween a p x → IsBetween b q y → IsBetween (a ++ b) (p ++ q) (x ++ y)
-between_append a p x b q y long h k = record {
-  len = length-append x y ∙ (λ i. h.len i + k.len i) ∙ sym (length-append a b);
-  each = λ i. by_place i (nat_lt i (length a)) refl;
-}
-  where
-    by_place : (i : ℕ) (t : Bool) → nat_lt i (length a) ≡ t → (at (x ++ y) i ≡ at (a ++ b) i) ⊎ (at (x ++ y) i ≡ at (p ++ q) i)
-    by_place i true e =
-        let l = ltb-true _ _ e in
-        let m = h.len in
-        let one : at (x ++ y) i ≡ at x i = get_or_append_left x y 0 i (omega arith) in
-        let two : at (a ++ b) i ≡ at a i = get_or_append_left a b 0 i l in
-        let three : at (p ++ q) i ≡ at p i = get_or_append_left p q 0 i (omega arith) in
-        elim (h.each i) [ inl g ↦ inl (one ∙ g ∙ sym two) | inr g ↦ inr (one ∙ g ∙ sym three) ]
-    by_place i false e =
-        let l = ltb-false _ _ e in
-        let m = h.len in
-        let one : at (x ++ y) i ≡ at y (i - length a) = get_or-append_right x y (length a) i 0 h.len l in
-        let two : at (a ++ b) i ≡ at b (i - length a) = get_or-append_right a b (length a) i 0 refl l in
-        let three : at (p ++ q) i ≡ at q (i - length a) = get_or-append_right p q (length a) i 0 long l in
-        elim (k.each (i - length a)) [ inl g ↦ inl (one ∙ g ∙ sym two) | inr g ↦ inr (one ∙ g ∙ sym three) ]
+between_append a p x b q y long h k = grind (arith, nat_tests, length-append x y, length-append a b, ltb-true, get_or_append_left, ltb-false, get_or-append_right)
 
 put_long : (source : Source) (list : List Owned) (from : ℕ) (p : List ℕ) → length (put_part source list from p) ≡ length p
-put_long source list from p =
-    let cs = map (λ o. cell_of source o) list in
-    cells_long (moved_down from (clips from (from + length p) cs)) p
-    (within_lowered from (length p) (clips from (from + length p) cs) (clips_from from (from + length p) cs (omega arith)) (clips_within from (from + length p) cs (omega arith)))
+put_long source list from p = grind (arith, nat_tests, cells_long, within_lowered, clips_from, clips_within)
 
 -- what the parts became, behind the bytes so far
 record IsLeft (done old new : List ℕ) (held : Option (List ℕ)) : Type 0 where
@@ -134,10 +105,7 @@ between_from : (source : Source) (list : List Owned) (disk front : PartState) (d
     → length file ≡ disk.len → Adjoin domains → end_after m domains ≤ disk.len → front.held ≡ Some done
     → AllZip (λ p new. BothTold (λ file left. IsBetween file (put_part source list p.0.from file) left) p.0.held new.held) (zip (parts_of disk domains) domains) news
     → IsLeft done (bytes_joined (slices disk.len domains file)) (written_parts (begin_or disk.len domains) (slices disk.len domains file) (map (λ o. cell_of source o) list)) (with_parts front news).held
-between_from source list disk front [] [] file done m told long line room e h =
-    record { left = []; told = e ∙ ap Some (sym (append-nil done)); between = record { len = refl; each = λ i. inl refl } }
-between_from source list disk front [] (n ∷ news) file done m told long line room e h = absurd h
-between_from source list disk front (d ∷ rest) [] file done m told long line room e h = absurd h
+between_from source list disk front [] [] file done m told long line room e h = grind (arith, nat_tests, append-nil done)
 between_from source list disk front (d ∷ rest) (n ∷ news) file done m told long line room e h =
     let next = next_begin d rest m disk.len line room in
     let low = next.0 in
@@ -155,6 +123,7 @@ between_from source list disk front (d ∷ rest) (n ∷ news) file done m told l
           (written_parts (d.at + length slice) (slices disk.len rest file) (map (λ o. cell_of source o) list)) later.left (put_long source list d.at slice) first.2
           (subst (λ (k : ℕ). IsBetween (bytes_joined (slices disk.len rest file)) (written_parts k (slices disk.len rest file) (map (λ o. cell_of source o) list)) later.left) same later.between);
     }
+between_from source list disk front _ _ file done m told long line room e h = absurd h
 
 pub whole_between : (source : Source) (list : List Owned) (disk front : PartState) (domains : List Extent) (news : List PartState) → IfSome disk.held (λ file. length file ≡ disk.len)
     → Adjoin domains → end_after 0 domains ≤ disk.len → IsFront domains disk front
@@ -199,17 +168,14 @@ put_states state source list turns disk domains parts news end are h =
 
 place_states : {T E : Type 0} (source : Source) (list : List Owned) (turns : Extent → List Told) (disk : PartState) (domains : List Extent) (news : List PartState) (end : Result T E)
     → AllZip (λ p new. HasPut source list (turns p.1) p.0 new end) (zip (parts_of disk domains) domains) news → AllZip (λ p new. IsInPlace p.0 new) (zip (parts_of disk domains) domains) news
-place_states source list turns disk domains news end h =
-    zip_weaker (λ p new. HasPut source list (turns p.1) p.0 new end) (λ p new. IsInPlace p.0 new) (zip (parts_of disk domains) domains) news
-    (λ p new put. record { from = put.from; len = put.len }) h
+place_states source list turns disk domains news end h = grind (arith, nat_tests, zip_weaker)
 
 -- the parts follow the front, as taking them back requires
 pub puts_follow : {D T E : Type 0} (state : D → PartState) (source : Source) (list : List Owned) (turns : Extent → List Told) (disk front : PartState) (domains : List Extent) (parts news : List D) (end : Result T E)
     → disk.from ≡ 0 → Adjoin domains → end_after 0 domains ≤ disk.len → IsFront domains disk front → map state parts ≡ parts_of disk domains
     → AllZip (λ p new. HasPut source list (turns p.1) (state p.0) (state new) end) (zip parts domains) news → Follow (front.from + front.len) (map state news)
 puts_follow state source list turns disk front domains parts news end whole line room f are h =
-    follow_again disk front domains (map state news) whole line room f
-    (place_states source list turns disk domains (map state news) end (put_states state source list turns disk domains parts news end are h))
+    grind (arith, nat_tests, put_states state source list turns disk domains parts news end are h, follow_again, place_states)
 
 pub puts_joined : {D T E : Type 0} (state : D → PartState) (source : Source) (list : List Owned) (turns : Extent → List Told) (disk front : PartState) (domains : List Extent) (parts news : List D) (end : Result T E)
     → IfSome disk.held (λ file. length file ≡ disk.len) → Adjoin domains → end_after 0 domains ≤ disk.len → IsFront domains disk front

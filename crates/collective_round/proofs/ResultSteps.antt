@@ -1,5 +1,5 @@
 -- The calls of a step are those of its windows.
-use Rattle.collective_round.proofs.Words.{◌≡◌, ℕ, ◌∙◌, ap, List, Option, flat_map-map, flat_map, DiskCall, with_end, overlays, loads, load_calls, store_calls, told_of, Told}
+use Rattle.collective_round.proofs.Words.{◌≡◌, ℕ, List, Option, flat_map-map, flat_map, DiskCall, with_end, overlays, loads, load_calls, store_calls, told_of, Told, arith, nat_tests}
 use Rattle.std.specs.Prelude.{map}
 
 pub stores_are : (ws : List (List ℕ)) → flat_map store_calls (map told_of ws) ≡ flat_map overlays ws
@@ -10,5 +10,4 @@ loads_are ws = flat_map-map load_calls told_of ws
 
 pub calls_done : (f : Told → List DiskCall) (g : List ℕ → List DiskCall) (old now : Option (List DiskCall)) (ts : List Told) (ws : List (List ℕ))
     → ts ≡ map told_of ws → flat_map f (map told_of ws) ≡ flat_map g ws → now ≡ with_end old (flat_map f ts) → now ≡ with_end old (flat_map g ws)
-calls_done f g old now ts ws told are done =
-    done ∙ ap (λ (calls : List DiskCall). with_end old calls) (ap (λ (us : List Told). flat_map f us) told ∙ are)
+calls_done f g old now ts ws told are done = grind (arith, nat_tests)

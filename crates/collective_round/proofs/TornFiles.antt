@@ -1,5 +1,5 @@
 -- A torn file: each byte outside of the count's field that is old or new, and what a longer or a later write leaves of it.
-use Rattle.collective_round.proofs.Words.{each_in, and_first, and_second, no_false, or_first_false, or_second_false, leb-true, le-leb, lt-ltb, or_right, ◌≡◌, ℕ, ◌+◌, ◌<◌, ◌≤◌, refl, sym, ap, subst, ◌∙◌, inl, inr, ◌⊎◌, List, [], ◌∷◌, length, Bool, true, false, ◌||◌, ◌&&◌, max, Option, Some, None, arith, common_steps, nat_tests, nat_lt, nat_le, ◌==◌, slice_get, list_any, range_with_len, byte_len, Header, Var, Post, Direction, PartlyWritten, size_of, at, longer, Setting, end_for, after_puts, count, count_width, header_len, is_sound, place, IsElementBelow, needed_by, records_of, with_records, check_some, places, elements, Puts, bytes_of, bytes_of_some, covered, IsTorn, may_change, accepted_elements, elements_past_header, at-longer, at-written_before, at-written_after, longer_long, canon_len, IsBetween, In, any_in, flat_in, range_low, ArePuts, written_grows, after_long}
+use Rattle.collective_round.proofs.Words.{each_in, and_first, and_second, no_false, or_first_false, or_second_false, leb-true, le-leb, lt-ltb, or_right, ◌≡◌, ℕ, ◌+◌, ◌<◌, ◌≤◌, refl, sym, subst, ◌∙◌, inl, inr, ◌⊎◌, List, [], ◌∷◌, length, true, false, ◌&&◌, max, Option, Some, None, arith, common_steps, nat_tests, nat_lt, nat_le, ◌==◌, slice_get, list_any, range_with_len, byte_len, Header, Var, Post, Direction, PartlyWritten, size_of, at, longer, Setting, end_for, after_puts, count, count_width, header_len, is_sound, place, IsElementBelow, needed_by, records_of, with_records, check_some, places, elements, Puts, bytes_of, bytes_of_some, covered, IsTorn, accepted_elements, elements_past_header, at-longer, at-written_before, at-written_after, longer_long, canon_len, IsBetween, In, any_in, flat_in, range_low, ArePuts, written_grows, after_long}
 use Rattle.std.specs.Prelude.{map}
 use borrow.Author.Tests.{ltb-true, ltb-false}
 use Rattle.nc_base.specs.declared.answer.Code.TheVariants as code
@@ -19,9 +19,7 @@ pub covered_past : (header : Header) (puts : Puts) (x : ℕ) → is_sound header
 covered_past header puts x sound are m =
     let f = flat_in (λ (p : ℕ × Post). bytes_of header p.1) puts x m in
     let a = (are f.0 f.1).accepted in
-    let low = by_var f.0.1 a.0 a.1 (slice_get header.vars f.0.1.var) refl a.2 f.2 in
-    let field = field_before header in
-    omega arith
+    omega (arith, by_var f.0.1 a.0 a.1 (slice_get header.vars f.0.1.var) refl a.2 f.2, field_before header)
   where
     by_var : (post : Post) (known : ℕ) (way : Direction) (o : Option Var) → slice_get header.vars post.var ≡ o → check_some header o post.region known way ≡ code.Ok
         → In (bytes_of_some header o post) x → header_len header ≤ x
@@ -30,10 +28,8 @@ covered_past header puts x sound are m =
         let g = flat_in (λ (y : ℕ). range_with_len y (size_of v.kind)) (places header v post.region) x k in
         let i = from_map (λ (i : List ℕ). place header v i) (elements post.region) g.0 g.1 in
         let is = each_in (IsElementBelow header v (records_of header v post.region)) (elements post.region) i.0 (accepted_elements header post.var v post.region known way sound e ok) i.1 in
-        let past = elements_past_header header post.var v i.0 sound e is.0 in
-        let low = range_low g.0 (size_of v.kind) x g.2 in
         let same : place header v i.0 ≡ g.0 = i.2 in
-        omega arith
+        omega (arith, elements_past_header header post.var v i.0 sound e is.0, range_low g.0 (size_of v.kind) x g.2)
       where
         from_map : {A B : Type 0} (f : A → B) (xs : List A) (y : B) → In (map f xs) y → (x : A) × In xs x × (f x ≡ y)
         from_map f [] y m = absurd m
@@ -43,31 +39,15 @@ covered_past header puts x sound are m =
 -- ---- a torn file
 
 outside_of : (field x : ℕ) → (nat_le 4 x && nat_lt x (4 + field)) ≡ false → (x < 4) ⊎ (4 + field ≤ x)
-outside_of field x h = by_low (nat_le 4 x) refl
-  where
-    by_high : (t : Bool) → nat_lt x (4 + field) ≡ t → nat_le 4 x ≡ true → (x < 4) ⊎ (4 + field ≤ x)
-    by_high false e g = inr (ltb-false _ _ e)
-    by_high true e g = no_false (sym h ∙ (λ i. g i && e i))
-
-    by_low : (t : Bool) → nat_le 4 x ≡ t → (x < 4) ⊎ (4 + field ≤ x)
-    by_low false e = inl (grind (arith, nat_tests))
-    by_low true e = by_high (nat_lt x (4 + field)) refl e
+outside_of field x h = grind (arith, nat_tests, ltb-false, no_false)
 
 pub torn_by : (bytes : List ℕ) (field : ℕ) (old new left : List ℕ) → length old ≤ length left → length left ≤ length new
     → ((x : ℕ) → list_any (λ y. y == x) bytes ≡ true → (at left x ≡ at old x) ⊎ (at left x ≡ at new x))
     → ((x : ℕ) → list_any (λ y. y == x) bytes ≡ false → 4 ≤ x → x < 4 + field → (at left x ≡ at old x) ⊎ (at left x ≡ at new x))
     → ((x : ℕ) → list_any (λ y. y == x) bytes ≡ false → (x < 4) ⊎ (4 + field ≤ x) → at left x ≡ at old x)
     → IsTorn bytes field old new left
-torn_by bytes field old new left long short inside beside outside = record {
-  long = long;
-  short = short;
-  changed = λ x l h. by_any x (list_any (λ y. y == x) bytes) refl h;
-  kept = λ x l h. outside x (or_first_false _ _ h) (outside_of field x (or_second_false (list_any (λ y. y == x) bytes) _ h));
-}
-  where
-    by_any : (x : ℕ) (t : Bool) → list_any (λ y. y == x) bytes ≡ t → (t || (nat_le 4 x && nat_lt x (4 + field))) ≡ true → (at left x ≡ at old x) ⊎ (at left x ≡ at new x)
-    by_any x true e h = inside x e
-    by_any x false e h = beside x e (leb-true 4 x (and_first _ _ h)) (ltb-true _ _ (and_second _ _ h))
+torn_by bytes field old new left long short inside beside outside =
+    grind (arith, nat_tests, or_first_false, outside_of, or_second_false, leb-true, and_first, ltb-true, and_second)
 
 -- nothing was written
 pub torn_still : (bytes : List ℕ) (field : ℕ) (old new : List ℕ) → length old ≤ length new → IsTorn bytes field old new old
@@ -75,12 +55,7 @@ torn_still bytes field old new h = record { long = omega arith; short = h; chang
 
 -- zeros were added
 pub torn_grown : (bytes : List ℕ) (field m : ℕ) (old new : List ℕ) → length (longer old m) ≤ length new → IsTorn bytes field old new (longer old m)
-torn_grown bytes field m old new h = record {
-  long = (let l = longer_long old m in omega arith);
-  short = h;
-  changed = λ x l k. inl (at-longer old m x);
-  kept = λ x l k. at-longer old m x;
-}
+torn_grown bytes field m old new h = grind (arith, nat_tests, longer_long old m, at-longer)
 
 -- some windows of the puts were written over the file that was made longer
 pub torn_laid : (s : Setting) (puts : Puts) (n : ℕ) (old left : List ℕ) → n ≡ needed_by s.header puts
@@ -115,50 +90,17 @@ past_end : (xs : List ℕ) (x : ℕ) → length xs ≤ x → at xs x ≡ 0
 past_end xs x h = grind (arith, common_steps)
 
 not_field : (field x : ℕ) → (x < 4) ⊎ (4 + field ≤ x) → (nat_le 4 x && nat_lt x (4 + field)) ≡ false
-not_field field x h = by_tests (nat_le 4 x) refl (nat_lt x (4 + field)) refl h
-  where
-    by_tests : (u : Bool) → nat_le 4 x ≡ u → (v : Bool) → nat_lt x (4 + field) ≡ v → (x < 4) ⊎ (4 + field ≤ x) → (u && v) ≡ false
-    by_tests false d v e k = refl
-    by_tests true d false e k = refl
-    by_tests true d true e (inl k) = let l = leb-true 4 x d in absurd (omega arith)
-    by_tests true d true e (inr k) = let l : x < 4 + field = ltb-true _ _ e in absurd (omega arith)
+not_field field x h = grind (arith, nat_tests, leb-true, ltb-true)
 
 in_field : (field x : ℕ) → 4 ≤ x → x < 4 + field → (nat_le 4 x && nat_lt x (4 + field)) ≡ true
 in_field field x l h = λ i. (le-leb 4 x l i && lt-ltb x (4 + field) h i)
 
 pub torn_sides : (bytes : List ℕ) (field : ℕ) (old new left : List ℕ) → IsTorn bytes field old new left → AreSides bytes field old new left
-torn_sides bytes field old new left t = record {
-  inside = λ x e. by_changed x (ap (λ (b : Bool). b || (nat_le 4 x && nat_lt x (4 + field))) e) (nat_lt x (length left)) refl;
-  beside = λ x l h. by_changed x (or_right (list_any (λ y. y == x) bytes) _ (in_field field x l h)) (nat_lt x (length left)) refl;
-  outside = λ x e h. by_kept x (ap (λ (b : Bool). b || (nat_le 4 x && nat_lt x (4 + field))) e ∙ not_field field x h) (nat_lt x (length left)) refl;
-}
-  where
-    beyond : (x : ℕ) → nat_lt x (length left) ≡ false → at left x ≡ at old x
-    beyond x g =
-        let past : length left ≤ x = ltb-false _ _ g in
-        let long = t.long in
-        past_end left x past ∙ sym (past_end old x (omega arith))
-
-    by_changed : (x : ℕ) → may_change bytes field x ≡ true → (b : Bool) → nat_lt x (length left) ≡ b → (at left x ≡ at old x) ⊎ (at left x ≡ at new x)
-    by_changed x e true g = t.changed x (ltb-true _ _ g) e
-    by_changed x e false g = inl (beyond x g)
-
-    by_kept : (x : ℕ) → may_change bytes field x ≡ false → (b : Bool) → nat_lt x (length left) ≡ b → at left x ≡ at old x
-    by_kept x e true g = t.kept x (ltb-true _ _ g) e
-    by_kept x e false g = beyond x g
+torn_sides bytes field old new left t = grind (arith, nat_tests, or_right, in_field, not_field, ltb-false, past_end, ltb-true)
 
 -- as bytes of the field may change that did not
 pub torn_wider : (bytes : List ℕ) (field : ℕ) (old new left : List ℕ) → IsTorn bytes 0 old new left → IsTorn bytes field old new left
-torn_wider bytes field old new left t =
-    let s = torn_sides bytes 0 old new left t in
-    torn_by bytes field old new left t.long t.short s.inside (λ x e l h. inl (s.outside x e (beside x))) (λ x e h. s.outside x e (beside x))
-  where
-    beside : (x : ℕ) → (x < 4) ⊎ (4 + 0 ≤ x)
-    beside x = by_test (nat_lt x 4) refl
-      where
-        by_test : (b : Bool) → nat_lt x 4 ≡ b → (x < 4) ⊎ (4 + 0 ≤ x)
-        by_test true e = inl (ltb-true _ _ e)
-        by_test false e = let l : 4 ≤ x = ltb-false _ _ e in inr (omega arith)
+torn_wider bytes field old new left t = grind (arith, nat_tests, torn_sides bytes 0 old new left t, torn_by, ltb-true, ltb-false)
 
 pub counted_past : (version n : ℕ) (file : List ℕ) (x : ℕ) → 4 + byte_len (count_width version) ≤ x → at (with_records version file n) x ≡ at file x
 counted_past version n file x h = let l = length-count version n in at-written_after file (count version n) 4 x (omega arith)

@@ -1,5 +1,5 @@
 -- What a refused step of puts leaves of a file.
-use Rattle.collective_round.proofs.Words.{lt-ltb, ◌≡◌, ℕ, ◌+◌, ◌<◌, ◌≤◌, refl, sym, ap, subst, inr, List, [], length, Bool, true, false, cond, Option, Some, None, arith, nat_lt, byte_len, Pair, PartlyWritten, after, BothTold, told_as, at, longer, Setting, end_for, after_puts, told, count, count_width, is_sound, needed_by, with_records, Puts, covered, IsTorn, IsBetween, needed_now, ArePuts, after_round, counted, after_keeps, longer_long, after_long, after_grows, raised_grows}
+use Rattle.collective_round.proofs.Words.{lt-ltb, ◌≡◌, ℕ, ◌+◌, ◌<◌, ◌≤◌, refl, ap, subst, List, [], length, Bool, true, false, cond, Option, Some, None, arith, nat_lt, byte_len, Pair, PartlyWritten, after, BothTold, told_as, at, longer, Setting, end_for, after_puts, told, count, count_width, is_sound, needed_by, with_records, Puts, covered, IsTorn, IsBetween, needed_now, ArePuts, after_round, counted, after_keeps, longer_long, after_long, after_grows, raised_grows, nat_tests}
 use Rattle.collective_round.proofs.PutLaws.{laid_round}
 use Rattle.collective_round.proofs.StepLaws.{round_by}
 use Rattle.collective_round.proofs.TornFiles.{covered_past, torn_by, torn_still, torn_grown, torn_laid, torn_wider, counted_past, torn_counted, torn_after, torn_stored}
@@ -14,9 +14,7 @@ none_torn bytes field whole (Some old) grows = (old, refl, torn_still bytes fiel
 
 pub round_grows : (s : Setting) (puts : Puts) (records : ℕ) (file : List ℕ) → length file ≤ length (after_round s puts (counted file records)).file
 round_grows s puts records file =
-    let one = after_grows s puts (told s puts) file in
-    let two = raised_grows s (counted (after_puts s puts (told s puts) file) records) (needed_now s puts) in
-    omega arith
+    grind (arith, nat_tests, after_grows s puts (told s puts) file, raised_grows s (counted (after_puts s puts (told s puts) file) records) (needed_now s puts))
 
 -- the disk grew, at most to the end for the puts
 pub grown_torn : (s : Setting) (puts : Puts) (n m : ℕ) (held now : Option (List ℕ)) → n ≡ needed_by s.header puts
@@ -27,11 +25,8 @@ grown_torn s puts n m (Some old) now is h = (
   longer old m,
   h.0,
   torn_grown (covered s.header puts) 0 m old (after_puts s puts None old)
-      (let l = longer_long old m in
-      let w = after_long s puts old in
-      let end : end_for s n ≡ end_for s (needed_by s.header puts) = ap (λ (k : ℕ). end_for s k) is in
-      let low = h.1 in
-      omega arith),
+      (let end : end_for s n ≡ end_for s (needed_by s.header puts) = ap (λ (k : ℕ). end_for s k) is in
+      omega (arith, longer_long old m, after_long s puts old, h.1)),
 )
 
 -- some of the windows were written
@@ -39,13 +34,7 @@ pub laid_torn : (s : Setting) (puts : Puts) (n : ℕ) (held mid now : Option (Li
     → mid ≡ after (λ file. longer file (end_for s n)) held → ((file : List ℕ) → g (longer file (end_for s n)) ≡ after_puts s puts None file)
     → BothTold (λ old left. IsBetween old (g old) left) mid now
     → BothTold (λ old left. IsTorn (covered s.header puts) 0 old (after_puts s puts None old) left) held now
-laid_torn s puts n None mid now g is e whole b = subst (λ (m : Option (List ℕ)). BothTold (λ old left. IsBetween old (g old) left) m now) e b
-laid_torn s puts n (Some old) mid now g is e whole b =
-    by_told (subst (λ (m : Option (List ℕ)). BothTold (λ old left. IsBetween old (g old) left) m now) e b)
-  where
-    by_told : BothTold (λ old left. IsBetween old (g old) left) (Some (longer old (end_for s n))) now
-        → BothTold (λ old left. IsTorn (covered s.header puts) 0 old (after_puts s puts None old) left) (Some old) now
-    by_told r = (r.0, r.1, torn_laid s puts n old r.0 is (subst (λ (f : List ℕ). IsBetween (longer old (end_for s n)) f r.0) (whole old) r.2))
+laid_torn s puts n held mid now g is e whole b = grind (arith, nat_tests, torn_laid)
 
 -- the puts were cut off, of a round that would raise the count after them
 round_torn : (s : Setting) (puts : Puts) (records : ℕ) (old left : List ℕ) → is_sound s.header ≡ true → ArePuts s.header puts → told s puts ≡ None
@@ -73,8 +62,7 @@ pub count_torn : (s : Setting) (puts : Puts) (records n : ℕ) (held mid now : O
     → n ≡ needed_by s.header puts → told s puts ≡ None → mid ≡ after (after_puts s puts None) held
     → BothTold (λ old left. IsTorn [] (byte_len (count_width s.header.version)) old (cond (nat_lt records n) (with_records s.header.version old n) old) left) mid now
     → BothTold (λ old left. IsTorn (covered s.header puts) (byte_len (count_width s.header.version)) old (after_round s puts (counted old records)).file left) held now
-count_torn s puts records n None mid now sound are is none f b =
-    subst (λ (m : Option (List ℕ)). BothTold (λ old left. IsTorn [] (byte_len (count_width s.header.version)) old (cond (nat_lt records n) (with_records s.header.version old n) old) left) m now) f b
+count_torn s puts records n None mid now sound are is none f b = grind (arith, nat_tests)
 count_torn s puts records n (Some old) mid now sound are is none f b =
     by_told (subst (λ (m : Option (List ℕ)). BothTold (λ old left. IsTorn [] (byte_len (count_width s.header.version)) old (cond (nat_lt records n) (with_records s.header.version old n) old) left) m now) f b)
   where
@@ -103,27 +91,15 @@ count_torn s puts records n (Some old) mid now sound are is none f b =
 -- the write of the count
 pub store_torn : (version records needed : ℕ) (held now : Option (List ℕ)) → records < needed → BothTold (PartlyWritten 4 (count version needed)) held now
     → BothTold (λ old left. IsTorn [] (byte_len (count_width version)) old (cond (nat_lt records needed) (with_records version old needed) old) left) held now
-store_torn version records needed None now h b = b
-store_torn version records needed (Some old) now h b = (
-  b.0,
-  b.1,
-  subst (λ (t : Bool). IsTorn [] (byte_len (count_width version)) old (cond t (with_records version old needed) old) b.0) (sym (lt-ltb records needed h)) (torn_stored version needed old b.0 b.2),
-)
+store_torn version records needed held now h b = grind (arith, nat_tests, lt-ltb, torn_stored)
 
 -- the same of one rank's puts
 pub own_torn : (s : Setting) (puts : Puts) (held now : Option (List ℕ)) → told s puts ≡ None
     → BothTold (λ old left. IsTorn (covered s.header puts) 0 old (after_puts s puts None old) left) held now
     → BothTold (λ old left. IsTorn (covered s.header puts) 0 old (after_puts s puts (told s puts) old) left) held now
-own_torn s puts held now none b =
-    subst (λ (o : Option Pair). BothTold (λ old left. IsTorn (covered s.header puts) 0 old (after_puts s puts o old) left) held now) (sym none) b
+own_torn s puts held now none b = grind (arith, nat_tests)
 
 -- all was written, and a later call was refused
 pub done_torn : (s : Setting) (puts : Puts) (pair : Option Pair) (held now : Option (List ℕ)) → now ≡ after (after_puts s puts pair) held
     → BothTold (λ old left. IsTorn (covered s.header puts) 0 old (after_puts s puts pair old) left) held now
-done_torn s puts pair None now e = e
-done_torn s puts pair (Some old) now e = (
-  after_puts s puts pair old,
-  e,
-  torn_by (covered s.header puts) 0 old (after_puts s puts pair old) (after_puts s puts pair old) (after_grows s puts pair old) (omega arith) (λ x h. inr refl)
-      (λ x h l k. absurd (omega arith)) (λ x h k. after_keeps s puts pair old x h),
-)
+done_torn s puts pair held now e = grind (arith, nat_tests, torn_by, after_grows, after_keeps)

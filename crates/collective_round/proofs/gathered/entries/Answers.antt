@@ -12,7 +12,7 @@ push_posts-requires-clause-few c =
 
 pub push_posts-requires-clause-accepted : goal.push_posts-requires-clause-accepted
 push_posts-requires-clause-accepted c = λ p m.
-    c.requires.accepted c.index-batches-k.result p (read_in c.args.batches.now c.loop-k.k c.index-batches-k.result c.loop-k-test.true c.index-batches-k.is)
+    c.requires.accepted c.index-batches-k.result p (read_in c.args.batches.now _ _ c.loop-k-test.true c.index-batches-k.is)
     (subst (λ (ps : List Post). In ps p) c.posts_of.ensures m)
 
 pub loop-k-preserved : goal.loop-k-preserved

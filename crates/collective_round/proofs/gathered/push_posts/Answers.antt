@@ -4,4 +4,4 @@ use Rattle.collective_round.proofs.gathered.push_posts.Goals as goal
 
 pub push_post-requires-clause-accepted : goal.push_post-requires-clause-accepted
 push_post-requires-clause-accepted c =
-    c.requires.accepted c.index-posts-slot.result (read_in c.args.posts.now c.loop-slot.slot c.index-posts-slot.result c.loop-slot-test.true c.index-posts-slot.is)
+    c.requires.accepted c.index-posts-slot.result (read_in c.args.posts.now _ _ c.loop-slot-test.true c.index-posts-slot.is)

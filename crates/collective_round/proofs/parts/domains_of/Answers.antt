@@ -1,5 +1,5 @@
 -- One share more is cut: its domain, where it has a byte.
-use Rattle.collective_round.proofs.Words.{◌≡◌, ℕ, ◌+◌, ◌∙◌, sym, subst, List, vec_capacity, arith, Vec, Global, Extent, low_of, share_of, bytes_in, end_after}
+use Rattle.collective_round.proofs.Words.{◌≡◌, ℕ, ◌+◌, ◌∙◌, sym, subst, List, vec_capacity, arith, Vec, Global, Extent, low_of, share_of, bytes_in, end_after, rules, common_steps}
 use Rattle.collective_round.proofs.DomainCuts.{cut_domains, cut_more, cut_none, cut_windows, ends_below, last_border, share_bytes, within_reach, AreCut}
 use Rattle.collective_round.proofs.DomainSteps.{domain_is, in_range_hints}
 use Rattle.collective_round.proofs.parts.domains_of.Goals as goal
@@ -38,31 +38,26 @@ loop-a-preserved c =
           )
     ]
 
-pub returns-clause-domains : goal.returns-clause-domains
-returns-clause-domains c =
+pub returns : goal.returns
+returns c =
     let range = in_range_hints c.args.hints.now c.requires.hints in
     let last : c.loop-a.a ≡ c.args.hints.now.cb_nodes = (let over = c.loop-a-test.false in let within = c.loop-a.auto.a-end in omega arith) in
-    cut_domains c.reach_of-reach.result.at (c.reach_of-reach.result.at + c.reach_of-reach.result.len) c.args.hints.now.cb_nodes c.args.hints.now.striping_unit c.args.hints.now.cb_buffer
-    c.args.cover.now c.loop-a.domains.items (omega arith) range.nodes.0 range.unit.0 c.reach_of-reach.ensures.begin c.reach_of-reach.ensures.end
-    (subst (λ (k : ℕ). AreCut c.reach_of-reach.result.at (c.reach_of-reach.result.at + c.reach_of-reach.result.len) c.args.hints.now.cb_nodes c.args.hints.now.striping_unit c.args.hints.now.cb_buffer
-    c.args.cover.now k c.loop-a.domains.items) last c.loop-a.invariant.0)
-
-pub returns-clause-ends : goal.returns-clause-ends
-returns-clause-ends c =
-    let range = in_range_hints c.args.hints.now c.requires.hints in
-    let last : c.loop-a.a ≡ c.args.hints.now.cb_nodes = (let over = c.loop-a-test.false in let within = c.loop-a.auto.a-end in omega arith) in
-    let cut = c.loop-a.invariant.0 in
-    ends_below c.loop-a.domains.items c.reach_of-reach.result.at (c.reach_of-reach.result.at + c.reach_of-reach.result.len) cut.line
-    (subst (λ (k : ℕ). end_after c.reach_of-reach.result.at c.loop-a.domains.items ≡ k)
-    (last_border c.reach_of-reach.result.at (c.reach_of-reach.result.at + c.reach_of-reach.result.len) c.args.hints.now.cb_nodes c.args.hints.now.striping_unit (omega arith) range.nodes.0 range.unit.0)
-    (subst (λ (k : ℕ). AreCut c.reach_of-reach.result.at (c.reach_of-reach.result.at + c.reach_of-reach.result.len) c.args.hints.now.cb_nodes c.args.hints.now.striping_unit c.args.hints.now.cb_buffer
-    c.args.cover.now k c.loop-a.domains.items) last cut).end)
-    c.reach_of-reach.ensures.limit
-
-pub returns-clause-windows : goal.returns-clause-windows
-returns-clause-windows c =
-    let last : c.loop-a.a ≡ c.args.hints.now.cb_nodes = (let over = c.loop-a-test.false in let within = c.loop-a.auto.a-end in omega arith) in
-    cut_windows c.args.hints.now c.reach_of-reach.result.at (c.reach_of-reach.result.at + c.reach_of-reach.result.len) c.args.cover.now c.loop-a.domains.items c.requires.hints c.requires.cover
-    c.reach_of-reach.ensures.begin c.reach_of-reach.ensures.end
-    (subst (λ (k : ℕ). AreCut c.reach_of-reach.result.at (c.reach_of-reach.result.at + c.reach_of-reach.result.len) c.args.hints.now.cb_nodes c.args.hints.now.striping_unit c.args.hints.now.cb_buffer
-    c.args.cover.now k c.loop-a.domains.items) last c.loop-a.invariant.0)
+    record {
+      few = first_of (search rules, grind (arith, common_steps));
+      domains = cut_domains _ _ _ _ c.args.hints.now.cb_buffer
+          c.args.cover.now c.loop-a.domains.items (omega arith) range.nodes.0 range.unit.0 c.reach_of-reach.ensures.begin c.reach_of-reach.ensures.end
+          (subst (λ (k : ℕ). AreCut c.reach_of-reach.result.at (c.reach_of-reach.result.at + c.reach_of-reach.result.len) c.args.hints.now.cb_nodes c.args.hints.now.striping_unit c.args.hints.now.cb_buffer
+          c.args.cover.now k c.loop-a.domains.items) last c.loop-a.invariant.0);
+      ends =
+          let cut = c.loop-a.invariant.0 in
+          ends_below c.loop-a.domains.items c.reach_of-reach.result.at _ cut.line
+          (subst (λ (k : ℕ). end_after c.reach_of-reach.result.at c.loop-a.domains.items ≡ k)
+          (last_border c.reach_of-reach.result.at (c.reach_of-reach.result.at + c.reach_of-reach.result.len) _ _ (omega arith) range.nodes.0 range.unit.0)
+          (subst (λ (k : ℕ). AreCut c.reach_of-reach.result.at (c.reach_of-reach.result.at + c.reach_of-reach.result.len) c.args.hints.now.cb_nodes c.args.hints.now.striping_unit c.args.hints.now.cb_buffer
+          c.args.cover.now k c.loop-a.domains.items) last cut).end)
+          c.reach_of-reach.ensures.limit;
+      windows = cut_windows c.args.hints.now _ _ c.args.cover.now c.loop-a.domains.items c.requires.hints c.requires.cover
+          c.reach_of-reach.ensures.begin c.reach_of-reach.ensures.end
+          (subst (λ (k : ℕ). AreCut c.reach_of-reach.result.at (c.reach_of-reach.result.at + c.reach_of-reach.result.len) c.args.hints.now.cb_nodes c.args.hints.now.striping_unit c.args.hints.now.cb_buffer
+          c.args.cover.now k c.loop-a.domains.items) last c.loop-a.invariant.0);
+    }

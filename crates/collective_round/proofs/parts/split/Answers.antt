@@ -12,8 +12,8 @@ append_all-requires-after_bounds g c κs within =
     let left = drop split.at c.args.domains.now in
     subst (λ (ps : List PartState). Follow (g.D.Disk.from c.split_backwards-end.new.disk + g.D.Disk.len c.split_backwards-end.new.disk) ps)
     (sym (ap (λ (ds : List g.row.D.Denot). map state ds) c.reverse.ensures.items ∙ split.parts_are))
-    (parts_follow (state c.args.disk.now) (state c.split_backwards-end.new.disk) left c.requires.from (adjoin_dropped split.at c.args.domains.now c.requires.domains)
-    (end_dropped split.at c.args.domains.now 0 (g.D.Disk.len c.args.disk.now) c.requires.room) split.front)
+    (parts_follow _ _ _ c.requires.from (adjoin_dropped split.at c.args.domains.now c.requires.domains)
+    (end_dropped split.at c.args.domains.now 0 _ c.requires.room) split.front)
 
 pub returns-in-Err-clause-kept : goal.returns-in-Err-clause-kept
 returns-in-Err-clause-kept g c =
@@ -45,6 +45,5 @@ returns-in-Err-clause-cause g c = λ counted.
       later = omega arith;
       failed = λ f.
           let rose = cause.failed (same_fault c.in-Err.fault Failed f) in
-          let more = joined_at_least (min (g.D.Disk.faults c.args.disk.now + 1) (2 ^ 64 - 1)) mid parts (omega arith) rose in
-          omega arith;
+          omega (arith, joined_at_least (min (g.D.Disk.faults c.args.disk.now + 1) (2 ^ 64 - 1)) mid parts (omega arith) rose);
     }

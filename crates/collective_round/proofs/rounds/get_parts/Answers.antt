@@ -28,16 +28,16 @@ exchange_get-parts-requires-clause-domains g c κs within =
 pub exchange_get-parts-requires-clause-whole : goal.exchange_get-parts-requires-clause-whole
 exchange_get-parts-requires-clause-whole g c κs within =
     let plan = c.args.plan.now in
-    on_some_part (state g) plan.list.now plan.cover.now c.args.domains.now (state g c.args.disk.now) c.in_ok-parts.parts.items c.in_ok-parts.ensures.parts
+    on_some_part (state g) plan.list.now _ _ (state g c.args.disk.now) c.in_ok-parts.parts.items c.in_ok-parts.ensures.parts
     c.requires.plan.covers c.requires.plan.cover_bytes c.requires.domains
     (cover_room plan.cover.now plan.list.now (g.D.Disk.len c.args.disk.now) c.requires.plan.covers c.requires.plan.cover_bytes c.requires.on_disk)
 
 pub append_all-requires-after_bounds : goal.append_all-requires-after_bounds
 append_all-requires-after_bounds g c κs within =
     let plan = c.args.plan.now in
-    gets_follow (state g) (λ d. get_turns plan d) (state g c.args.disk.now) (state g c.split.new.disk) c.args.domains.now c.in_ok-parts.parts.items c.exchange_get-parts.result.0.items
+    gets_follow _ (λ d. get_turns plan d) _ _ _ _ c.exchange_get-parts.result.0.items
     c.exchange_get-parts.result.1
-    (are_split (state g) (state g c.args.disk.now) (state g c.split.new.disk) plan.cover.now c.args.domains.now plan.list.now c.in_ok-parts.parts.items
+    (are_split (state g) _ _ _ _ plan.list.now c.in_ok-parts.parts.items
     c.requires.from c.requires.plan.covers c.requires.plan.cover_bytes c.requires.on_disk c.requires.domains c.in_ok-parts.ensures.front c.in_ok-parts.ensures.parts)
     c.exchange_get-parts.ensures.got
 
@@ -53,30 +53,25 @@ got_done g c =
     parts_got (state g) (λ d. get_turns c.args.plan.now d) (state g c.args.disk.now) (state g c.split.new.disk) (state g c.append_all.new.disk) c.args.domains.now c.in_ok-parts.parts.items
     c.exchange_get-parts.result.0.items c.exchange_get-parts.result.1 (split_so g c) c.size-size.ensures.told c.exchange_get-parts.ensures.got c.append_all.ensures
 
-pub returns-clause-read : goal.returns-clause-read
-returns-clause-read g c =
-    told_read c.exchange_get-parts.result.1 (g.D.Disk.held c.args.disk.now) (λ file. HasRead file c.args.plan.now.list.now c.args.into.now c.exchange_get-parts.new.into)
-    (λ file told. c.exchange_get-parts.ensures.read file
-    (part_read (state g) (state g c.args.disk.now) (state g c.split.new.disk) c.args.domains.now c.in_ok-parts.parts.items file (split_so g c)
-    (if_some_at (λ (f : List ℕ). length f ≡ g.D.Disk.len c.args.disk.now) (g.D.Disk.held c.args.disk.now) file told c.size-size.ensures.told) told))
-
-pub returns-clause-bytes : goal.returns-clause-bytes
-returns-clause-bytes g c = (got_done g c).held
-
-pub returns-clause-calls : goal.returns-clause-calls
-returns-clause-calls g c = (got_done g c).device
-
-pub returns-clause-from : goal.returns-clause-from
-returns-clause-from g c = (got_done g c).place.from ∙ c.requires.from
-
-pub returns-clause-len : goal.returns-clause-len
-returns-clause-len g c = (got_done g c).place.len
-
-pub returns-clause-cause : goal.returns-clause-cause
-returns-clause-cause g c =
-    parts_cause (state g) (state g c.args.disk.now) (state g c.split.new.disk) (state g c.append_all.new.disk) c.args.domains.now c.in_ok-parts.parts.items
-    c.exchange_get-parts.result.0.items c.exchange_get-parts.result.1 c.in_ok-parts.ensures.parts c.size-size.ensures.counted
-    (c.in_ok-parts.ensures.cause c.size-size.ensures.counted).later c.exchange_get-parts.ensures.failed c.append_all.ensures
+pub returns : goal.returns
+returns g c =
+    let got = got_done g c in
+    record {
+      read =
+          told_read c.exchange_get-parts.result.1 (g.D.Disk.held c.args.disk.now) (λ file. HasRead file c.args.plan.now.list.now c.args.into.now c.exchange_get-parts.new.into)
+          (λ file told. c.exchange_get-parts.ensures.read file
+          (part_read _ _ _ _ _ _ (split_so g c)
+          (if_some_at (λ (f : List ℕ). length f ≡ g.D.Disk.len c.args.disk.now) _ _ told c.size-size.ensures.told) told));
+      blobs = first_of (search rules, grind (arith, common_steps));
+      calls = got.device;
+      bytes = got.held;
+      from = got.place.from ∙ c.requires.from;
+      len = got.place.len;
+      cause =
+          parts_cause (state g) (state g c.args.disk.now) (state g c.split.new.disk) _ c.args.domains.now c.in_ok-parts.parts.items
+          c.exchange_get-parts.result.0.items c.exchange_get-parts.result.1 c.in_ok-parts.ensures.parts c.size-size.ensures.counted
+          (c.in_ok-parts.ensures.cause c.size-size.ensures.counted).later c.exchange_get-parts.ensures.failed c.append_all.ensures;
+    }
 
 pub returns-in_err-parts-clause-cause : goal.returns-in_err-parts-clause-cause
 returns-in_err-parts-clause-cause g c =

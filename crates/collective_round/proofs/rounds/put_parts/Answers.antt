@@ -28,9 +28,8 @@ exchange_put-parts-requires-clause-domains g c κs within =
 pub append_all-requires-after_bounds : goal.append_all-requires-after_bounds
 append_all-requires-after_bounds g c κs within =
     let plan = c.args.plan.now in
-    parts_follow (state g) (source_in plan) plan.list.now (λ d. planned_turns plan d) (state g c.args.disk.now) (state g c.split.new.disk) c.args.domains.now
-    c.in_ok-parts.parts.items c.exchange_put-parts.result.0.items c.exchange_put-parts.result.1
-    (are_split (state g) (state g c.args.disk.now) (state g c.split.new.disk) plan.cover.now c.args.domains.now plan.list.now c.in_ok-parts.parts.items
+    parts_follow _ (source_in plan) plan.list.now (λ d. planned_turns plan d) _ _ _ _ c.exchange_put-parts.result.0.items c.exchange_put-parts.result.1
+    (are_split (state g) _ _ _ _ plan.list.now c.in_ok-parts.parts.items
     c.requires.from c.requires.plan.covers c.requires.plan.cover_bytes c.requires.on_disk c.requires.domains c.in_ok-parts.ensures.front c.in_ok-parts.ensures.parts)
     c.exchange_put-parts.ensures.put
 
@@ -39,33 +38,26 @@ put_done : (g : Over) (c : goal.After-append_all g)
     (state g c.args.disk.now) (state g c.append_all.new.disk) c.exchange_put-parts.result.1
 put_done g c =
     let plan = c.args.plan.now in
-    parts_put (state g) (source_in plan) plan.list.now (λ d. planned_turns plan d) plan.cover.now (state g c.args.disk.now) (state g c.split.new.disk) (state g c.append_all.new.disk) c.args.domains.now
-    c.in_ok-parts.parts.items c.exchange_put-parts.result.0.items c.exchange_put-parts.result.1
-    (are_split (state g) (state g c.args.disk.now) (state g c.split.new.disk) plan.cover.now c.args.domains.now plan.list.now c.in_ok-parts.parts.items
+    parts_put _ (source_in plan) plan.list.now (λ d. planned_turns plan d) _ _ _ _ _ _ c.exchange_put-parts.result.0.items c.exchange_put-parts.result.1
+    (are_split (state g) _ _ _ _ plan.list.now c.in_ok-parts.parts.items
     c.requires.from c.requires.plan.covers c.requires.plan.cover_bytes c.requires.on_disk c.requires.domains c.in_ok-parts.ensures.front c.in_ok-parts.ensures.parts)
     c.size-size.ensures.told (λ o m. (c.requires.plan.pieces o m).some) c.requires.on_disk
     c.requires.plan.covers c.requires.plan.cover_bytes c.requires.domains c.exchange_put-parts.ensures.put c.append_all.ensures
 
-pub returns-clause-bytes : goal.returns-clause-bytes
-returns-clause-bytes g c = (put_done g c).bytes
-
-pub returns-clause-between : goal.returns-clause-between
-returns-clause-between g c = (put_done g c).between
-
-pub returns-clause-calls : goal.returns-clause-calls
-returns-clause-calls g c = (put_done g c).device
-
-pub returns-clause-from : goal.returns-clause-from
-returns-clause-from g c = (put_done g c).place.from ∙ c.requires.from
-
-pub returns-clause-len : goal.returns-clause-len
-returns-clause-len g c = (put_done g c).place.len
-
-pub returns-clause-cause : goal.returns-clause-cause
-returns-clause-cause g c =
-    parts_cause (state g) (state g c.args.disk.now) (state g c.split.new.disk) (state g c.append_all.new.disk) c.args.domains.now c.in_ok-parts.parts.items
-    c.exchange_put-parts.result.0.items c.exchange_put-parts.result.1 c.in_ok-parts.ensures.parts c.size-size.ensures.counted
-    (c.in_ok-parts.ensures.cause c.size-size.ensures.counted).later c.exchange_put-parts.ensures.failed c.append_all.ensures
+pub returns : goal.returns
+returns g c =
+    let got = put_done g c in
+    record {
+      bytes = got.bytes;
+      between = got.between;
+      calls = got.device;
+      from = got.place.from ∙ c.requires.from;
+      len = got.place.len;
+      cause =
+          parts_cause (state g) (state g c.args.disk.now) (state g c.split.new.disk) (state g c.append_all.new.disk) c.args.domains.now c.in_ok-parts.parts.items
+          c.exchange_put-parts.result.0.items c.exchange_put-parts.result.1 c.in_ok-parts.ensures.parts c.size-size.ensures.counted
+          (c.in_ok-parts.ensures.cause c.size-size.ensures.counted).later c.exchange_put-parts.ensures.failed c.append_all.ensures;
+    }
 
 pub returns-in_err-parts-clause-cause : goal.returns-in_err-parts-clause-cause
 returns-in_err-parts-clause-cause g c =
