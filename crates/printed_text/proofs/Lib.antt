@@ -1,4 +1,5 @@
 mod Cited
 mod DigitLaws
+mod HexLaws
 mod OffsetLaws
 pub mod WordLaws

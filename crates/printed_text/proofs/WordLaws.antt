@@ -1,5 +1,5 @@
 -- Words on a line.
-use Rattle.printed_text.proofs.Cited.{◌≡◌, ℕ, zero, suc, ◌+◌, ◌-◌, ◌/◌, ◌%◌, ◌<◌, ◌≤◌, List, [], ◌∷◌, ◌++◌, length, map, take, drop, set, get_or, sym, ap, ◌∙◌, inl, inr, ◌⊎◌, Some, None, arith, append-nil, drop-set, append_assoc, flat_map_more, map_more, take_all, take_more, flat_map-append, slice_get_cases, same_Some, slice_get, flat_map, joined, hex, hex_digit, spaced}
+use Rattle.printed_text.proofs.Cited.{◌≡◌, ℕ, zero, suc, ◌+◌, ◌-◌, ◌/◌, ◌%◌, ◌<◌, ◌≤◌, List, [], ◌∷◌, ◌++◌, length, map, take, get_or, sym, ap, ◌∙◌, inl, inr, ◌⊎◌, Some, None, arith, append-nil, append_assoc, flat_map_more, map_more, take_all, take_more, flat_map-append, slice_get_cases, same_Some, slice_get, flat_map, joined, hex, hex_digit, spaced}
 
 -- the first word stands by itself, each other one behind a blank
 pub joined_spaced : (w : List ℕ) (ws : List (List ℕ)) → joined 32 (w ∷ ws) ≡ w ++ spaced ws
@@ -35,14 +35,6 @@ hex_last zero x h = absurd (omega arith)
 hex_last (suc n) x h =
     let e : suc n - 1 ≡ n = omega arith in
     ap (λ (m : ℕ). hex m (x / 16) ++ hex_digit (x % 16) ∷ []) (sym e)
-
--- the last digit goes before the digits that are written
-pub hex_next : (n x : ℕ) (text : List ℕ) (at d : ℕ) → 0 < n → at < length text → d ≡ hex_digit (x % 16) → hex n x ++ drop (at + 1) text ≡ hex (n - 1) (x / 16) ++ drop at (set text at d)
-hex_next n x text at d some within digit =
-    rw (drop-set text at d within)
-    (ap (λ (t : List ℕ). t ++ drop (at + 1) text) (hex_last n x some)
-    ∙ append_assoc (hex (n - 1) (x / 16)) (hex_digit (x % 16) ∷ []) (drop (at + 1) text)
-    ∙ ap (λ (c : ℕ). hex (n - 1) (x / 16) ++ c ∷ drop (at + 1) text) (sym digit))
 
 -- the words of a call's line
 pub call_words : (n c : List ℕ) (o x v : List (List ℕ))

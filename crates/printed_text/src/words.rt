@@ -1,5 +1,5 @@
 // Words and values.
-ghost use Rattle.std.specs.Prelude.{◌≡◌, ◌<◌, ◌≤◌, ◌+◌, ◌++◌, ◌∷◌, OnOk, decimal, drop, map};
+ghost use Rattle.std.specs.Prelude.{◌≡◌, ◌<◌, ◌≤◌, ◌+◌, ◌*◌, ◌/◌, ◌%◌, ◌++◌, ◌∷◌, IfOk, OnOk, decimal, drop, length, map, set, take};
 ghost use Rattle.std.specs.Fmt.{signed_decimal};
 ghost use Rattle.script_spec.specs.Texts.{call_word, code_word, form_word, hex, hex_digit, kind_word, quoted, text_char, text_line, type_word, value_words, with_all};
 ghost use Rattle.printed_text.specs.Spaced.{spaced};
@@ -52,38 +52,80 @@ pub fn push_signed(out: &mut Vec<u8>, number: i128) -> Result<(), Memory>
     push_bytes(out, Buffer::new().format(number).as_bytes())
 }
 
-/// A blank, an x and the most digits that a pattern has.
-const PATTERN_LEN: usize = 18;
+/// The two digits of each byte.
+static PAIRS: [u8; 512] = *b"\
+    000102030405060708090A0B0C0D0E0F\
+    101112131415161718191A1B1C1D1E1F\
+    202122232425262728292A2B2C2D2E2F\
+    303132333435363738393A3B3C3D3E3F\
+    404142434445464748494A4B4C4D4E4F\
+    505152535455565758595A5B5C5D5E5F\
+    606162636465666768696A6B6C6D6E6F\
+    707172737475767778797A7B7C7D7E7F\
+    808182838485868788898A8B8C8D8E8F\
+    909192939495969798999A9B9C9D9E9F\
+    A0A1A2A3A4A5A6A7A8A9AAABACADAEAF\
+    B0B1B2B3B4B5B6B7B8B9BABBBCBDBEBF\
+    C0C1C2C3C4C5C6C7C8C9CACBCCCDCECF\
+    D0D1D2D3D4D5D6D7D8D9DADBDCDDDEDF\
+    E0E1E2E3E4E5E6E7E8E9EAEBECEDEEEF\
+    F0F1F2F3F4F5F6F7F8F9FAFBFCFDFEFF";
 
 /// The last `digits` hexadecimal digits of a number, with capital letters.
 pub fn push_hex(out: &mut Vec<u8>, digits: u8, number: u64) -> Result<(), Memory>
     ensures { OnOk result (out.new.items ≡ out.old.items ++ hex digits number) }
 {
     if digits <= 16 {
-        let mut text = [0; PATTERN_LEN];
-        let start = write_hex(&mut text, digits, number);
-        return push_bytes(out, &text[start..]);
+        let mut text = [0; 16];
+        write_hex(&mut text, 0, digits, number);
+        return push_bytes(out, &text[..usize::from(digits)]);
     }
     push_hex(out, digits - 1, number / 16)?;
     out.push(hex_digit((number % 16) as u8))?;
     Ok(())
 }
 
-/// Writes the last `digits` hexadecimal digits of a number at the end of the text, and returns where they start.
-fn write_hex(text: &mut [u8; PATTERN_LEN], digits: u8, number: u64) -> usize
-    requires { digits ≤ 16 }
-    ensures start { result + digits ≡ 18 }
-    ensures written { drop result text.new ≡ hex digits number }
+/// Writes the last `digits` hexadecimal digits of a number into the text, from `start` on.
+#[inline(always)]
+fn write_hex(text: &mut [u8], start: usize, digits: u8, number: u64)
+    requires { start + digits ≤ length text.old }
+    ensures written { take (start + digits) text.new ≡ take start text.old ++ hex digits number }
+    ensures len { length text.new ≡ length text.old }
 {
-    let start = PATTERN_LEN - usize::from(digits);
-    let mut rest = number;
-    let mut at = PATTERN_LEN;
-    while at > start {
-        at -= 1;
-        text[at] = hex_digit((rest % 16) as u8);
-        rest /= 16;
+    let pairs = usize::from(digits / 2);
+    if digits % 2 == 0 {
+        write_pairs(text, start, pairs, number);
+    } else {
+        text[start + 2 * pairs] = hex_digit((number % 16) as u8);
+        write_pairs(text, start, pairs, number / 16);
     }
-    start
+}
+
+/// Writes the last `pairs` pairs of digits of a number into the text, from `start` on, the last pair first.
+#[inline(always)]
+fn write_pairs(text: &mut [u8], start: usize, pairs: usize, number: u64)
+    requires { start + 2 * pairs ≤ length text.old }
+    ensures written { text.new ≡ take start text.old ++ hex (2 * pairs) number ++ drop (start + 2 * pairs) text.old }
+    ensures len { length text.new ≡ length text.old }
+{
+    let mut left = pairs;
+    let mut rest = number;
+    while left > 0 {
+        left -= 1;
+        write_pair(text, start + 2 * left, (rest % 256) as u8);
+        rest /= 256;
+    }
+}
+
+/// Writes the two digits of a byte.
+#[inline(always)]
+fn write_pair(text: &mut [u8], at: usize, byte: u8)
+    requires { at + 2 ≤ length text.old }
+    ensures { text.new ≡ set (set text.old (at + 1) (hex_digit (byte % 16))) at (hex_digit (byte / 16)) }
+{
+    let from = usize::from(byte) * 2;
+    text[at + 1] = PAIRS[from + 1];
+    text[at] = PAIRS[from];
 }
 
 fn hex_digit(digit: u8) -> u8
@@ -265,26 +307,47 @@ fn push_numbers(out: &mut Vec<u8>, numbers: &NumberList) -> Result<(), Memory>
     Ok(())
 }
 
+/// A blank, an x and the most digits.
+const PATTERN_LEN: usize = 257;
+
+/// How many bytes of patterns are gathered before they are copied.
+const BLOCK: usize = 512;
+
 fn push_patterns(out: &mut Vec<u8>, digits: u8, patterns: &BitList) -> Result<(), Memory>
     ensures { OnOk result (out.new.items ≡ out.old.items ++ spaced (map (λ n. 120 ∷ hex digits n) patterns.now)) }
 {
+    let mut block = [0; BLOCK];
+    let mut at = 0;
     for k in 0..patterns.len() {
-        push_pattern(out, digits, patterns.at(k))?;
+        at = with_room(out, &block, at)?;
+        write_pattern(&mut block, at, digits, patterns.at(k));
+        at += usize::from(digits) + 2;
     }
-    Ok(())
+    push_bytes(out, &block[..at])
 }
 
-/// A blank, an x and so many digits.
-fn push_pattern(out: &mut Vec<u8>, digits: u8, pattern: u64) -> Result<(), Memory>
-    ensures { OnOk result (out.new.items ≡ out.old.items ++ 32 ∷ 120 ∷ hex digits pattern) }
+/// Copies what the block holds where it has no room for a pattern, and returns where the next one goes.
+#[inline(always)]
+fn with_room(out: &mut Vec<u8>, block: &[u8; BLOCK], at: usize) -> Result<usize, Memory>
+    requires { at ≤ 512 }
+    ensures room { IfOk result (λ next. next ≤ 255) }
+    ensures same { IfOk result (λ next. out.new.items ++ take next block.now ≡ out.old.items ++ take at block.now) }
 {
-    if digits > 16 {
-        push_bytes(out, b" x")?;
-        return push_hex(out, digits, pattern);
+    if at <= BLOCK - PATTERN_LEN {
+        return Ok(at);
     }
-    let mut text = [0; PATTERN_LEN];
-    let start = write_hex(&mut text, digits, pattern);
-    text[start - 1] = b'x';
-    text[start - 2] = b' ';
-    push_bytes(out, &text[start - 2..])
+    push_bytes(out, &block[..at])?;
+    Ok(0)
+}
+
+/// Writes a blank, an x and so many digits into the text, from `at` on.
+#[inline(always)]
+fn write_pattern(text: &mut [u8], at: usize, digits: u8, pattern: u64)
+    requires { at + (digits + 2) ≤ length text.old }
+    ensures written { take (at + (digits + 2)) text.new ≡ take at text.old ++ 32 ∷ 120 ∷ hex digits pattern }
+    ensures len { length text.new ≡ length text.old }
+{
+    text[at] = b' ';
+    text[at + 1] = b'x';
+    write_hex(text, at + 2, digits, pattern);
 }
