@@ -1,5 +1,5 @@
 -- Items that are alike, one list after another; and lines on which items are put one after another.
-use Rattle.file_owner.proofs.Words.{◌≡◌, ℕ, zero, suc, ◌<◌, refl, sym, ◌∙◌, ap, subst, List, [], ◌∷◌, ◌++◌, length, take, Some, append_assoc, arith, append-nil, slice_get, OwnerItem, End, AreAlike, Grows}
+use Rattle.file_owner.proofs.Words.{◌≡◌, ℕ, suc, ◌<◌, sym, ◌∙◌, ap, subst, List, [], ◌∷◌, ◌++◌, length, take, Some, append_assoc, arith, append-nil, slice_get, OwnerItem, End, AreAlike, Grows, nat_tests}
 
 -- ---- alike
 
@@ -7,17 +7,12 @@ pub alike_by : (a b c d : List OwnerItem) → a ≡ b → d ≡ c → AreAlike b
 alike_by a b c d e f w = subst (λ (x : List OwnerItem). AreAlike x d) (sym e) (subst (λ (x : List OwnerItem). AreAlike b x) (sym f) w)
 
 pub alike_take : (n : ℕ) (xs ys : List OwnerItem) → AreAlike xs ys → AreAlike (take n xs) (take n ys)
-alike_take zero xs ys h = tt
-alike_take (suc n) [] [] h = tt
-alike_take (suc n) [] (y ∷ ys) h = absurd h
-alike_take (suc n) (x ∷ xs) [] h = absurd h
 alike_take (suc n) (x ∷ xs) (y ∷ ys) (h, hs) = (h, alike_take n xs ys hs)
+alike_take n xs ys h = grind (arith, nat_tests)
 
 pub alike_long : (xs ys : List OwnerItem) → AreAlike xs ys → length xs ≡ length ys
-alike_long [] [] h = refl
-alike_long [] (y ∷ ys) h = absurd h
-alike_long (x ∷ xs) [] h = absurd h
 alike_long (x ∷ xs) (y ∷ ys) (h, hs) = ap (λ (n : ℕ). suc n) (alike_long xs ys hs)
+alike_long xs ys h = grind (arith, nat_tests)
 
 -- ---- lines
 
@@ -33,11 +28,7 @@ lines_twice old mid now more last g h = record {
 }
 
 pub lines_none : (old now : Lines) → now ≡ old → Grows old (λ q. []) now
-lines_none old now e = record {
-  long = ap (λ (l : Lines). length l) e;
-  each = λ q end f.
-      ap (λ (l : Lines). slice_get l q) e ∙ f ∙ ap (λ (items : List OwnerItem). Some (record { of = end.of; items = items })) (sym (append-nil end.items));
-}
+lines_none old now e = grind (arith, nat_tests, append-nil)
 
 -- as much by another word
 pub lines_as : (old now : Lines) (more last : ℕ → List OwnerItem) → ((q : ℕ) → q < length old → last q ≡ more q) → Grows old more now → Grows old last now
@@ -47,6 +38,5 @@ lines_as old now more last same g = record {
 }
   where
     long : (xs : Lines) (q : ℕ) (end : End OwnerItem) → slice_get xs q ≡ Some end → q < length xs
-    long [] q end e = absurd cc
-    long (x ∷ xs) zero end e = omega arith
     long (x ∷ xs) (suc q) end e = let h = long xs q end e in omega arith
+    long xs q end e = grind (arith, nat_tests)

@@ -1,13 +1,9 @@
 -- A number's own step, as the disk, the order and the lines show it.
-use Rattle.file_owner.proofs.Words.{◌≡◌, ℕ, ◌≤◌, refl, sym, ◌∙◌, ap, subst, List, [], ◌∷◌, ◌++◌, length, map, max, Bool, true, false, Option, Some, None, arith, IfSome, ◌==◌, Hints, Solo, Offer, Reply, after, with_end, does_solo, needed_now, to_one, solo_calls, Setting, puts_of, solo, told, wanted, counted, AreAlike, TellAlike, owner_at, GoesSo, Grows, HoldSingle, IsAlone, Standing, put_one, gots_long, if_some_at}
+use Rattle.file_owner.proofs.Words.{◌≡◌, ℕ, ◌≤◌, refl, sym, subst, List, [], ◌∷◌, ◌++◌, length, map, max, Option, arith, IfSome, Hints, Solo, Offer, Reply, after, with_end, does_solo, needed_now, to_one, solo_calls, Setting, puts_of, solo, told, wanted, counted, AreAlike, TellAlike, owner_at, GoesSo, Grows, HoldSingle, IsAlone, Standing, put_one, gots_long, if_some_at, nat_tests}
 use Rattle.nc_base.specs.declared.step.Reply as reply
 
 one_alike : (r : ℕ) (y z : reply.Reply) (q : ℕ) → TellAlike y z → AreAlike (put_one r (Reply y) q) (to_one r z q)
-one_alike r y z q w = by (q == r)
-  where
-    by : (t : Bool) → AreAlike (elim t [ true ↦ Reply y ∷ [] | false ↦ [] ]) (elim t [ true ↦ Reply z ∷ [] | false ↦ [] ])
-    by true = (w, tt)
-    by false = tt
+one_alike r y z q w = grind (arith, nat_tests)
 
 -- what the step came to
 pub record CameAlone (s : Setting) (hints : Hints) (r c : ℕ) (o : Offer) (b n : Standing) (y : reply.Reply) : Type 0 where
@@ -34,9 +30,7 @@ alone s hints r c o b n y h = record {
     owner = λ i. record { clients = sym h.clients i; met = sym h.same_met i; state = counted (solo s r o (counted file b.records)).0.file (sym h.same_records i); reached = reached_is i };
     marks = h.order;
     heard = h.heard;
-    given = λ q l.
-        one_alike r y (solo s r o (counted file b.records)).1 q
-        (record { pair = h.pair; records = h.records; lengths = h.fits ∙ sym (gots_long s (solo s r o (counted file b.records)).0.file o.batch.gets) });
+    given = grind (arith, nat_tests, gots_long s (solo s r o (counted file b.records)).0.file o.batch.gets, one_alike);
   };
   exact = exact b.told refl;
   single = λ once. subst (λ ss. HoldSingle ss) (sym h.clients) once;
@@ -46,9 +40,4 @@ alone s hints r c o b n y h = record {
     reached_is = let a = h.reached in let d = h.records in let e = h.known_low in omega arith
 
     exact : (m : Option (List ℕ)) → b.told ≡ m → IfSome m (λ file. GoesSo (HoldSingle b.clients) (does_solo s (owner_at b file) r c o) (solo_calls hints s r o (counted file b.records)) (put_one r (Reply y)) b n)
-    exact None e = tt
-    exact (Some file) e = record {
-      told = h.bytes ∙ ap (after (λ file. (solo s r o (counted file 0)).0.file)) e;
-      given = λ q l. ap (λ (z : reply.Reply). put_one r (Reply z) q) (if_some_at (λ x. y ≡ (solo s r o (counted x 0)).1) b.told file e h.reply);
-      calls = λ once. if_some_at (λ x. n.calls ≡ with_end b.calls (solo_calls hints s r o (counted x 0))) b.told file e h.calls;
-    }
+    exact m e = grind (arith, nat_tests, if_some_at)

@@ -1,5 +1,5 @@
 -- An arrival that is not strange, as the clients, the disk, the order and the lines show it.
-use Rattle.file_owner.proofs.Words.{◌≡◌, ℕ, zero, suc, ◌<◌, ◌≤◌, refl, sym, ◌∙◌, ap, subst, inl, inr, ◌⊎◌, List, [], ◌∷◌, ◌++◌, length, set, get_or, Bool, true, false, Option, Some, None, Result, Ok, Err, arith, cases_eq, append-nil, length-set, slice_get, is_some, IfSome, OnOk, list_all, list_any, same_Some, get_or_from_slice_get, and_first, and_second, Header, Hints, DiskCall, MeetKind, Offer, OfferKind, OwnerItem, Stop, RankItem, with_end, End, Owner, Event, Client, at_offer, differs, does_meeting, does_solo, event, holds, is_strange, keeps, kind_held, meets_if, offers_held, stop_held, stops, meeting_calls, solo_calls, Setting, is_sound, Arrival, kind_of_meeting, counted, HasOwnElements, HasOwnPuts, AreAlike, IsCount, IsFit, event_is, calls_at, calls_at_offer, calls_if, owner_at, each_told, event_calls, GoesSo, Grows, HasDone, HasMovedOnce, HoldSingle, IsAlone, IsHeld, IsSingle, IsSteady, IsTogether, Standing, IsSingleOffer, held_stops, put_one, stop_each, stops_for, count_less, count_longer, entry_below, entry_set, entry_set_other, with_end-nil, client_ended, client_held}
+use Rattle.file_owner.proofs.Words.{◌≡◌, ℕ, zero, suc, ◌<◌, ◌≤◌, refl, sym, ◌∙◌, ap, subst, inl, inr, ◌⊎◌, List, [], ◌∷◌, ◌++◌, length, set, get_or, Bool, true, false, Option, Some, None, Result, arith, cases_eq, append-nil, length-set, slice_get, is_some, IfSome, OnOk, list_all, list_any, same_Some, get_or_from_slice_get, and_first, and_second, Header, Hints, DiskCall, MeetKind, Offer, OfferKind, OwnerItem, Stop, RankItem, with_end, End, Owner, Event, Client, at_offer, differs, does_meeting, does_solo, event, holds, is_strange, keeps, kind_held, meets_if, offers_held, stop_held, stops, meeting_calls, solo_calls, Setting, is_sound, Arrival, kind_of_meeting, counted, HasOwnElements, HasOwnPuts, AreAlike, IsCount, IsFit, event_is, calls_at, calls_at_offer, calls_if, owner_at, each_told, event_calls, GoesSo, Grows, HasDone, HasMovedOnce, HoldSingle, IsAlone, IsHeld, IsSingle, IsSteady, IsTogether, Standing, IsSingleOffer, held_stops, put_one, stop_each, stops_for, count_less, count_longer, entry_below, entry_set, entry_set_other, with_end-nil, client_ended, client_held, nat_tests}
 use Rattle.nc_base.specs.declared.step.OfferKind.TheVariants as offer
 use Rattle.nc_base.specs.declared.step.RankItem.TheVariants as item
 use Rattle.file_owner.proofs.AlikeLaws.{lines_as, lines_none, lines_twice}
@@ -18,34 +18,10 @@ calls_are hints s d r i x e = ap (λ (m : Option Client). calls_at hints s d r i
 -- only clients change
 done_kept : (hints : Hints) (s : Setting) (b : Standing) (a : Arrival) (clients : List Client) → ((file : List ℕ) → event s (owner_at b file) a ≡ keeps (owner_at b file) clients)
     → ((file : List ℕ) → event_calls hints s (owner_at b file) a ≡ []) → (HoldSingle b.clients × IsSingle a.1 → HoldSingle clients) → HasDone hints s a b (with_clients b clients)
-done_kept hints s b a clients e c alone = record {
-  more = λ q. [];
-  lines = lines_none b.lines b.lines refl;
-  alike = λ file. record {
-    owner = ap (λ (ev : Event). ev.owner) (e file) ∙ ap (λ (ev : Event). owner_at (with_clients b clients) ev.owner.state.file) (sym (e file));
-    marks = sym (ap (λ (ev : Event). b.order ++ ev.marks) (e file) ∙ append-nil b.order);
-    heard = sym (ap (λ (ev : Event). with_end b.heard (each_told ev)) (e file) ∙ with_end-nil b.heard);
-    given = λ q l. subst (λ (ev : Event). AreAlike [] (ev.given q)) (sym (e file)) tt;
-  };
-  exact = exact b.told refl;
-  single = alone;
-}
-  where
-    exact : (m : Option (List ℕ)) → b.told ≡ m
-        → IfSome m (λ file. GoesSo (HoldSingle b.clients × IsSingle a.1) (event s (owner_at b file) a) (event_calls hints s (owner_at b file) a) (λ q. []) b (with_clients b clients))
-    exact None f = tt
-    exact (Some file) f = record {
-      told = f ∙ ap (λ (ev : Event). Some ev.owner.state.file) (sym (e file));
-      given = λ q l. ap (λ (ev : Event). ev.given q) (sym (e file));
-      calls = λ once. sym (ap (with_end b.calls) (c file) ∙ with_end-nil b.calls);
-    }
+done_kept hints s b a clients e c alone = grind (arith, nat_tests, lines_none b.lines b.lines refl, append-nil b.order, with_end-nil b.heard, with_end-nil b.calls)
 
 pub single_set : (clients : List Client) (r : ℕ) (x y : Client) → slice_get clients r ≡ Some x → HoldSingle clients → ((o : Offer) → y.held ≡ Some o → IsSingleOffer o) → HoldSingle (set clients r y)
-single_set clients r x y e all own q z o f g = by (cases_eq q r)
-  where
-    by : (q ≡ r) ⊎ (q ≡ r → ⊥) → IsSingleOffer o
-    by (inl s) = own o (ap (λ (w : Client). w.held) (same_Some y z (sym (entry_set clients r x y e) ∙ ap (λ (k : ℕ). slice_get (set clients r y) k) (sym s) ∙ f)) ∙ g)
-    by (inr n) = all q z o (sym (entry_set_other clients r q y n) ∙ f) g
+single_set clients r x y e all own q z o f g = grind (arith, nat_tests, cases_eq, same_Some, entry_set, set, entry_set_other)
 
 pub done_ended : (hints : Hints) (s : Setting) (b : Standing) (r : ℕ) (x y : Client) (memory : Bool) → slice_get b.clients r ≡ Some x → y ≡ client_ended x memory
     → HasDone hints s (r, item.Ended memory) b (with_clients b (set b.clients r y))
@@ -99,8 +75,6 @@ as_event hints s b m n a once to made told calls order heard lines e c alone h =
 
     exact : (bt mt : Option (List ℕ)) → mt ≡ bt → IfSome mt (λ file. GoesSo once (to file) (made file) h.more m n)
         → IfSome bt (λ file. GoesSo (HoldSingle b.clients × IsSingle a.1) (event s (owner_at b file) a) (event_calls hints s (owner_at b file) a) h.more b n)
-    exact None mt f g = tt
-    exact (Some file) None f g = absurd cc
     exact (Some file) (Some other) f g = whole (subst (λ (y : List ℕ). GoesSo once (to y) (made y) h.more m n) (same_Some other file f) g)
       where
         whole : GoesSo once (to file) (made file) h.more m n → GoesSo (HoldSingle b.clients × IsSingle a.1) (event s (owner_at b file) a) (event_calls hints s (owner_at b file) a) h.more b n
@@ -109,6 +83,7 @@ as_event hints s b m n a once to made told calls order heard lines e c alone h =
           given = λ q l. k.given q (low q l) ∙ ap (λ (ev : Event). ev.given q) (sym (e file));
           calls = λ o. k.calls (alone o) ∙ (λ i. with_end (calls i) (sym (c file) i));
         }
+    exact bt mt f g = grind (arith, nat_tests)
 
 pub done_alone : (hints : Hints) (s : Setting) (b n : Standing) (r c : ℕ) (o : Offer) (x : Client) → slice_get b.clients r ≡ Some x → o.kind ≡ offer.Solo → IsAlone hints s c (r, o) b n
     → HasDone hints s (r, item.Offer c o) b n
@@ -133,11 +108,7 @@ done_together hints s b n r c o x y kind e f k all h =
 
 -- an element of a list of which one was changed
 set_cases : (clients : List Client) (r q : ℕ) (x y z : Client) → slice_get clients r ≡ Some x → slice_get (set clients r y) q ≡ Some z → ((q ≡ r) × (y ≡ z)) ⊎ ((q ≡ r → ⊥) × (slice_get clients q ≡ Some z))
-set_cases clients r q x y z e f = by (cases_eq q r)
-  where
-    by : (q ≡ r) ⊎ (q ≡ r → ⊥) → ((q ≡ r) × (y ≡ z)) ⊎ ((q ≡ r → ⊥) × (slice_get clients q ≡ Some z))
-    by (inl s) = inl (s, same_Some y z (sym (entry_set clients r x y e) ∙ ap (λ (k : ℕ). slice_get (set clients r y) k) (sym s) ∙ f))
-    by (inr n) = inr (n, sym (entry_set_other clients r q y n) ∙ f)
+set_cases clients r q x y z e f = grind (arith, nat_tests, cases_eq, same_Some, entry_set, set, entry_set_other)
 
 -- the offers held are the old ones and perhaps one more
 steady_set : (header : Header) (len : ℕ) (b : Standing) (r : ℕ) (x y : Client) → IsSteady header len b → slice_get b.clients r ≡ Some x → ((o : Offer) → y.held ≡ Some o → IsHeld header len b.reached o)
@@ -160,8 +131,7 @@ steady_set header len b r x y h e own kinds =
 
     same : (q t : ℕ) (z w : Client) (o p : Offer) → ((q ≡ r) × (y ≡ z)) ⊎ ((q ≡ r → ⊥) × (slice_get b.clients q ≡ Some z)) → ((t ≡ r) × (y ≡ w)) ⊎ ((t ≡ r → ⊥) × (slice_get b.clients t ≡ Some w))
         → z.held ≡ Some o → w.held ≡ Some p → o.kind ≡ p.kind
-    same q t z w o p (inl u) (inl v) i j =
-        ap (λ (k : Offer). k.kind) (same_Some o p (sym (ap (λ (k : Client). k.held) u.1 ∙ i) ∙ ap (λ (k : Client). k.held) v.1 ∙ j))
+    same q t z w o p (inl u) (inl v) i j = grind (arith, nat_tests, same_Some)
     same q t z w o p (inl u) (inr v) i j = kinds o p t w (ap (λ (k : Client). k.held) u.1 ∙ i) v.1 j
     same q t z w o p (inr u) (inl v) i j = sym (kinds p o q z (ap (λ (k : Client). k.held) v.1 ∙ j) u.1 i)
     same q t z w o p (inr u) (inr v) i j = h.same q t z w o p u.1 v.1 i j
@@ -242,12 +212,10 @@ all_stopped d r c o x y old now e free all long g = lines_as old now stop_each (
     at (suc q) z (w ∷ clients) f h = at q z clients f (and_second (holds w) (list_all holds clients) h)
 
     one : (m : Option Offer) (t : Option Bool) → is_some m ≡ true → stop_held (Some (record { held = m; ended = t })) ≡ Stop ∷ []
-    one None t f = absurd cc
-    one (Some p) t f = refl
+    one m t f = grind (arith, nat_tests)
 
     none : (m : Option Offer) (t : Option Bool) → m ≡ None → stop_held (Some (record { held = m; ended = t })) ≡ []
-    none None t f = refl
-    none (Some p) t f = absurd cc
+    none m t f = grind (arith, nat_tests)
 
     same : (q : ℕ) → q < length d.clients → stops d ((r, item.Offer c o) ∷ []) q ≡ Stop ∷ []
     same q l = by (cases_eq q r)
@@ -271,8 +239,7 @@ alone_stopped r c o clients same old mid last now e f g h =
 
 pub good_at : (s : Setting) (len : ℕ) (b : Standing) (r c : ℕ) (i : RankItem) (o : Offer) → is_sound s.header ≡ true → IsSteady s.header len b → r < length b.clients → HasOwnPuts i
     → ((file : List ℕ) → is_strange s (owner_at b file) (r, i) ≡ false) → i ≡ item.Offer c o → IsGood s.header len b r c o
-good_at s len b r c i o sound h low own fit e =
-    is_good s len b r c o sound h low (subst HasOwnPuts e own) (λ file. ap (λ (j : RankItem). is_strange s (owner_at b file) (r, j)) (sym e) ∙ fit file)
+good_at s len b r c i o sound h low own fit e = grind (arith, nat_tests, is_good)
 
 pub as_item : (hints : Hints) (s : Setting) (r : ℕ) (i j : RankItem) (b n : Standing) → i ≡ j → HasDone hints s (r, j) b n → HasDone hints s (r, i) b n
 as_item hints s r i j b n e h = subst (λ (k : RankItem). HasDone hints s (r, k) b n) (sym e) h
@@ -290,5 +257,4 @@ stopped_as d r i j old now e g = subst (λ (k : RankItem). Grows old (stops d ((
 -- ---- results
 
 pub on_ok_three : {T E P Q R S : Type 0} (r : Result T E) → (P → Q → R → S) → OnOk r P → OnOk r Q → OnOk r R → OnOk r S
-on_ok_three (Ok x) f p q t = f p q t
-on_ok_three (Err e) f p q t = tt
+on_ok_three r f p q t = grind (arith, nat_tests)

@@ -1,5 +1,5 @@
 -- What the owner's ends tell when it is done.
-use Rattle.file_owner.proofs.Words.{point, ◌≡◌, ℕ, suc, ◌+◌, ◌<◌, refl, sym, ◌∙◌, ap, subst, inl, inr, List, [], ◌∷◌, ◌++◌, length, map, replicate, Bool, true, false, ◌&&◌, Option, Some, None, arith, append-nil, length-append, length-map, length-replicate, slice_get, nat_lt, filter, IfSome, IsTrue, list_all, Hints, DiskCall, Mark, Offer, OwnerItem, Stop, RankItem, StepErr, with_end, In, End, Receiver, Owner, Client, free_client, given_along, offers_in, owed, own_items, served, stop_held, stops, IsGivenInPart, Setting, Arrival, is_offer, HasEnd, OwnerStoodAt, counted, of_fault, of_stranger, IsHaltAt, Outcome, taken_from, stopped_with, owner_at, owner_calls, run, AreSingle, GoesSo, Grows, HoldSingle, Standing, HasCutService, arrived, gained, opening, HasFailed, HasTaken, HasToldAlong, HavePut, IsCutOff, IsDone, IsDoneSo, passed, stops_for, Outlets, Halt, one_if, owed_count, alike_same, alike_two, if_some_at, entry_below, entry_replicate, own_two}
+use Rattle.file_owner.proofs.Words.{point, ◌≡◌, ℕ, suc, ◌+◌, ◌<◌, refl, sym, ◌∙◌, ap, subst, inl, inr, List, [], ◌∷◌, ◌++◌, length, map, replicate, Bool, true, Option, Some, None, arith, append-nil, length-append, length-map, length-replicate, slice_get, nat_lt, filter, IfSome, list_all, Hints, DiskCall, Mark, Offer, OwnerItem, Stop, RankItem, StepErr, with_end, In, End, Receiver, Owner, Client, free_client, given_along, offers_in, owed, own_items, served, stop_held, stops, IsGivenInPart, Setting, Arrival, is_offer, OwnerStoodAt, counted, of_fault, of_stranger, IsHaltAt, Outcome, taken_from, stopped_with, owner_at, owner_calls, run, AreSingle, GoesSo, Grows, HoldSingle, Standing, HasCutService, arrived, gained, opening, HasFailed, HasTaken, HasToldAlong, HavePut, IsCutOff, IsDone, IsDoneSo, passed, Outlets, Halt, one_if, owed_count, alike_same, alike_two, if_some_at, entry_below, entry_replicate, own_two, nat_tests}
 use Rattle.nc_outside.specs.declared.disk.Disk.{Ghosts as DiskGhosts}
 use Rattle.nc_outside.specs.declared.told.Told.{Ghosts as ToldGhosts}
 use Rattle.file_owner.specs.declared.service.Halt.TheVariants as halt
@@ -20,16 +20,7 @@ module _ (hints : Hints) (s : Setting) (old now : Receiver RankItem) (left : Lis
   arrivals_are = arrived_is old now (o.first ++ o.last) o.taken
 
   pub out_taken : HasTaken old now
-  out_taken = record {
-    items = o.taken.items ∙ ap (λ (xs : List Arrival). old.items ++ xs) (sym arrivals_are);
-    senders = o.taken.senders;
-    of = o.taken.of;
-    numbers = subst (λ (xs : List Arrival). IsTrue (list_all (λ a. nat_lt a.0 old.senders) xs)) (sym arrivals_are) o.taken.numbers;
-    ended = λ q l. o_ended q l;
-  }
-    where
-      o_ended : (q : ℕ) → q < old.senders → HasEnd (own_items q (arrived old now))
-      o_ended q l = subst (λ (xs : List Arrival). HasEnd (own_items q xs)) (sym arrivals_are) (o.ended q (o.all q l))
+  out_taken = grind (arith, nat_tests, arrivals_are)
 
   pub out_put : HavePut before.lines lines
   out_put = have_put before.lines lines (λ q. o.run.moved.more q ++ stops (owner_at o.middle []) o.last q) all_lines
@@ -45,15 +36,11 @@ module _ (hints : Hints) (s : Setting) (old now : Receiver RankItem) (left : Lis
 
   -- the stops are those of the owner that was reached
   owes_stops : (file : List ℕ) (q : ℕ) → of_fault h ≡ None → owed s (owner_at before file) (o.first ++ o.last) q ≡ given_along s (owner_at before file) o.first q ++ stops (owner_at o.middle []) o.last q
-  owes_stops file q f =
-      (on file).owed_items q
-      ∙ ap (λ (items : List OwnerItem). given_along s (owner_at before file) o.first q ++ items)
-      ((at file f).owes q ∙ ap (λ (d : Owner). stops d o.last q) (o.run.moved.alike file).owner)
+  owes_stops file q f = grind (arith, nat_tests, on file, at file f)
 
   pub out_done : before.order ≡ [] → of_fault h ≡ None → (file : List ℕ) → IsDone s (owner_at before file) (passed (arrived old now) (length before.lines) (gained before.lines lines)) marks (of_stranger h)
   out_done none f file = subst (λ (xs : List Arrival). IsDone s (owner_at before file) (passed xs (length before.lines) (gained before.lines lines)) marks (of_stranger h)) (sym arrivals_are) (record {
-    order = o.order ∙ (o.run.moved.alike file).marks ∙ ap (λ (ms : List Mark). ms ++ (served s (owner_at before file) o.first).marks) none
-        ∙ sym ((on file).marks ∙ ap (λ (ms : List Mark). (served s (owner_at before file) o.first).marks ++ ms) (at file f).marks ∙ append-nil (served s (owner_at before file) o.first).marks);
+    order = grind (arith, nat_tests, on file, at file f, append-nil (served s (owner_at before file) o.first).marks);
     stranger = sym ((on file).stranger ∙ (at file f).stranger);
     given = λ q l.
         alike_by (gained before.lines lines q) (o.run.moved.more q ++ stops (owner_at o.middle []) o.last q) (given_along s (owner_at before file) o.first q ++ stops (owner_at o.middle []) o.last q)
@@ -64,36 +51,16 @@ module _ (hints : Hints) (s : Setting) (old now : Receiver RankItem) (left : Lis
 
   -- each step was told
   pub out_told : before.order ≡ [] → (file : List ℕ) → HasToldAlong s (owner_at before file) (arrived old now) marks before.heard heard
-  out_told none file = record {
-    first = o.first;
-    later = o.last;
-    all = arrivals_are;
-    none_strange = o.run.none_strange file;
-    order = o.order ∙ (o.run.moved.alike file).marks ∙ ap (λ (ms : List Mark). ms ++ (served s (owner_at before file) o.first).marks) none;
-    heard = o.heard_all ∙ (o.run.moved.alike file).heard;
-  }
+  out_told none file = grind (arith, nat_tests, arrivals_are)
 
   pub out_records : of_fault h ≡ None → (file : List ℕ) → n ≡ (served s (owner_at before file) (arrived old now)).owner.state.records
-  out_records f file =
-      let was = left_at s o.middle o.later (stopped_with n held made marks heard lines) h o.halted f in
-      was.records ∙ sym (ap (λ (d : Owner). d.state.records) (o.run.moved.alike file).owner)
-      ∙ ap (λ (d : Owner). d.state.records) (sym ((on file).owner ∙ (at file f).owner))
-      ∙ ap (λ (xs : List Arrival). (served s (owner_at before file) xs).owner.state.records) (sym arrivals_are)
+  out_records f file = grind (arith, nat_tests, left_at, on, at, arrivals_are)
 
   told_so : (m : Option (List ℕ)) → before.told ≡ m → IfSome m (λ file. GoesSo (HoldSingle before.clients × AreSingle o.first) (run s (owner_at before file) o.first) (owner_calls hints s (owner_at before file) o.first) o.run.moved.more before o.middle)
   told_so m e = subst (λ (t : Option (List ℕ)). IfSome t (λ file. GoesSo (HoldSingle before.clients × AreSingle o.first) (run s (owner_at before file) o.first) (owner_calls hints s (owner_at before file) o.first) o.run.moved.more before o.middle)) e o.run.moved.exact
 
   pub out_bytes : of_fault h ≡ None → (m : Option (List ℕ)) → before.told ≡ m → IfSome m (λ file. IsDoneSo s (owner_at before file) (passed (arrived old now) (length before.lines) (gained before.lines lines)) held n)
-  out_bytes f None e = tt
-  out_bytes f (Some file) e =
-      let g = told_so (Some file) e in
-      let same = (on file).owner ∙ (at file f).owner in
-      let was = left_at s o.middle o.later (stopped_with n held made marks heard lines) h o.halted f in
-      subst (λ (xs : List Arrival). IsDoneSo s (owner_at before file) (passed xs (length before.lines) (gained before.lines lines)) held n) (sym arrivals_are) (record {
-        told = was.told ∙ g.told ∙ ap (λ (d : Owner). Some d.state.file) (sym same);
-        records = was.records ∙ sym (ap (λ (d : Owner). d.state.records) (o.run.moved.alike file).owner) ∙ ap (λ (d : Owner). d.state.records) (sym same);
-        given = λ q l. gains q l ∙ ap (λ (items : List OwnerItem). items ++ stops (owner_at o.middle []) o.last q) (g.given q l) ∙ sym (owes_stops file q f);
-      })
+  out_bytes f m e = grind (arith, nat_tests, told_so, on, at, left_at, arrivals_are, gains, owes_stops)
 
   single_first : AreSingle (arrived old now) → AreSingle o.first
   single_first alone a i = alone a (subst (λ (xs : List Arrival). In xs a) (sym arrivals_are) (joined o.first i))
@@ -116,32 +83,17 @@ module _ (hints : Hints) (s : Setting) (old now : Receiver RankItem) (left : Lis
   -- ---- one item for each offer
 
   stops_long : (d : Owner) (q : ℕ) (later : List Arrival) → length (stops d later q) ≡ length (stops d [] q) + offers_in (own_items q later)
-  stops_long d q later =
-      let a = length-append (stop_held (slice_get d.clients q)) (stops_for later q) in
-      let b = length-map (filter is_offer (own_items q later)) (λ (i : RankItem). Stop) in
-      let c = length-append (stop_held (slice_get d.clients q)) (stops_for [] q) in
-      let e : length (stops_for [] q) ≡ 0 = refl in
-      omega arith
+  stops_long d q later = grind (arith, nat_tests, length-append, length-map)
 
   offers_long : (q : ℕ) (xs ys : List Arrival) → offers_in (own_items q (xs ++ ys)) ≡ offers_in (own_items q xs) + offers_in (own_items q ys)
-  offers_long q xs ys =
-      ap (λ (items : List RankItem). offers_in items) (own_two q xs ys) ∙ ap (λ (items : List RankItem). length items) (filter_joined (own_items q xs) (own_items q ys))
-      ∙ length-append (filter is_offer (own_items q xs)) (filter is_offer (own_items q ys))
+  offers_long q xs ys = grind (arith, nat_tests, own_two, filter_joined, length-append)
 
   numbers_front : (k : ℕ) (xs ys : List Arrival) → list_all (λ (a : Arrival). nat_lt a.0 k) (xs ++ ys) ≡ true → list_all (λ (a : Arrival). nat_lt a.0 k) xs ≡ true
   numbers_front k [] ys e = refl
-  numbers_front k (x ∷ xs) ys e = by (nat_lt x.0 k) e (λ g. numbers_front k xs ys g)
-    where
-      by : (t : Bool) → (t && list_all (λ (a : Arrival). nat_lt a.0 k) (xs ++ ys)) ≡ true → (list_all (λ (a : Arrival). nat_lt a.0 k) (xs ++ ys) ≡ true → list_all (λ (a : Arrival). nat_lt a.0 k) xs ≡ true)
-          → (t && list_all (λ (a : Arrival). nat_lt a.0 k) xs) ≡ true
-      by true g again = again g
-      by false g again = absurd cc
+  numbers_front k (x ∷ xs) ys e = grind (arith, nat_tests, numbers_front k xs ys)
 
   all_given : (q : ℕ) → owed s (owner_at before []) o.first q ≡ given_along s (owner_at before []) o.first q ++ stops (owner_at o.middle []) [] q
-  all_given q =
-      ap (λ (xs : List Arrival). owed s (owner_at before []) xs q) (sym (append-nil o.first))
-      ∙ (goes_on hints s (owner_at before []) o.first [] (o.run.none_strange [])).owed_items q
-      ∙ ap (λ (d : Owner). given_along s (owner_at before []) o.first q ++ stops d [] q) (o.run.moved.alike []).owner
+  all_given q = grind (arith, nat_tests, append-nil o.first, goes_on hints s (owner_at before []) o.first [] (o.run.none_strange []))
 
   one_item_each : (senders : ℕ) → before.clients ≡ replicate senders free_client → length before.lines ≡ senders → senders ≡ old.senders → (q : ℕ) → q < length before.lines
       → length (gained before.lines lines q) ≡ offers_in (own_items q (o.first ++ o.last))
@@ -167,8 +119,7 @@ module _ (hints : Hints) (s : Setting) (old now : Receiver RankItem) (left : Lis
       numbers = subst (λ (k : ℕ). list_all (λ (a : Arrival). nat_lt a.0 k) o.first ≡ true) (sym (clients_are_long ∙ same)) (numbers_front old.senders o.first o.last o.taken.numbers)
 
       held_none : (m : Option Offer) → m ≡ None → one_if m ≡ 0
-      held_none None e = refl
-      held_none (Some p) e = absurd cc
+      held_none m e = grind (arith, nat_tests)
 
   only_stops : (m : Option Client) (xs : List RankItem) → (k : ℕ) × (stop_held m ++ map (λ (i : RankItem). Stop) xs ≡ replicate k Stop)
   only_stops m xs = by_client m
@@ -285,8 +236,4 @@ pub outcome_given : {D T : Type 0} (disk : DiskGhosts D) (told : ToldGhosts T) (
     (d : D) (n : ℕ) (t : T) (lines : List (End OwnerItem)) → d ≡ out.disk.now → n ≡ out.records.now → t ≡ out.told.now → lines ≡ out.back.now
     → Outcome hints s (taken_from old now left) before (stopped_with out.records.now (disk.held out.disk.now) (disk.calls out.disk.now) marks (told.heard out.told.now) out.back.now) h
     → Outcome hints s (taken_from old now left) before (stopped_with n (disk.held d) (disk.calls d) marks (told.heard t) lines) h
-outcome_given {D} {T} disk told hints s old now left before out marks h d n t lines same_disk same_records same_told same_back o =
-    subst (λ (x : D). Outcome hints s (taken_from old now left) before (stopped_with n (disk.held x) (disk.calls x) marks (told.heard t) lines) h) (sym same_disk)
-    (subst (λ (x : ℕ). Outcome hints s (taken_from old now left) before (stopped_with x (disk.held out.disk.now) (disk.calls out.disk.now) marks (told.heard t) lines) h) (sym same_records)
-    (subst (λ (x : T). Outcome hints s (taken_from old now left) before (stopped_with out.records.now (disk.held out.disk.now) (disk.calls out.disk.now) marks (told.heard x) lines) h) (sym same_told)
-    (subst (λ (x : List (End OwnerItem)). Outcome hints s (taken_from old now left) before (stopped_with out.records.now (disk.held out.disk.now) (disk.calls out.disk.now) marks (told.heard out.told.now) x) h) (sym same_back) o)))
+outcome_given {D} {T} disk told hints s old now left before out marks h d n t lines same_disk same_records same_told same_back o = grind (arith, nat_tests)

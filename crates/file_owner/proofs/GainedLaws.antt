@@ -1,5 +1,5 @@
 -- What the owner's ends gained, what was taken from them, and where nothing more is done.
-use Rattle.file_owner.proofs.Words.{◌≡◌, ℕ, zero, suc, ◌+◌, ◌<◌, refl, sym, ◌∙◌, ap, subst, List, [], ◌∷◌, ◌++◌, length, drop, Bool, true, false, ◌&&◌, Option, Some, None, append_assoc, arith, drop-append_seam, slice_get, nat_lt, list_all, Hints, DiskCall, Mark, OwnerItem, RankItem, StepErr, End, Receiver, Owner, is_strange, owed, served, stop_held, stops, Setting, Arrival, owed_stop, of_fault, of_stranger, HasFinished, HasHalted, IsHaltAt, IsLeft, IsNoMore, Outcome, taken_from, stopped_with, Stopped, owner_at, owner_calls, run, Grows, HasRun, Standing, arrived, gained, more_on, HavePut, stops_for, AllHaveEnded, HaveEnded, IsMore, Halt, entry_below}
+use Rattle.file_owner.proofs.Words.{◌≡◌, ℕ, suc, ◌+◌, ◌<◌, refl, sym, ◌∙◌, ap, subst, List, [], ◌∷◌, ◌++◌, length, drop, Bool, true, Option, Some, None, append_assoc, arith, drop-append_seam, slice_get, nat_lt, list_all, Hints, DiskCall, Mark, OwnerItem, RankItem, StepErr, End, Receiver, Owner, owed, served, stop_held, stops, Setting, Arrival, owed_stop, of_fault, of_stranger, HasFinished, HasHalted, IsHaltAt, IsLeft, IsNoMore, Outcome, taken_from, stopped_with, Stopped, owner_at, owner_calls, run, Grows, HasRun, Standing, arrived, gained, HavePut, stops_for, AllHaveEnded, HaveEnded, IsMore, Halt, entry_below, nat_tests, common_steps}
 use Rattle.file_owner.specs.declared.service.Halt.TheVariants as halt
 use Rattle.file_owner.proofs.AlikeLaws.{lines_as, lines_twice}
 use Rattle.file_owner.proofs.OwnerRuns.{calls_stop, stops_at}
@@ -8,9 +8,7 @@ use Rattle.file_owner.proofs.StopLaws.{stops_joined}
 -- ---- what ends gained
 
 pub gained_is : (old now : List (End OwnerItem)) (more : ℕ → List OwnerItem) (q : ℕ) → Grows old more now → q < length old → gained old now q ≡ more q
-gained_is old now more q g l =
-    let end = entry_below old q l in
-    (λ i. more_on (end.1 i) (g.each q end.0 end.1 i)) ∙ drop-append_seam end.0.items (more q)
+gained_is old now more q g l = grind (arith, nat_tests, entry_below old q l, drop-append_seam (entry_below old q l).0.items (more q))
 
 pub have_put : (old now : List (End OwnerItem)) (more : ℕ → List OwnerItem) → Grows old more now → HavePut old now
 have_put old now more g = record {
@@ -19,9 +17,8 @@ have_put old now more g = record {
 }
   where
     low : (xs : List (End OwnerItem)) (q : ℕ) (end : End OwnerItem) → slice_get xs q ≡ Some end → q < length xs
-    low [] q end e = absurd cc
-    low (x ∷ xs) zero end e = omega arith
     low (x ∷ xs) (suc q) end e = let h = low xs q end e in omega arith
+    low xs q end e = grind (arith, nat_tests)
 
 pub arrived_is : (old now : Receiver RankItem) (more : List Arrival) → IsMore old more now → arrived old now ≡ more
 arrived_is old now more h = ap (drop (length old.items)) h.items ∙ drop-append_seam old.items more
@@ -30,12 +27,7 @@ arrived_is old now more h = ap (drop (length old.items)) h.items ∙ drop-append
 
 numbers_joined : (n : ℕ) (xs ys : List Arrival) → list_all (λ (a : Arrival). nat_lt a.0 n) xs ≡ true → list_all (λ (a : Arrival). nat_lt a.0 n) ys ≡ true → list_all (λ (a : Arrival). nat_lt a.0 n) (xs ++ ys) ≡ true
 numbers_joined n [] ys h k = k
-numbers_joined n (x ∷ xs) ys h k = by (nat_lt x.0 n) h (λ g. numbers_joined n xs ys g k)
-  where
-    by : (t : Bool) → (t && list_all (λ (a : Arrival). nat_lt a.0 n) xs) ≡ true → (list_all (λ (a : Arrival). nat_lt a.0 n) xs ≡ true → list_all (λ (a : Arrival). nat_lt a.0 n) (xs ++ ys) ≡ true)
-        → (t && list_all (λ (a : Arrival). nat_lt a.0 n) (xs ++ ys)) ≡ true
-    by true g again = again g
-    by false g again = absurd cc
+numbers_joined n (x ∷ xs) ys h k = grind (arith, nat_tests, common_steps)
 
 more_twice : (old mid now : Receiver RankItem) (first more : List Arrival) → IsMore old first mid → IsMore mid more now → IsMore old (first ++ more) now
 more_twice old mid now first more h g = record {
@@ -80,33 +72,16 @@ pub record StoppedAt (hints : Hints) (s : Setting) (d : Owner) (last : List Arri
   pub calls : owner_calls hints s d last ≡ []
 
 stopped_none : (hints : Hints) (s : Setting) (d : Owner) (last : List Arrival) → last ≡ [] → StoppedAt hints s d last None
-stopped_none hints s d last e =
-    subst (λ (xs : List Arrival). StoppedAt hints s d xs None) (sym e) (record { owner = refl; marks = refl; stranger = refl; owes = λ q. refl; calls = refl })
-
-stopped_strange : (hints : Hints) (s : Setting) (d : Owner) (a : Arrival) (rest last : List Arrival) → last ≡ a ∷ rest → is_strange s d a ≡ true → StoppedAt hints s d last (Some a.0)
-stopped_strange hints s d a rest last e f =
-    let at = stops_at s d a rest f in
-    subst (λ (xs : List Arrival). StoppedAt hints s d xs (Some a.0)) (sym e)
-    (record { owner = at.owner; marks = at.marks; stranger = at.stranger; owes = λ q. owed_stop s d a rest q f; calls = calls_stop hints s d a rest f })
+stopped_none hints s d last e = grind (arith, nat_tests)
 
 no_fault : {A : Type 0} (e : StepErr) → of_fault (halt.Fault e) ≡ None → A
 no_fault e f = absurd cc
 
--- the owner that the first arrivals lead to
-abbrev reached_at : Setting → Standing → List Arrival → List ℕ → Owner
-reached_at s before first file = (served s (owner_at before file) first).owner
-
 pub stopped_at : (hints : Hints) (s : Setting) (before middle : Standing) (first later more last : List Arrival) (left : Stopped) (h : Halt) (file : List ℕ)
     → HasRun hints s first before middle → last ≡ later ++ more → IsHaltAt s middle later left h → IsNoMore more h → of_fault h ≡ None
     → StoppedAt hints s (served s (owner_at before file) first).owner last (of_stranger h)
-stopped_at hints s before middle first later more last left halt.Ended file run parts at none f =
-    stopped_none hints s (reached_at s before first file) last (parts ∙ (λ i. at.0 i ++ none i))
-stopped_at hints s before middle first later more last left (halt.Stranger number) file run parts at none f =
-    stopped_strange hints s (reached_at s before first file) (number, at.0.item) more last (parts ∙ ap (λ (xs : List Arrival). xs ++ more) at.0.last)
-    (ap (λ (d : Owner). is_strange s d (number, at.0.item)) (run.moved.alike file).owner ∙ at.0.strange (reached_at s before first file).state.file)
-stopped_at hints s before middle first later more last left (halt.Fault e) file run parts at none f = no_fault e f
+stopped_at hints s before middle first later more last left h file run parts at none f =
+    grind (arith, nat_tests, stopped_none, stops_at, owed_stop, calls_stop, no_fault)
 
 pub left_at : (s : Setting) (middle : Standing) (later : List Arrival) (left : Stopped) (h : Halt) → IsHaltAt s middle later left h → of_fault h ≡ None → IsLeft middle left.records left.told left.calls
-left_at s middle later left halt.Ended at f = at.1
-left_at s middle later left (halt.Stranger number) at f = at.1
-left_at s middle later left (halt.Fault e) at f = no_fault e f
+left_at s middle later left h at f = grind (arith, nat_tests, no_fault)

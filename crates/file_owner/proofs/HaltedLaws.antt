@@ -1,5 +1,5 @@
 -- What the owner's ends tell of a run from its opening on.
-use Rattle.file_owner.proofs.Words.{point, ◌≡◌, ℕ, refl, sym, ◌∙◌, ap, subst, List, length, replicate, Bool, Option, Some, None, same_Some, IfSome, Hints, DiskCall, Mark, OwnerItem, RankItem, StepErr, with_end, End, Receiver, Owner, Client, free_client, served, Setting, counted, of_fault, of_stranger, HasHalted, HasSeenAll, Outcome, taken_from, stopped_with, owner_at, owner_calls, opening_standing, AreSingle, HoldSingle, Standing, HasCutService, arrived, gained, opening, HasFailed, HasTaken, HasToldAlong, HavePut, IsDone, IsDoneSo, passed, Halt, entry_replicate}
+use Rattle.file_owner.proofs.Words.{point, ◌≡◌, ℕ, refl, sym, ◌∙◌, ap, subst, List, length, replicate, Bool, Option, Some, None, same_Some, IfSome, Hints, DiskCall, Mark, OwnerItem, RankItem, StepErr, with_end, End, Receiver, Owner, Client, free_client, served, Setting, counted, of_fault, of_stranger, HasHalted, HasSeenAll, Outcome, taken_from, stopped_with, owner_at, owner_calls, opening_standing, AreSingle, HoldSingle, Standing, HasCutService, arrived, gained, opening, HasFailed, HasTaken, HasToldAlong, HavePut, IsDone, IsDoneSo, passed, Halt, entry_replicate, arith, nat_tests}
 use Rattle.file_owner.specs.declared.service.Halt.TheVariants as halt
 use Rattle.file_owner.proofs.EndLaws.{out_taken, out_put, out_done, out_records, out_told, out_bytes, out_calls, out_failed, out_cut}
 
@@ -16,9 +16,6 @@ seen_all k m flags h e a = subst (λ (j : ℕ). HasSeenAll j flags h) e a
 module _ (hints : Hints) (s : Setting) (old now : Receiver RankItem) (left : List Bool) (n0 : ℕ) (held0 : Option (List ℕ)) (made0 : Option (List DiskCall)) (heard0 : Option (List (Mark × ℕ))) (back0 : List (End OwnerItem))
     (n : ℕ) (held : Option (List ℕ)) (made : Option (List DiskCall)) (marks : List Mark) (heard : Option (List (Mark × ℕ))) (lines : List (End OwnerItem)) (h : Halt)
     (o : Outcome hints s (taken_from old now left) (opening_standing old.senders n0 held0 made0 heard0 back0) (stopped_with n held made marks heard lines) h) (k : ℕ) (same : n0 ≡ k) (long : length back0 ≡ old.senders) where
-  first_standing : Standing
-  first_standing = opening_standing old.senders n0 held0 made0 heard0 back0
-
   opened : (file : List ℕ) → owner_at (opening_standing old.senders n0 held0 made0 heard0 back0) file ≡ opening old.senders (counted file k)
   opened file = ap (λ (m : ℕ). opening old.senders (counted file m)) same
 
@@ -53,10 +50,7 @@ module _ (hints : Hints) (s : Setting) (old now : Receiver RankItem) (left : Lis
     where
       by : (m : Option (List ℕ)) → IfSome m (λ file. IsDoneSo s (owner_at (opening_standing old.senders n0 held0 made0 heard0 back0) file) (passed (arrived old now) (length back0) (gained back0 lines)) held n)
           → IfSome m (λ file. IsDoneSo s (opening old.senders (counted file k)) (passed (arrived old now) old.senders (gained back0 lines)) held n)
-      by None i = tt
-      by (Some file) i =
-          subst (λ (l : ℕ). IsDoneSo s (opening old.senders (counted file k)) (passed (arrived old now) l (gained back0 lines)) held n) long
-          (subst (λ (d : Owner). IsDoneSo s d (passed (arrived old now) (length back0) (gained back0 lines)) held n) (opened file) i)
+      by m i = grind (arith, nat_tests, opened)
 
   none_single : HoldSingle (replicate old.senders free_client)
   none_single r x p e f = let free = entry_replicate old.senders r free_client x e in let no : x.held ≡ None = ap (λ (y : Client). y.held) free in absurd cc
@@ -67,13 +61,10 @@ module _ (hints : Hints) (s : Setting) (old now : Receiver RankItem) (left : Lis
     where
       by : (m : Option (List ℕ)) → IfSome m (λ file. made ≡ with_end made0 (owner_calls hints s (owner_at (opening_standing old.senders n0 held0 made0 heard0 back0) file) (arrived old now)))
           → IfSome m (λ file. made ≡ with_end made0 (owner_calls hints s (opening old.senders (counted file k)) (arrived old now)))
-      by None i = tt
-      by (Some file) i = i ∙ ap (λ (d : Owner). with_end made0 (owner_calls hints s d (arrived old now))) (opened file)
+      by m i = grind (arith, nat_tests, opened)
 
   strangers_none : (g : Halt) (e : StepErr) → Some e ≡ of_fault g → of_stranger g ≡ None
-  strangers_none halt.Ended e f = refl
-  strangers_none (halt.Stranger number) e f = absurd cc
-  strangers_none (halt.Fault d) e f = refl
+  strangers_none g e f = grind (arith, nat_tests)
 
   pub end_failed : (fault : Option StepErr) (number : Option ℕ) (e : StepErr) → fault ≡ of_fault h → number ≡ of_stranger h → fault ≡ Some e
       → HasFailed s (opening old.senders) k (passed (arrived old now) old.senders (gained back0 lines)) marks number
@@ -83,9 +74,7 @@ module _ (hints : Hints) (s : Setting) (old now : Receiver RankItem) (left : Lis
       (out_failed hints s old now left (opening_standing old.senders n0 held0 made0 heard0 back0) n held made marks heard lines h o old.senders k opened refl refl long refl (strangers_none h e (sym is ∙ f))))
 
   fault_is : (g : Halt) (e : StepErr) → Some e ≡ of_fault g → g ≡ halt.Fault e
-  fault_is halt.Ended e f = absurd cc
-  fault_is (halt.Stranger number) e f = absurd cc
-  fault_is (halt.Fault d) e f = ap (λ (x : StepErr). halt.Fault x) (sym (same_Some e d f))
+  fault_is g e f = grind (arith, nat_tests, same_Some)
 
   pub end_cut : (fault : Option StepErr) (e : StepErr) → fault ≡ of_fault h → fault ≡ Some e
       → IfSome held0 (λ file. HasCutService s e (opening old.senders (counted file k)) (passed (arrived old now) old.senders (gained back0 lines)) (point marks held n))

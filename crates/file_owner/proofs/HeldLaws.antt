@@ -1,5 +1,5 @@
 -- The offers that are held, one after another.
-use Rattle.file_owner.proofs.Words.{◌≡◌, ℕ, zero, suc, ◌+◌, ◌≤◌, refl, sym, ◌∙◌, ap, subst, inl, inr, ◌⊎◌, List, [], ◌∷◌, ◌++◌, length, map, max, take, drop, set, replicate, true, false, Option, Some, None, arith, length-map, map-append, slice_get, is_some, list_all, AllByRecursion, option_to_list, same_Some, and_first, Header, Batch, Offer, known_by, greatest, Client, freed, holds, offers_held, IsCount, IsFit, IsRise, some_or_none, AreOfOneKind, HoldAll, HoldSingle, IsSteady, Standing, IsSingleOffer, batches_of, known_of, IsJob, IsOneRise, count_longer, count_max, offers_job, one_rise, rise_brought, known_less, greatest_joined, take_next}
+use Rattle.file_owner.proofs.Words.{◌≡◌, ℕ, zero, suc, ◌+◌, ◌≤◌, refl, sym, ◌∙◌, ap, subst, inl, inr, ◌⊎◌, List, [], ◌∷◌, ◌++◌, length, map, max, take, drop, set, replicate, true, false, Option, Some, None, arith, length-map, map-append, slice_get, is_some, list_all, AllByRecursion, option_to_list, same_Some, and_first, Header, Batch, Offer, Client, freed, holds, offers_held, IsCount, IsFit, IsRise, some_or_none, AreOfOneKind, HoldAll, HoldSingle, IsSteady, Standing, IsSingleOffer, batches_of, known_of, IsJob, IsOneRise, count_longer, count_max, offers_job, one_rise, rise_brought, known_less, greatest_joined, take_next, nat_tests}
 use Rattle.nc_base.specs.declared.step.OfferKind.TheVariants as offer
 
 pub all_held : (P : Offer → Type 0) (clients : List Client) → HoldAll P clients → AllByRecursion P (offers_held clients)
@@ -12,47 +12,24 @@ all_held P (x ∷ clients) h = by x.held refl (all_held P clients (λ r y o e f.
 
 held_few : (clients : List Client) → length (offers_held clients) ≤ length clients
 held_few [] = omega arith
-held_few (x ∷ clients) = by x.held (held_few clients)
-  where
-    by : (m : Option Offer) → length (offers_held clients) ≤ length clients → length (offers_held (record { held = m; ended = x.ended } ∷ clients)) ≤ suc (length clients)
-    by None l = omega arith
-    by (Some o) l = omega arith
+held_few (x ∷ clients) = grind (arith, nat_tests, held_few clients)
 
 -- ---- clients from which the offers are taken, one after another
 
 offers_joined : (xs ys : List Client) → offers_held (xs ++ ys) ≡ offers_held xs ++ offers_held ys
 offers_joined [] ys = refl
-offers_joined (x ∷ xs) ys = by x.held (offers_joined xs ys)
-  where
-    by : (m : Option Offer) → offers_held (xs ++ ys) ≡ offers_held xs ++ offers_held ys
-        → offers_held (record { held = m; ended = x.ended } ∷ (xs ++ ys)) ≡ offers_held (record { held = m; ended = x.ended } ∷ xs) ++ offers_held ys
-    by None e = e
-    by (Some o) e = ap (λ (os : List Offer). o ∷ os) e
-
-offers_of_one : (x : Client) → offers_held (x ∷ []) ≡ option_to_list x.held
-offers_of_one x = by x.held
-  where
-    by : (m : Option Offer) → offers_held (record { held = m; ended = x.ended } ∷ []) ≡ option_to_list m
-    by None = refl
-    by (Some o) = refl
+offers_joined (x ∷ xs) ys = grind (arith, nat_tests, offers_joined xs ys)
 
 offers_next : (clients : List Client) (i : ℕ) (x : Client) → slice_get clients i ≡ Some x → offers_held (take (i + 1) clients) ≡ offers_held (take i clients) ++ option_to_list x.held
-offers_next clients i x e =
-    ap offers_held (take_next clients i x e) ∙ offers_joined (take i clients) (x ∷ []) ∙ ap (λ (os : List Offer). offers_held (take i clients) ++ os) (offers_of_one x)
+offers_next clients i x e = grind (arith, nat_tests, take_next clients i x e, offers_joined (take i clients) (x ∷ []))
 
 pub batches_on : (clients : List Client) (i : ℕ) (x : Client) (batches more : List Batch) → slice_get clients i ≡ Some x → batches ≡ batches_of (offers_held (take i clients))
     → more ≡ batches ++ batches_of (option_to_list x.held) → more ≡ batches_of (offers_held (take (i + 1) clients))
-batches_on clients i x batches more e b m =
-    m ∙ ap (λ (bs : List Batch). bs ++ batches_of (option_to_list x.held)) b
-    ∙ sym (map-append (λ (o : Offer). o.batch) (offers_held (take i clients)) (option_to_list x.held)) ∙ ap batches_of (sym (offers_next clients i x e))
+batches_on clients i x batches more e b m = grind (arith, nat_tests, offers_next clients i x e, map-append)
 
 pub known_on : (clients : List Client) (i : ℕ) (x : Client) (known own more : ℕ) → slice_get clients i ≡ Some x → known ≡ known_of (offers_held (take i clients))
     → own ≡ known_of (option_to_list x.held) → more ≡ max known own → more ≡ known_of (offers_held (take (i + 1) clients))
-known_on clients i x known own more e k o m =
-    m ∙ ap (λ (n : ℕ). max n own) k ∙ ap (max (known_of (offers_held (take i clients)))) o
-    ∙ sym (greatest_joined (map (λ o. known_by o.kind o.known) (offers_held (take i clients))) (map (λ o. known_by o.kind o.known) (option_to_list x.held)))
-    ∙ ap greatest (sym (map-append (λ (o : Offer). known_by o.kind o.known) (offers_held (take i clients)) (option_to_list x.held)))
-    ∙ ap known_of (sym (offers_next clients i x e))
+known_on clients i x known own more e k o m = grind (arith, nat_tests, offers_next clients i x e, greatest_joined, map-append)
 
 pub freed_at : (xs : List Client) (i : ℕ) → slice_get (map freed (take i xs) ++ drop i xs) i ≡ slice_get xs i
 freed_at [] zero = refl
@@ -64,30 +41,24 @@ pub freed_on : (xs now : List Client) (i : ℕ) (x y : Client) → slice_get xs 
 freed_on xs now i x y e f g = ap (λ (ss : List Client). set ss i y) f ∙ ap (set (map freed (take i xs) ++ drop i xs) i) g ∙ step xs i e
   where
     step : (xs : List Client) (i : ℕ) → slice_get xs i ≡ Some x → set (map freed (take i xs) ++ drop i xs) i (freed x) ≡ map freed (take (i + 1) xs) ++ drop (i + 1) xs
-    step [] i h = absurd cc
-    step (z ∷ xs) zero h = ap (λ (s : Client). freed s ∷ xs) (sym (same_Some z x h))
     step (z ∷ xs) (suc i) h =
         let k : suc (i + 1) ≡ suc i + 1 = omega arith in
         ap (λ (ss : List Client). freed z ∷ ss) (step xs i h) ∙ ap (λ (n : ℕ). map freed (take n (z ∷ xs)) ++ drop n (z ∷ xs)) k
+    step xs i h = grind (arith, nat_tests, same_Some)
 
 pub replicate_more : (n : ℕ) (x : Client) → replicate n x ++ x ∷ [] ≡ replicate (n + 1) x
 replicate_more zero x = refl
 replicate_more (suc n) x = let k : suc (n + 1) ≡ suc n + 1 = omega arith in ap (λ (ss : List Client). x ∷ ss) (replicate_more n x) ∙ ap (λ (m : ℕ). replicate m x) k
 
 pub freed_none : (clients : List Client) (r : ℕ) (x : Client) → slice_get (map freed clients) r ≡ Some x → x.held ≡ None
-freed_none [] r x e = absurd cc
-freed_none (y ∷ clients) zero x e = ap (λ (z : Client). z.held) (sym (same_Some (freed y) x e))
 freed_none (y ∷ clients) (suc r) x e = freed_none clients r x e
+freed_none clients r x e = grind (arith, nat_tests)
 
 -- ---- what the ranks know
 
 known_low : (n : ℕ) (offers : List Offer) → AllByRecursion (λ o. o.known ≤ n) offers → known_of offers ≤ n
 known_low n [] all = omega arith
-known_low n (o ∷ offers) all =
-    let own = known_less o.kind o.known in
-    let low = all.0 in
-    let rest = known_low n offers all.1 in
-    omega arith
+known_low n (o ∷ offers) all = grind (arith, nat_tests, known_low n offers all.1, known_less)
 
 -- ---- a meeting of what is held
 

@@ -1,16 +1,12 @@
 -- What the owner does along arrivals, one arrival after another.
-use Rattle.file_owner.proofs.Words.{◌≡◌, ℕ, refl, sym, ◌∙◌, ap, inl, inr, ◌⊎◌, List, [], ◌∷◌, ◌++◌, Bool, true, false, Some, None, append_assoc, ◌==◌, eqb_tells, Hints, DiskCall, Mark, OwnerItem, Setting, Arrival, Owner, event, given_along, is_strange, owed, served, owed_on, served_on, stranger_on, ServedOn, given_on, owner_calls, owner_told, each_told, event_calls}
+use Rattle.file_owner.proofs.Words.{◌≡◌, ℕ, refl, List, [], ◌∷◌, ◌++◌, true, false, Some, None, append_assoc, ◌==◌, eqb_tells, Hints, Setting, Arrival, Owner, event, given_along, is_strange, owed, served, owed_on, served_on, stranger_on, given_on, owner_calls, owner_told, each_told, event_calls, arith, nat_tests}
 
 -- ---- one arrival
 
 -- ---- by numbers
 
 pub other_number : (q r : ℕ) → (q ≡ r → ⊥) → (q == r) ≡ false
-other_number q r n = by (eqb_tells q r)
-  where
-    by : (((q == r) ≡ true) × (q ≡ r)) ⊎ (((q == r) ≡ false) × (q ≡ r → ⊥)) → (q == r) ≡ false
-    by (inl (e, z)) = absurd (n z)
-    by (inr (e, m)) = e
+other_number q r n = grind (arith, nat_tests, eqb_tells)
 
 -- ---- from one arrival to the next
 
@@ -49,46 +45,5 @@ pub record GoesOn (hints : Hints) (s : Setting) (d : Owner) (first later : List 
 
 pub goes_on : (hints : Hints) (s : Setting) (d : Owner) (first later : List Arrival) → (served s d first).stranger ≡ None → GoesOn hints s d first later
 goes_on hints s d [] later e = record { owner = refl; marks = refl; stranger = refl; owed_items = λ q. refl; given = λ q. refl; calls = refl; told = refl }
-goes_on hints s d (a ∷ first) later e = by (is_strange s d a) refl (λ f. goes_on hints s (event s d a).owner first later f)
-  where
-    by : (t : Bool) → is_strange s d a ≡ t → ((served s (event s d a).owner first).stranger ≡ None → GoesOn hints s (event s d a).owner first later) → GoesOn hints s d (a ∷ first) later
-    by true f again = let z = sym (stranger_on s d a first f) ∙ e in absurd cc
-    by false f again = record {
-      owner = long.owner ∙ g.owner ∙ ap (λ (x : Owner). (served s x later).owner) (sym short.owner);
-      marks = long.marks ∙ ap (λ (m : List Mark). (event s d a).marks ++ m) g.marks
-          ∙ sym (append_assoc (event s d a).marks (served s next first).marks (served s (served s next first).owner later).marks)
-          ∙ (λ i. sym short.marks i ++ (served s (sym short.owner i) later).marks);
-      stranger = long.stranger ∙ g.stranger ∙ ap (λ (x : Owner). (served s x later).stranger) (sym short.owner);
-      owed_items = λ q.
-          owed_on s d a (first ++ later) q f ∙ ap (λ (m : List OwnerItem). (event s d a).given q ++ m) (g.owed_items q)
-          ∙ sym (append_assoc ((event s d a).given q) (given_along s next first q) (owed s (served s next first).owner later q))
-          ∙ ap (λ (m : List OwnerItem). m ++ owed s (served s next first).owner later q) (sym (given_on s d a first q f))
-          ∙ ap (λ (x : Owner). given_along s d (a ∷ first) q ++ owed s x later q) (sym short.owner);
-      given = λ q.
-          given_on s d a (first ++ later) q f ∙ ap (λ (m : List OwnerItem). (event s d a).given q ++ m) (g.given q)
-          ∙ sym (append_assoc ((event s d a).given q) (given_along s next first q) (given_along s (served s next first).owner later q))
-          ∙ ap (λ (m : List OwnerItem). m ++ given_along s (served s next first).owner later q) (sym (given_on s d a first q f))
-          ∙ ap (λ (x : Owner). given_along s d (a ∷ first) q ++ given_along s x later q) (sym short.owner);
-      calls =
-          calls_on hints s d a (first ++ later) f ∙ ap (λ (m : List DiskCall). event_calls hints s d a ++ m) g.calls
-          ∙ sym (append_assoc (event_calls hints s d a) (owner_calls hints s next first) (owner_calls hints s (served s next first).owner later))
-          ∙ ap (λ (m : List DiskCall). m ++ owner_calls hints s (served s next first).owner later) (sym (calls_on hints s d a first f))
-          ∙ ap (λ (x : Owner). owner_calls hints s d (a ∷ first) ++ owner_calls hints s x later) (sym short.owner);
-      told =
-          told_on s d a (first ++ later) f ∙ ap (λ (m : List (Mark × ℕ)). each_told (event s d a) ++ m) g.told
-          ∙ sym (append_assoc (each_told (event s d a)) (owner_told s next first) (owner_told s (served s next first).owner later))
-          ∙ ap (λ (m : List (Mark × ℕ)). m ++ owner_told s (served s next first).owner later) (sym (told_on s d a first f))
-          ∙ ap (λ (x : Owner). owner_told s d (a ∷ first) ++ owner_told s x later) (sym short.owner);
-    }
-      where
-        next : Owner
-        next = (event s d a).owner
-
-        long : ServedOn s d a (first ++ later)
-        long = served_on s d a (first ++ later) f
-
-        short : ServedOn s d a first
-        short = served_on s d a first f
-
-        g : GoesOn hints s (event s d a).owner first later
-        g = again (sym short.stranger ∙ e)
+goes_on hints s d (a ∷ first) later e =
+    grind (arith, nat_tests, goes_on hints s (event s d a).owner first later, stranger_on, append_assoc, owed_on, given_on, calls_on, told_on, served_on)

@@ -1,5 +1,5 @@
 -- What a refused step leaves, as the owner's event has it.
-use Rattle.file_owner.proofs.Words.{◌≡◌, ℕ, ◌<◌, length, refl, sym, ◌∙◌, ap, subst, inl, inr, ◌⊎◌, List, [], ◌∷◌, ◌++◌, max, set, Bool, true, false, Option, Some, None, arith, append-nil, same_Some, slice_get, flat_map, IfSome, enumerate_from, list_all, byte_len, Batch, MeetKind, Offer, RankItem, StepErr, Memory, after, BothTold, Owner, Event, Client, does_meeting, does_solo, event, holds, is_strange, meets_if, needed_now, offers_at, offers_held, offers_met, step_offers, Setting, Counted, meeting, puts_of, solo, count_width, Arrival, Puts, covered, IsTorn, OwnerStoodAt, at_arrival, between_arrivals, counted, puts_in, torn_by, torn_wider, batches_of, known_of, met, IsOneRise, met_count, met_done, met_torn, event_is, met_is, puts_same, owner_at, HoldSingle, IsSingle, IsSingleOffer, Standing, IsFaultAt, IsRefusedAlone, IsRefusedArrival, IsRefusedTogether, entry_below, client_held}
+use Rattle.file_owner.proofs.Words.{◌≡◌, ℕ, ◌<◌, length, refl, sym, ◌∙◌, ap, subst, inl, inr, ◌⊎◌, List, [], ◌∷◌, ◌++◌, max, set, Bool, true, false, Option, Some, None, arith, append-nil, same_Some, slice_get, flat_map, IfSome, enumerate_from, list_all, byte_len, Batch, MeetKind, Offer, RankItem, StepErr, Memory, after, BothTold, Owner, Event, Client, does_meeting, does_solo, event, holds, is_strange, meets_if, needed_now, offers_at, offers_held, step_offers, Setting, meeting, puts_of, solo, count_width, Arrival, Puts, covered, IsTorn, OwnerStoodAt, at_arrival, between_arrivals, counted, puts_in, torn_by, torn_wider, batches_of, known_of, met, IsOneRise, met_count, met_done, met_torn, event_is, met_is, puts_same, owner_at, HoldSingle, IsSingle, IsSingleOffer, Standing, IsFaultAt, IsRefusedAlone, IsRefusedArrival, IsRefusedTogether, entry_below, client_held, nat_tests}
 use Rattle.nc_base.specs.declared.step.OfferKind.TheVariants as offer
 use Rattle.nc_base.specs.declared.step.RankItem.TheVariants as item
 use Rattle.serial_spec.specs.Torn.{IsLeft}
@@ -22,31 +22,7 @@ refused_alone s r c o b left torn = by_told b.told torn
 pub refused_together : (s : Setting) (b : Standing) (batches : List Batch) (known n : ℕ) (left : Option (List ℕ)) → batches ≡ batches_of (offers_held b.clients) → known ≡ known_of (offers_held b.clients)
     → BothTold (λ old left. IsTorn (covered s.header (puts_in batches)) (byte_len (count_width s.header.version)) old (met s batches known (counted old b.records)).file left) b.told left
     → (n ≡ b.records) ⊎ (n ≡ max b.records (max (needed_now s (puts_in batches)) known)) → IsRefusedTogether s b left n
-refused_together s b batches known n left e f torn count = by_told b.told torn
-  where
-    offers : List Offer
-    offers = offers_held b.clients
-
-    puts_are : covered s.header (puts_in batches) ≡ covered s.header (flat_map puts_of (enumerate_from 0 offers))
-    puts_are = sym (ap (λ (ps : Puts). covered s.header ps) (puts_same 0 offers ∙ ap puts_in (sym e)))
-
-    met_are : (file : List ℕ) → met s batches known (counted file b.records) ≡ (meeting s offers (counted file b.records)).0
-    met_are file = sym (met_is s offers batches known (counted file b.records) e f)
-
-    by_count : (file : List ℕ) → (n ≡ b.records) ⊎ (n ≡ max b.records (max (needed_now s (puts_in batches)) known)) → (n ≡ b.records) ⊎ (n ≡ (met s batches known (counted file b.records)).records)
-    by_count file (inl q) = inl q
-    by_count file (inr q) = inr (q ∙ sym (met_count s batches known file b.records))
-
-    by_told : (m : Option (List ℕ)) → BothTold (λ old left. IsTorn (covered s.header (puts_in batches)) (byte_len (count_width s.header.version)) old (met s batches known (counted old b.records)).file left) m left
-        → IfSome m (λ file. (now : List ℕ) × (left ≡ Some now) × IsLeft s.header (covered s.header (flat_map puts_of (enumerate_from 0 (offers_held b.clients)))) (counted file b.records)
-        (does_meeting s (owner_at b file) b.clients).owner.state now n)
-    by_told None t = tt
-    by_told (Some file) t = (
-      t.0,
-      t.1,
-      subst (λ (held : List ℕ). IsLeft s.header held (counted file b.records) (meeting s offers (counted file b.records)).0 t.0 n) puts_are
-          (subst (λ (new : Counted). IsLeft s.header (covered s.header (puts_in batches)) (counted file b.records) new t.0 n) (met_are file) (t.2, by_count file count)),
-    )
+refused_together s b batches known n left e f torn count = grind (arith, nat_tests, puts_same, met_is, met_count)
 
 -- nothing was begun
 pub none_together : (s : Setting) (b : Standing) (n : ℕ) (left : Option (List ℕ)) → left ≡ b.told → n ≡ b.records → IsRefusedTogether s b left n
@@ -79,10 +55,7 @@ pub refused_once : (s : Setting) (b : Standing) (batches : List Batch) (known n 
     → (HoldSingle b.clients → IsOneRise (known_of (offers_held b.clients)) (batches_of (offers_held b.clients)))
     → (IsOneRise known batches → BothTold (λ old left. IsTorn (covered s.header (puts_in batches)) (byte_len (count_width s.header.version)) old (met s batches known (counted old b.records)).file left) b.told left)
     → (IsOneRise known batches → (n ≡ b.records) ⊎ (n ≡ max b.records (max (needed_now s (puts_in batches)) known))) → HoldSingle b.clients → IsRefusedTogether s b left n
-refused_once s b batches known n left e f once torn count single =
-    let one : IsOneRise known batches =
-    subst (λ (k : ℕ). IsOneRise k batches) (sym f) (subst (λ (bs : List Batch). IsOneRise (known_of (offers_held b.clients)) bs) (sym e) (once single)) in
-    refused_together s b batches known n left e f (torn one) (count one)
+refused_once s b batches known n left e f once torn count single = grind (arith, nat_tests, refused_together)
 
 pub done_once : (s : Setting) (b : Standing) (batches : List Batch) (known n : ℕ) (left : Option (List ℕ)) → batches ≡ batches_of (offers_held b.clients) → known ≡ known_of (offers_held b.clients)
     → left ≡ after (λ file. (met s batches known (counted file b.records)).file) b.told → n ≡ max b.records (max (needed_now s (puts_in batches)) known) → HoldSingle b.clients → IsRefusedTogether s b left n
@@ -99,10 +72,7 @@ arrival_ended s b r n i memory left is low same count = subst (λ (j : RankItem)
     held file = covered s.header (flat_map puts_of (step_offers (owner_at b file) (r, item.Ended memory)))
 
     kept : (file : List ℕ) → IsLeft s.header (held file) (counted file b.records) (counted file b.records) file n
-    kept file = (
-      torn_by (held file) (byte_len (count_width s.header.version)) file file file (omega arith) (omega arith) (λ x h. inl refl) (λ x h l k. inl refl) (λ x h k. refl),
-      inl count,
-    )
+    kept file = grind (arith, nat_tests, torn_by, held)
 
     by_told : (m : Option (List ℕ)) → left ≡ m
         → IfSome m (λ file. (now : List ℕ) × (left ≡ Some now) × IsLeft s.header (held file) (counted file b.records) (event s (owner_at b file) (r, item.Ended memory)).owner.state now n)
@@ -130,13 +100,7 @@ arrival_alone s b r c n i o x left is e k h = subst (λ (j : RankItem). IsRefuse
         → IfSome m (λ file. (now : List ℕ) × (left ≡ Some now) × IsLeft s.header (covered s.header (flat_map puts_of (step_offers (owner_at b file) (r, item.Offer c o)))) (counted file b.records)
         (event s (owner_at b file) (r, item.Offer c o)).owner.state now n)
     by_told None t = tt
-    by_told (Some file) t = (
-      t.0,
-      t.1,
-      subst (λ (held : List ℕ). IsLeft s.header held (counted file b.records) (event s (owner_at b file) (r, item.Offer c o)).owner.state t.0 n) (bytes file)
-          (subst (λ (ev : Event). IsLeft s.header (covered s.header (puts_of (r, o))) (counted file b.records) ev.owner.state t.0 n)
-          (sym (offer_event s (owner_at b file) r c o x offer.Solo e k)) t.2),
-    )
+    by_told (Some file) t = grind (arith, nat_tests, bytes file, offer_event s (owner_at b file) r c o x offer.Solo e k)
 
 -- that brings a meeting
 pub arrival_together : (s : Setting) (b : Standing) (r c n : ℕ) (i : RankItem) (o : Offer) (x y : Client) (kind : MeetKind) (left : Option (List ℕ)) → i ≡ item.Offer c o → slice_get b.clients r ≡ Some x
@@ -159,9 +123,7 @@ arrival_together s b r c n i o x y kind left is e f k all h held single =
     every = ap (λ (z : Client). list_all holds (set b.clients r z)) (sym f) ∙ all
 
     offers : (file : List ℕ) → step_offers (owner_at b file) (r, item.Offer c o) ≡ enumerate_from 0 (offers_held (set b.clients r (client_held x o)))
-    offers file =
-        ap (λ (m : Option Client). elim m [ None ↦ [] | Some z ↦ offers_at (owner_at b file) r o z o.kind ]) e ∙ ap (offers_at (owner_at b file) r o x) k
-        ∙ ap (offers_met (set b.clients r (client_held x o))) every
+    offers file = grind (arith, nat_tests, set, every)
 
     to : (file : List ℕ) → event s (owner_at b file) (r, item.Offer c o) ≡ does_meeting s (owner_at b file) (set b.clients r (client_held x o))
     to file = offer_event s (owner_at b file) r c o x (offer.Meet kind) e k ∙ ap (meets_if s (owner_at b file) (set b.clients r (client_held x o))) every
@@ -193,11 +155,7 @@ fault_at s e b a n left fit h = λ held single. by_told b.told (h held (single a
 
 -- nothing arrived yet
 pub fault_none : (s : Setting) (e : StepErr) (b : Standing) (n : ℕ) (left : Option (List ℕ)) → e ≡ Memory → left ≡ b.told → n ≡ b.records → IsFaultAt s e b [] n left
-fault_none s e b n left memory same count = λ held single. by_told b.told same
-  where
-    by_told : (m : Option (List ℕ)) → left ≡ m → IfSome m (λ file. (now : List ℕ) × (left ≡ Some now) × OwnerStoodAt s e (owner_at b file) [] now n)
-    by_told None k = tt
-    by_told (Some file) k = (file, k, between_arrivals memory refl count)
+fault_none s e b n left memory same count = grind (arith, nat_tests)
 
 -- whatever comes later
 pub stood_later : (s : Setting) (e : StepErr) (d : Owner) (later more : List Arrival) (left : List ℕ) (n : ℕ) → OwnerStoodAt s e d later left n → OwnerStoodAt s e d (later ++ more) left n

@@ -1,24 +1,10 @@
 -- What can be seen of an owner, arrival after arrival.
-use Rattle.file_owner.proofs.Words.{◌≡◌, ℕ, refl, sym, ◌∙◌, ap, subst, inl, inr, List, [], ◌∷◌, ◌++◌, length, false, Option, Some, None, append_assoc, arith, append-nil, IfSome, Hints, DiskCall, Mark, OwnerItem, with_end, In, Setting, Arrival, Owner, Event, event, given_along, is_strange, served, served_on, alike_two, owner_at, owner_calls, owner_told, each_told, event_calls, run, AreSingle, GoesAlike, GoesSo, HasDone, HasRun, HoldSingle, IsSingle, Standing, with_end-with_end, with_end-nil}
+use Rattle.file_owner.proofs.Words.{◌≡◌, ℕ, refl, sym, ◌∙◌, ap, subst, inl, inr, List, [], ◌∷◌, ◌++◌, length, false, Option, Some, None, append_assoc, arith, append-nil, IfSome, Hints, DiskCall, Mark, OwnerItem, with_end, In, Setting, Arrival, Owner, Event, event, given_along, is_strange, served, served_on, alike_two, owner_at, owner_calls, owner_told, each_told, event_calls, run, AreSingle, GoesAlike, GoesSo, HasDone, HasRun, HoldSingle, IsSingle, Standing, with_end-with_end, with_end-nil, nat_tests}
 use Rattle.file_owner.proofs.AlikeLaws.{alike_by, lines_none, lines_twice}
 use Rattle.file_owner.proofs.OwnerRuns.{goes_on, told_on}
 
 pub run_none : (hints : Hints) (s : Setting) (x : Standing) → HasRun hints s [] x x
-run_none hints s x = record {
-  moved = record {
-    more = λ q. [];
-    lines = lines_none x.lines x.lines refl;
-    alike = λ file. record { owner = refl; marks = sym (append-nil x.order); heard = sym (with_end-nil x.heard); given = λ q l. tt };
-    exact = by_told x.told refl;
-    single = λ h. h.0;
-  };
-  none_strange = λ file. refl;
-}
-  where
-    by_told : (m : Option (List ℕ)) → x.told ≡ m
-        → IfSome m (λ file. GoesSo (HoldSingle x.clients × AreSingle []) (run s (owner_at x file) []) (owner_calls hints s (owner_at x file) []) (λ q. []) x x)
-    by_told None e = tt
-    by_told (Some file) e = record { told = e; given = λ q l. refl; calls = λ h. sym (with_end-nil x.calls) }
+run_none hints s x = grind (arith, nat_tests, lines_none x.lines x.lines refl, append-nil x.order, with_end-nil x.heard, with_end-nil x.calls)
 
 -- ---- one arrival more
 

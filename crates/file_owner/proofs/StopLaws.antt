@@ -1,5 +1,5 @@
 -- What was taken, and the stops for it, one item after another.
-use Rattle.file_owner.proofs.Words.{◌≡◌, ℕ, ◌<◌, refl, sym, ◌∙◌, ap, subst, inl, inr, ◌⊎◌, List, [], ◌∷◌, ◌++◌, map, set, Bool, true, false, ◌&&◌, append_assoc, arith, cases_eq, nat_tests, append-nil, filter, nat_lt, list_all, OwnerItem, Stop, RankItem, End, Receiver, own_items, Arrival, is_offer, HasEnd, own_here, Grows, stops_for, HaveEnded, HaveMet, IsMore, own_two, entry_set_other}
+use Rattle.file_owner.proofs.Words.{◌≡◌, ℕ, ◌<◌, refl, sym, ◌∙◌, ap, subst, inl, inr, ◌⊎◌, List, [], ◌∷◌, ◌++◌, map, set, Bool, true, append_assoc, arith, cases_eq, nat_tests, append-nil, filter, nat_lt, list_all, OwnerItem, Stop, RankItem, End, Receiver, own_items, Arrival, is_offer, HasEnd, own_here, Grows, stops_for, HaveEnded, HaveMet, IsMore, own_two, entry_set_other, common_steps}
 use Rattle.nc_base.specs.declared.step.RankItem.TheVariants as item
 use Rattle.file_owner.proofs.AlikeLaws.{lines_as, lines_twice}
 
@@ -15,22 +15,17 @@ stops_of_joined [] ys = refl
 stops_of_joined (x ∷ xs) ys = ap (λ (items : List OwnerItem). Stop ∷ items) (stops_of_joined xs ys)
 
 pub stops_joined : (q : ℕ) (xs ys : List Arrival) → stops_for (xs ++ ys) q ≡ stops_for xs q ++ stops_for ys q
-stops_joined q xs ys =
-    ap (λ (items : List RankItem). map (λ (i : RankItem). Stop) (filter is_offer items)) (own_two q xs ys)
-    ∙ ap (λ (items : List RankItem). map (λ (i : RankItem). Stop) items) (filter_joined (own_items q xs) (own_items q ys))
-    ∙ stops_of_joined (filter is_offer (own_items q xs)) (filter is_offer (own_items q ys))
+stops_joined q xs ys = grind (arith, nat_tests, own_two, filter_joined, stops_of_joined)
 
 -- ---- ends
 
 pub end_front : (xs ys : List RankItem) → HasEnd xs → HasEnd (xs ++ ys)
-end_front [] ys h = absurd h
-end_front (item.Ended m ∷ xs) ys h = tt
 end_front (item.Offer c o ∷ xs) ys h = end_front xs ys h
+end_front xs ys h = grind (arith, nat_tests)
 
 end_last : (xs : List RankItem) (memory : Bool) → HasEnd (xs ++ item.Ended memory ∷ [])
-end_last [] memory = tt
-end_last (item.Ended m ∷ xs) memory = tt
 end_last (item.Offer c o ∷ xs) memory = end_last xs memory
+end_last _ memory = tt
 
 pub ended_more : (flags : List Bool) (arrivals more : List Arrival) → HaveEnded flags arrivals → HaveEnded flags (arrivals ++ more)
 ended_more flags arrivals more h q e = subst HasEnd (sym (own_two q arrivals more)) (end_front (own_items q arrivals) (own_items q more) (h q e))
@@ -40,8 +35,7 @@ noted_end flags arrivals r memory h q e = by (cases_eq q r)
   where
     by : (q ≡ r) ⊎ (q ≡ r → ⊥) → HasEnd (own_items q (arrivals ++ (r, item.Ended memory) ∷ []))
     by (inl s) =
-        subst HasEnd (sym (own_two q arrivals ((r, item.Ended memory) ∷ []) ∙ ap (λ (k : ℕ). own_items q arrivals ++ own_items k ((r, item.Ended memory) ∷ [])) s
-        ∙ ap (λ (items : List RankItem). own_items q arrivals ++ items) (own_here r (item.Ended memory) []))) (end_last (own_items q arrivals) memory)
+        grind (arith, nat_tests, own_two q arrivals ((r, item.Ended memory) ∷ []), own_here r (item.Ended memory) [], end_last (own_items q arrivals) memory)
     by (inr n) = ended_more flags arrivals ((r, item.Ended memory) ∷ []) h q (sym (entry_set_other flags r q true n) ∙ e)
 
 pub noted : (flags : List Bool) (arrivals : List Arrival) (r : ℕ) (i j : RankItem) → i ≡ j → HaveEnded flags (arrivals ++ (r, j) ∷ []) → HaveEnded flags (arrivals ++ (r, i) ∷ [])
@@ -50,16 +44,8 @@ noted flags arrivals r i j e h = subst (λ (k : RankItem). HaveEnded flags (arri
 -- ---- what was taken
 
 all_joined : (n : ℕ) (xs : List Arrival) (a : Arrival) → list_all (λ (b : Arrival). nat_lt b.0 n) xs ≡ true → a.0 < n → list_all (λ (b : Arrival). nat_lt b.0 n) (xs ++ a ∷ []) ≡ true
-all_joined n [] a h l = ap (λ (t : Bool). t && true) (tells a.0 n l)
-  where
-    tells : (k m : ℕ) → k < m → nat_lt k m ≡ true
-    tells k m p = grind (arith, nat_tests)
-all_joined n (x ∷ xs) a h l = by (nat_lt x.0 n) h (λ g. all_joined n xs a g l)
-  where
-    by : (t : Bool) → (t && list_all (λ (b : Arrival). nat_lt b.0 n) xs) ≡ true → (list_all (λ (b : Arrival). nat_lt b.0 n) xs ≡ true → list_all (λ (b : Arrival). nat_lt b.0 n) (xs ++ a ∷ []) ≡ true)
-        → (t && list_all (λ (b : Arrival). nat_lt b.0 n) (xs ++ a ∷ [])) ≡ true
-    by true g again = again g
-    by false g again = absurd cc
+all_joined n [] a h l = grind (arith, nat_tests)
+all_joined n (x ∷ xs) a h l = grind (arith, nat_tests, common_steps)
 
 pub more_none : (old : Receiver RankItem) → IsMore old [] old
 more_none old = record { items = sym (append-nil old.items); senders = refl; of = refl; numbers = refl }
@@ -79,7 +65,6 @@ pub met_one : (old mid now : Receiver RankItem) (before after last : List (End O
 met_one old mid now before after last flags left end a h items senders of low stop note = record {
   more = h.more ++ a ∷ [];
   taken = more_one old mid now h.more a h.taken items senders of low;
-  stopped = lines_as before last (λ q. stops_for h.more q ++ stops_for (a ∷ []) q) (stops_for (h.more ++ a ∷ [])) (λ q l. stops_joined q h.more (a ∷ []))
-      (lines_twice before after last (stops_for h.more) (stops_for (a ∷ [])) h.stopped stop);
+  stopped = grind (arith, nat_tests, lines_twice before after last (stops_for h.more) (stops_for (a ∷ [])) h.stopped stop, lines_as, stops_joined);
   noted = λ arrivals e. subst (λ (xs : List Arrival). HaveEnded end xs) (append_assoc arrivals h.more (a ∷ [])) (note (arrivals ++ h.more) (h.noted arrivals e));
 }

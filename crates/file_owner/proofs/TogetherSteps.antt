@@ -1,5 +1,5 @@
 -- The meeting of what is held, as the disk, the order and the lines show it.
-use Rattle.file_owner.proofs.Words.{◌≡◌, ℕ, zero, suc, ◌+◌, ◌≤◌, refl, sym, ◌∙◌, ap, subst, List, [], ◌∷◌, ◌++◌, length, map, max, Option, Some, None, arith, slice_get, flat_map, IfSome, enumerate_from, Pair, Batch, Hints, Meet, Offer, after, with_end, Client, does_meeting, freed, needed_now, offers_held, to_each, meeting_calls, Counted, Setting, after_puts, get_post, meeting, puts_of, told, wanted, Puts, counted, puts_in, AreAlike, owner_at, replies, GoesSo, Grows, HoldSingle, IsTogether, Standing, reply_of, batches_of, known_of, met, met_calls, IsOneRise, gots_long, met_calls_are, met_is, puts_same, replies_are, if_some_at, map_map, raised_records}
+use Rattle.file_owner.proofs.Words.{◌≡◌, ℕ, zero, suc, ◌+◌, ◌≤◌, refl, sym, ◌∙◌, ap, subst, List, [], ◌∷◌, ◌++◌, length, map, max, Option, Some, None, arith, flat_map, IfSome, enumerate_from, Pair, Batch, Hints, Meet, Offer, after, with_end, does_meeting, freed, needed_now, offers_held, to_each, meeting_calls, Counted, Setting, after_puts, get_post, meeting, puts_of, told, wanted, counted, puts_in, AreAlike, owner_at, replies, GoesSo, Grows, HoldSingle, IsTogether, Standing, reply_of, batches_of, known_of, met, met_calls, IsOneRise, gots_long, met_calls_are, met_is, puts_same, replies_are, if_some_at, map_map, raised_records, nat_tests}
 use Rattle.nc_base.specs.declared.step.Reply as reply
 use Rattle.file_owner.proofs.HeldLaws.{freed_none}
 
@@ -17,11 +17,7 @@ unfolding reply_made
 each_alike s pair same n next [] [] q e f g = tt
 each_alike s pair same n next [] (o ∷ offers) q e f g = absurd cc
 each_alike s pair same n next (blobs ∷ table) [] q e f g = absurd cc
-each_alike s pair same n next (blobs ∷ table) (o ∷ offers) zero e f g =
-    (record { pair = e; records = f; lengths = first g ∙ sym (gots_long s next.file o.batch.gets) }, tt)
-  where
-    first : (lens blobs ∷ map lens table) ≡ (map (wanted s.header) o.batch.gets ∷ map (λ (p : Offer). map (wanted s.header) p.batch.gets) offers) → lens blobs ≡ map (wanted s.header) o.batch.gets
-    first h = cc
+each_alike s pair same n next (blobs ∷ table) (o ∷ offers) zero e f g = grind (arith, nat_tests, gots_long)
 each_alike s pair same n next (blobs ∷ table) (o ∷ offers) (suc q) e f g = each_alike s pair same n next table offers q e f (rest g)
   where
     rest : (lens blobs ∷ map lens table) ≡ (map (wanted s.header) o.batch.gets ∷ map (λ (p : Offer). map (wanted s.header) p.batch.gets) offers)
@@ -29,9 +25,8 @@ each_alike s pair same n next (blobs ∷ table) (o ∷ offers) (suc q) e f g = e
     rest h = cc
 
 replies_each : (pair : Option Pair) (n : ℕ) (table : List (List (List ℕ))) (q : ℕ) → replies pair n table q ≡ to_each (map (reply_of pair n) table) q
-replies_each pair n [] q = refl
-replies_each pair n (blobs ∷ table) zero = refl
 replies_each pair n (blobs ∷ table) (suc q) = replies_each pair n table q
+replies_each pair n _ _ = refl
 
 -- ---- the meeting
 
@@ -68,10 +63,7 @@ together s hints b n batches known pair table h = record {
     given = λ q l. each_alike s pair (told s (flat_map puts_of (enumerate_from 0 offers))) n.records (meeting s offers (counted file b.records)).0 table offers q same_pair (sym (count file)) fits;
   };
   exact = exact b.told refl;
-  single = λ once r x o e f.
-      let no = freed_none b.clients r x (ap (λ (ss : List Client). slice_get ss r) (sym h.clients) ∙ e) in
-      let never : None ≡ Some o = sym no ∙ f in
-      absurd cc;
+  single = grind (arith, nat_tests, freed_none);
 }
   where
     offers : List Offer
@@ -93,19 +85,10 @@ together s hints b n batches known pair table h = record {
     count file = ap (λ (c : Counted). c.records) (met_is s (offers_held b.clients) batches known (counted file b.records) h.batches_are h.known_is) ∙ sym (count_of file)
 
     reached_is : max b.reached (needed_now s (flat_map puts_of (enumerate_from 0 (offers_held b.clients)))) ≡ n.reached
-    reached_is =
-        let need = ap (λ (puts : Puts). needed_now s puts) puts_are in
-        let a = h.reached in
-        let d = h.records in
-        let e = h.known_is in
-        let f = h.known_low in
-        let g = h.below in
-        omega arith
+    reached_is = grind (arith, nat_tests, puts_are)
 
     fits : map lens table ≡ map (λ (o : Offer). map (wanted s.header) o.batch.gets) (offers_held b.clients)
-    fits =
-        h.fits ∙ ap (λ (bs : List Batch). map (λ b. map (wanted s.header) b.gets) bs) h.batches_are
-        ∙ map_map (λ (b : Batch). map (wanted s.header) b.gets) (λ (o : Offer). o.batch) (offers_held b.clients)
+    fits = grind (arith, nat_tests, map_map)
 
     once : HoldSingle b.clients → IsOneRise known batches
     once alone = subst (λ (k : ℕ). IsOneRise k batches) (sym h.known_is) (subst (λ (bs : List Batch). IsOneRise (known_of (offers_held b.clients)) bs) (sym h.batches_are) (h.once alone))

@@ -11,6 +11,7 @@ pub use Rattle.std.specs.Int.{byte_len}
 pub use Rattle.std.specs.List.{AllByRecursion, enumerate_from, list_all, list_any}
 pub use Rattle.std.specs.Option.{option_to_list}
 pub use Rattle.std.specs.Prelude.{IfSome, IsTrue, OnOk, filter, flat_map, is_some, nat_le, nat_lt, option_and_then, option_map, slice_get, ◌==◌, ◌≢◌}
+pub use Rattle.std.proofs.lemmas.Grind.{common_steps}
 pub use Rattle.collective_round.proofs.TornFiles.{torn_by, torn_wider}
 pub use Rattle.collective_round.proofs.TornLaws.{done_torn}
 pub use Rattle.collective_round.specs.Rounds.{counted, dataset_setting, puts_in, setting}
