@@ -1,5 +1,5 @@
 -- A rank at its offer: what it waits for, and its way after the reply.
-use Rattle.thread_run.proofs.Words.{◌≡◌, ℕ, ◌<◌, ap, sym, subst, refl, ◌∙◌, List, [], ◌∷◌, ◌++◌, length, map, Bool, true, Option, Some, None, append_assoc, arith, slice_get, is_some, IfSome, bytes_eq-Decides, at_in, and_first, Header, Var, Answer, Call, Direction, Region, Script, Mark, Meet, Solo, Offer, OfferKind, is_lawful, most_calls, Open, hear, fits_offer, wanted, check_some, Going, advance, first_going, hears, fits_gets, IsSoundOffer, HasOwnElements, own_elements, IsOnWay, meetings, Keeps, ranks_lawful, call_number, call_waits, way_begins, way_hears, IsAsked, asking, between, calls_of, going_of, HasHeard, IsPlaced, IsPlacedWith, first_runner, Runner, alone_waits, going_held, alone_heard, answered_is, heard_runner, entry_below}
+use Rattle.thread_run.proofs.Words.{◌≡◌, ℕ, ◌<◌, ap, sym, subst, ◌∙◌, List, [], ◌∷◌, ◌++◌, length, map, Bool, true, Option, Some, None, append_assoc, arith, slice_get, is_some, IfSome, bytes_eq-Decides, at_in, and_first, Header, Var, Answer, Call, Direction, Region, Script, Mark, Meet, Solo, Offer, OfferKind, is_lawful, most_calls, Open, hear, fits_offer, wanted, check_some, Going, advance, first_going, hears, fits_gets, IsSoundOffer, HasOwnElements, own_elements, IsOnWay, meetings, Keeps, ranks_lawful, call_number, call_waits, way_begins, way_hears, IsAsked, asking, between, calls_of, going_of, HasHeard, IsPlaced, IsPlacedWith, first_runner, Runner, alone_waits, going_held, alone_heard, answered_is, heard_runner, entry_below, nat_tests}
 use Rattle.nc_base.specs.declared.answer.Code.TheVariants as code
 use Rattle.nc_base.specs.declared.step.OfferKind.TheVariants as offer
 use Rattle.nc_base.specs.declared.step.Reply.{Reply}
@@ -21,38 +21,26 @@ first_way script header r own runner lawful below e f =
 -- its answers begin those at its first offer
 pub first_some : (header : Header) (own calls : List Call) (runner : Runner) (answers : List Answer) → own ≡ calls → runner ≡ first_runner header header.records
     → (rest : List Answer) × (answers ++ rest ≡ (advance header (between own runner)).0.answers) → (rest : List Answer) × (answers ++ rest ≡ (advance header (first_going header calls)).0.answers)
-first_some header own calls runner answers e f (rest, h) =
-    (rest, h ∙ ap (λ (g : Going). (advance header g).0.answers) (first_between header own runner f ∙ ap (λ (cs : List Call). first_going header cs) e))
+first_some header own calls runner answers e f (rest, h) = grind (arith, nat_tests, first_between)
 
 -- and after a reply, those at its next
 pub later_some : (header : Header) (own : List Call) (before mid : Runner) (reply : Reply) (answers : List Answer) → before.rank.header ≡ header → HasHeard before mid reply
     → (rest : List Answer) × (answers ++ rest ≡ (advance header (between own mid)).0.answers)
     → (rest : List Answer) × (answers ++ rest ≡ (advance header (hears header (asking own before) reply)).0.answers)
-later_some header own before mid reply answers e heard (rest, h) =
-    (rest, h ∙ ap (λ (g : Going). (advance header g).0.answers) (heard_runner header own before mid reply e heard))
+later_some header own before mid reply answers e heard (rest, h) = grind (arith, nat_tests, heard_runner)
 
 -- ---- at an offer
 
 pub placed_held : (script : Script) (header : Header) (order : List Mark) (r : ℕ) (own : List Call) (runner : Runner) (o : Offer) → runner.held ≡ Some o
     → IsPlaced script header order r (going_of own runner) runner.held → IsPlacedWith script header order r (asking own runner, o) o.kind
-placed_held script header order r own runner o e w =
-    subst (λ (s : Going). IsPlaced script header order r s (Some o)) (going_held own runner o e)
-    (subst (λ (m : Option Offer). IsPlaced script header order r (going_of own runner) m) e w)
+placed_held script header order r own runner o e w = grind (arith, nat_tests, going_held)
 
 pub placed_waits : (script : Script) (header : Header) (order : List Mark) (r : ℕ) (s : Going) (o : Offer) → IsPlacedWith script header order r (s, o) o.kind → Keeps s.rank.«open» o
-placed_waits script header order r s o w = by o.kind w
-  where
-    by : (k : OfferKind) → IsPlacedWith script header order r (s, o) k → Keeps s.rank.«open» o
-    by offer.Solo h = alone_waits script header order r s o h
-    by (offer.Meet kind) h = call_waits script order r s o h
+placed_waits script header order r s o w = grind (arith, nat_tests, alone_waits, call_waits)
 
 pub placed_number : (script : Script) (header : Header) (order : List Mark) (r : ℕ) (s : Going) (o : Offer) → IsPlacedWith script header order r (s, o) o.kind
     → length s.answers < most_calls
-placed_number script header order r s o w = by o.kind w
-  where
-    by : (k : OfferKind) → IsPlacedWith script header order r (s, o) k → length s.answers < most_calls
-    by offer.Solo h = call_number script order r _ h.call _ h.way refl
-    by (offer.Meet kind) h = let few = h.few in omega arith
+placed_number script header order r s o w = grind (arith, nat_tests, call_number)
 
 -- ---- after its reply
 
@@ -76,31 +64,24 @@ placed_heard script header order r own before now o reply e w h = by o.kind w
 
 pub fits_is : (m : Option Open) (header same : Header) (o : Offer) (reply : Reply) (fits : Bool) → same ≡ header → Keeps m o
     → IfSome m (λ w. fits ≡ fits_gets same w.gets reply) → fits ≡ fits_offer header o reply
-fits_is None header same o reply fits e keeps h = absurd cc
-fits_is (Some w) header same o reply fits e (some, gets) h = h ∙ (λ i. fits_gets (e i) (gets i) reply)
+fits_is m header same o reply fits e keeps h = grind (arith, nat_tests)
 
 pub fits_long : (header : Header) (o : Offer) (reply : Reply) → fits_offer header o reply ≡ true → map (λ (blob : List ℕ). length blob) reply.got ≡ map (wanted header) o.batch.gets
-fits_long header o reply fits =
-    (bytes_eq-Decides (map (λ (blob : List ℕ). length blob) reply.got) (map (wanted header) o.batch.gets)).0 (and_first _ _ fits)
+fits_long header o reply fits = grind (arith, nat_tests, bytes_eq-Decides, and_first)
 
 -- ---- the puts of an offer
 
 var_known : (m : Option Var) (header : Header) (g : Region) (known : ℕ) (direction : Direction) → check_some header m g known direction ≡ code.Ok → is_some m ≡ true
-var_known None header g known direction e = absurd cc
-var_known (Some v) header g known direction e = refl
+var_known m header g known direction e = grind (arith, nat_tests)
 
 pub own_puts : (header : Header) (o : Offer) → IsSoundOffer header o → HasOwnElements o.batch.puts
 own_puts header o h =
     own_elements header o.batch.puts 0 (λ i p e. var_known (slice_get header.vars p.var) header p.region o.known _ (h.puts p (at_in o.batch.puts i p e)).accepted) (h.own 0)
 
 pub asked_own : (header : Header) (known : ℕ) (m : Option Offer) (o : Offer) → m ≡ Some o → IfSome m (IsAsked header known) → HasOwnElements o.batch.puts
-asked_own header known None o e h = absurd cc
-asked_own header known (Some p) o e h =
-    let same : p ≡ o = cc in
-    subst (λ (q : Offer). HasOwnElements q.batch.puts) same (own_puts header p h.sound)
+asked_own header known m o e h = grind (arith, nat_tests, own_puts)
 
 -- ---- items that come behind others
 
 pub items_more : {X : Type 0} (first mid now some : List X) (x y : X) → mid ≡ first ++ some → now ≡ mid ++ x ∷ [] → x ≡ y → now ≡ first ++ (some ++ y ∷ [])
-items_more {X} first mid now some x y e f g =
-    f ∙ ap (λ (xs : List X). xs ++ x ∷ []) e ∙ append_assoc first some (x ∷ []) ∙ ap (λ (z : X). first ++ (some ++ z ∷ [])) g
+items_more {X} first mid now some x y e f g = grind (arith, nat_tests, append_assoc)

@@ -1,6 +1,6 @@
 -- The owner's run along arrivals of which none was strange, wherever it was cut off: it is the serial run of its order, and each rank
 -- ended where that run's rank goes up to.
-use Rattle.thread_run.proofs.Words.{◌≡◌, ℕ, ◌+◌, ◌<◌, ◌≤◌, refl, sym, ◌∙◌, ap, subst, List, [], ◌∷◌, ◌++◌, length, map, replicate, Bool, true, false, Option, Some, None, append_assoc, arith, length-map, length-replicate, list_all-append, slice_get_within, slice_get, fold, nat_lt, list_all, entry_below, entry_replicate, entry_beside, and_first, and_second, Header, Call, Script, Mark, Offer, OwnerItem, Stop, Owner, Client, event, free_client, given_along, is_strange, offers_in, own_items, served, Setting, Counted, Arrival, is_sound, opening_owner, run_of, rank_end, Going, after_mark, first_going, setting_of, Begins, HasOffered, sound_small, calls_of, stranger_on, served_on, ServedOn, fold_two, counts_along, owner_told, given_on, mapped_entry}
+use Rattle.thread_run.proofs.Words.{◌≡◌, ℕ, ◌+◌, ◌<◌, ◌≤◌, refl, sym, ◌∙◌, ap, subst, List, [], ◌∷◌, ◌++◌, length, map, replicate, Bool, true, false, Option, Some, None, append_assoc, arith, length-map, length-replicate, list_all-append, slice_get_within, slice_get, fold, nat_lt, list_all, entry_below, entry_replicate, entry_beside, and_first, and_second, Header, Call, Script, Mark, Offer, OwnerItem, Stop, Owner, Client, event, free_client, given_along, is_strange, offers_in, own_items, served, Setting, Counted, Arrival, is_sound, opening_owner, run_of, rank_end, Going, after_mark, first_going, setting_of, Begins, HasOffered, sound_small, calls_of, stranger_on, served_on, ServedOn, fold_two, counts_along, owner_told, given_on, mapped_entry, nat_tests}
 use borrow.Author.Tests.{ltb-true}
 use Rattle.thread_run.proofs.TellLaws.{count_of, tells_more}
 use Rattle.thread_run.proofs.CutRank.{IsPaired, sits_as}
@@ -18,13 +18,7 @@ pub record Ran (s : Setting) (d : Owner) (goings : List Going) (first later : Li
 pub ran : (s : Setting) (first later : List Arrival) (d : Owner) (goings : List Going) (n : ℕ → ℕ) (end : ℕ → Going) → (served s d first).stranger ≡ None
     → list_all (λ (a : Arrival). nat_lt a.0 (length d.clients)) first ≡ true
     → Stands s d goings (λ q. own_items q (first ++ later)) (λ q. given_along s d first q ++ replicate (n q) Stop) end → Ran s d goings first later n end
-ran s [] later d goings n end none low t = record {
-  last = goings;
-  folded = refl;
-  told = refl;
-  long = sym t.long;
-  stands = t;
-}
+ran s [] later d goings n end none low t = grind (arith, nat_tests)
 ran s ((r, i) ∷ first) later d goings n end none low t = by (is_strange s d (r, i)) refl (λ d' goings' f l u. ran s first later d' goings' n end f l u)
   where
     by : (v : Bool) → is_strange s d (r, i) ≡ v

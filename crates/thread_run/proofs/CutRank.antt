@@ -1,5 +1,5 @@
 -- One rank, of whose items the owner saw a beginning.
-use Rattle.thread_run.proofs.Words.{◌≡◌, ℕ, zero, suc, ◌+◌, ◌≤◌, refl, sym, ◌∙◌, ap, subst, inl, inr, List, [], ◌∷◌, ◌++◌, length, replicate, Bool, true, false, Option, Some, None, arith, same_Some, Header, Offer, OwnerItem, Reply, Stop, RankItem, Client, offers_in, is_offer, end_by, fits_offer, offered_by, waiting, waiting_end, Going, advance, hears, Begins, IsBeginning, ends_once, client_end, to_come, waiting_end_reply, waiting_reply, one_if}
+use Rattle.thread_run.proofs.Words.{◌≡◌, ℕ, zero, suc, ◌+◌, ◌≤◌, refl, sym, ◌∙◌, ap, subst, inl, inr, List, [], ◌∷◌, ◌++◌, length, replicate, Bool, true, false, Option, Some, None, arith, same_Some, Header, Offer, OwnerItem, Reply, Stop, RankItem, Client, offers_in, is_offer, end_by, fits_offer, offered_by, waiting, waiting_end, Going, advance, hears, Begins, IsBeginning, ends_once, client_end, to_come, waiting_end_reply, waiting_reply, one_if, nat_tests}
 use Rattle.nc_base.specs.declared.step.RankItem.TheVariants as item
 use Rattle.nc_base.specs.declared.step.Reply as reply
 
@@ -7,36 +7,15 @@ use Rattle.nc_base.specs.declared.step.Reply as reply
 
 begin_first : (i j : RankItem) (items whole : List RankItem) → is_offer i ≡ true → IsBeginning (i ∷ items) (j ∷ whole) → (i ≡ j) × IsBeginning items whole
 begin_first i j items whole h ([], m, inl e) = absurd cc
-begin_first i j items whole h ([], m, inr e) = let a : i ≡ item.Ended true = cc in absurd (no_offer (ap is_offer (sym a) ∙ h))
-  where
-    no_offer : false ≡ true → ⊥
-    no_offer k = cc
-begin_first i j items whole h (f ∷ front, (more, m), inl e) =
-    let a : i ≡ f = cc in
-    let b : items ≡ front = cc in
-    let c : f ≡ j = cc in
-    let d : front ++ more ≡ whole = cc in
-    (a ∙ c, (front, (more, d), inl b))
-begin_first i j items whole h (f ∷ front, (more, m), inr e) =
-    let a : i ≡ f = cc in
-    let b : items ≡ front ++ item.Ended true ∷ [] = cc in
-    let c : f ≡ j = cc in
-    let d : front ++ more ≡ whole = cc in
-    (a ∙ c, (front, (more, d), inr b))
+begin_first i j items whole h ([], m, inr e) = grind (arith, nat_tests)
+begin_first i j items whole h (f ∷ front, (more, m), inl e) = grind (arith, nat_tests)
+begin_first i j items whole h (f ∷ front, (more, m), inr e) = grind (arith, nat_tests)
 
 begin_offer : (header : Header) (p : Going × Option Offer) (back : List OwnerItem) (c : ℕ) (o : Offer) (items : List RankItem) → IsBeginning (item.Offer c o ∷ items) (offered_by header p back)
     → (p.1 ≡ Some o) × IsBeginning items (waiting header p.0 o back)
-begin_offer header (g, None) back c o items b = let a = begin_first (item.Offer c o) (item.Ended false) items [] refl b in absurd (apart a.0)
-  where
-    apart : item.Offer c o ≡ item.Ended false → ⊥
-    apart e = cc
+begin_offer header (g, None) back c o items b = grind (arith, nat_tests, begin_first (item.Offer c o) (item.Ended false) items [] refl b)
 begin_offer header (g, Some p) back c o items b =
-    let a = begin_first (item.Offer c o) (item.Offer (length g.answers) p) items (waiting header g p back) refl b in
-    let same : p ≡ o = same_offer a.0 in
-    (ap (λ (q : Offer). Some q) same, subst (λ (q : Offer). IsBeginning items (waiting header g q back)) same a.1)
-  where
-    same_offer : item.Offer c o ≡ item.Offer (length g.answers) p → p ≡ o
-    same_offer e = cc
+    grind (arith, nat_tests, begin_first (item.Offer c o) (item.Offer (length g.answers) p) items (waiting header g p back) refl b)
 
 nothing_left : (front more : List RankItem) → front ++ more ≡ [] → front ≡ []
 nothing_left [] more e = refl
@@ -47,16 +26,8 @@ pub begin_ended : (header : Header) (held : Option Offer) (g : Going) (back : Li
     → IsBeginning items (to_come header held g back)
 begin_ended header held g back m items ([], b, inl e) = absurd cc
 begin_ended header held g back m items ([], b, inr e) = let a : items ≡ [] = cc in ([], (to_come header held g back, refl), inl a)
-begin_ended header held g back m items (f ∷ front, (more, b), inl e) =
-    let first : f ≡ item.Ended m = cc in
-    let rest : items ≡ front = cc in
-    let none = nothing_left front more (ends_once header held g back m (front ++ more) (ap (λ (i : RankItem). i ∷ (front ++ more)) (sym first) ∙ b)) in
-    ([], (to_come header held g back, refl), inl (rest ∙ none))
-begin_ended header held g back m items (f ∷ front, (more, b), inr e) =
-    let first : f ≡ item.Ended m = cc in
-    let rest : items ≡ front ++ item.Ended true ∷ [] = cc in
-    let none = nothing_left front more (ends_once header held g back m (front ++ more) (ap (λ (i : RankItem). i ∷ (front ++ more)) (sym first) ∙ b)) in
-    ([], (to_come header held g back, refl), inr (rest ∙ ap (λ (is : List RankItem). is ++ item.Ended true ∷ []) none))
+begin_ended header held g back m items (f ∷ front, (more, b), inl e) = grind (arith, nat_tests, nothing_left, ends_once)
+begin_ended header held g back m items (f ∷ front, (more, b), inr e) = grind (arith, nat_tests, nothing_left, ends_once)
 
 -- ---- one rank
 
@@ -80,41 +51,16 @@ pub record Waits (header : Header) (t : Going) (o : Offer) (items : List RankIte
 pub offered_now : (header : Header) (x : Client) (g : Going) (c : ℕ) (o : Offer) (items : List RankItem) (given : List OwnerItem) (end : Going) → x.held ≡ None
     → IsPaired header x g (item.Offer c o ∷ items) given end → ((advance header g).1 ≡ Some o) × Waits header (advance header g).0 o items given end
 offered_now header x g c o items given end free t =
-    let b = begin_offer header (advance header g) t.back c o items (subst (λ (m : Option Offer). IsBeginning (item.Offer c o ∷ items) (to_come header m g t.back)) free t.stream) in (
-      b.0,
-      record {
-        back = t.back;
-        begins = t.begins;
-        stream = b.1;
-        enough = let k = t.enough in let none = ap one_if free in omega arith;
-        ends = ended (advance header g) b.0 ∙ ap (λ (m : Option Offer). client_end header m g t.back) (sym free) ∙ t.ends;
-      },
-    )
-  where
-    ended : (p : Going × Option Offer) → p.1 ≡ Some o → waiting_end header p.0 o t.back ≡ end_by header p t.back
-    ended (h, None) e = cc
-    ended (h, Some q) e = ap (λ (z : Offer). waiting_end header h z t.back) (sym (same_Some q o e))
+    let b = begin_offer header (advance header g) t.back c o items (subst (λ (m : Option Offer). IsBeginning (item.Offer c o ∷ items) (to_come header m g t.back)) free t.stream) in
+    grind (arith, nat_tests, b, same_Some)
 
 pub held_now : (header : Header) (x : Client) (g : Going) (o : Offer) (items : List RankItem) (given : List OwnerItem) (end : Going) → x.held ≡ Some o → IsPaired header x g items given end
     → Waits header (advance header g).0 o items given end
-held_now header x g o items given end held t = record {
-  back = t.back;
-  begins = t.begins;
-  stream = subst (λ (m : Option Offer). IsBeginning items (to_come header m g t.back)) held t.stream;
-  enough = let k = t.enough in let one = ap one_if held in omega arith;
-  ends = ap (λ (m : Option Offer). client_end header m g t.back) (sym held) ∙ t.ends;
-}
+held_now header x g o items given end held t = grind (arith, nat_tests)
 
 pub hold_it : (header : Header) (x : Client) (g : Going) (o : Offer) (items : List RankItem) (given : List OwnerItem) (end : Going) → x.held ≡ Some o → (advance header g).1 ≡ Some o
     → Waits header (advance header g).0 o items given end → IsPaired header x g items given end
-hold_it header x g o items given end held next t = record {
-  back = t.back;
-  begins = t.begins;
-  stream = subst (λ (m : Option Offer). IsBeginning items (to_come header m g t.back)) (sym held) t.stream;
-  waits = λ p e. next ∙ sym held ∙ e;
-  enough = let k = t.enough in let one = ap one_if held in omega arith;
-  ends = ap (λ (m : Option Offer). client_end header m g t.back) held ∙ t.ends;
-}
+hold_it header x g o items given end held next t = grind (arith, nat_tests)
 
 -- it takes its reply
 pub heard_now : (header : Header) (x : Client) (t : Going) (o : Offer) (y : reply.Reply) (items : List RankItem) (more : List OwnerItem) (end : Going) → x.held ≡ None → fits_offer header o y ≡ true
@@ -144,14 +90,7 @@ heard_now header x t o y items more end free fits w = by_back w.back w.begins w.
 
 pub sits_as : (header : Header) (x y : Client) (g : Going) (items same : List RankItem) (given more : List OwnerItem) (end : Going) → x.held ≡ y.held → items ≡ same → given ≡ more
     → IsPaired header x g items given end → IsPaired header y g same more end
-sits_as header x y g items same given more end h e f t = record {
-  back = t.back;
-  begins = subst (λ (xs : List OwnerItem). Begins t.back xs) f t.begins;
-  stream = subst (λ (is : List RankItem). IsBeginning is (to_come header y.held g t.back)) e (subst (λ (m : Option Offer). IsBeginning items (to_come header m g t.back)) h t.stream);
-  waits = λ o k. t.waits o (h ∙ k);
-  enough = subst (λ (is : List RankItem). one_if y.held + offers_in is ≤ length t.back) e (subst (λ (m : Option Offer). one_if m + offers_in items ≤ length t.back) h t.enough);
-  ends = ap (λ (m : Option Offer). client_end header m g t.back) (sym h) ∙ t.ends;
-}
+sits_as header x y g items same given more end h e f t = grind (arith, nat_tests)
 
 -- where no reply is left, it ended where it goes up to
 pub last_end : (header : Header) (x : Client) (g : Going) (items : List RankItem) (n : ℕ) (end : Going) → IsPaired header x g items (replicate n Stop) end → (advance header g).0 ≡ end

@@ -1,5 +1,5 @@
 -- All ranks, of whose items the owner saw a beginning each, at one arrival more that is not strange.
-use Rattle.thread_run.proofs.Words.{◌≡◌, ℕ, zero, suc, ◌+◌, ◌<◌, ◌≤◌, refl, sym, ◌∙◌, ap, subst, inl, inr, ◌⊎◌, List, [], ◌∷◌, ◌++◌, length, map, max, set, Bool, true, false, Option, Some, None, arith, ltb-false, or_from, eqb_tells, nat_tests, length-map, length-set, slice_get-map, same_Some, slice_get, flat_map, fold, is_some, nat_lt, ◌==◌, enumerate_from, list_all, passes_at, some_or_none, entry_set, entry_set_other, entry_beside, or_first_false, or_second_false, solo_goes, Header, Offer, OfferKind, OwnerItem, Reply, RankItem, Owner, Event, Client, at_offer, does_meeting, does_solo, event, freed, holds, is_strange, keeps, left_behind, meets_if, needed_now, offers_held, own_items, some_true, strange_offer, to_each, has_ended, has_held, Setting, Counted, meeting, puts_of, solo, Arrival, record_limit, Going, advance, after_mark, hears, offers_of, less_max, meeting_small, solo_small, to_one_here, to_one_other, own_here, own_other, fit_passes, meeting_fits, solo_fits, going_after, goings_after, goings_long, meeting_is, meeting_within, offer_at, offers_long, replied, same_offers, solo_of_is, solo_within, Replied, event_is, strange_alone, client_ended, client_held}
+use Rattle.thread_run.proofs.Words.{◌≡◌, ℕ, zero, suc, ◌+◌, ◌<◌, ◌≤◌, refl, sym, ◌∙◌, ap, subst, inl, inr, ◌⊎◌, List, [], ◌∷◌, ◌++◌, length, map, max, set, Bool, true, false, Option, Some, None, arith, ltb-false, or_from, eqb_tells, nat_tests, length-map, length-set, slice_get-map, same_Some, slice_get, flat_map, fold, is_some, enumerate_from, list_all, passes_at, some_or_none, entry_set, entry_set_other, entry_beside, or_first_false, or_second_false, solo_goes, Header, Offer, OfferKind, OwnerItem, Reply, RankItem, Owner, Event, Client, at_offer, does_meeting, does_solo, event, freed, holds, is_strange, keeps, meets_if, needed_now, offers_held, own_items, some_true, strange_offer, to_each, Setting, Counted, meeting, puts_of, solo, Arrival, record_limit, Going, advance, after_mark, hears, offers_of, less_max, meeting_small, solo_small, to_one_here, to_one_other, own_here, own_other, fit_passes, meeting_fits, solo_fits, going_after, goings_after, goings_long, meeting_is, meeting_within, offer_at, offers_long, replied, same_offers, solo_of_is, solo_within, Replied, event_is, strange_alone, client_ended, client_held}
 use Rattle.nc_base.specs.declared.step.OfferKind.TheVariants as offer
 use Rattle.nc_base.specs.declared.step.RankItem.TheVariants as item
 use Rattle.nc_base.specs.declared.step.Reply as reply
@@ -21,11 +21,7 @@ pub record Stepped (s : Setting) (d : Owner) (goings : List Going) (coming : ℕ
   pub stands : Stands s e.owner after coming given end
 
 by_number : (P : ℕ → Type 0) (q r : ℕ) → P r → ((q ≡ r → ⊥) → P q) → P q
-by_number P q r here there = by (eqb_tells q r)
-  where
-    by : (((q == r) ≡ true) × (q ≡ r)) ⊎ (((q == r) ≡ false) × (q ≡ r → ⊥)) → P q
-    by (inl (e, f)) = subst P (sym f) here
-    by (inr (e, f)) = there f
+by_number P q r here there = grind (arith, nat_tests, eqb_tells)
 
 known_low : (header : Header) (n : ℕ) (o : Offer) → strange_offer header n (Some o) ≡ false → o.known ≤ n
 unfolding strange_offer
@@ -33,25 +29,14 @@ known_low header n o h = ltb-false n o.known (or_first_false _ _ h)
 
 not_stray : (header : Header) (n m : ℕ) (o : Offer) → n ≤ m → strange_offer header n (Some o) ≡ false → strange_offer header m (Some o) ≡ false
 unfolding strange_offer
-not_stray header n m o l h =
-    let low = ltb-false n o.known (or_first_false _ _ h) in
-    or_from _ _ (not_above m o.known (omega arith)) (or_second_false (nat_lt n o.known) _ h)
-  where
-    not_above : (a b : ℕ) → b ≤ a → nat_lt a b ≡ false
-    not_above a b k = grind (arith, nat_tests)
+not_stray header n m o l h = grind (arith, nat_tests, ltb-false, or_first_false, or_from, or_second_false)
 
 fifth_false : (a b c d e : Bool) → some_true (a ∷ b ∷ c ∷ d ∷ e ∷ []) ≡ false → e ≡ false
-fifth_false true b c d e h = cc
-fifth_false false true c d e h = cc
-fifth_false false false true d e h = cc
-fifth_false false false false true e h = cc
-fifth_false false false false false true h = cc
-fifth_false false false false false false h = refl
+fifth_false a b c d e h = grind (arith, nat_tests)
 
 pub fits_now : (s : Setting) (d : Owner) (r c : ℕ) (o : Offer) → is_strange s d (r, item.Offer c o) ≡ false → strange_offer s.header d.reached (Some o) ≡ false
 unfolding is_strange
-fits_now s d r c o h =
-    fifth_false (has_ended (slice_get d.clients r)) (has_held (slice_get d.clients r)) _ (left_behind (event s d (r, item.Offer c o)).owner.clients) (strange_offer s.header d.reached (Some o)) h
+fits_now s d r c o h = grind (arith, nat_tests, fifth_false)
 
 -- ---- an end, or an offer that is held
 
@@ -62,9 +47,7 @@ set_one : (s : Setting) (d : Owner) (goings : List Going) (r : ℕ) (i : RankIte
 set_one s d goings r i rest x y g given end a b mine own t = record {
   long = length-set d.clients r y ∙ t.long;
   paired_at = λ q z h c e. by_number (λ p. slice_get (set d.clients r y) p ≡ Some z → slice_get goings p ≡ Some h → IsPaired s.header z h (own_items p rest) (given p) (end p)) q r here (λ n. there q z h n) c e;
-  held = λ q z o c e. by_number (λ p. slice_get (set d.clients r y) p ≡ Some z → strange_offer s.header d.reached (Some o) ≡ false) q r
-      (λ f. own o (ap (λ (w : Client). w.held) (same_Some y z (sym (entry_set d.clients r x y a) ∙ f)) ∙ e))
-      (λ n f. t.held q z o (sym (entry_set_other d.clients r q y n) ∙ f) e) c;
+  held = λ q z o c e. grind (arith, nat_tests, set d.clients r y, entry_set d.clients r x y a, by_number, same_Some, entry_set_other);
   counted = t.counted;
   small = t.small;
 }
@@ -81,13 +64,11 @@ set_one s d goings r i rest x y g given end a b mine own t = record {
 
 mine_first : (s : Setting) (d : Owner) (goings : List Going) (r : ℕ) (i : RankItem) (rest : List Arrival) (x : Client) (g : Going) (given : ℕ → List OwnerItem) (end : ℕ → Going) → slice_get d.clients r ≡ Some x
     → slice_get goings r ≡ Some g → Stands s d goings (λ q. own_items q ((r, i) ∷ rest)) given end → IsPaired s.header x g (i ∷ own_items r rest) (given r) (end r)
-mine_first s d goings r i rest x g given end a b t =
-    sits_as s.header x x g (own_items r ((r, i) ∷ rest)) (i ∷ own_items r rest) (given r) (given r) (end r) refl (own_here r i rest) refl (t.paired_at r x g a b)
+mine_first s d goings r i rest x g given end a b t = grind (arith, nat_tests, own_here r i rest, sits_as)
 
 ended_sits : (header : Header) (x : Client) (g : Going) (m : Bool) (items : List RankItem) (given : List OwnerItem) (end : Going) → IsPaired header x g (item.Ended m ∷ items) given end
     → IsPaired header (client_ended x m) g items given end
-ended_sits header x g m items given end t =
-    record { back = t.back; begins = t.begins; stream = begin_ended header x.held g t.back m items t.stream; waits = t.waits; enough = t.enough; ends = t.ends }
+ended_sits header x g m items given end t = grind (arith, nat_tests, begin_ended header x.held g t.back m items t.stream)
 
 -- nothing of it is done
 kept : (s : Setting) (d : Owner) (goings : List Going) (coming : ℕ → List RankItem) (clients : List Client) (given : ℕ → List OwnerItem) (end : ℕ → Going) → length clients ≡ length d.clients
@@ -132,10 +113,7 @@ solo_stands s d goings r c o rest x g given end a b free fit t = record {
     within = less_max d.reached (needed_now s (puts_of (r, o))) (record_limit s.header.version) t.small (solo_small s r d.reached o fit)
 
     few : (solo s r o d.state).1.records < record_limit s.header.version
-    few = below (solo_within s r d.reached o d.state (known_low s.header d.reached o fit)) within
-      where
-        below : {n k l : ℕ} → n ≤ k → k < l → n < l
-        below h k = omega arith
+    few = grind (arith, nat_tests, solo_within s r d.reached o d.state (known_low s.header d.reached o fit), known_low, within)
 
     here : {z : Client} {h : Going} → slice_get d.clients r ≡ Some z → slice_get (set goings r heard) r ≡ Some h → IsPaired s.header z h (own_items r rest) (given r) (end r)
     here {z} {h} e f =
@@ -152,16 +130,7 @@ solo_stands s d goings r c o rest x g given end a b free fit t = record {
 
 held_each : (clients : List Client) (P : Offer → Type 0) → list_all holds clients ≡ true → ((q : ℕ) (x : Client) (o : Offer) → slice_get clients q ≡ Some x → x.held ≡ Some o → P o)
     → (q : ℕ) (o : Offer) → slice_get (offers_held clients) q ≡ Some o → P o
-held_each clients P all f q o e =
-    let x = entry_beside (offers_held clients) clients q o (offers_long clients all) e in
-    by_held x.0 x.1 (some_or_none x.0.held)
-  where
-    by_held : (x : Client) → slice_get clients q ≡ Some x → (x.held ≡ None) ⊎ ((p : Offer) × (x.held ≡ Some p)) → P o
-    by_held x a (inl none) = absurd (never (sym (ap (λ (m : Option Offer). is_some m) none) ∙ passes_at holds clients all q x a))
-      where
-        never : false ≡ true → ⊥
-        never w = cc
-    by_held x a (inr (p, h)) = subst P (same_Some p o (sym (offer_at clients q x p all a h) ∙ e)) (f q x p a h)
+held_each clients P all f q o e = grind (arith, nat_tests, offers_long clients all, entry_beside, some_or_none, passes_at, same_Some, offer_at)
 
 meeting_stands : (s : Setting) (d : Owner) (goings : List Going) (coming : ℕ → List RankItem) (clients : List Client) (given : ℕ → List OwnerItem) (end : ℕ → Going) → list_all holds clients ≡ true
     → length clients ≡ length d.clients
@@ -192,10 +161,7 @@ meeting_stands s d goings coming clients given end all same t = record {
 
     none_freed : (xs : List Client) (q : ℕ) (z : Client) (o : Offer) → slice_get (map freed xs) q ≡ Some z → z.held ≡ Some o → ⊥
     none_freed [] q z o e f = cc
-    none_freed (x ∷ xs) zero z o e f = let k : z.held ≡ None = ap (λ (w : Client). w.held) (sym (same_Some (freed x) z e)) in never (sym k ∙ f)
-      where
-        never : None ≡ Some o → ⊥
-        never w = cc
+    none_freed (x ∷ xs) zero z o e f = grind (arith, nat_tests, same_Some (freed x) z e)
     none_freed (x ∷ xs) (suc q) z o e f = none_freed xs q z o e f
 
     one : (q : ℕ) (x : Client) (g : Going) (o : Offer) → slice_get clients q ≡ Some x → slice_get goings q ≡ Some g → x.held ≡ Some o → (y : Replied s (offers_held clients) d.state q)

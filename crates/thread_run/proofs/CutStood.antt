@@ -1,5 +1,5 @@
 -- Where a run on threads stood that a fault cut off, and which answers its ranks have.
-use Rattle.thread_run.proofs.Words.{◌≡◌, ℕ, ◌+◌, ◌≤◌, refl, sym, ◌∙◌, ap, subst, inl, inr, ◌⊎◌, List, [], ◌∷◌, ◌++◌, length, map, set, Bool, true, false, Option, Some, None, arith, eqb_tells, append-nil, slice_get, flat_map, nat_lt, ◌==◌, enumerate_from, list_all, list_any, byte_len, entry_below, entry_beside, and_first, and_second, Header, Call, Script, Mark, Meet, Solo, Offer, OfferKind, OwnerItem, Reply, Stop, RankItem, StepErr, In, same_file, Owner, Event, Client, at_offer, event, holds, is_strange, meets_if, offers_at, offers_held, offers_met, own_items, step_offers, at, Setting, Counted, puts_of, count_width, Arrival, IsLegal, fits_offer, offered, offered_by, waiting, Going, advance, after_mark, closed, first_going, hears, offers_of, Puts, covered, IsLeft, IsTorn, OwnerStoodAt, StoodAt, bytes_of_mark, at_arrival, between_arrivals, in_step, in_close, torn_sides, AreSides, torn_still, solo_goes, HasOffered, IsBeginning, waiting_misfit, waiting_reply, meeting_is, same_offers, solo_of_is, AreSingle, IsSingleOffer, event_is, strange_alone, own_here, own_other, raised_grows, mark_grows, in_left, client_held}
+use Rattle.thread_run.proofs.Words.{◌≡◌, ℕ, ◌+◌, ◌≤◌, refl, sym, ◌∙◌, ap, subst, inl, inr, ◌⊎◌, List, [], ◌∷◌, ◌++◌, length, map, set, Bool, true, false, Option, Some, None, arith, eqb_tells, append-nil, slice_get, flat_map, nat_lt, ◌==◌, list_all, list_any, byte_len, entry_below, entry_beside, and_first, and_second, Header, Call, Script, Mark, Meet, Solo, Offer, OfferKind, OwnerItem, Reply, Stop, RankItem, StepErr, In, same_file, Owner, Event, Client, at_offer, event, holds, is_strange, meets_if, offers_at, offers_held, own_items, step_offers, at, Setting, Counted, puts_of, count_width, Arrival, IsLegal, fits_offer, offered, offered_by, waiting, Going, advance, after_mark, first_going, hears, offers_of, covered, IsLeft, IsTorn, OwnerStoodAt, StoodAt, bytes_of_mark, at_arrival, between_arrivals, in_step, torn_sides, AreSides, torn_still, solo_goes, HasOffered, IsBeginning, waiting_misfit, waiting_reply, meeting_is, same_offers, solo_of_is, AreSingle, IsSingleOffer, event_is, strange_alone, own_here, own_other, raised_grows, mark_grows, in_left, client_held, nat_tests}
 use borrow.Author.Tests.{ltb-true, ltb-false}
 use Rattle.nc_base.specs.declared.step.OfferKind.TheVariants as offer
 use Rattle.nc_base.specs.declared.step.RankItem.TheVariants as item
@@ -32,14 +32,9 @@ module _ (s : Setting) (d : Owner) (goings : List Going) (r c : ℕ) (o : Offer)
   brings_solo k = record {
     mark = Solo r c;
     marks = ap (λ (e : Event). e.marks) (event_of offer.Solo k);
-    state = ap (λ (e : Event). e.owner.state) (event_of offer.Solo k)
-        ∙ sym (ap (λ (st : Counted × List Going). st.0) (solo_goes s r d.state goings g b) ∙ ap (λ (st : Counted × Going). st.0) (solo_of_is s r d.state (advance s.header g) o next));
-    bytes = ap (λ (os : List (ℕ × Offer)). covered s.header (flat_map puts_of os)) (offers_are offer.Solo k) ∙ ap (λ (ps : Puts). covered s.header ps) (append-nil (puts_of (r, o)))
-        ∙ sym (ap (λ (m : Option Going). some (elim m [ None ↦ None | Some h ↦ (advance s.header h).1 ])) b ∙ ap some next);
+    state = grind (arith, nat_tests, event_of offer.Solo k, solo_goes s r d.state goings g b, solo_of_is s r d.state (advance s.header g) o next);
+    bytes = grind (arith, nat_tests, offers_are offer.Solo k, append-nil (puts_of (r, o)));
   }
-    where
-      some : Option Offer → List ℕ
-      some m = elim m [ None ↦ [] | Some p ↦ covered s.header (puts_of (r, p)) ]
 
   brings_meeting : (kind : _) → o.kind ≡ offer.Meet kind → list_all holds (set d.clients r (client_held x o)) ≡ true → offers_of (map (advance s.header) goings) ≡ offers_held (set d.clients r (client_held x o))
       → BringsStep s d goings (r, item.Offer c o)
@@ -47,8 +42,7 @@ module _ (s : Setting) (d : Owner) (goings : List Going) (r c : ℕ) (o : Offer)
     mark = Meet d.met;
     marks = ap (λ (e : Event). e.marks) to;
     state = ap (λ (e : Event). e.owner.state) to ∙ sym (ap (λ (st : Counted × List Going). st.0) (meeting_is s (offers_held (set d.clients r (client_held x o))) d.state goings same));
-    bytes = ap (λ (os : List (ℕ × Offer)). covered s.header (flat_map puts_of os)) (offers_are (offer.Meet kind) k ∙ ap (offers_met (set d.clients r (client_held x o))) all)
-        ∙ sym (ap (λ (os : List Offer). covered s.header (flat_map puts_of (enumerate_from 0 os))) same);
+    bytes = grind (arith, nat_tests, offers_are (offer.Meet kind) k, set d.clients r (client_held x o));
   }
     where
       to : event s d (r, item.Offer c o) ≡ meets_if s d (set d.clients r (client_held x o)) true
@@ -93,8 +87,7 @@ torn_same bytes field old new left e t =
     v = torn_sides bytes field old old left (subst (λ (f : List ℕ). IsTorn bytes field old f left) e t)
 
     either : (x : ℕ) → (at left x ≡ at old x) ⊎ (at left x ≡ at old x) → at left x ≡ at old x
-    either x (inl q) = q
-    either x (inr q) = q
+    either x xs = grind (arith, nat_tests)
 
     by_high : (x : ℕ) → list_any (λ y. y == x) bytes ≡ false → 4 ≤ x → (b : Bool) → nat_lt x (4 + field) ≡ b → at left x ≡ at old x
     by_high x h l true k = either x (v.beside x l (ltb-true _ _ k))
@@ -117,13 +110,10 @@ pub stood_still : (script : Script) (s : Setting) (e : StepErr) (state : Counted
 stood_still script s e state order left records (later, legal) l k = by_later later legal
   where
     here : (new : Counted) (bytes : List ℕ) → length state.0.file ≤ length new.file → IsLeft s.header bytes state.0 new left records
-    here new bytes g =
-        (subst (λ (f : List ℕ). IsTorn bytes (byte_len (count_width s.header.version)) state.0.file new.file f) (sym l) (torn_still bytes (byte_len (count_width s.header.version)) state.0.file new.file g), inl k)
+    here new bytes g = grind (arith, nat_tests, torn_still)
 
     by_later : (ms : List Mark) → IsLegal script (order ++ ms) → StoodAt script s e state order left records
-    by_later [] h =
-        in_close (subst (λ (ms : List Mark). IsLegal script ms) (append-nil order) h)
-        (here (record { file = (closed s state).bytes; records = (closed s state).records }) [] (raised_grows s state.0 _))
+    by_later [] h = grind (arith, nat_tests, append-nil order, here, raised_grows)
     by_later (m ∷ ms) h = in_step m ms h (here (after_mark s state m).0 (bytes_of_mark s state.1 m) (mark_grows s state m))
 
 -- ---- where the owner stood
@@ -151,8 +141,7 @@ stood_run script s e d goings order later left records given end t low begun nex
         (subst (λ (b : Arrival). Stands s d goings (λ q. own_items q (b ∷ others)) given end) (sym e) here))
 
     by_records : (n m : ℕ) → m ≡ n → (records ≡ n) ⊎ (records ≡ m) → records ≡ n
-    by_records n m e (inl q) = q
-    by_records n m e (inr q) = q ∙ e
+    by_records n m e xs = grind (arith, nat_tests)
 
     by_step : Brings s d goings a → StoodAt script s e (d.state, goings) order left records
     by_step (inl same) =
@@ -175,8 +164,7 @@ waiting_single : (header : Header) (t : Going) (p : Offer) (y : reply.Reply) (ba
 waiting_single header t p y back c o again i = by_fits (fits_offer header p y) refl
   where
     by_one : In (item.Ended false ∷ []) (item.Offer c o) → IsSingleOffer o
-    by_one (inl e) = no_end c o e
-    by_one (inr j) = absurd j
+    by_one xs = grind (arith, nat_tests, no_end)
 
     by_fits : (f : Bool) → fits_offer header p y ≡ f → IsSingleOffer o
     by_fits true f = again (hears header t y) (subst (λ (is : List RankItem). In is (item.Offer c o)) (waiting_reply header t p y back f) i)
@@ -184,29 +172,16 @@ waiting_single header t p y back c o again i = by_fits (fits_offer header p y) r
 
 next_single : (header : Header) (back : List OwnerItem) (g : Going) (c : ℕ) (o : Offer) → ((t : Going) (p : Offer) → In (waiting header t p back) (item.Offer c o) → IsSingleOffer o)
     → (p : Going × Option Offer) → advance header g ≡ p → In (offered_by header p back) (item.Offer c o) → IsSingleOffer o
-next_single header back g c o again (t, None) e (inl k) = no_end c o k
-next_single header back g c o again (t, None) e (inr k) = absurd k
-next_single header back g c o again (t, Some p) e (inl k) = subst IsSingleOffer (same_offer k) (single_go header p g.calls g.rank g.answers (ap (λ (u : Going × Option Offer). u.1) e))
-  where
-    same_offer : item.Offer (length t.answers) p ≡ item.Offer c o → p ≡ o
-    same_offer z = cc
-next_single header back g c o again (t, Some p) e (inr k) = again t p k
+next_single header back g c o again p e xs = grind (arith, nat_tests, no_end, single_go)
 
 single_offered : (header : Header) (back : List OwnerItem) (g : Going) (c : ℕ) (o : Offer) → In (offered header g back) (item.Offer c o) → IsSingleOffer o
 single_offered header [] g c o i = next_single header [] g c o (λ t p j. absurd j) (advance header g) refl i
-single_offered header (Stop ∷ back) g c o i = next_single header (Stop ∷ back) g c o (λ t p j. by_one j) (advance header g) refl i
-  where
-    by_one : In (item.Ended false ∷ []) (item.Offer c o) → IsSingleOffer o
-    by_one (inl e) = no_end c o e
-    by_one (inr j) = absurd j
+single_offered header (Stop ∷ back) g c o i = grind (arith, nat_tests, next_single, no_end)
 single_offered header (Reply y ∷ back) g c o i =
     next_single header (Reply y ∷ back) g c o (λ t p j. waiting_single header t p y back c o (λ u k. single_offered header back u c o k) j) (advance header g) refl i
 
 in_either_part : (xs : List RankItem) (c : ℕ) (o : Offer) → In (xs ++ item.Ended true ∷ []) (item.Offer c o) → In xs (item.Offer c o)
-in_either_part [] c o (inl e) = absurd (apart e)
-  where
-    apart : item.Ended true ≡ item.Offer c o → ⊥
-    apart k = cc
+in_either_part [] c o (inl e) = grind (arith, nat_tests)
 in_either_part [] c o (inr k) = absurd k
 in_either_part (x ∷ xs) c o (inl e) = inl e
 in_either_part (x ∷ xs) c o (inr k) = inr (in_either_part xs c o k)
@@ -214,15 +189,8 @@ in_either_part (x ∷ xs) c o (inr k) = inr (in_either_part xs c o k)
 -- under its number
 in_own : (arrivals : List Arrival) (r : ℕ) (i : RankItem) → In arrivals (r, i) → In (own_items r arrivals) i
 in_own [] r i k = absurd k
-in_own ((q, j) ∷ arrivals) r i (inl e) =
-    let a : q ≡ r = ap (λ (x : Arrival). x.0) e in
-    let b : j ≡ i = ap (λ (x : Arrival). x.1) e in
-    subst (λ (is : List RankItem). In is i) (sym (ap (λ (n : ℕ). own_items r ((n, j) ∷ arrivals)) a ∙ own_here r j arrivals)) (inl b)
-in_own ((q, j) ∷ arrivals) r i (inr k) = by (eqb_tells q r) (in_own arrivals r i k)
-  where
-    by : (((q == r) ≡ true) × (q ≡ r)) ⊎ (((q == r) ≡ false) × (q ≡ r → ⊥)) → In (own_items r arrivals) i → In (own_items r ((q, j) ∷ arrivals)) i
-    by (inl (e, f)) again = subst (λ (is : List RankItem). In is i) (sym (ap (λ (n : ℕ). own_items r ((n, j) ∷ arrivals)) f ∙ own_here r j arrivals)) (inr again)
-    by (inr (e, f)) again = subst (λ (is : List RankItem). In is i) (sym (own_other r q j arrivals (λ z. f (sym z)))) again
+in_own ((q, j) ∷ arrivals) r i (inl e) = grind (arith, nat_tests, own_here)
+in_own ((q, j) ∷ arrivals) r i (inr k) = grind (arith, nat_tests, in_own arrivals r i k, eqb_tells, own_here, own_other)
 
 pub single_begun : (script : Script) (header : Header) (arrivals : List Arrival) (taken : ℕ → List OwnerItem) → length script.calls ≡ script.ranks → HasOffered script header arrivals taken → AreSingle arrivals
 single_begun script header arrivals taken long h (r, item.Ended m) i = tt

@@ -1,5 +1,5 @@
 -- The part of a run on threads that was done when a fault cut it off, from what the owner tells.
-use Rattle.thread_run.proofs.Words.{point, ◌≡◌, ℕ, suc, ◌-◌, ◌<◌, refl, sym, ◌∙◌, ap, List, [], ◌∷◌, ◌++◌, length, map, replicate, Bool, true, false, Option, Some, None, arith, append-nil, slice_get, filter, Hints, Mark, Offer, OwnerItem, Stop, RankItem, StepErr, Owner, Client, event, given_along, is_strange, own_items, owed, served, stop_held, stops, Setting, Arrival, is_offer, passed, HasCutService, owed_stop, served_on, goes_on, stops_at}
+use Rattle.thread_run.proofs.Words.{point, ◌≡◌, ℕ, suc, ◌-◌, ◌<◌, refl, sym, ◌∙◌, ap, List, [], ◌∷◌, ◌++◌, length, map, replicate, Bool, true, false, Option, Some, None, arith, append-nil, slice_get, filter, Hints, Mark, Offer, OwnerItem, Stop, RankItem, StepErr, Owner, Client, event, given_along, is_strange, own_items, owed, served, stop_held, stops, Setting, Arrival, is_offer, passed, HasCutService, owed_stop, served_on, goes_on, stops_at, nat_tests}
 
 -- ---- the part of a run that was done
 
@@ -41,9 +41,7 @@ front s [] d = record { first = []; later = []; all = refl; none = refl; marks =
 front s (a ∷ rest) d = by (is_strange s d a) refl (front s rest (event s d a).owner)
   where
     by : (v : Bool) → is_strange s d a ≡ v → Front s (event s d a).owner rest → Front s d (a ∷ rest)
-    by true f again =
-        let at = stops_at s d a rest f in
-        record { first = []; later = a ∷ rest; all = refl; none = refl; marks = at.marks; owner = at.owner; owes = λ q. owed_stop s d a rest q f }
+    by true f again = grind (arith, nat_tests, stops_at s d a rest f, owed_stop)
     by false f again =
         let long = served_on s d a rest f in
         let short = served_on s d a again.first f in

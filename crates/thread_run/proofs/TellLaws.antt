@@ -1,5 +1,5 @@
 -- What the owner tells along arrivals: the marks of its steps, each with the count that the serial run has after it.
-use Rattle.thread_run.proofs.Words.{◌≡◌, ℕ, refl, sym, ◌∙◌, ap, subst, inl, inr, ◌⊎◌, List, [], ◌∷◌, ◌++◌, map, set, Bool, true, false, Option, Some, None, append_cancel_left, map-append, slice_get, fold, list_all, Mark, Offer, OfferKind, RankItem, Owner, Ending, Event, Client, at_item, at_offer, event, event_at, holds, is_strange, meets_if, served, Counted, Setting, Arrival, Going, after_mark, served_on, stranger_on, counts_along, owner_told, each_told, stops_at, told_on, told_stop, client_held}
+use Rattle.thread_run.proofs.Words.{◌≡◌, ℕ, refl, sym, ◌∙◌, ap, ◌⊎◌, List, [], ◌∷◌, ◌++◌, map, set, Bool, true, false, None, append_cancel_left, map-append, fold, Mark, Owner, event, is_strange, served, Counted, Setting, Arrival, Going, after_mark, served_on, stranger_on, counts_along, owner_told, each_told, stops_at, told_on, told_stop, arith, nat_tests}
 use Rattle.nc_base.specs.declared.step.OfferKind.TheVariants as offer
 use Rattle.nc_base.specs.declared.step.RankItem.TheVariants as item
 
@@ -34,29 +34,8 @@ pub same_told : (s : Setting) (first later more rest : List Arrival) (d : Owner)
     → (served s d first).marks ≡ (served s d more).marks → owner_told s d first ≡ owner_told s d more
 same_told s [] later more rest d e none free marks = sym (none_told s d more (sym marks))
 same_told s (a ∷ first) later [] rest d e none free marks = none_told s d (a ∷ first) marks
-same_told s (a ∷ first) later (b ∷ more) rest d e none free marks = by (is_strange s d a) refl (λ f n z m. same_told s first later more rest (event s d a).owner f n z m)
-  where
-    same : a ≡ b
-    same = cc
-
-    others : first ++ later ≡ more ++ rest
-    others = cc
-
-    by : (v : Bool) → is_strange s d a ≡ v
-        → (first ++ later ≡ more ++ rest → (served s (event s d a).owner first).stranger ≡ None → (served s (event s d a).owner more).stranger ≡ None
-        → (served s (event s d a).owner first).marks ≡ (served s (event s d a).owner more).marks → owner_told s (event s d a).owner first ≡ owner_told s (event s d a).owner more)
-        → owner_told s d (a ∷ first) ≡ owner_told s d (b ∷ more)
-    by true f again = let z = sym (stranger_on s d a first f) ∙ none in absurd cc
-    by false f again =
-        let one = served_on s d a first f in
-        let other = served_on s d a more f in
-        let as_a = ap (λ (c : Arrival). served s d (c ∷ more)) same in
-        told_on s d a first f
-        ∙ ap (λ (told : List (Mark × ℕ)). each_told (event s d a) ++ told)
-        (again others (sym one.stranger ∙ none) (sym other.stranger ∙ ap (λ (x : Ending). x.stranger) as_a ∙ free)
-        (append_cancel_left (event s d a).marks (served s (event s d a).owner first).marks (served s (event s d a).owner more).marks
-        (sym one.marks ∙ marks ∙ sym (ap (λ (x : Ending). x.marks) as_a) ∙ other.marks)))
-        ∙ sym (told_on s d a more f) ∙ ap (λ (c : Arrival). owner_told s d (c ∷ more)) same
+same_told s (a ∷ first) later (b ∷ more) rest d e none free marks =
+    grind (arith, nat_tests, same_told s first later more rest (event s d a).owner, stranger_on, served_on, told_on, append_cancel_left)
 
 -- ---- the counts, by the steps of the serial run
 
@@ -74,43 +53,15 @@ IsOne marks = (marks ≡ []) ⊎ ((m : Mark) × (marks ≡ m ∷ []))
 
 event_one : (s : Setting) (d : Owner) (a : Arrival) → IsOne (event s d a).marks
 unfolding event
-event_one s d a = by_client (slice_get d.clients a.0)
-  where
-    by_full : (clients : List Client) (full : Bool) → IsOne (meets_if s d clients full).marks
-    by_full clients true = inr (_, refl)
-    by_full clients false = inl refl
-
-    by_kind : (c : ℕ) (o : Offer) (x : Client) (kind : OfferKind) → IsOne (at_offer s d a.0 c o x kind).marks
-    by_kind c o x offer.Solo = inr (_, refl)
-    by_kind c o x (offer.Meet kind) = by_full (set d.clients a.0 (client_held x o)) (list_all holds (set d.clients a.0 (client_held x o)))
-
-    by_item : (x : Client) (i : RankItem) → IsOne (at_item s d a.0 x i).marks
-    by_item x (item.Ended memory) = inl refl
-    by_item x (item.Offer c o) = by_kind c o x o.kind
-
-    by_client : (m : Option Client) → IsOne (event_at s d a m).marks
-    by_client None = inl refl
-    by_client (Some x) = by_item x a.1
+event_one s d a = grind (arith, nat_tests, set)
 
 one_told : (s : Setting) (u : Counted × List Going) (state : Counted) (after : List Going) (marks : List Mark) → IsOne marks → fold (after_mark s) u marks ≡ (state, after)
     → map (λ (m : Mark). (m, state.records)) marks ≡ counts_along (after_mark s) count_of u marks
-one_told s u state after marks (inl none) e =
-    subst (λ (ms : List Mark). map (λ (m : Mark). (m, state.records)) ms ≡ counts_along (after_mark s) count_of u ms) (sym none) refl
-one_told s u state after marks (inr (m, one)) e =
-    let at : fold (after_mark s) u (m ∷ []) ≡ (state, after) = subst (λ (ms : List Mark). fold (after_mark s) u ms ≡ (state, after)) one e in
-    subst (λ (ms : List Mark). map (λ (m : Mark). (m, state.records)) ms ≡ counts_along (after_mark s) count_of u ms) (sym one)
-    (ap (λ (n : ℕ). (m, n) ∷ []) (sym (ap (λ (v : Counted × List Going). count_of v) at)))
+one_told s u state after marks xs e = grind (arith, nat_tests)
 
 -- from one arrival to the next
 pub tells_more : (s : Setting) (d : Owner) (goings after : List Going) (a : Arrival) (rest : List Arrival) → is_strange s d a ≡ false
     → fold (after_mark s) (d.state, goings) (event s d a).marks ≡ ((event s d a).owner.state, after)
     → owner_told s (event s d a).owner rest ≡ counts_along (after_mark s) count_of ((event s d a).owner.state, after) (served s (event s d a).owner rest).marks
     → owner_told s d (a ∷ rest) ≡ counts_along (after_mark s) count_of (d.state, goings) (served s d (a ∷ rest)).marks
-tells_more s d goings after a rest e folded later =
-    let next : Event = event s d a in
-    let more : List Mark = (served s next.owner rest).marks in
-    let here = one_told s (d.state, goings) next.owner.state after next.marks (event_one s d a) folded in
-    told_on s d a rest e ∙ (λ i. here i ++ later i)
-    ∙ ap (λ (u : Counted × List Going). counts_along (after_mark s) count_of (d.state, goings) next.marks ++ counts_along (after_mark s) count_of u more) (sym folded)
-    ∙ sym (along_two s (d.state, goings) next.marks more)
-    ∙ sym (ap (λ (ms : List Mark). counts_along (after_mark s) count_of (d.state, goings) ms) (served_on s d a rest e).marks)
+tells_more s d goings after a rest e folded later = grind (arith, nat_tests, one_told, event_one, told_on, along_two, served_on)

@@ -1,5 +1,5 @@
 -- A run on threads, from what the owner tells and what the close tells.
-use Rattle.thread_run.proofs.Words.{◌≡◌, ℕ, ◌≤◌, refl, sym, ◌∙◌, ap, subst, inl, inr, ◌⊎◌, List, [], ◌∷◌, ◌++◌, map, max, replicate, true, Option, Some, None, nat_lt, IfSome, Header, RankEnd, RunEnd, ServeEnd, Script, DiskCall, Mark, OwnerItem, StepErr, Rose, after, with_end, Owner, Ending, first_owner, free_client, served, run_calls, store_records, raised, is_sound, Arrival, IsLegal, opening_owner, run_of, is_lawful, serial_from, setting_of, as_setting, counted, seen, HasBegun, HasCut, IsRun, AreSingle, owner_calls, HasFailed, IsDone, IsDoneSo, opening, passed, NoneBroke, most_known_of, Closing, rose_later, blank, with_end-with_end, rose_before, some_or_none, le_two}
+use Rattle.thread_run.proofs.Words.{◌≡◌, ℕ, ◌≤◌, refl, sym, ◌∙◌, ap, subst, inl, inr, ◌⊎◌, List, [], ◌∷◌, ◌++◌, map, max, replicate, true, Option, Some, None, nat_lt, IfSome, Header, RankEnd, RunEnd, ServeEnd, Script, DiskCall, Mark, OwnerItem, StepErr, Rose, after, with_end, Owner, Ending, first_owner, free_client, served, run_calls, store_records, raised, is_sound, Arrival, IsLegal, opening_owner, run_of, is_lawful, serial_from, setting_of, as_setting, counted, seen, HasBegun, HasCut, IsRun, AreSingle, owner_calls, HasFailed, IsDone, IsDoneSo, opening, passed, NoneBroke, most_known_of, Closing, rose_later, blank, with_end-with_end, rose_before, some_or_none, le_two, arith, nat_tests}
 use Rattle.nc_base.specs.declared.step.StepErr.TheVariants as fault
 use Rattle.thread_run.proofs.ThreadRuns.{Finished, FinishedAlike, FinishedSo, finished, finished_alike, finished_so}
 use Rattle.thread_run.proofs.ThreadTies.{Told, begun}
@@ -16,8 +16,7 @@ pub record OwnerSide (script : Script) (header : Header) (arrivals : List Arriva
   pub later : faults ≤ failed
 
 if_both : {X : Type 0} {P Q R : X → Type 0} (m : Option X) → IfSome m P → IfSome m Q → ((x : X) → P x → Q x → R x) → IfSome m R
-if_both None p q f = tt
-if_both (Some x) p q f = f x p q
+if_both m p q f = grind (arith, nat_tests)
 
 module _ (script : Script) (header : Header) (arrivals : List Arrival) (given : ℕ → List OwnerItem) (ends : List RankEnd)
     (sound : is_sound header ≡ true) (lawful : is_lawful script ≡ true) (t : Told script header arrivals given ends) where

@@ -1,5 +1,5 @@
 -- The owner's run beside the serial run, one arrival after another: its device calls, its offers, and what its ranks know.
-use Rattle.thread_run.proofs.Words.{◌≡◌, ℕ, ◌<◌, refl, sym, ◌∙◌, ap, subst, inl, inr, ◌⊎◌, List, [], ◌∷◌, ◌++◌, length, map, set, Bool, true, false, Option, Some, None, append-nil, length-set, slice_get, fold, nat_lt, list_all, same_Some, entry_below, entry_beside, and_first, Header, Answer, Call, Hints, Mark, Solo, MeetKind, Offer, OfferKind, RankItem, Want, In, Owner, Event, Client, at_item, at_offer, event, holds, is_strange, meets_if, own_items, owed, served, mark_calls, meeting_calls, solo_calls, Counted, Setting, Arrival, is_offer, Rank, step, Going, advance, after_mark, go, offers_of, rank_offer, calls_so_far, calls_more, get_set, own_here, Arrived, Stands, join, served_on, stranger_on, same_offers, event_is, not_ended, strange_alone, Lasting, IsPaired, offered_now, client_held, AreSingle, IsSingle, calls_at, calls_at_offer, calls_if, owner_calls, event_calls, IsSingleOffer, IsQuiet, quiet_step, calls_on}
+use Rattle.thread_run.proofs.Words.{◌≡◌, ℕ, ◌<◌, refl, sym, ◌∙◌, ap, subst, inl, inr, ◌⊎◌, List, [], ◌∷◌, ◌++◌, length, map, set, Bool, true, false, Option, Some, None, append-nil, length-set, slice_get, fold, nat_lt, list_all, same_Some, entry_below, entry_beside, and_first, Header, Answer, Call, Hints, Mark, MeetKind, Offer, OfferKind, RankItem, In, Owner, Event, Client, at_item, at_offer, event, holds, is_strange, meets_if, own_items, owed, served, meeting_calls, Counted, Setting, Arrival, is_offer, Rank, Going, advance, after_mark, go, offers_of, calls_so_far, calls_more, get_set, own_here, Arrived, Stands, join, served_on, stranger_on, same_offers, event_is, not_ended, strange_alone, Lasting, IsPaired, offered_now, client_held, AreSingle, IsSingle, calls_at, calls_at_offer, calls_if, owner_calls, event_calls, IsSingleOffer, quiet_step, calls_on, arith, nat_tests}
 use borrow.Author.Tests.{ltb-true}
 use Rattle.nc_base.specs.declared.step.OfferKind.TheVariants as offer
 use Rattle.nc_base.specs.declared.step.RankItem.TheVariants as item
@@ -22,14 +22,7 @@ pub record Onward (s : Setting) (Good : ℕ → Going → Type 0) (d : Owner) (g
   pub is : event s d (r, i) ≡ at_item s d r client i
 
 not_strange_of : (s : Setting) (d : Owner) (a : Arrival) (rest : List Arrival) → (served s d (a ∷ rest)).stranger ≡ None → is_strange s d a ≡ false
-not_strange_of s d a rest e = by (is_strange s d a) refl
-  where
-    by : (t : Bool) → is_strange s d a ≡ t → is_strange s d a ≡ false
-    by true f = absurd (never (sym (stranger_on s d a rest f) ∙ e))
-      where
-        never : Some a.0 ≡ None → ⊥
-        never z = cc
-    by false f = f
+not_strange_of s d a rest e = grind (arith, nat_tests, stranger_on)
 
 pub onward : (s : Setting) (Good : ℕ → Going → Type 0) (lasting : Lasting s.header Good) (ks : List MeetKind) (d : Owner) (goings : List Going) (r : ℕ) (i : RankItem) (rest : List Arrival)
     → Stands s Good ks d goings ((r, i) ∷ rest) → Onward s Good d goings r i rest
@@ -78,24 +71,13 @@ onward s Good lasting ks d goings r i rest t = by (entry_below goings r low)
 pub held_next : (s : Setting) (d : Owner) (goings : List Going) (r : ℕ) (x : Client) (g : Going) (o : Offer) → slice_get goings r ≡ Some g → (advance s.header g).1 ≡ Some o
     → ((q : ℕ) (x' : Client) (g' : Going) (o' : Offer) → slice_get d.clients q ≡ Some x' → slice_get goings q ≡ Some g' → x'.held ≡ Some o' → (advance s.header g').1 ≡ Some o')
     → (q : ℕ) (x' : Client) (g' : Going) (o' : Offer) → slice_get (set d.clients r (client_held x o)) q ≡ Some x' → slice_get goings q ≡ Some g' → x'.held ≡ Some o' → (advance s.header g').1 ≡ Some o'
-held_next s d goings r x g o at_going e waits q x' g' o' a b w = by (get_set d.clients r q (client_held x o) x' a)
-  where
-    by : ((q ≡ r) × (x' ≡ client_held x o)) ⊎ (slice_get d.clients q ≡ Some x') → (advance s.header g').1 ≡ Some o'
-    by (inl (n, f)) =
-        let same : g' ≡ g = same_Some g' g (sym b ∙ ap (λ (k : ℕ). slice_get goings k) n ∙ at_going) in
-        ap (λ (z : Going). (advance s.header z).1) same ∙ e ∙ sym (ap (λ (z : Client). z.held) f) ∙ w
-    by (inr f) = waits q x' g' o' f b w
+held_next s d goings r x g o at_going e waits q x' g' o' a b w = grind (arith, nat_tests, get_set, same_Some)
 
 -- ---- device calls
 
 module _ (hints : Hints) (s : Setting) (d : Owner) (goings : List Going) (r : ℕ) (x : Client) (g : Going) (at_client : slice_get d.clients r ≡ Some x) (at_going : slice_get goings r ≡ Some g)
     (long : length d.clients ≡ length goings)
     (waits : (q : ℕ) (x' : Client) (g' : Going) (o : Offer) → slice_get d.clients q ≡ Some x' → slice_get goings q ≡ Some g' → x'.held ≡ Some o → (advance s.header g').1 ≡ Some o) where
-  solo_is : (c : ℕ) (o : Offer) → (advance s.header g).1 ≡ Some o → solo_calls hints s r o d.state ≡ calls_so_far hints s (d.state, goings) (Solo r c ∷ [])
-  solo_is c o e =
-      let offered : rank_offer s goings r ≡ Some o = ap (λ (m : Option Going). elim m [ None ↦ None | Some h ↦ (advance s.header h).1 ]) at_going ∙ e in
-      sym (append-nil (mark_calls hints s (d.state, goings) (Solo r c)) ∙ ap (λ (m : Option Offer). elim m [ None ↦ [] | Some p ↦ solo_calls hints s r p d.state ]) offered)
-
   meets_is : (o : Offer) (t : Bool) → (advance s.header g).1 ≡ Some o → list_all holds (set d.clients r (client_held x o)) ≡ t
       → calls_if hints s d (set d.clients r (client_held x o)) t ≡ calls_so_far hints s (d.state, goings) (meets_if s d (set d.clients r (client_held x o)) t).marks
   meets_is o false e h = refl
@@ -106,13 +88,11 @@ module _ (hints : Hints) (s : Setting) (d : Owner) (goings : List Going) (r : �
       (held_next s d goings r x g o at_going e waits)))
 
   offer_is : (c : ℕ) (o : Offer) (k : OfferKind) → (advance s.header g).1 ≡ Some o → calls_at_offer hints s d (r, o) x k ≡ calls_so_far hints s (d.state, goings) (at_offer s d r c o x k).marks
-  offer_is c o offer.Solo e = solo_is c o e
-  offer_is c o (offer.Meet kind) e = meets_is o (list_all holds (set d.clients r (client_held x o))) e refl
+  offer_is c o k e = grind (arith, nat_tests, append-nil, meets_is, set)
 
   item_is : (i : RankItem) → ((c : ℕ) (o : Offer) → i ≡ item.Offer c o → (advance s.header g).1 ≡ Some o)
       → calls_at hints s d r i (Some x) ≡ calls_so_far hints s (d.state, goings) (at_item s d r x i).marks
-  item_is (item.Ended memory) f = refl
-  item_is (item.Offer c o) f = offer_is c o o.kind (f c o refl)
+  item_is i f = grind (arith, nat_tests, offer_is)
 
 -- the owner's device calls are those of the serial run, without the close
 pub calls_along : (hints : Hints) (s : Setting) (Good : ℕ → Going → Type 0) (lasting : Lasting s.header Good) (ks : List MeetKind) (d : Owner) (goings : List Going) (arrivals : List Arrival)
@@ -139,25 +119,11 @@ calls_along hints s Good lasting ks d goings ((r, i) ∷ rest) t =
 -- ---- offers that raise the count by their kind bring no puts
 
 pub single_go : (header : Header) (o : Offer) (calls : List Call) (r : Rank) (answers : List Answer) → (go header r answers calls).1 ≡ Some o → IsSingleOffer o
-single_go header o [] r answers e = absurd (never e)
-  where
-    never : None ≡ Some o → ⊥
-    never z = cc
-single_go header o (c ∷ calls) r answers e = by (step header r c) (quiet_step header r c) (λ r' answers' f. single_go header o calls r' answers' f) e
-  where
-    by : (next : Rank × Want) → IsQuiet next → ((r' : Rank) (answers' : List Answer) → (go header r' answers' calls).1 ≡ Some o → IsSingleOffer o)
-        → (elim next.1 as (λ (x : Want). Going × Option Offer) [
-          | want.Answered a ↦ go header next.0 (answers ++ a ∷ []) calls
-          | want.Meet p ↦ (record { rank = next.0; answers = answers; calls = calls }, Some p)
-          | want.Solo p ↦ (record { rank = next.0; answers = answers; calls = calls }, Some p)
-        ]).1 ≡ Some o → IsSingleOffer o
-    by (r', want.Answered a) q again f = again r' (answers ++ a ∷ []) f
-    by (r', want.Meet p) q again f = subst (λ (z : Offer). IsSingleOffer z) (same_Some p o f) q
-    by (r', want.Solo p) q again f = subst (λ (z : Offer). IsSingleOffer z) (same_Some p o f) q
+single_go header o [] r answers e = grind (arith, nat_tests)
+single_go header o (c ∷ calls) r answers e = grind (arith, nat_tests, single_go header o calls, quiet_step, same_Some)
 
 single_item : (header : Header) (g : Going) (i : RankItem) → ((c : ℕ) (o : Offer) → i ≡ item.Offer c o → (advance header g).1 ≡ Some o) → IsSingle i
-single_item header g (item.Ended memory) f = tt
-single_item header g (item.Offer c o) f = single_go header o g.calls g.rank g.answers (f c o refl)
+single_item header g i f = grind (arith, nat_tests, single_go)
 
 pub single_along : (s : Setting) (Good : ℕ → Going → Type 0) (lasting : Lasting s.header Good) (ks : List MeetKind) (d : Owner) (goings : List Going) (arrivals : List Arrival)
     → Stands s Good ks d goings arrivals → AreSingle arrivals

@@ -1,5 +1,5 @@
 -- A run on threads that a fault cut off, from what the owner tells and what the close tells.
-use Rattle.thread_run.proofs.Words.{◌≡◌, ℕ, ◌-◌, ◌<◌, ◌≤◌, refl, sym, ◌∙◌, ap, subst, inl, inr, ◌⊎◌, List, [], ◌∷◌, ◌++◌, length, map, max, replicate, Bool, true, false, cond, Option, Some, None, append_assoc, arith, append-nil, length-map, length-replicate, list_all-append, slice_get_within, same_Some, slice_get, nat_lt, filter, IfSome, byte_len, list_all, entry_below, entry_beside, and_second, Answer, Header, Call, RankEnd, RunEnd, ServeEnd, Script, Mark, OwnerItem, Stop, RankItem, StepErr, BothTold, Owner, event, first_owner, free_client, given_along, is_strange, offers_in, own_items, served, Setting, Counted, raised, count_width, is_sound, Arrival, IsLegal, is_offer, opening_owner, run_of, is_lawful, rank_end, told_of, Going, advance, after_mark, first_going, first_state, serial_from, setting_of, state_after, Begins, HasAnswers, HasAnswersOfEach, IsCutRun, IsLeft, IsTorn, OwnerStoodAt, StoodAt, in_step, in_close, as_setting, counted, HasOffered, completed, completed_by, contents_of, point, HasBegun, HasSaid, calls_of, cut_rows, no_answers, said_here, said_part, said_up, told_along, counts_along, owner_told, AreSingle, HasCutService, IsDone, IsDoneSo, opening, passed, HasCut, EndedAt, NoneBroke, most_known_of, EndOfCut, served_on, goes_on, mapped_entry}
+use Rattle.thread_run.proofs.Words.{◌≡◌, ℕ, ◌-◌, ◌<◌, ◌≤◌, refl, sym, ◌∙◌, ap, subst, inl, inr, ◌⊎◌, List, [], ◌∷◌, ◌++◌, length, map, max, replicate, Bool, true, false, cond, Option, Some, None, append_assoc, arith, append-nil, length-map, length-replicate, list_all-append, slice_get_within, same_Some, slice_get, nat_lt, filter, IfSome, byte_len, list_all, entry_below, entry_beside, and_second, Answer, Header, Call, RankEnd, RunEnd, ServeEnd, Script, Mark, OwnerItem, Stop, RankItem, StepErr, BothTold, Owner, event, first_owner, free_client, given_along, is_strange, offers_in, own_items, served, Setting, Counted, raised, count_width, is_sound, Arrival, IsLegal, is_offer, opening_owner, run_of, is_lawful, rank_end, told_of, Going, advance, after_mark, first_going, first_state, serial_from, setting_of, state_after, Begins, HasAnswers, IsCutRun, IsLeft, IsTorn, OwnerStoodAt, StoodAt, in_step, in_close, as_setting, counted, HasOffered, completed, completed_by, contents_of, point, HasBegun, HasSaid, calls_of, cut_rows, no_answers, said_here, said_part, said_up, told_along, counts_along, owner_told, AreSingle, HasCutService, IsDone, IsDoneSo, opening, passed, HasCut, EndedAt, NoneBroke, most_known_of, EndOfCut, served_on, goes_on, mapped_entry, nat_tests}
 use Rattle.std.proofs.lemmas.List.{length-append}
 use Rattle.nc_base.specs.declared.run.RankStop.TheVariants as stop
 use Rattle.nc_base.specs.declared.step.StepErr.TheVariants as fault
@@ -24,9 +24,6 @@ stood_as script s x e state order left records (inr memory') (between later lega
 
 module _ (script : Script) (header : Header) (arrivals : List Arrival) (given : ℕ → List OwnerItem) (ends : List RankEnd) (sound : is_sound header ≡ true) (lawful : is_lawful script ≡ true)
     (t : Told script header arrivals given ends) (file : List ℕ) (order : List Mark) (h : Service (setting_of script header) (opening_owner script header file) script.ranks arrivals given order) where
-  taken : ℕ → List OwnerItem
-  taken = takes script header arrivals given ends t
-
   stopped : ℕ → ℕ
   stopped q = length (given q) - length (given_along (setting_of script header) (opening_owner script header file) h.first q)
 
@@ -57,14 +54,7 @@ module _ (script : Script) (header : Header) (arrivals : List Arrival) (given : 
       by false l = l
 
   enough : (r : ℕ) → r < script.ranks → offers_in (own_items r (h.first ++ h.later)) ≤ length (takes script header arrivals given ends t r)
-  enough r l =
-      let own = own_at r l in
-      let o = own_of script header arrivals given ends t r own.0 own.1 in
-      let one = o.attended.one_each in
-      let few = offers_front (own_items r arrivals) o.arrived_of.0 in
-      let whole = ap (λ (items : List RankItem). offers_in items) o.arrived_of.1 in
-      let same = ap (λ (xs : List Arrival). offers_in (own_items r xs)) h.all in
-      omega arith
+  enough r l = grind (arith, nat_tests, own_at r l, own_of script header arrivals given ends t r (own_at r l).0 (own_at r l).1, offers_front)
 
   run : Ran (setting_of script header) (opening_owner script header file) (map (first_going header) script.calls) h.first h.later stopped (end_of_rank script header (takes script header arrivals given ends t))
   unfolding stopped

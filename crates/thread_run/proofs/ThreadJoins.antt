@@ -1,5 +1,5 @@
 -- Threads as they are joined.
-use Rattle.thread_run.proofs.Words.{◌≡◌, ℕ, refl, sym, ◌∙◌, ap, subst, inl, inr, ◌⊎◌, List, [], ◌∷◌, ◌++◌, length, map, Some, None, arith, append-nil, length-map, slice_get, same_Some, RankEnd, OwnerItem, RankItem, End, items_under, IsSettledOf, RankHandle}
+use Rattle.thread_run.proofs.Words.{◌≡◌, ℕ, refl, sym, ◌∙◌, ap, inl, inr, ◌⊎◌, List, [], ◌∷◌, ◌++◌, length, map, Some, arith, append-nil, length-map, slice_get, same_Some, RankEnd, OwnerItem, RankItem, End, items_under, IsSettledOf, RankHandle, nat_tests}
 use Rattle.thread_run.proofs.ThreadStarts.{get_push}
 
 pub map_snoc : {P X : Type 0} (f : P → X) (ps : List P) (p : P) (xs : List X) → map f (ps ++ p ∷ []) ++ xs ≡ map f ps ++ f p ∷ xs
@@ -11,10 +11,7 @@ AreSettledSoFar arrivals ones lines ends = (r : ℕ) (one : RankHandle) (line : 
     → IsSettledOf one (items_under r arrivals) line.items end
 
 pub settled_first : (arrivals : List (ℕ × RankItem)) (ones : List RankHandle) (lines : List (End OwnerItem)) (ends : List RankEnd) → ends ≡ [] → AreSettledSoFar arrivals ones lines ends
-settled_first arrivals ones lines ends e r one line end a b d = absurd (never (sym (ap (λ (v : List RankEnd). slice_get v r) e) ∙ d))
-  where
-    never : None ≡ Some end → ⊥
-    never z = cc
+settled_first arrivals ones lines ends e r one line end a b d = grind (arith, nat_tests)
 
 pub settled_push : (arrivals now : List (ℕ × RankItem)) (ones : List RankHandle) (lines : List (End OwnerItem)) (ends ends' : List RankEnd) (n : ℕ) (one : RankHandle) (line : End OwnerItem) (end : RankEnd)
     → ends' ≡ ends ++ end ∷ [] → length ends ≡ n → now ≡ arrivals → one.child.promise.ends.value.out.number ≡ n → slice_get ones n ≡ Some one → slice_get lines n ≡ Some line
@@ -24,13 +21,7 @@ settled_push arrivals now ones lines ends ends' n one line end e l same number a
     by : (slice_get ends r ≡ Some z) ⊎ ((r ≡ length ends) × (end ≡ z)) → IsSettledOf x (items_under r arrivals) y.items z
     by (inl f) = h r x y z a b f
     by (inr (m, f)) =
-        let place : r ≡ n = m ∙ l in
-        let first : one ≡ x = same_Some one x (sym at_one ∙ ap (slice_get ones) (sym place) ∙ a) in
-        let second : line ≡ y = same_Some line y (sym at_line ∙ ap (slice_get lines) (sym place) ∙ b) in
-        let here : IsSettledOf one (items_under r arrivals) line.items end =
-        subst (λ (q : ℕ). IsSettledOf one (items_under q arrivals) line.items end) (number ∙ sym place) (subst (λ (v : List (ℕ × RankItem)). IsSettledOf one (items_under one.child.promise.ends.value.out.number v) line.items end) same k) in
-        subst (λ (w : RankEnd). IsSettledOf x (items_under r arrivals) y.items w) f
-        (subst (λ (w : End OwnerItem). IsSettledOf x (items_under r arrivals) w.items end) second (subst (λ (w : RankHandle). IsSettledOf w (items_under r arrivals) line.items end) first here))
+        grind (arith, nat_tests, same_Some one x (sym at_one ∙ ap (slice_get ones) (sym (m ∙ l)) ∙ a), same_Some line y (sym at_line ∙ ap (slice_get lines) (sym (m ∙ l)) ∙ b))
 
 pub of_either : {A B P : Type 0} → A ⊎ B → (A → P) → (B → P) → P
 of_either (inl a) f h = f a

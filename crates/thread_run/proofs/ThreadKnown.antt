@@ -1,5 +1,5 @@
 -- The counts that the ranks know at their ends are such that the header can have.
-use Rattle.thread_run.proofs.Words.{◌≡◌, ℕ, suc, ◌*◌, ◌^◌, ◌<◌, refl, sym, ◌∙◌, ap, subst, inl, inr, ◌⊎◌, List, [], ◌∷◌, ◌++◌, length, map, max, set, Bool, true, false, Option, Some, None, arith, eqb_tells, nat_tests, length-set, map-append, slice_get, flat_map, fold, not, nat_lt, ◌==◌, IfSome, enumerate_from, list_all, list_any, same_Some, or_first_false, or_second_false, Pair, Header, Var, Post, Mark, MeetKind, Offer, OfferKind, RankItem, Owner, Event, Client, at_item, at_offer, event, holds, meets_if, needed_now, offers_held, refused, served, strange_offer, size_of, Counted, Setting, needs, puts_of, told, header_len, is_sound, Arrival, end_of, greatest, product, record_limit, needed, Going, advance, after_mark, Puts, sound_end, put_needed, bad_none, bad_put, passes_accepted, get_set, Stands, served_on, fold_two, offer_at, offers_long, Lasting, client_held, one_held, entry_beside}
+use Rattle.thread_run.proofs.Words.{◌≡◌, ℕ, suc, ◌*◌, ◌^◌, ◌<◌, refl, sym, ◌∙◌, ap, subst, inl, inr, ◌⊎◌, List, [], ◌∷◌, ◌++◌, length, map, max, set, Bool, true, false, Option, Some, None, arith, eqb_tells, nat_tests, length-set, map-append, slice_get, flat_map, fold, not, nat_lt, ◌==◌, IfSome, enumerate_from, list_all, list_any, same_Some, or_first_false, or_second_false, Pair, Header, Var, Post, Mark, MeetKind, Offer, OfferKind, RankItem, Owner, Event, Client, at_item, at_offer, event, holds, meets_if, needed_now, offers_held, refused, served, strange_offer, size_of, Counted, Setting, needs, puts_of, told, header_len, is_sound, Arrival, end_of, greatest, product, record_limit, needed, Going, advance, after_mark, Puts, sound_end, put_needed, bad_none, bad_put, passes_accepted, Stands, served_on, fold_two, offer_at, offers_long, Lasting, client_held, one_held, entry_beside}
 use Rattle.nc_base.specs.declared.request.Direction.TheVariants as way
 use Rattle.nc_base.specs.declared.step.OfferKind.TheVariants as offer
 use Rattle.nc_base.specs.declared.step.RankItem.TheVariants as item
@@ -23,8 +23,7 @@ module _ (header : Header) (sound : is_sound header ≡ true) where
   near_max a b h k = by (nat_lt a b) refl
     where
       by : (t : Bool) → nat_lt a b ≡ t → EndsNear (max a b)
-      by true e = let n : b ≡ max a b = grind (arith, nat_tests) in subst (λ (m : ℕ). EndsNear m) n k
-      by false e = let n : a ≡ max a b = grind (arith, nat_tests) in subst (λ (m : ℕ). EndsNear m) n h
+      by t e = grind (arith, nat_tests)
 
   near_post : (known : ℕ) (post : Post) → bad_put header known post ≡ false → EndsNear (needed header post)
   unfolding EndsNear
@@ -52,8 +51,7 @@ module _ (header : Header) (sound : is_sound header ≡ true) where
   unfolding most_needed
   near_posts known rank [] h = near_zero
   near_posts known rank (p ∷ posts) h =
-      near_max (needed header p) (greatest (map (λ q. needed header q.1) (map (λ post. (rank, post)) posts)))
-      (near_post known p (or_first_false _ _ h)) (near_posts known rank posts (or_second_false (bad_put header known p) _ h))
+      grind (arith, nat_tests, near_posts known rank posts (or_second_false (bad_put header known p) _ h), near_max, near_post, or_first_false, or_second_false)
 
   near_greatest : (xs ys : List ℕ) → EndsNear (greatest xs) → EndsNear (greatest ys) → EndsNear (greatest (xs ++ ys))
   near_greatest [] ys h k = k
@@ -68,9 +66,7 @@ module _ (header : Header) (sound : is_sound header ≡ true) where
 
   near_two : (a b : Puts) → EndsNear (most_needed a) → EndsNear (most_needed b) → EndsNear (most_needed (a ++ b))
   unfolding most_needed
-  near_two a b h k =
-      subst (λ (xs : List ℕ). EndsNear (greatest xs)) (sym (map-append (λ (p : ℕ × Post). needed header p.1) a b))
-      (near_greatest (map (λ p. needed header p.1) a) (map (λ p. needed header p.1) b) h k)
+  near_two a b h k = grind (arith, nat_tests, map-append, near_greatest)
 
   near_all : (n : ℕ) (offers : List Offer) (a : ℕ) → ((q : ℕ) (o : Offer) → slice_get offers q ≡ Some o → strange_offer header n (Some o) ≡ false)
       → EndsNear (most_needed (flat_map puts_of (enumerate_from a offers)))
@@ -113,8 +109,7 @@ module _ (s : Setting) (sound : is_sound s.header ≡ true) (d : Owner) (goings 
 
   near_offer : (c : ℕ) (o : Offer) (k : OfferKind) → (advance s.header g).1 ≡ Some o → EndsNear s.header sound (at_offer s d r c o x k).owner.reached
   near_offer c o offer.Solo e =
-      near_max s.header sound d.reached (needed_now s (puts_of (r, o))) near
-      (near_needs s sound (puts_of (r, o)) (near_posts s.header sound o.known r o.batch.puts (bad_none s.header d.reached o (fits r g o at_going e))))
+      grind (arith, nat_tests, near_posts s.header sound o.known r o.batch.puts (bad_none s.header d.reached o (fits r g o at_going e)), near_max, near_needs, bad_none)
   near_offer c o (offer.Meet kind) e = near_meets o (list_all holds (set d.clients r (client_held x o))) e refl
 
   near_item : (i : RankItem) → ((c : ℕ) (o : Offer) → i ≡ item.Offer c o → (advance s.header g).1 ≡ Some o) → EndsNear s.header sound (at_item s d r x i).owner.reached

@@ -1,5 +1,5 @@
 -- Lists that grow by one, and what stands in their middle: threads as they are started and joined.
-use Rattle.thread_run.proofs.Words.{◌≡◌, ℕ, zero, suc, ◌+◌, ◌<◌, refl, sym, ◌∙◌, ap, subst, inl, inr, ◌⊎◌, List, [], ◌∷◌, ◌++◌, All, length, map, Some, arith, length-map, All-head, All-tail, slice_get, range_with_len, Header, Script, OwnerItem, RankItem, End, Line, AreOf, AreRankHandles, IsOf, IsRankHandle, RankHandle, Word, slice_get_within, long_push}
+use Rattle.thread_run.proofs.Words.{◌≡◌, ℕ, zero, suc, ◌+◌, ◌<◌, refl, sym, ◌∙◌, ap, subst, inl, inr, ◌⊎◌, List, [], ◌∷◌, ◌++◌, All, length, map, Some, arith, length-map, All-head, All-tail, slice_get, range_with_len, Header, Script, OwnerItem, RankItem, End, Line, AreOf, AreRankHandles, IsOf, IsRankHandle, RankHandle, Word, slice_get_within, long_push, nat_tests}
 
 -- ---- the middle of a list
 
@@ -25,15 +25,9 @@ pub number_middle : {X : Type 0} (f : X → ℕ) (ys : List X) (z : X) (zs xs : 
 number_middle f ys z zs xs n e h = let a = at ys 0 n (ap (map f) e ∙ h) in let b = a.0 in (omega arith, a.1)
   where
     at : (ys : List _) (from n : ℕ) → map f (ys ++ z ∷ zs) ≡ range_with_len from n → (f z ≡ from + length ys) × (length ys < n)
-    at [] from zero k = absurd (never k)
-      where
-        never : f z ∷ map f zs ≡ [] → ⊥
-        never w = cc
+    at [] from zero k = grind (arith, nat_tests)
     at [] from (suc n) k = let a : f z ≡ from = cc in (omega arith, omega arith)
-    at (y ∷ ys) from zero k = absurd (never k)
-      where
-        never : f y ∷ map f (ys ++ z ∷ zs) ≡ [] → ⊥
-        never w = cc
+    at (y ∷ ys) from zero k = grind (arith, nat_tests)
     at (y ∷ ys) from (suc n) k = let a = at ys (from + 1) n cc in let b = a.0 in let c = a.1 in (omega arith, omega arith)
 
 pub snoc_append : {X : Type 0} (xs : List X) (x : X) (ys : List X) → (xs ++ x ∷ []) ++ ys ≡ xs ++ x ∷ ys
@@ -47,37 +41,16 @@ pub get_push : {X : Type 0} (xs : List X) (x y : X) (q : ℕ) → slice_get (xs 
 get_push [] x y zero e = inr (refl, cc)
 get_push [] x y (suc q) e = cc
 get_push (z ∷ xs) x y zero e = inl e
-get_push (z ∷ xs) x y (suc q) e = by (get_push xs x y q e)
-  where
-    by : (slice_get xs q ≡ Some y) ⊎ ((q ≡ length xs) × (x ≡ y)) → (slice_get xs q ≡ Some y) ⊎ ((suc q ≡ length (z ∷ xs)) × (x ≡ y))
-    by (inl f) = inl f
-    by (inr (a, f)) = inr (omega arith, f)
+get_push (z ∷ xs) x y (suc q) e = grind (arith, nat_tests, get_push xs x y q e)
 
 -- ---- threads
 
 pub of_push : (header : Header) (script : Script) (ones now : List RankHandle) (one : RankHandle) → now ≡ ones ++ one ∷ [] → AreOf header script ones → IsOf header script one → AreOf header script now
-of_push header script ones now one e h k r x f = by (get_push ones one x r (sym (ap (λ (v : List RankHandle). slice_get v r) e) ∙ f))
-  where
-    by : (slice_get ones r ≡ Some x) ⊎ ((r ≡ length ones) × (one ≡ x)) → IsOf header script x
-    by (inl g) = h r x g
-    by (inr (a, g)) = subst (λ (z : RankHandle). IsOf header script z) g k
+of_push header script ones now one e h k r x f = grind (arith, nat_tests, get_push)
 
 pub handles_push : (inbox : Line (ℕ × RankItem)) (words : List Word) (ones ones' : List RankHandle) (lines lines' : List (End OwnerItem)) (one : RankHandle) (line : End OwnerItem)
     → ones' ≡ ones ++ one ∷ [] → lines' ≡ lines ++ line ∷ [] → AreRankHandles inbox words ones lines → IsRankHandle inbox (length ones) words one line → AreRankHandles inbox words ones' lines'
-handles_push inbox words ones ones' lines lines' one line e f h k = record {
-  long = both_long ones ones' one lines line e h.long ∙ sym (ap (λ (v : List (End OwnerItem)). length v) f);
-  each = λ r x y a b.
-      by r x y (get_push ones one x r (sym (ap (λ (v : List RankHandle). slice_get v r) e) ∙ a)) (get_push lines line y r (sym (ap (λ (v : List (End OwnerItem)). slice_get v r) f) ∙ b));
-}
-  where
-    by : (r : ℕ) (x : RankHandle) (y : End OwnerItem) → (slice_get ones r ≡ Some x) ⊎ ((r ≡ length ones) × (one ≡ x)) → (slice_get lines r ≡ Some y) ⊎ ((r ≡ length lines) × (line ≡ y))
-        → IsRankHandle inbox r words x y
-    by r x y (inl a) (inl b) = h.each r x y a b
-    by r x y (inl a) (inr (n, b)) = let l = slice_get_within ones r x a in let w = h.long in absurd (omega arith)
-    by r x y (inr (n, a)) (inl b) = let l = slice_get_within lines r y b in let w = h.long in absurd (omega arith)
-    by r x y (inr (n, a)) (inr (m, b)) =
-        subst (λ (q : ℕ). IsRankHandle inbox q words x y) (sym n)
-        (subst (λ (z : RankHandle). IsRankHandle inbox (length ones) words z y) a (subst (λ (z : End OwnerItem). IsRankHandle inbox (length ones) words one z) b k))
+handles_push inbox words ones ones' lines lines' one line e f h k = grind (arith, nat_tests, both_long, get_push, slice_get_within)
 
 pub handle_at : (inbox of : Line (ℕ × RankItem)) (r number : ℕ) (words : List Word) (one : RankHandle) (line : End OwnerItem) → number ≡ r → of ≡ inbox → IsRankHandle of number words one line → IsRankHandle inbox r words one line
 handle_at inbox of r number words one line e f k = subst (λ (q : ℕ). IsRankHandle inbox q words one line) e (subst (λ (l : Line (ℕ × RankItem)). IsRankHandle l number words one line) f k)
@@ -85,5 +58,4 @@ handle_at inbox of r number words one line e f k = subst (λ (q : ℕ). IsRankHa
 -- its own number is the one that it was given
 pub own_number : (inbox now : Line (ℕ × RankItem)) (r : ℕ) (words : List Word) (one : RankHandle) (line : End OwnerItem) → inbox ≡ now → IsRankHandle inbox r words one line
     → IsRankHandle now one.child.promise.ends.value.out.number words one line
-own_number inbox now r words one line e k =
-    record { number = refl; of_inbox = k.of_inbox ∙ e; word = k.word; back = k.back; told = k.told }
+own_number inbox now r words one line e k = grind (arith, nat_tests)

@@ -1,5 +1,5 @@
 -- What each rank's thread and the owner tell by themselves, and that it ties them.
-use Rattle.thread_run.proofs.Words.{◌≡◌, ℕ, ◌<◌, refl, sym, ◌∙◌, ap, subst, inl, inr, ◌⊎◌, List, [], ◌∷◌, ◌++◌, length, take, drop, true, Option, Some, None, arith, slice_get_within, slice_get, nat_lt, IsTrue, list_all, entry_below, Header, Call, RankEnd, RankStop, Script, OwnerItem, RankItem, own_items, Arrival, HasEnd, IsAgreed, IsJoined, IsTied, back_of, run_of, is_lawful, offered, first_going, AreAlike, HasOffered, IsBeginning, offered_alike, begun_each, begun_known, long_whole, tied_each, tied_joins, HasAttended, HasBroken, HasFinished, HasBegun, IsSettled, calls_of, NoneBroke, alike_take, alike_long, take-append-drop, length-take-le, first_of, prefix_long, front_or_all}
+use Rattle.thread_run.proofs.Words.{◌≡◌, ℕ, ◌<◌, refl, sym, ◌∙◌, ap, subst, inl, inr, ◌⊎◌, List, [], ◌∷◌, ◌++◌, length, take, drop, true, Option, Some, None, arith, slice_get_within, slice_get, nat_lt, IsTrue, list_all, entry_below, Header, Call, RankEnd, RankStop, Script, OwnerItem, RankItem, own_items, Arrival, HasEnd, IsAgreed, IsJoined, IsTied, back_of, run_of, is_lawful, offered, first_going, AreAlike, HasOffered, IsBeginning, offered_alike, begun_each, begun_known, long_whole, tied_each, tied_joins, HasAttended, HasBroken, HasFinished, HasBegun, IsSettled, calls_of, NoneBroke, alike_take, alike_long, take-append-drop, length-take-le, first_of, prefix_long, front_or_all, nat_tests}
 use mathlib.Core.List.{IsPrefix}
 use Rattle.nc_base.specs.declared.run.RankStop.TheVariants as stop
 use Rattle.nc_base.specs.declared.step.RankItem.TheVariants as item
@@ -16,10 +16,7 @@ calls_at : (script : Script) (r : ℕ) (own : List Call) → slice_get script.ca
 calls_at script r own e = ap (λ (m : Option (List Call)). elim m [ None ↦ [] | Some z ↦ z ]) e
 
 pub broke_or_not : (x : RankStop) → (x ≡ stop.Memory) ⊎ (x ≡ stop.Memory → ⊥)
-broke_or_not stop.Memory = inl refl
-broke_or_not stop.Done = inr (λ e. cc)
-broke_or_not stop.Stopped = inr (λ e. cc)
-broke_or_not stop.Misfit = inr (λ e. cc)
+broke_or_not x = grind (arith, nat_tests)
 
 -- one rank of the script
 pub record Own (header : Header) (own : List Call) (arrived : List RankItem) (given : List OwnerItem) (ends : List RankEnd) (r : ℕ) (put : List RankItem) (taken : List OwnerItem) : Type 0 where
@@ -55,17 +52,8 @@ module _ (script : Script) (header : Header) (arrivals : List Arrival) (given : 
       low = let a = low_rank r own e in let b = t.long in omega arith
 
       by : (m : Option RankEnd) (q : slice_get ends r ≡ m) → Own header own (own_items r arrivals) (given r) ends r (put_in r m q) (taken_in r m q)
-      by None q = absurd (none_some (sym q ∙ (entry_below ends r low).1))
-        where
-          none_some : {x : RankEnd} → None ≡ Some x → ⊥
-          none_some z = cc
-      by (Some end) q = record {
-        end = end;
-        at_end = q;
-        attended = subst (λ (cs : List Call). HasAttended header cs (t.each r end q).put (t.each r end q).taken end) (calls_at script r own e) (t.each r end q).attended;
-        arrived_of = (t.each r end q).arrived_of;
-        came_back = (t.each r end q).came_back;
-      }
+      by None q = grind (arith, nat_tests, entry_below ends r low, low)
+      by (Some end) q = grind (arith, nat_tests, calls_at script r own e)
 
   -- ---- where the run may have been cut off
 

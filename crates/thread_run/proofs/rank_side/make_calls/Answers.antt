@@ -102,8 +102,8 @@ returns-then-not-fits-clause-stood g c =
           (stood_misfit header own account.0 account.1 (asking own runner) o c.in-Reply.reply left here (sym fits ∙ c.if-not-fits.true) refl refl),
     )
 
-pub hear-requires-clause-waits : goal.hear-requires-clause-waits
-hear-requires-clause-waits g c =
+pub hear-requires : goal.hear-requires
+hear-requires g c =
     let own = c.own_calls-calls.result.now in
     let header = c.args.header.now in
     let runner = c.offers.runner in
@@ -111,20 +111,13 @@ hear-requires-clause-waits g c =
     let placed = c.offers.invariant.placed in
     let with_offer = placed_held c.args.script.now header placed.0 c.number-number.result own runner o (sym c.in-Some.ensures.value) placed.1 in
     let waits = placed_waits c.args.script.now header placed.0 c.number-number.result (asking own runner) o with_offer in
-    waits.0
-
-pub hear-requires-clause-fits : goal.hear-requires-clause-fits
-hear-requires-clause-fits g c =
-    let own = c.own_calls-calls.result.now in
-    let header = c.args.header.now in
-    let runner = c.offers.runner in
-    let o = c.in-Some.offer in
-    let placed = c.offers.invariant.placed in
-    let with_offer = placed_held c.args.script.now header placed.0 c.number-number.result own runner o (sym c.in-Some.ensures.value) placed.1 in
-    let waits = placed_waits c.args.script.now header placed.0 c.number-number.result (asking own runner) o with_offer in
-    let fits = fits_is runner.rank.state.«open» header runner.rank.header o c.in-Reply.reply c.fits.result c.offers.invariant.of_header waits c.fits.ensures in
-    fits_open runner.rank.state.«open» header runner.rank.header o.batch.gets c.in-Reply.reply.got c.offers.invariant.of_header waits.1
-    (fits_long header o c.in-Reply.reply (sym fits ∙ c.if-not-fits.false))
+    record {
+      waits = waits.0;
+      fits =
+          let fits = fits_is runner.rank.state.«open» header runner.rank.header o c.in-Reply.reply c.fits.result c.offers.invariant.of_header waits c.fits.ensures in
+          fits_open runner.rank.state.«open» header runner.rank.header o.batch.gets c.in-Reply.reply.got c.offers.invariant.of_header waits.1
+          (fits_long header o c.in-Reply.reply (sym fits ∙ c.if-not-fits.false));
+    }
 
 pub returns-in_err-hear-clause-stood : goal.returns-in_err-hear-clause-stood
 returns-in_err-hear-clause-stood g c =
