@@ -70,7 +70,7 @@ def independent(steps):
 def unaligned(sums, unit):
     calls, odd = sums["writes"]["calls"] + sums["reads"]["calls"], sums["writes"]["unaligned"] + sums["reads"]["unaligned"]
     if unit > 1 and odd * 2 >= calls > 0:
-        yield "%d of %d device calls begin or end off the multiples of striping_unit (%d). nc_var_align_size %d lets variables begin there." % (
+        yield "%d of %d device calls begin off the multiples of striping_unit (%d). nc_var_align_size %d lets variables begin there." % (
             odd, calls, unit, unit)
 
 
