@@ -132,6 +132,18 @@ static MPI_Offset product(int dims, const MPI_Offset *count)
     return made;
 }
 
+/* The values of memory that an index map spans, or one past the limit where they are more; each count is 1 or more. */
+static MPI_Offset spanned(int dims, const MPI_Offset *count, const MPI_Offset *imap)
+{
+    MPI_Offset last = 0;
+    for (int i = 0; i < dims; i++) {
+        if (count[i] > 1 && imap[i] > ELEMENTS / (count[i] - 1))
+            return ELEMENTS + 1;
+        last += (count[i] - 1) * imap[i];
+    }
+    return last < ELEMENTS ? last + 1 : ELEMENTS + 1;
+}
+
 static void measure(Access *access)
 {
     int dims = access->dims > 0 ? access->dims : 0;
@@ -141,11 +153,8 @@ static void measure(Access *access)
     if (access->form != VARN)
         access->elements = access->form == VAR1 ? 1 : product(dims, access->form == VAR ? access->length : access->count);
     access->reach = access->elements;
-    if (access->form == VARM && access->elements > 0 && access->elements <= ELEMENTS) {
-        access->reach = 1;
-        for (int i = 0; i < dims; i++)
-            access->reach += (access->count[i] - 1) * access->imap[i];
-    }
+    if (access->form == VARM && access->elements > 0 && access->elements <= ELEMENTS)
+        access->reach = spanned(dims, access->count, access->imap);
     if (access->refusal == NULL && (access->elements > ELEMENTS || access->reach > ELEMENTS))
         access->refusal = "ETOOLARGE";
 }

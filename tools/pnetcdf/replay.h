@@ -52,7 +52,7 @@ const char *code_name(int code);
 
 /* The run of one rank. */
 typedef struct {
-    int ncid, rank, ranks, call, meetings;
+    int ncid, rank, ranks, call;
     bool independent;
     Text answers, order;   /* of the order: a line for each stretch between two meetings */
 } Run;
