@@ -3,7 +3,7 @@ import os
 from dataclasses import dataclass, field
 
 from .ranks import RankMerger
-from .traces import TraceFault, read_heads
+from .traces import TraceFault, path_of, read_heads
 
 
 @dataclass
@@ -18,11 +18,10 @@ class Opening:
 
     @property
     def shown(self):
-        """The path, from the folder of the user where it lies below it, whether it was created or opened, and by how many ranks."""
+        """The path, whether it was created or opened, and by how many ranks."""
         count = len(self.world)
         how = "created" if self.how == "create" else "opened"
         return "%s, %s by %d rank%s" % (shown_path(self.path), how, count, "" if count == 1 else "s")
-
 
     @property
     def changed(self):
@@ -47,14 +46,11 @@ class Traced:
     remarks: list
     traces: list
 
-    @property
-    def has_values(self):
-        return all(trace.has_values for trace in self.traces)
-
 
 def shown_path(path):
+    """The path as it is shown: from the user's folder on where it lies below it, and without bytes that are no text."""
     own = os.path.relpath(path)
-    return path if own.startswith("..") else own
+    return os.fsencode(path if own.startswith("..") else own).decode("utf-8", "replace")
 
 
 class Reader:
@@ -77,7 +73,7 @@ class Reader:
             for merger, world in open_now.values():
                 merger.barrier(event.given["over"], world)
         elif event.call == "delete":
-            self.chain.append((event.given.get("time", 0), Deletion(event.given["path"], trace.copy(event.given.get("before")))))
+            self.chain.append((event.given.get("time", 0), Deletion(path_of(event.given["path"]), trace.copy(event.given.get("before")))))
         elif event.call in ("create", "open"):
             open_now[event.given["dataset"]] = self.opened(trace, event)
         elif event.given.get("dataset") in open_now:
@@ -89,7 +85,7 @@ class Reader:
         key = given.get("opening") or self.key_of(given["path"], world)
         opening = self.found.get(key)
         if opening is None:
-            opening = self.found[key] = Opening(given["path"], world, event.call, [None] * len(world))
+            opening = self.found[key] = Opening(path_of(given["path"]), world, event.call, [None] * len(world))
             self.chain.append((given.get("time", 0), opening))
         merger = opening.ranks[given["rank"]] = RankMerger(event, trace, given["rank"])
         opening.copy = trace.copy(given.get("before")) or opening.copy

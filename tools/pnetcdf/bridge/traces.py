@@ -140,12 +140,17 @@ class Trace:
 
     def copy(self, name):
         """The path of a copy of a dataset that the tracer made beside this trace."""
-        return os.path.join(os.path.dirname(self.path), os.path.basename(name)) if name else None
+        return os.path.join(os.path.dirname(self.path), os.path.basename(path_of(name))) if name else None
 
 
 def text_of(name):
     """The bytes of a name, which the trace gives as characters of the same numbers."""
     return name.encode("latin-1")
+
+
+def path_of(name):
+    """A path, which the trace gives in the same way."""
+    return os.fsdecode(text_of(name))
 
 
 def same_run(head, latest):

@@ -69,6 +69,14 @@ class Merging(unittest.TestCase):
         self.assertEqual((merged.fault, merged.notes(), merged.remarks(), merged.whole), (None, [], [], True))
         self.assertIn("dim x 4", merged.parts[0].head)
 
+    def test_a_path_with_other_characters(self):
+        """The trace has each byte of a path as the character of its number."""
+        path = os.path.join("/", "größe.nc").encode().decode("latin-1")
+        begun = [("create", dict(BEGUN[0][1], path=path, before="größe.0.before.0".encode().decode("latin-1")), BEGUN[0][2])] + BEGUN[1:]
+        opening = self.opening(begun + CLOSED, begun + CLOSED)
+        self.assertEqual((opening.path, opening.shown), ("/größe.nc", "/größe.nc, created by 2 ranks"))
+        self.assertEqual(opening.copy, os.path.join(self.folder.name, "größe.0.before.0"))
+
     def test_a_call_that_was_refused(self):
         merged = self.merged(BEGUN + [("enddef", {}, REFUSED), put(0)] + CLOSED, BEGUN + [put(1)] + CLOSED)
         self.assertEqual(merged.remarks(), ["rank 0: enddef is left out, which PnetCDF refused with NC_ENOTINDEFINE"])
