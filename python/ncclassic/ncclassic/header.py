@@ -92,13 +92,13 @@ class Variable:
         """Where the elements of a region lie, in row-major order. What is left out is the whole variable by steps of 1.
 
         records: how many records the file has, if not as many as the header says; put: the region is to be written, and may lie behind
-        them. RegionError: the region is refused.
+        them. RegionError: the region is refused; ValueError: the record count is below 0, or has more than 64 bits.
         """
         return self.header.extents(self.number, *self._region(start, count, stride), records=records, put=put)
 
     def needs(self, start: Optional[Sequence[int]] = None, count: Optional[Sequence[int]] = None, stride: Optional[Sequence[int]] = None,
               *, records: Optional[int] = None, put: bool = False) -> Needs:
-        """How many bytes a region has, and how many records it needs; the arguments and RegionError as for extents."""
+        """How many bytes a region has, and how many records it needs; the arguments and errors are those of extents."""
         return self.header.needs(self.number, *self._region(start, count, stride), records=records, put=put)
 
     def _region(self, start: Optional[Sequence[int]], count: Optional[Sequence[int]], stride: Optional[Sequence[int]]) -> tuple[Sequence[int], ...]:
@@ -161,9 +161,12 @@ class Header:
         return isinstance(name, str) and self._number_of(name) is not None
 
     def layout(self, records: Optional[int] = None) -> Layout:
-        """Where the variables lie in a file of so many records; without a number, of those that the header has."""
+        """Where the variables lie in a file of so many records; without a number, of those that the header has.
+
+        RegionError: the file would be too large, or have too many records; ValueError: the number is below 0, or has more than 64 bits.
+        """
         sizes = lib.Sizes()
-        self._ask("inq_sizes", self.records if records is None else records, c.byref(sizes))
+        self._ask("inq_sizes", self._known(records), c.byref(sizes))
         step = int(sizes.record_size)
         places = tuple(Place(it.name, it.begin, it.slab, it.is_record, step if it.is_record else 0) for it in self.variables)
         return Layout(self.length, places, step, int(sizes.end))
@@ -172,7 +175,7 @@ class Header:
                 *, records: Optional[int] = None, put: bool = False) -> list[Extent]:
         """The extents of a region of the variable of this number; see Variable.extents."""
         region, into, total = _region_of(number, start, count, stride, imap), (lib.Extent * ROOM)(), c.c_uint64()
-        known, found = self.records if records is None else records, list[Extent]()
+        known, found = self._known(records), list[Extent]()
         while True:
             self._ask("extents", c.byref(region), known, put, len(found), into, ROOM, c.byref(total))
             found += [Extent(extent.at, extent.len) for extent in into[:min(ROOM, total.value - len(found))]]
@@ -183,10 +186,18 @@ class Header:
               *, records: Optional[int] = None, put: bool = False) -> Needs:
         """What a region of the variable of this number needs; see Variable.needs."""
         needs = lib.Needs()
-        self._ask("region_check", c.byref(_region_of(number, start, count, stride, imap)), self.records if records is None else records, put, c.byref(needs))
+        self._ask("region_check", c.byref(_region_of(number, start, count, stride, imap)), self._known(records), put, c.byref(needs))
         return Needs(int(needs.bytes), int(needs.records))
 
     # ---- the parts, as the library tells them
+
+    def _known(self, records: Optional[int]) -> int:
+        """The record count that the library is to go by. ctypes would cut a greater one to 64 bits."""
+        if records is None:
+            return self.records
+        if not 0 <= records < 2**64:
+            raise ValueError("the record count is below 0, or has more than 64 bits")
+        return records
 
     def _ask(self, name: str, *arguments: Any, or_none: int = lib.OK) -> int:
         """The code of a call, which is OK or the one that the caller takes; any other is raised."""
@@ -254,6 +265,8 @@ class Room:
 
 def _region_of(number: int, *lists: Sequence[int]) -> lib.Region:
     """A region for C. RegionError: a number is below 0 or needs more than 64 bits."""
+    if not 0 <= number < 2**64:
+        raise RegionError(lib.ENOTVAR)
     if not all(0 <= item < 2**64 for items in lists for item in items):
         raise RegionError(lib.EINVALCOORDS)
     arrays = [lib.array(list(items)) for items in lists]

@@ -3,7 +3,7 @@ from __future__ import annotations
 
 import ctypes as c
 from dataclasses import dataclass, field
-from typing import Any, Iterable, Mapping, Optional, Sequence, Union
+from typing import Any, Iterable, Mapping, Optional, Sequence, SupportsIndex, Union
 
 from . import library as lib
 from .faults import DefinitionError
@@ -104,7 +104,7 @@ def _attribute(name: str, values: Values, type: Optional[str]) -> NewAttribute:
     if isinstance(values, str):
         return NewAttribute(name, "char", pack(type or "char", values))
     numbers: list[Any] = list(values) if isinstance(values, Iterable) else [values]
-    type = type or ("int" if all(isinstance(number, int) for number in numbers) else "double")
+    type = type or ("int" if all(isinstance(number, SupportsIndex) for number in numbers) else "double")
     return NewAttribute(name, type, pack(type, numbers))
 
 

@@ -26,6 +26,9 @@ class Headers(unittest.TestCase):
         self.assertEqual(header.layout(5).end, 188)
         with self.assertRaises(RegionError):
             header.layout(2**31)
+        for records in (-1, 2**64):
+            with self.subTest(records=records), self.assertRaisesRegex(ValueError, "record count"):
+                header.layout(records)
 
     def test_attributes(self) -> None:
         name, number = b"\0\0\0\1a\0\0\0", struct.pack(">II2h", 3, 2, -7, 9)
@@ -83,6 +86,14 @@ class Regions(unittest.TestCase):
         with self.assertRaises(RegionError) as caught:
             self.header["r"].extents([0, 0], [2**19, 4], put=True)
         self.assertEqual(caught.exception.name, "ETOOLARGE")
+        for number in (-1, 2, 2**64):
+            with self.subTest(number=number), self.assertRaises(RegionError) as caught:
+                self.header.extents(number, [0], [1], [1])
+            self.assertEqual(caught.exception.name, "NC_ENOTVAR")
+        for records in (-1, 2**64 + 2):
+            for ask in (self.header["r"].extents, self.header["r"].needs):
+                with self.subTest(records=records), self.assertRaisesRegex(ValueError, "record count"):
+                    ask([0, 0], [1, 4], records=records)
 
     def test_values_stand_there(self) -> None:
         with tempfile.TemporaryDirectory() as room:

@@ -32,6 +32,17 @@ class NewHeaders(unittest.TestCase):
         self.assertEqual([(it.name, it.type, it.value) for it in header["w"].attributes],
                          [("units", "char", "K"), ("scale", "double", 0.5), ("levels", "int", (1, 2, 3))])
 
+    def test_whole_numbers_of_any_class(self) -> None:
+        class Whole:
+            """As numpy's whole numbers are: no int, and yet an index."""
+            def __index__(self) -> int:
+                return 7
+
+        made = NewHeader()
+        made.attribute("one", Whole())  # type: ignore[arg-type]
+        made.attribute("two", [Whole(), 8])  # type: ignore[list-item]
+        self.assertEqual([(it.type, it.value) for it in Header(made.encode()).attributes], [("int", 7), ("int", (7, 8))])
+
     def test_alignments(self) -> None:
         header = Header(small().encode(header_align=512, var_align=64))
         self.assertEqual([(it.name, it.begin) for it in header.variables], [("v", 512), ("r", 576)])
