@@ -168,7 +168,10 @@ class Cdl:
 
     def floating(self, kind, digits):
         """A float or double that its type has: a finite number is not rounded to infinity."""
-        given = float(digits)
+        try:
+            given = float(digits)
+        except ValueError:
+            raise self.fault(f"{digits} is no value") from None
         if math.isinf(given) and "inf" not in digits.lower() or kind == "float" and math.isfinite(given) and is_past_float(given):
             raise self.fault(f"{digits} is past the greatest {kind}")
         return kind, given
