@@ -186,7 +186,7 @@ def type_name(given: Any) -> str:
         word = PYTHON_TYPES[given]
     else:
         numpy = numpy_loaded()
-        word = "" if numpy is None else numpy.dtype(given).str[1:].lower()
+        word = "" if numpy is None or given is None else numpy.dtype(given).str[1:].lower()
     word = OTHER_NAMES.get(word, word)
     if word not in CODES:
         raise ScriptError(f"{given!r} is no type: there are {', '.join(CODES)}")
@@ -240,7 +240,7 @@ def whole_numbers(kind: str, values: object) -> Tuple[List[int], Shape]:
     else:
         given, shape = flattened(values)
         try:
-            numbers = given if set(map(type, given)) <= {int} else [operator.index(it) for it in given]
+            numbers = given if set(map(type, given)) <= {int} else [int(operator.index(it)) for it in given]
         except TypeError:
             wrong = next(it for it in given if not hasattr(it, "__index__"))
             raise ScriptError(f"{wrong!r} is no whole number, and the type is {kind}") from None
@@ -631,7 +631,7 @@ def product(sizes: Sequence[int]) -> int:
 
 def size_of(value: Any, what: str) -> int:
     try:
-        size = operator.index(value)
+        size = int(operator.index(value))
     except TypeError:
         raise ScriptError(f"{what} has {value!r}, which is no whole number") from None
     if not 0 <= size < 2 ** 63:
@@ -747,9 +747,10 @@ class Rank(Calls[Call, Request]):
     def _post(self, word: str, var: Any, region: Tuple[Any, ...], values: object = None) -> Request:
         id = len(self.requests) + 1                      # from 1: an overlap tells 0 for a call that is no request
         brief, line, variable, found = self.line_of(word, var, region, values, f" {id}")
-        self.requests[id] = Request(self, word, brief, variable, found.shape, id)
-        self.add(self.requests[id], line)
-        return self.requests[id]
+        request = Request(self, word, brief, variable, found.shape, id)
+        self.add(request, line)
+        self.requests[id] = request
+        return request
 
     def _plain(self, word: str, *given: Any) -> Call:
         own = [self.mine(it) for it in given]
@@ -970,14 +971,16 @@ class Script:
         return count
 
     def count_values(self, count: int) -> None:
-        self.values += self.counted(count)
-        if self.values > MOST_VALUES:
+        values = self.values + self.counted(count)
+        if values > MOST_VALUES:
             raise ScriptError(f"a script has at most {MOST_VALUES} values: split it over several")
+        self.values = values
 
     def add_line(self, lines: List[Tuple[str, Place]], line: str, place: Place) -> None:
-        self.bytes += len(line) + 1
-        if self.bytes > MOST_BYTES - 100:                # beside the head, `data` and `end`
+        size = self.bytes + len(line) + 1
+        if size > MOST_BYTES - 100:                      # beside the head, `data` and `end`
             raise ScriptError(f"a script has at most {MOST_BYTES} bytes: split it over several")
+        self.bytes = size
         lines.append((line, place))
 
     def size(self) -> Tuple[int, int, int]:
