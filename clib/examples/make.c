@@ -16,7 +16,7 @@ int main(int argc, char **argv)
 
     uint8_t bytes[1024], values[4 * LENGTH];
     uint64_t len;
-    ncv_refused refused;
+    ncv_refused refused = {0}; /* which stays where memory is wanting */
     ncv_code code = ncv_header_make(&def, bytes, sizeof bytes, &len, &refused);
     if (code != NCV_OK) {
         printf("code %" PRId32 ": part %" PRIu32 ", number %" PRIu64 "\n", code, refused.part, refused.number);

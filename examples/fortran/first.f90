@@ -1,6 +1,7 @@
 ! Tells what the header of a file holds, and where its variables lie:   first FILE
 program first
   use, intrinsic :: iso_c_binding
+  use, intrinsic :: iso_fortran_env, only: error_unit
   implicit none
   type, bind(c) :: ncv_fault
     integer(c_int32_t) :: kind
@@ -45,7 +46,10 @@ program first
 
   call get_command_argument(1, path)
   open (newunit=file, file=trim(path), access='stream', form='unformatted', status='old', action='read', iostat=status)
-  if (status /= 0) stop 'usage: first FILE'
+  if (status /= 0) then
+    write (error_unit, '(a)') 'usage: first FILE'
+    stop 2
+  end if
   inquire (unit=file, size=bytes_there)
   allocate (bytes(max(1, min(bytes_there, 2**20))))
   read (file) bytes(:min(bytes_there, 2**20))
@@ -56,6 +60,7 @@ program first
   do v = 0, counts%vars - 1
     name = ' '
     code = ncv_inq_var(bytes, size(bytes, kind=c_size_t), v, name, 256_c_size_t, ids, 32_c_size_t, var)
+    if (code /= 0) stop 1
     print '(a, ": ", i0, " bytes from ", i0)', trim(name), var%slab, var%begin
   end do
 end program

@@ -47,6 +47,8 @@ static void put(int from, int to, int v)
     int dims, ids[MOST_DIMS];
     MPI_Offset start[MOST_DIMS], count[MOST_DIMS], columns, rows = 1;
     must(ncmpi_inq_varndims(from, v, &dims));
+    if (dims == 0)
+        must(NC_EBADDIM); /* it has no columns */
     must(ncmpi_inq_vardimid(from, v, ids));
     for (int d = 0; d < dims; d++) {
         must(ncmpi_inq_dimlen(from, ids[d], &count[d]));
@@ -57,6 +59,8 @@ static void put(int from, int to, int v)
     start[dims - 1] = columns * rank / ranks;
     count[dims - 1] = columns * (rank + 1) / ranks - start[dims - 1];
     int *values = malloc((size_t)(rows * count[dims - 1]) * sizeof *values + 1);
+    if (values == NULL)
+        MPI_Abort(MPI_COMM_WORLD, 1);
     for (MPI_Offset k = 0; k < rows * count[dims - 1]; k++)
         values[k] = (int)(k / count[dims - 1] * columns + start[dims - 1] + k % count[dims - 1]);
     must(ncmpi_put_vara_int_all(to, v, start, count, values));
