@@ -92,7 +92,7 @@ fi
 if [ "$(id -u)" -eq 0 ] && [ "${#as_user[@]}" -eq 0 ]; then
     echo 'skipped: a dataset that can'\''t be written, since this is root and there is neither setpriv nor runuser'
 else
-    archive=$(mktemp -d)
+    archive=$(mktemp -d) || exit 1
     cp "$program" "$archive/ncrun"
     cp made_before.nc "$archive/d.nc"
     chmod 444 "$archive/d.nc"
