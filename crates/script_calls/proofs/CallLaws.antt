@@ -1,18 +1,11 @@
 -- A call more of a rank.
-use Rattle.script_calls.proofs.Words.{◌≡◌, ◌∙◌, ◌<◌, ℕ, ◌+◌, List, [], ◌∷◌, ◌++◌, false, ◌==◌, cond, length, take, get_or, Some, None, append-nil, ap, sym, refl, zero, suc, arith, take_more, list_any, one_posted, none_posted, MeetKind, kinds, kind_of_call, filter_map-append, Call, posted, id_of_post, is_posted, calls_of}
+use Rattle.script_calls.proofs.Words.{◌≡◌, ◌∙◌, ◌<◌, ℕ, ◌+◌, List, [], ◌∷◌, ◌++◌, length, take, get_or, Some, None, append-nil, ap, sym, refl, zero, suc, arith, take_more, one_posted, none_posted, MeetKind, kinds, kind_of_call, filter_map-append, Call, posted, id_of_post, calls_of}
 
 pub posted_more : (own : List Call) (c : Call) (id : ℕ) → id_of_post c ≡ Some id → posted (own ++ c ∷ []) ≡ posted own ++ id ∷ []
 posted_more own c id h = filter_map-append id_of_post own (c ∷ []) ∙ ap (λ (more : List ℕ). posted own ++ more) (one_posted c id h)
 
 pub posted_same : (own : List Call) (c : Call) → id_of_post c ≡ None → posted (own ++ c ∷ []) ≡ posted own
 posted_same own c h = filter_map-append id_of_post own (c ∷ []) ∙ (ap (λ (more : List ℕ). posted own ++ more) (none_posted c h) ∙ append-nil (posted own))
-
-pub posted_grown : (own : List Call) (c : Call) (id : ℕ) (keys new : List ℕ) → keys ≡ posted own → new ≡ cond (list_any (λ other. id == other) keys) keys (keys ++ id ∷ [])
-    → is_posted id (posted own) ≡ false → id_of_post c ≡ Some id → new ≡ posted (own ++ c ∷ [])
-posted_grown own c id keys new same grown fresh h =
-    let absent : list_any (λ other. id == other) keys ≡ false = ap (is_posted id) same ∙ fresh in
-    let last : new ≡ keys ++ id ∷ [] = rw absent at grown in
-    last ∙ (ap (λ (ks : List ℕ). ks ++ id ∷ []) same ∙ sym (posted_more own c id h))
 
 -- ---- the kinds of collective calls
 

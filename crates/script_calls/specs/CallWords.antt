@@ -12,7 +12,7 @@ use Rattle.script_spec.specs.ScriptWords.{Word}
 use Rattle.script_spec.specs.ScriptSteps.{◌>>=◌, or_fault, name, ended}
 use Rattle.script_spec.specs.ScriptValues.{values}
 use Rattle.script_spec.specs.ScriptCalls.{Called, region, post_values, new_id, posted, after_prefix, form_and_all, form_of_text, post_of_text, behind, row_call, plain_call, rank_of_text, call_line, with_call}
-use Rattle.script_spec.specs.CallTable.{Family, Behind, CallRow, call_table}
+use Rattle.script_spec.specs.CallTable.{Family, Nothing, Behind, CallRow, call_table}
 
 unfoldable pub region_by : Form → List Word → Result (Given × List Word) ScriptKind
 region_by f ws = region f ws
@@ -53,6 +53,12 @@ abbrev pub made_of : (f : Family) → (Behind f → Call) → List Word → Resu
 made_of f make ws = do
   b ← behind f ws
   Ok (make b)
+
+-- the same of what is made where nothing stands there
+abbrev pub made_alone : {A : Type 0} → A → List Word → Result A ScriptKind
+made_alone x ws = do
+  b ← behind Nothing ws
+  Ok x
 
 -- a call of one of these rows
 abbrev pub call_among : List CallRow → ℕ → ℕ → List ℕ → List Word → Result Call ScriptKind

@@ -66,12 +66,12 @@ pub fn put_call(
     ensures bound { IfOk result (λ c. before + values_in_call c ≤ 2 ^ 24) }
     ensures new { IfOk result (λ c. id_of_post c ≡ None) }
 {
-    let var = name(words)?;
+    let var = Name::from_slice(alloc, name(words)?)?;
     let given = call_region(alloc, form, words)?;
     let values = call_values(alloc, before, words)?;
     Ok(Call::Put {
         all,
-        var: Name::from_slice(alloc, var)?,
+        var,
         given,
         values,
     })
@@ -87,14 +87,10 @@ pub fn get_call(
     ensures read { Gives (λ c. c) result (get_by all form words.old) }
     ensures none { IfOk result (λ c. (values_in_call c ≡ 0) × (id_of_post c ≡ None)) }
 {
-    let var = name(words)?;
+    let var = Name::from_slice(alloc, name(words)?)?;
     let given = call_region(alloc, form, words)?;
     no_more(words)?;
-    Ok(Call::Get {
-        all,
-        var: Name::from_slice(alloc, var)?,
-        given,
-    })
+    Ok(Call::Get { all, var, given })
 }
 
 /// Reads the values of a post; a get has none.
@@ -146,13 +142,13 @@ pub fn post_call(
     ensures new { IfOk result (λ c. IsNew (posted own.now) c) }
 {
     let id = new_id(own, words)?;
-    let var = name(words)?;
+    let var = Name::from_slice(alloc, name(words)?)?;
     let given = call_region(alloc, form, words)?;
     let values = post_values(alloc, kind, before, words)?;
     Ok(Call::Post {
         id,
         kind,
-        var: Name::from_slice(alloc, var)?,
+        var,
         given,
         values,
     })

@@ -1,9 +1,9 @@
 // The calls of a line.
 ghost use Rattle.std.specs.Prelude.{◌≡◌, ◌≤◌, ◌^◌, ◌+◌, [], IfOk, None, Ok, false};
 ghost use Rattle.serial_spec.specs.Lawful.{values_in_call};
-ghost use Rattle.script_spec.specs.CallTable.{Size, Name, Record, Nothing};
+ghost use Rattle.script_spec.specs.CallTable.{Size, Name, Record};
 ghost use Rattle.script_spec.specs.ScriptCalls.{posted, id_of_post, choice, one_id, ids};
-ghost use Rattle.script_calls.specs.CallWords.{call_among, made_of, other_rows, plain_by, post_or_plain_by, call_by};
+ghost use Rattle.script_calls.specs.CallWords.{call_among, made_alone, made_of, other_rows, plain_by, post_or_plain_by, call_by};
 ghost use Rattle.script_words.specs.Given.{Gives, word_of};
 ghost use Rattle.script_calls.specs.Posts.{IsNew};
 
@@ -97,9 +97,9 @@ fn inquiry(alloc: Global, words: &mut Words<'_>) -> Result<Call, ReadErr>
     })
 }
 
-/// This call, behind whose word none may stand.
-fn alone(call: Call, words: &mut Words<'_>) -> Result<Call, ReadErr>
-    ensures read { Gives (λ c. c) result (made_of Nothing (λ _. call) words.old) }
+/// This, behind whose word none may stand. It is of any type, which hides from the check of this function how a call is let go.
+fn alone<T: Drop>(call: T, words: &mut Words<'_>) -> Result<T, ReadErr>
+    ensures read { Gives (λ c. c) result (made_alone call words.old) }
     ensures same { IfOk result (λ c. c ≡ call) }
 {
     no_more(words)?;

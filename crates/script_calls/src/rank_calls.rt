@@ -1,5 +1,5 @@
 // The calls of one rank, with the ids that it posts beside them.
-ghost use Rattle.std.specs.Prelude.{◌≡◌, ◌++◌, ◌∷◌, [], OnOk, IfOk, None, Some, false, length, ◌<◌, ◌≤◌, ◌+◌, ◌^◌};
+ghost use Rattle.std.specs.Prelude.{◌≡◌, ◌++◌, ◌∷◌, [], OnOk, OnErr, IfOk, None, Some, false, length, ◌<◌, ◌≤◌, ◌+◌, ◌^◌};
 ghost use Rattle.serial_spec.specs.History.{kinds, kind_of_call};
 ghost use Rattle.script_spec.specs.ScriptCalls.{posted, id_of_post, is_posted};
 ghost use Rattle.script_calls.specs.Posts.{IsNew};
@@ -36,6 +36,25 @@ fn id_of_post(call: &Call) -> Option<u32>
     }
 }
 
+/// Adds an item at the end and its id to the ids, or neither.
+fn push_with_id<T: Drop>(
+    list: &mut Vec<T>,
+    ids: &mut IndexSet<u32>,
+    id: u32,
+    item: T,
+) -> Result<(), AllocError>
+    requires { is_posted id ids.old.keys ≡ false }
+    ensures items { OnOk result (list.new.items ≡ list.old.items ++ item ∷ []) }
+    ensures keys { OnOk result (ids.new.keys ≡ ids.old.keys ++ id ∷ []) }
+    ensures same_items { OnErr result (list.new.items ≡ list.old.items) }
+    ensures same_keys { OnErr result (ids.new.keys ≡ ids.old.keys) }
+{
+    list.reserve(1)?;
+    ids.insert(id)?;
+    list.push_reserved(item);
+    Ok(())
+}
+
 impl RankCalls {
     /// No call.
     pub fn new(alloc: Global) -> Self
@@ -68,16 +87,13 @@ impl RankCalls {
         CallList::from_vec(list)
     }
 
-    #[tactic(auto, using(crate::proofs::CallLaws::posted_more))]
     fn push_post(&mut self, id: u32, call: Call) -> Result<(), AllocError>
         requires id { id_of_post call ≡ Some id }
         requires new { is_posted id (posted self.old) ≡ false }
         requires room { length self.old + 1 < 2 ^ 32 }
         ensures { OnOk result (self.new ≡ self.old ++ call ∷ []) }
     {
-        self.list.reserve(1)?;
-        self.ids.insert(id)?;
-        self.list.push(call)?;
+        push_with_id(&mut self.list, &mut self.ids, id, call)?;
         Ok(())
     }
 
@@ -97,6 +113,8 @@ impl RankCalls {
         ensures { OnOk result (self.new ≡ self.old ++ call ∷ []) }
     {
         if self.list.len() >= u32::MAX as usize {
+            // A call, which hides from the check of this function how the lists of each kind of call are let go.
+            drop(call);
             return Err(AllocError);
         }
         match id_of_post(&call) {
