@@ -2,7 +2,8 @@
 ghost use Rattle.std.specs.Prelude.{◌≡◌, ◌≢◌, ◌≤◌, ◌<◌, ◌^◌, ◌+◌, IfOk, IfErr, length, filter, Ok};
 ghost use Rattle.script_spec.specs.ScriptWords.{text_lines, significant_of, is_newline};
 ghost use Rattle.script_spec.specs.ScriptGrammar.{is_mismatch, newlines, without_head, Reads, script_fault};
-ghost use Rattle.ncmpi_script.specs.TopWords.{definitions_by, data_part_by, finish_by, made_by, end_by, calls_by, rest_by, headed_by, lines_by, utf8_by, text_by};
+ghost use Rattle.script_spec.specs.ScriptDefinitions.{nothing_known};
+ghost use Rattle.ncmpi_script.specs.TopWords.{data_part_by, finish_by, made_by, rest_by, headed_by, lines_by, utf8_by, text_by};
 ghost use Rattle.script_words.specs.Seen.{line_seen};
 ghost use Rattle.nc_base.specs.declared.errors.ScriptKind.TheVariants as kind;
 ghost use Rattle.script_words.specs.Given.{GivesAt};
@@ -76,24 +77,11 @@ fn finish<'a>(
     }
 }
 
-/// What a script says before its calls: its version, or 0 for an existing dataset, how many ranks it has, and what it defines.
-#[derive(Drop)]
-struct Opening<'a> {
-    version: u8,
-    ranks: u32,
-    draft: Draft<'a>,
-}
-
-/// The script that an opening and the calls make.
+/// The script of this version and so many ranks, by what the lines before `data` have said, and the calls.
 #[tactic(auto, unfolding(crate::specs::TopWords::made_by))]
-fn script_of(opening: Opening<'_>, calls: CallTable) -> Script
-    ensures { result ≡ made_by opening.entry.version opening.entry.ranks opening.entry.draft calls }
+fn script_of(version: u8, ranks: u32, draft: Draft<'_>, calls: CallTable) -> Script
+    ensures { result ≡ made_by version ranks draft.entry calls }
 {
-    let Opening {
-        version,
-        ranks,
-        draft,
-    } = opening;
     let Draft {
         hints,
         defined,
@@ -108,24 +96,6 @@ fn script_of(opening: Opening<'_>, calls: CallTable) -> Script
         ranks,
         extra: added.into_extras(),
         calls,
-    }
-}
-
-/// Reads the definitions into a new draft: the number of ranks, and the draft.
-#[tactic(auto, unfolding(crate::specs::TopWords::definitions_by))]
-fn read_definitions<'a>(
-    alloc: Global,
-    past: u32,
-    version: u8,
-    lines: &mut TextLines<'a>,
-) -> Result<(u32, Draft<'a>), LineErr>
-    ensures read { GivesAt (λ d. (d.0, (d.1, significant_of lines.new))) result (definitions_by past version (significant_of lines.old)) }
-    ensures bound { IfOk result (λ d. d.0 ≤ 64) }
-{
-    let mut draft = Draft::new(alloc)?;
-    match definitions(alloc, past, version, &mut draft, lines) {
-        Ok(ranks) => Ok((ranks, draft)),
-        Err(fault) => Err(fault),
     }
 }
 
@@ -146,52 +116,26 @@ fn read_calls(
     Ok((number, table))
 }
 
-/// The script that an opening and a table of calls make.
-fn made(alloc: Global, opening: Opening<'_>, table: RankTable) -> Result<Script, LineErr>
-    ensures { GivesAt (λ script. script) result (Ok (made_by opening.entry.version opening.entry.ranks opening.entry.draft table.calls)) }
-{
-    match table.into_calls(alloc) {
-        Ok(calls) => Ok(script_of(opening, calls)),
-        Err(_) => Err(LineErr::Memory),
-    }
-}
-
-/// Reads what follows `end`, which stands on this line, and makes the script.
-#[tactic(auto, unfolding(crate::specs::TopWords::end_by))]
-fn read_after_end(
-    alloc: Global,
-    opening: Opening<'_>,
-    number: u32,
-    table: RankTable,
-    lines: &mut TextLines<'_>,
-) -> Result<Script, LineErr>
-    ensures { GivesAt (λ script. script) result (end_by opening.entry.version opening.entry.ranks opening.entry.draft number table.calls (significant_of lines.old)) }
-{
-    match finish(alloc, number, &table, lines) {
-        Ok(()) => made(alloc, opening, table),
-        Err(fault) => Err(fault),
-    }
-}
-
-/// Reads what follows `data`.
-#[tactic(auto, unfolding(crate::specs::TopWords::calls_by))]
-fn read_after_data(
+/// Reads what follows the head, its definitions into a new draft: how many ranks there are, and the calls of each.
+#[tactic(auto, unfolding(crate::specs::TopWords::rest_by, crate::specs::TopWords::definitions_by, crate::specs::TopWords::calls_by, crate::specs::TopWords::end_by))]
+fn read_parts<'a>(
     alloc: Global,
     past: u32,
-    opening: Opening<'_>,
-    lines: &mut TextLines<'_>,
-) -> Result<Script, LineErr>
-    requires { opening.ranks ≤ 64 }
-    ensures { GivesAt (λ script. script) result (calls_by past opening.entry.version opening.entry.ranks opening.entry.draft (significant_of lines.old)) }
+    version: u8,
+    draft: &mut Draft<'a>,
+    lines: &mut TextLines<'a>,
+) -> Result<(u32, CallTable), LineErr>
+    requires { draft.old ≡ nothing_known }
+    ensures { GivesAt (λ parts. made_by version parts.0 draft.new parts.1) result (rest_by past version (significant_of lines.old)) }
 {
-    match read_calls(alloc, past, opening.ranks, &opening.draft, lines) {
-        Ok((number, table)) => read_after_end(alloc, opening, number, table, lines),
-        Err(fault) => Err(fault),
-    }
+    let ranks = definitions(alloc, past, version, draft, lines)?;
+    let (number, table) = read_calls(alloc, past, ranks, draft, lines)?;
+    finish(alloc, number, &table, lines)?;
+    let calls = table.into_calls(alloc)?;
+    Ok((ranks, calls))
 }
 
 /// Reads what follows the head.
-#[tactic(auto, unfolding(crate::specs::TopWords::rest_by))]
 fn read_rest(
     alloc: Global,
     past: u32,
@@ -200,16 +144,14 @@ fn read_rest(
 ) -> Result<Script, LineErr>
     ensures { GivesAt (λ script. script) result (rest_by past version (significant_of lines.old)) }
 {
-    match read_definitions(alloc, past, version, lines) {
-        Ok((ranks, draft)) => {
-            let opening = Opening {
-                version,
-                ranks,
-                draft,
-            };
-            read_after_data(alloc, past, opening, lines)
+    let mut draft = Draft::new(alloc)?;
+    match read_parts(alloc, past, version, &mut draft, lines) {
+        Ok((ranks, calls)) => Ok(script_of(version, ranks, draft, calls)),
+        Err(fault) => {
+            // A call, which hides from the check of this function how each of its lists is let go.
+            drop(draft);
+            Err(fault)
         }
-        Err(fault) => Err(fault),
     }
 }
 
