@@ -30,14 +30,19 @@ pub(crate) fn pending_in(text: &[u8]) -> Option<Pending> {
         first: 0,
     };
     for (rank, at) in (0u32..64).zip(find_iter(answers, PENDING)) {
-        let digits = answers.get(at.checked_add(PENDING.len())?..)?;
-        pending = pending.with(rank, leading_number(digits));
+        pending = pending.with(rank, requests_at(answers, at));
     }
     if pending.requests > 0 {
         Some(pending)
     } else {
         None
     }
+}
+
+// How many requests are told at this place.
+fn requests_at(answers: &[u8], at: usize) -> u64 {
+    let behind = at.saturating_add(PENDING.len());
+    leading_number(answers.get(behind..).unwrap_or(&[]))
 }
 
 fn leading_number(text: &[u8]) -> u64 {

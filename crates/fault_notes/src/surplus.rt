@@ -16,8 +16,7 @@ pub(crate) fn push_surplus<'a>(
     header: Option<&'a Header>,
 ) -> Result<(), AllocError> {
     let lines = lines_of(alloc, script)?;
-    let shapes = Shapes::new(alloc, header, lines.as_slice())?;
-    match first_surplus(&shapes, lines.as_slice()) {
+    match surplus_in(alloc, header, lines.as_slice())? {
         Some(surplus) => push_found(out, surplus),
         None => Ok(()),
     }
@@ -50,7 +49,19 @@ fn push_found(out: &mut String, surplus: Surplus) -> Result<(), AllocError> {
     Ok(())
 }
 
-// The first such call, and how many follow.
+// The first such call among these lines, and how many follow.
+fn surplus_in<'a>(
+    alloc: Global,
+    header: Option<&'a Header>,
+    lines: &[Line<'a>],
+) -> Result<Option<Surplus>, AllocError> {
+    let shapes = Shapes::new(alloc, header, lines)?;
+    let surplus = first_surplus(&shapes, lines);
+    drop(shapes);
+    Ok(surplus)
+}
+
+// The same by the shapes of the variables.
 fn first_surplus<'a>(shapes: &Shapes<'a>, lines: &[Line<'a>]) -> Option<Surplus> {
     let mut first: Option<Surplus> = None;
     for line in lines {
