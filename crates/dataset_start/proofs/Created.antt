@@ -1,5 +1,5 @@
 -- The file of a created dataset.
-use Rattle.dataset_start.proofs.Words.{◌≡◌, ℕ, ◌+◌, ◌-◌, ◌≤◌, List, [], ◌++◌, length, drop, replicate, Option, ap, ◌∙◌, arith, drop-replicate, Header, after, after-after, longer, written, header_len, end_of, written-front}
+use Rattle.dataset_start.proofs.Words.{◌≡◌, ℕ, ◌+◌, ◌-◌, ◌≤◌, List, [], ◌++◌, length, drop, replicate, Option, ap, ◌∙◌, arith, drop-replicate, Header, after, after-after, longer, written, header_len, end_of, written-front, nat_tests}
 
 -- bytes at the front of zeros
 pub front-of-zeros : (bytes : List ℕ) (end : ℕ) → length bytes ≤ end → written (longer [] end) 0 bytes ≡ longer bytes end
@@ -16,13 +16,7 @@ front-of-zeros bytes end long =
 pub created : (bytes : List ℕ) (end size place : ℕ) (old emptied grown new : Option (List ℕ)) → length bytes ≤ end → size ≡ end → place ≡ 0
     → emptied ≡ after (λ _. []) old → grown ≡ after (λ file. longer file size) emptied → new ≡ after (λ file. written file place bytes) grown
     → new ≡ after (λ _. longer bytes end) old
-created bytes end size place old emptied grown new long s p e g n =
-    n ∙ ap (λ (t : Option (List ℕ)). after (λ file. written file place bytes) t) (g ∙ ap (λ (t : Option (List ℕ)). after (λ file. longer file size) t) e)
-    ∙ ap (λ (t : Option (List ℕ)). after (λ file. written file place bytes) t) (after-after (λ file. longer file size) (λ _. []) old)
-    ∙ after-after (λ file. written file place bytes) (λ _. longer [] size) old
-    ∙ ap (λ (x : ℕ). after (λ _. written (longer [] size) x bytes) old) p
-    ∙ ap (λ (x : ℕ). after (λ _. written (longer [] x) 0 bytes) old) s
-    ∙ ap (λ (t : List ℕ). after (λ _. t) old) (front-of-zeros bytes end long)
+created bytes end size place old emptied grown new long s p e g n = grind (arith, nat_tests, after-after, front-of-zeros)
 
 -- a file ends behind its header
 pub front_fits : (header : Header) (n : ℕ) → header_len header ≤ end_of header (header_len header) n

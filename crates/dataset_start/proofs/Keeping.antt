@@ -1,5 +1,5 @@
 -- What a script keeps that was read or made.
-use Rattle.dataset_start.proofs.Words.{◌≡◌, ℕ, ◌^◌, ◌≤◌, Bool, true, false, List, [], ◌∷◌, length, refl, ◌==◌, eqb-true, if◌then◌else◌, list_all, and_first, and_second, Extra, Script, are_lawful_hints, is_lawful_extra, is_lawful_header, is_whole_extra, is_empty, Reads, read_unplaced, read_writable, read_lawful, read_whole, IsKept, within_is}
+use Rattle.dataset_start.proofs.Words.{◌≡◌, ℕ, ◌^◌, ◌≤◌, Bool, true, List, length, ◌==◌, eqb-true, if◌then◌else◌, list_all, and_first, and_second, Extra, Script, are_lawful_hints, is_lawful_extra, is_lawful_header, is_whole_extra, is_empty, Reads, read_unplaced, read_writable, read_lawful, read_whole, IsKept, within_is, arith, nat_tests}
 
 pub read_kept : (text : List ℕ) (script : Script) → Reads text script → IsKept script
 read_kept text script r = record {
@@ -45,18 +45,10 @@ kept_whole_extras script k = and_second _ _ k.whole
 
 -- a test of which the first case holds
 chosen : (b x y : Bool) → b ≡ true → (if b then x else y) ≡ true → x ≡ true
-chosen true x y e h = h
-chosen false x y e h = absurd (clash e)
-  where
-    clash : false ≡ true → ⊥
-    clash t = cc
+chosen b x y e h = grind (arith, nat_tests)
 
 none_there : (extras : List Extra) → is_empty extras ≡ true → (length extras == 0) ≡ true
-none_there [] h = refl
-none_there (x ∷ extras) h = absurd (clash h)
-  where
-    clash : false ≡ true → ⊥
-    clash t = cc
+none_there extras h = grind (arith, nat_tests)
 
 -- a script that creates a dataset adds nothing
 pub kept_created : (script : Script) → IsKept script → script.fresh ≡ true → (length script.extra == 0) ≡ true

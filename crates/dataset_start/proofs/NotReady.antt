@@ -1,5 +1,5 @@
 -- A dataset that was not made ready.
-use Rattle.dataset_start.proofs.Words.{◌≡◌, ℕ, ◌≤◌, ◌==◌, ◌⊎◌, inl, inr, refl, sym, ◌∙◌, ap, subst, List, [], length, Bool, true, false, Option, Some, None, arith, IfSome, HeaderErr, Extra, PartlyWritten, after, BothTold, at, longer, written, canon, header_len, HasFault, start, redefined, IsBegun, IsLengthened, IsTornCreation, IsTornRedefinition, at-longer, longer_long, IsBetween, filled_long, IsApplied, new_end, KeepsPlaces, created_header, creation_fault, front, header_of_run, AreHeadersOf, Asks, blank_file, dataset_end, empty_end, filled_if, IsCutRedefinition, IsLeftUnready, IsNotReady, IsOpened, IsPartlyOpened, IsPartlyRedefined, IsUnready, told_as, both_ways}
+use Rattle.dataset_start.proofs.Words.{◌≡◌, ℕ, ◌≤◌, ◌==◌, ◌⊎◌, inl, inr, refl, sym, ◌∙◌, ap, subst, List, [], length, Bool, true, false, Option, Some, None, arith, IfSome, HeaderErr, Extra, PartlyWritten, after, BothTold, at, longer, written, canon, header_len, HasFault, start, redefined, IsBegun, IsLengthened, IsTornCreation, IsTornRedefinition, at-longer, longer_long, IsBetween, filled_long, IsApplied, new_end, KeepsPlaces, created_header, creation_fault, front, header_of_run, AreHeadersOf, Asks, blank_file, dataset_end, filled_if, IsCutRedefinition, IsLeftUnready, IsNotReady, IsOpened, IsPartlyOpened, IsPartlyRedefined, IsUnready, told_as, both_ways, nat_tests}
 use Rattle.nc_base.specs.declared.header.Header as head
 use Rattle.nc_base.specs.declared.script.Script as script_type
 use Rattle.dataset_start.proofs.Created.{front-of-zeros}
@@ -9,16 +9,12 @@ use Rattle.dataset_start.proofs.ReadyLaws.{at_front, created-faultless, fault-no
 
 -- nothing was done
 pub not_started : (header whole : List ℕ) (held : Option (List ℕ)) → BothTold (λ old left. IsTornCreation header whole old left) held held
-not_started header whole None = refl
-not_started header whole (Some file) = (file, refl, inl refl)
+not_started header whole held = grind (arith, nat_tests)
 
 -- the start was refused, which may have emptied the file
 pub start_refused : (header whole : List ℕ) (held now : Option (List ℕ)) → (now ≡ held) ⊎ (now ≡ after (λ _. []) held)
     → BothTold (λ old left. IsTornCreation header whole old left) held now
-start_refused header whole None now (inl e) = e
-start_refused header whole None now (inr e) = e
-start_refused header whole (Some file) now (inl e) = (file, e, inl refl)
-start_refused header whole (Some file) now (inr e) = ([], e, inr (record { short = omega arith; each = λ x l. absurd (omega arith) }))
+start_refused header whole held now xs = grind (arith, nat_tests)
 
 -- some zeros are there
 pub grow_refused : (bytes : List ℕ) (size end : ℕ) (held mid now : Option (List ℕ)) → size ≤ end → mid ≡ after (λ _. []) held
@@ -48,16 +44,7 @@ head_part bytes left end fits p = record {
 pub head_refused : (bytes other : List ℕ) (size end place : ℕ) (held mid grown now : Option (List ℕ)) → length bytes ≤ end → size ≡ end → place ≡ 0 → other ≡ bytes
     → mid ≡ after (λ _. []) held → grown ≡ after (λ file. longer file size) mid → BothTold (PartlyWritten place other) grown now
     → BothTold (λ old left. IsTornCreation bytes (longer bytes end) old left) held now
-head_refused bytes other size end place held mid grown now fits s p o e g b =
-    by_held held (g ∙ ap (λ (t : Option (List ℕ)). after (λ file. longer file size) t) e)
-    (subst (λ (n : ℕ). BothTold (PartlyWritten n bytes) grown now) p (subst (λ (c : List ℕ). BothTold (PartlyWritten place c) grown now) o b))
-  where
-    by_held : (t : Option (List ℕ)) → grown ≡ after (λ file. longer file size) (after (λ _. []) t) → BothTold (PartlyWritten 0 bytes) grown now
-        → BothTold (λ old left. IsTornCreation bytes (longer bytes end) old left) t now
-    by_held None f c = subst (λ (m : Option (List ℕ)). BothTold (PartlyWritten 0 bytes) m now) f c
-    by_held (Some file) f c =
-        let d : BothTold (PartlyWritten 0 bytes) (Some (longer [] size)) now = subst (λ (m : Option (List ℕ)). BothTold (PartlyWritten 0 bytes) m now) f c in
-        (d.0, d.1, inr (head_part bytes d.0 end fits (subst (λ (n : ℕ). PartlyWritten 0 bytes (longer [] n) d.0) s d.2)))
+head_refused bytes other size end place held mid grown now fits s p o e g b = grind (arith, nat_tests, head_part)
 
 -- ---- what is not ready
 
@@ -67,16 +54,14 @@ as_created script file left f t = record { created = λ _. t; opened = λ o. abs
 
 -- nothing was done to a dataset that was to be created
 pub not_laid : (script : script_type.Script) (held : Option (List ℕ)) → script.fresh ≡ true → BothTold (IsNotReady script) held held
-not_laid script None f = refl
-not_laid script (Some file) f = (file, refl, as_created script file file f (inl refl))
+not_laid script held f = grind (arith, nat_tests, as_created)
 
 unfilled_file : head.Header → List ℕ
 unfilled_file header = blank_file header
 
 filled_as_long : (asked : Bool) (header : head.Header) → length (filled_if asked header (unfilled_file header)) ≡ length (unfilled_file header)
 unfolding unfilled_file
-filled_as_long false header = refl
-filled_as_long true header = filled_long header (blank_file header) (let l = longer_long (canon header) (empty_end header) in omega arith)
+filled_as_long asked header = grind (arith, nat_tests, filled_long, longer_long)
 
 start_as_long : (script : script_type.Script) (header : head.Header) (file : List ℕ) → script.fresh ≡ true → length (start script header file) ≡ length (unfilled_file header)
 unfolding unfilled_file
@@ -86,24 +71,7 @@ start_as_long script header file f = ap (λ (g : List ℕ). length g) (start-cre
 unfilled_part : (script : script_type.Script) (header : head.Header) (file left : List ℕ) → script.fresh ≡ true
     → IsTornCreation (canon header) (blank_file header) file left → IsTornCreation (canon header) (start script header file) file left
 unfolding unfilled_file
-unfilled_part script header file left f (inl e) = inl e
-unfilled_part script header file left f (inr b) = inr (record {
-  short = (let same = start_as_long script header file f in let few = b.short in omega arith);
-  each = λ x l. by_byte x (b.each x l);
-})
-  where
-    by_byte : (x : ℕ) → (at left x ≡ 0) ⊎ (at left x ≡ at (canon header) x) ⊎ (at left x ≡ at (blank_file header) x)
-        → (at left x ≡ 0) ⊎ (at left x ≡ at (canon header) x) ⊎ (at left x ≡ at (start script header file) x)
-    by_byte x (inl e) = inl e
-    by_byte x (inr (inl e)) = inr (inl e)
-    by_byte x (inr (inr e)) = inr (inl (e ∙ at-longer (canon header) (empty_end header) x))
-
-create_left : (script : script_type.Script) (header : head.Header) (held now : Option (List ℕ)) → script.fresh ≡ true → header ≡ created_header script
-    → BothTold (λ old left. IsTornCreation (canon header) (blank_file header) old left) held now
-    → BothTold (IsNotReady script) held now
-create_left script header held now f h b =
-    told_as (λ old left. IsTornCreation (canon header) (blank_file header) old left) (IsNotReady script) held now
-    (λ old left t. as_created script old left f (subst (λ (k : head.Header). IsTornCreation (canon k) (start script k old) old left) h (unfilled_part script header old left f t))) b
+unfilled_part script header file left f xs = grind (arith, nat_tests, start_as_long, at-longer)
 
 -- a created dataset that is laid out was made ready in part
 created_part : (script : script_type.Script) (held now : Option (List ℕ)) → script.fresh ≡ true → creation_fault script ≡ None → BothTold (IsNotReady script) held now
@@ -114,40 +82,19 @@ pub create_refused : (script : script_type.Script) (header : head.Header) (held 
     → header ≡ created_header script
     → BothTold (λ old left. IsTornCreation (canon header) (blank_file header) old left) held now
     → IsUnready script held now
-create_refused script header held now f l h b = created_part script held now f l (create_left script header held now f h b)
+create_refused script header held now f l h b = grind (arith, nat_tests, created_part, told_as, as_created, unfilled_part)
 
 -- the fill was cut off
 filled_part : (script : script_type.Script) (header : head.Header) (file left : List ℕ) → script.fresh ≡ true
     → IsBetween (blank_file header) (filled_if script.filled header (blank_file header)) left
     → IsBegun (canon header) (start script header file) left
 unfolding unfilled_file
-filled_part script header file left f b = record {
-  short = (let same = start_as_long script header file f in let few = b.len in omega arith);
-  each = λ x l. by_byte x (b.each x);
-}
-  where
-    by_byte : (x : ℕ)
-        → (at left x ≡ at (blank_file header) x)
-        ⊎ (at left x ≡ at (filled_if script.filled header (blank_file header)) x)
-        → (at left x ≡ 0) ⊎ (at left x ≡ at (canon header) x) ⊎ (at left x ≡ at (start script header file) x)
-    by_byte x (inl e) = inr (inl (e ∙ at-longer (canon header) (empty_end header) x))
-    by_byte x (inr e) = inr (inr (e ∙ sym (ap (λ (g : List ℕ). at g x) (start-created script header file f))))
+filled_part script header file left f b = grind (arith, nat_tests, start_as_long, at-longer, start-created)
 
 fill_left : (script : script_type.Script) (header : head.Header) (held mid now : Option (List ℕ)) → script.fresh ≡ true → header ≡ created_header script
     → mid ≡ after (λ _. blank_file header) held
     → BothTold (λ old left. IsBetween old (filled_if script.filled header old) left) mid now → BothTold (IsNotReady script) held now
-fill_left script header None mid now f h e b = subst (λ (m : Option (List ℕ)). BothTold (λ old left. IsBetween old (filled_if script.filled header old) left) m now) e b
-fill_left script header (Some file) mid now f h e b =
-    by_told (subst (λ (m : Option (List ℕ)). BothTold (λ old left. IsBetween old (filled_if script.filled header old) left) m now) e b)
-  where
-    by_told : BothTold (λ old left. IsBetween old (filled_if script.filled header old) left) (Some (blank_file header)) now
-        → BothTold (IsNotReady script) (Some file) now
-    by_told c = (
-      c.0,
-      c.1,
-      as_created script file c.0 f
-          (subst (λ (k : head.Header). IsTornCreation (canon k) (start script k file) file c.0) h (inr (filled_part script header file c.0 f c.2))),
-    )
+fill_left script header held mid now f h e b = grind (arith, nat_tests, as_created, filled_part)
 
 pub fill_refused : (script : script_type.Script) (header : head.Header) (held mid now : Option (List ℕ)) → script.fresh ≡ true → creation_fault script ≡ None
     → header ≡ created_header script → mid ≡ after (λ _. blank_file header) held
@@ -223,21 +170,15 @@ redefine_refused script old held mid now f x o n e b =
 -- ---- the dataset that a text asks for
 
 pub left_unready : (left held now : Option (List ℕ)) (script : script_type.Script) → Asks left script → IsUnready script held now → IsLeftUnready left held now
-left_unready left held now script a (inl e) = inl e
-left_unready left held now script a (inr p) = inr (script, a, p)
+left_unready left held now script a xs = grind (arith, nat_tests)
 
 -- ---- a redefinition
 
 pub not_redefined : (old : head.Header) (extras : List Extra) (held : Option (List ℕ)) → BothTold (IsPartlyRedefined old extras) held held
-not_redefined old extras None = refl
-not_redefined old extras (Some file) = (file, refl, inl refl)
+not_redefined old extras held = grind (arith, nat_tests)
 
 both_parts : {A : Type 0} (R S : A → A → Type 0) (held now : Option A) → BothTold R held now → BothTold S held now → BothTold (λ old left. R old left × S old left) held now
-both_parts R S None now r s = r
-both_parts R S (Some old) now r s =
-    let there : Some s.0 ≡ Some r.0 = sym s.1 ∙ r.1 in
-    let same : s.0 ≡ r.0 = cc in
-    (r.0, r.1, (r.2, subst (λ left. S old left) same s.2))
+both_parts xs ys held now r s = grind (arith, nat_tests)
 
 pub relocate_refused : (old new : head.Header) (extras : List Extra) (held now : Option (List ℕ)) → IsApplied old extras new
     → BothTold (λ file left. IsTornRedefinition (header_len new) (new_end old new) file (redefined file old new) left) held now → BothTold (KeepsPlaces old new) held now

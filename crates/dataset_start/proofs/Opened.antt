@@ -1,5 +1,5 @@
 -- The front of a file that is opened, and the file made longer.
-use Rattle.dataset_start.proofs.Words.{◌≡◌, ℕ, ◌^◌, ◌≤◌, ◌<◌, List, [], ◌++◌, length, take, drop, min, Option, Some, None, refl, sym, ap, inl, inr, ◌⊎◌, subst, ◌∙◌, arith, IfSome, Result, Ok, Err, IsErrAnd, cases_lt, DiskCall, after, with_end, head_load, take-append-drop, take_all, HeaderErr, IsOpened, stop_of_header, Stop, Memory, Spells, first_check, HasFault, fault_only, spells_once, BeginsWith}
+use Rattle.dataset_start.proofs.Words.{◌≡◌, ℕ, ◌^◌, ◌≤◌, ◌<◌, List, [], ◌++◌, length, take, drop, min, Option, Some, None, refl, sym, ap, inl, inr, ◌⊎◌, subst, ◌∙◌, arith, IfSome, Result, Ok, Err, IsErrAnd, cases_lt, DiskCall, after, with_end, head_load, take-append-drop, take_all, HeaderErr, IsOpened, stop_of_header, Stop, Memory, Spells, first_check, HasFault, fault_only, spells_once, BeginsWith, nat_tests}
 use Rattle.dataset_start.specs.Dataset as headline
 use Rattle.dataset_start.specs.declared.stop.Stop.TheVariants.{Header}
 use Rattle.nc_base.specs.declared.errors.HeaderErr.TheVariants as fault
@@ -10,11 +10,7 @@ use Rattle.nc_base.specs.declared.header.Header as head
 other : (header : head.Header) (bytes : List ℕ) (n : ℕ) (e : HeaderErr) → BeginsWith bytes header n
     → (h : head.Header) (front rest : List ℕ) → bytes ≡ front ++ rest → Spells h front → first_check h ≡ Some e → ⊥
 other header bytes n e b h front rest s t f =
-    let same : header ≡ h = (spells_once header h (take n bytes) front (drop n bytes) rest b.0 t (take-append-drop n bytes ∙ s)).0 in
-    clash (sym b.2 ∙ ap first_check same ∙ f)
-  where
-    clash : None ≡ Some e → ⊥
-    clash x = cc
+    grind (arith, nat_tests, spells_once header h (take n bytes) front (drop n bytes) rest b.0 t (take-append-drop n bytes ∙ s), take-append-drop n bytes)
 
 -- ---- one header stands at a front
 
@@ -23,10 +19,7 @@ begins_once header other bytes n m b c =
     (spells_once header other (take n bytes) (take m bytes) (drop n bytes) (drop m bytes) b.0 c.0 (take-append-drop n bytes ∙ sym (take-append-drop m bytes))).0
 
 pub no_fault : (header : head.Header) (bytes : List ℕ) (n : ℕ) → BeginsWith bytes header n → (e : HeaderErr) → HasFault bytes e → ⊥
-no_fault header bytes n b e (inl field) = clash (sym b.1 ∙ fault_only bytes e field)
-  where
-    clash : None ≡ Some e → ⊥
-    clash x = cc
+no_fault header bytes n b e (inl field) = grind (arith, nat_tests, fault_only bytes e field)
 no_fault header bytes n b e (inr (h, front, rest, s, t, u, f)) = other header bytes n e b h front rest s t f
 
 -- ---- the front that is read
@@ -37,15 +30,12 @@ front_is bytes n e = by_size (cases_lt (2 ^ 20) (length bytes))
   where
     by_size : (2 ^ 20 < length bytes) ⊎ (length bytes ≤ 2 ^ 20) → take n (drop 0 bytes) ≡ headline.front bytes
     by_size (inl h) = let own : n ≡ 2 ^ 20 = omega (arith, e, h) in ap (λ (k : ℕ). take k bytes) own
-    by_size (inr h) =
-        let own : n ≡ length bytes = omega (arith, e, h) in
-        ap (λ (k : ℕ). take k bytes) own ∙ take_all (length bytes) bytes (omega arith) ∙ sym (take_all (2 ^ 20) bytes h)
+    by_size (inr h) = grind (arith, nat_tests, take_all (length bytes) bytes (omega arith), take_all (2 ^ 20) bytes h)
 
 -- what is read of a file that is told
 pub read_front : (held : Option (List ℕ)) (len n : ℕ) (read : List ℕ) → IfSome held (λ bytes. length bytes ≡ len) → n ≡ min len (2 ^ 20)
     → IfSome held (λ bytes. read ≡ take n (drop 0 bytes)) → IfSome held (λ file. read ≡ headline.front file)
-read_front None len n read told e h = tt
-read_front (Some file) len n read told e h = h ∙ front_is file n (e ∙ ap (λ (k : ℕ). min k (2 ^ 20)) (sym told))
+read_front held len n read told e h = grind (arith, nat_tests, front_is)
 
 -- ---- what the front that was read tells of the file
 
@@ -62,25 +52,10 @@ faultless None bytes header n e b = tt
 faultless (Some file) bytes header n e b = no_fault header (headline.front file) n (subst (λ (t : List ℕ). BeginsWith t header n) e b)
 
 same_header : (err e : HeaderErr) → Header e ≡ stop_of_header err → err ≡ e
-same_header fault.NotCdf e h = cc
-same_header fault.BadVersion e h = cc
-same_header (fault.Truncated x) e h = cc
-same_header (fault.BadTag x) e h = cc
-same_header (fault.BadType x) e h = cc
-same_header (fault.BadNumber x) e h = cc
-same_header fault.TwoRecordDims e h = cc
-same_header (fault.RecordDimNotFirst v) e h = cc
-same_header (fault.BadDimId v) e h = cc
-same_header fault.Streaming e h = cc
-same_header fault.TooLarge e h = cc
-same_header (fault.Shared v w) e h = cc
-same_header fault.Memory e h = absurd cc
+same_header err e h = grind (arith, nat_tests)
 
 no_memory : (err e : HeaderErr) → Header e ≡ stop_of_header err → err ≡ fault.Memory → ⊥
-no_memory err e h m = clash (h ∙ ap stop_of_header m)
-  where
-    clash : Header e ≡ Memory → ⊥
-    clash x = cc
+no_memory err e h m = grind (arith, nat_tests)
 
 of_fault : (held : Option (List ℕ)) (bytes : List ℕ) (e : HeaderErr) → IfSome held (λ file. bytes ≡ headline.front file) → HasFault bytes e
     → IfSome held (λ file. HasFault (headline.front file) e)
@@ -105,12 +80,4 @@ tells held bytes (Err stop) err e f why s r = by_cause why
 
 pub front_calls : (held mid : Option (List ℕ)) (before started now : Option (List DiskCall)) → mid ≡ held → started ≡ after (λ _. []) before
     → IfSome mid (λ file. now ≡ with_end started (head_load file)) → IfSome held (λ file. now ≡ after (λ _. head_load file) before)
-front_calls held mid before started now same b h = by_held held (subst (λ (t : Option (List ℕ)). IfSome t (λ file. now ≡ with_end started (head_load file))) same h)
-  where
-    from_none : (calls : List DiskCall) (old : Option (List DiskCall)) → with_end (after (λ _. []) old) calls ≡ after (λ _. calls) old
-    from_none calls None = refl
-    from_none calls (Some others) = refl
-
-    by_held : (t : Option (List ℕ)) → IfSome t (λ file. now ≡ with_end started (head_load file)) → IfSome t (λ file. now ≡ after (λ _. head_load file) before)
-    by_held None g = tt
-    by_held (Some file) g = g ∙ ap (λ (c : Option (List DiskCall)). with_end c (head_load file)) b ∙ from_none (head_load file) before
+front_calls held mid before started now same b h = grind (arith, nat_tests)

@@ -1,5 +1,5 @@
 -- A dataset that is ready for the ranks.
-use Rattle.dataset_start.proofs.Words.{◌≡◌, ℕ, ◌≤◌, ◌==◌, ◌++◌, Bool, true, false, List, [], ◌∷◌, length, Option, Some, None, inl, inr, refl, sym, ap, subst, append_assoc, eqb-true, ◌∙◌, arith, IfErr, IfOk, IfSome, IsSomeAnd, Result, Ok, Err, IsErrAnd, HeaderErr, RedefErr, Extra, DiskCall, Grow, Store, after, with_end, after-after, after-same, grow_to, head_load, move_calls, opening_calls, redefining_calls, zero_calls, longer, filled, header_len, HasFault, is_sound, end_of, brought, redefined, redefined_fault, redefined_header, start, longer-enough, BeginsWith, IsApplied, new_end, relocation_calls, Reads, created_header, creation_fault, front, header_of_run, redefinition_fault, Asks, AsksForBadLayout, HasRedefinitionFault, IsBadDataset, IsLaid, IsMislaid, IsSoundFile, TellsDataset, blank_file, dataset_end, empty_end, fill_calls_if, filled_if, first_calls, opened_calls, IsFaultless, IsOpened, IsReady, line_of, status_of, IsOfHeader, IsOfRedefinition, Stop, both_ways, some_not_none}
+use Rattle.dataset_start.proofs.Words.{◌≡◌, ℕ, ◌≤◌, ◌==◌, ◌++◌, Bool, true, false, List, [], ◌∷◌, length, Option, Some, None, inl, inr, refl, sym, ap, subst, append_assoc, eqb-true, ◌∙◌, arith, IfErr, IfOk, IfSome, IsSomeAnd, Result, Ok, Err, IsErrAnd, HeaderErr, RedefErr, Extra, DiskCall, Grow, Store, after, with_end, after-after, after-same, grow_to, head_load, opening_calls, redefining_calls, longer, filled, header_len, HasFault, is_sound, brought, redefined, redefined_fault, redefined_header, start, longer-enough, BeginsWith, IsApplied, new_end, relocation_calls, Reads, created_header, creation_fault, front, header_of_run, redefinition_fault, Asks, AsksForBadLayout, HasRedefinitionFault, IsBadDataset, IsLaid, IsMislaid, IsSoundFile, TellsDataset, blank_file, dataset_end, empty_end, fill_calls_if, filled_if, first_calls, IsFaultless, IsOpened, IsReady, line_of, status_of, IsOfHeader, IsOfRedefinition, Stop, both_ways, some_not_none, nat_tests, common_steps}
 use Rattle.nc_base.specs.declared.header.Header as head
 use Rattle.nc_base.specs.declared.script.Script as script_type
 use Rattle.dataset_start.specs.declared.stop.Stop.TheVariants as stops
@@ -16,15 +16,7 @@ pub no_extras : (script : script_type.Script) → script.extra ≡ [] → (lengt
 no_extras script e = ap (λ (x : List Extra). length x == 0) e
 
 pub some_extras : (script : script_type.Script) → (script.extra ≡ [] → ⊥) → (length script.extra == 0) ≡ false
-some_extras script h = by_test (length script.extra == 0) refl
-  where
-    nothing : (extras : List Extra) → length extras ≡ 0 → extras ≡ []
-    nothing [] e = refl
-    nothing (x ∷ extras) e = absurd (omega (arith, e))
-
-    by_test : (b : Bool) → (length script.extra == 0) ≡ b → (length script.extra == 0) ≡ false
-    by_test false e = e
-    by_test true e = absurd (h (nothing script.extra (eqb-true (length script.extra) 0 e)))
+some_extras script h = grind (arith, nat_tests, eqb-true, common_steps)
 
 pub header-kept : (script : script_type.Script) (old : head.Header) → AddsNothing script true → header_of_run script old ≡ old
 header-kept script old x = ap (λ (b : Bool). elim b [ true ↦ old | false ↦ redefined_header old script.extra ]) x
@@ -35,13 +27,9 @@ header-changed script old new x a = a.made ∙ sym (ap (λ (b : Bool). elim b [ 
 pub file-kept : (script : script_type.Script) (old new : head.Header) (file : List ℕ) → AddsNothing script true → brought script old new file ≡ file
 file-kept script old new file x = ap (λ (b : Bool). elim b [ true ↦ file | false ↦ redefined file old new ]) x
 
-file-changed : (script : script_type.Script) (old new : head.Header) (file : List ℕ) → AddsNothing script false → brought script old new file ≡ redefined file old new
-file-changed script old new file x = ap (λ (b : Bool). elim b [ true ↦ file | false ↦ redefined file old new ]) x
-
 first-calls : (script : script_type.Script) (old new : head.Header) (file : List ℕ) (b : Bool) → AddsNothing script b
     → first_calls script old new file ≡ elim b [ true ↦ opening_calls script new file | false ↦ redefining_calls script.hints old new file ]
-first-calls script old new file b x =
-    ap (λ (c : Bool). elim c [ true ↦ opening_calls script new file | false ↦ redefining_calls script.hints old new file ]) x
+first-calls script old new file b x = grind (arith, nat_tests)
 
 pub fault-none : (script : script_type.Script) (old : head.Header) → AddsNothing script true → redefinition_fault script old ≡ None
 fault-none script old x = ap (λ (b : Bool). elim b [ true ↦ None | false ↦ redefined_fault old script.extra ]) x
@@ -53,15 +41,7 @@ fault-some script old x = ap (λ (b : Bool). elim b [ true ↦ None | false ↦ 
 
 pub start-created : (script : script_type.Script) (header : head.Header) (file : List ℕ) → script.fresh ≡ true
     → start script header file ≡ filled_if script.filled header (blank_file header)
-start-created script header file f = ap (λ (b : Bool). elim b [ false ↦ longer file (dataset_end header) | true ↦ made ]) f ∙ by_filled script.filled
-  where
-    made : List ℕ
-    made = elim (script.filled) [ false ↦ blank_file header | true ↦ filled header (blank_file header) ]
-
-    by_filled : (b : Bool) → elim b [ false ↦ blank_file header | true ↦ filled header (blank_file header) ]
-        ≡ filled_if b header (blank_file header)
-    by_filled true = refl
-    by_filled false = refl
+start-created script header file f = grind (arith, nat_tests)
 
 start-opened : (script : script_type.Script) (header : head.Header) (file : List ℕ) → script.fresh ≡ false
     → start script header file ≡ longer file (dataset_end header)
@@ -77,59 +57,29 @@ opening-created : (script : script_type.Script) (header : head.Header) (file : L
 unfolding created-calls
 opening-created script header file f = rw f refl
 
-opening-opened : (script : script_type.Script) (header : head.Header) (file : List ℕ) → script.fresh ≡ false
-    → opening_calls script header file ≡ opened_calls header file
-opening-opened script header file f = rw f refl
-
 calls-created : (script : script_type.Script) (header : head.Header) (held : Option (List ℕ)) (before mid now : Option (List DiskCall)) → script.fresh ≡ true
     → AddsNothing script true
     → mid ≡ after (λ _. Grow (empty_end header) ∷ Store 0 (header_len header) ∷ []) before
     → now ≡ with_end mid (fill_calls_if script.filled script.hints header)
     → IfSome held (λ bytes. now ≡ after (λ _. first_calls script header header bytes) before)
 unfolding created-calls
-calls-created script header None before mid now f x m n = tt
-calls-created script header (Some bytes) before mid now f x m n =
-    n ∙ ap (λ (c : Option (List DiskCall)). with_end c (fill_calls_if script.filled script.hints header)) m ∙ together before
-  where
-    together : (old : Option (List DiskCall))
-        → with_end (after (λ _. Grow (empty_end header) ∷ Store 0 (header_len header) ∷ []) old) (fill_calls_if script.filled script.hints header)
-        ≡ after (λ _. first_calls script header header bytes) old
-    together None = refl
-    together (Some calls) = ap (λ (c : List DiskCall). Some c) (sym (opening-created script header bytes f) ∙ sym (first-calls script header header bytes true x))
+calls-created script header held before mid now f x m n = grind (arith, nat_tests, opening-created, first-calls)
 
 extended : (before mid now : Option (List DiskCall)) (first more : List DiskCall) → mid ≡ after (λ _. first) before → now ≡ with_end mid more
     → now ≡ after (λ _. first ++ more) before
-extended None mid now first more m n = n ∙ ap (λ (c : Option (List DiskCall)). with_end c more) m
-extended (Some calls) mid now first more m n = n ∙ ap (λ (c : Option (List DiskCall)). with_end c more) m
+extended before mid now first more m n = grind (arith, nat_tests)
 
 calls-opened : (script : script_type.Script) (header : head.Header) (held : Option (List ℕ)) (before mid now : Option (List DiskCall)) → script.fresh ≡ false
     → AddsNothing script true → IfSome held (λ file. mid ≡ after (λ _. head_load file) before)
     → IfSome held (λ file. now ≡ with_end mid (grow_to (length file) (dataset_end header)))
     → IfSome held (λ bytes. now ≡ after (λ _. first_calls script header header bytes) before)
-calls-opened script header None before mid now f x m n = tt
-calls-opened script header (Some bytes) before mid now f x m n =
-    extended before mid now (head_load bytes) (grow_to (length bytes) (dataset_end header)) m n
-    ∙ ap (λ (c : List DiskCall). after (λ _. c) before) (sym (opening-opened script header bytes f) ∙ sym (first-calls script header header bytes true x))
-
-joined-calls : (script : script_type.Script) (old new : head.Header) (file : List ℕ)
-    → head_load file ++ relocation_calls script.hints.wr_buffer old new file ≡ redefining_calls script.hints old new file
-joined-calls script old new file =
-    four (head_load file) (grow_to (length file) (new_end old new)) (move_calls script.hints.wr_buffer old new) (zero_calls script.hints.wr_buffer old new)
-    (Store 0 (header_len new) ∷ [])
-  where
-    four : (h g m z s : List DiskCall) → h ++ (g ++ m ++ z ++ s) ≡ h ++ g ++ m ++ z ++ s
-    four h g m z s =
-        sym (append_assoc h (g ++ m ++ z) s)
-        ∙ ap (λ (t : List DiskCall). t ++ s) (sym (append_assoc h (g ++ m) z) ∙ ap (λ (t : List DiskCall). t ++ z) (sym (append_assoc h g m)))
+calls-opened script header held before mid now f x m n = grind (arith, nat_tests, extended, first-calls)
 
 calls-redefined : (script : script_type.Script) (old new : head.Header) (held : Option (List ℕ)) (before mid now : Option (List DiskCall)) → AddsNothing script false
     → IfSome held (λ file. mid ≡ after (λ _. head_load file) before)
     → IfSome held (λ file. now ≡ with_end mid (relocation_calls script.hints.wr_buffer old new file))
     → IfSome held (λ bytes. now ≡ after (λ _. first_calls script old new bytes) before)
-calls-redefined script old new None before mid now x m n = tt
-calls-redefined script old new (Some bytes) before mid now x m n =
-    extended before mid now (head_load bytes) (relocation_calls script.hints.wr_buffer old new bytes) m n
-    ∙ ap (λ (c : List DiskCall). after (λ _. c) before) (joined-calls script old new bytes ∙ sym (first-calls script old new bytes false x))
+calls-redefined script old new held before mid now x m n = grind (arith, nat_tests, extended, append_assoc, first-calls)
 
 -- what is held, or nothing where nothing is told
 abbrev told : Option (List ℕ) → List ℕ
@@ -137,8 +87,7 @@ told None = []
 told (Some file) = file
 
 told-is : (held : Option (List ℕ)) → IfSome held (λ bytes. bytes ≡ told held)
-told-is None = tt
-told-is (Some file) = refl
+told-is held = grind (arith, nat_tests)
 
 -- ---- a new dataset
 
@@ -160,12 +109,7 @@ ready-created script header before mid now calls_before calls_mid calls_now f x 
   heads = record { created = λ _. h; opened = λ o. absurd (both_ways script.fresh o f); made = sym (header-kept script header x) };
   sound = s;
   faultless = created-faultless script before f l;
-  bytes =
-      g ∙ ap (λ (t : Option (List ℕ)). after (filled_if script.filled header) t) e
-      ∙ after-after (filled_if script.filled header) (λ _. blank_file header) before
-      ∙ after-same (λ _. filled_if script.filled header (blank_file header))
-      (λ file. start script header (brought script header header file)) before
-      (λ file. sym (start-created script header (brought script header header file) f));
+  bytes = grind (arith, nat_tests, after-after, after-same, start-created);
   calls = calls-created script header before calls_before calls_mid calls_now f x m n;
 }
 
@@ -190,8 +134,7 @@ sound-file script old (Some file) o r n = record { header = n; redefinition = re
 
 pub opened-faultless : (script : script_type.Script) (old : head.Header) (held : Option (List ℕ)) → script.fresh ≡ false → IsOpened held old
     → redefinition_fault script old ≡ None → IfSome held (λ file. (e : HeaderErr) → HasFault (front file) e → ⊥) → IsFaultless script held
-opened-faultless script old held f o r n =
-    record { created = λ c. absurd (both_ways script.fresh f c); opened = λ _. sound-file script old held o r n }
+opened-faultless script old held f o r n = grind (arith, nat_tests, sound-file script old held o r n, both_ways)
 
 pub ready-kept : (script : script_type.Script) (header : head.Header) (before mid now : Option (List ℕ)) (calls_before calls_mid calls_now : Option (List DiskCall))
     → script.fresh ≡ false → AddsNothing script true → IsOpened before header → is_sound header ≡ true
@@ -207,10 +150,7 @@ ready-kept script header before mid now calls_before calls_mid calls_now f x o s
   heads = record { created = λ c. absurd (both_ways script.fresh f c); opened = λ _. (o.count, o.begins); made = sym (header-kept script header x) };
   sound = s;
   faultless = opened-faultless script header before f o (fault-none script header x) n;
-  bytes = e ∙ ap (λ (t : Option (List ℕ)). after (λ file. longer file (dataset_end header)) t) h
-      ∙ after-same (λ file. longer file (dataset_end header)) (λ file. start script header (brought script header header file)) before
-      (λ file. sym (start-opened script header (brought script header header file) f
-      ∙ ap (λ (t : List ℕ). longer t (dataset_end header)) (file-kept script header header file x)));
+  bytes = grind (arith, nat_tests, after-same, start-opened, file-kept);
   calls = calls-opened script header before calls_before calls_mid calls_now f x m
       (subst (λ (t : Option (List ℕ)). IfSome t (λ file. calls_now ≡ with_end calls_mid (grow_to (length file) (dataset_end header)))) h k);
 }
@@ -219,10 +159,7 @@ ready-kept script header before mid now calls_before calls_mid calls_now f x o s
 redefined-start : (script : script_type.Script) (old new : head.Header) (file : List ℕ) → script.fresh ≡ false → AddsNothing script false → IsApplied old script.extra new
     → start script new (brought script old new file) ≡ redefined file old new
 redefined-start script old new file f x a =
-    start-opened script new (brought script old new file) f
-    ∙ ap (λ (t : List ℕ). longer t (dataset_end new)) (file-changed script old new file x)
-    ∙ longer-enough (redefined file old new) (dataset_end new)
-    (omega (arith, same_end old new script.extra a.made, long_enough old new file))
+    grind (arith, nat_tests, start-opened script new (brought script old new file) f, same_end old new script.extra a.made, long_enough old new file, longer-enough)
 
 ready-redefined : (script : script_type.Script) (old new : head.Header) (before mid now : Option (List ℕ)) (calls_before calls_mid calls_now : Option (List DiskCall))
     → script.fresh ≡ false → AddsNothing script false → IsOpened before old
@@ -238,11 +175,8 @@ ready-redefined script old new before mid now calls_before calls_mid calls_now f
   heads = record { created = λ c. absurd (both_ways script.fresh f c); opened = λ _. (o.count, o.begins); made = header-changed script old new x a };
   sound = redefined_sound old new script.extra a;
   faultless = opened-faultless script old before f o (fault-some script old x ∙ a.faultless) n;
-  bytes = e ∙ ap (λ (t : Option (List ℕ)). after (λ file. redefined file old new) t) h
-      ∙ after-same (λ file. redefined file old new) (λ file. start script new (brought script old new file)) before
-      (λ file. sym (redefined-start script old new file f x a));
-  calls = calls-redefined script old new before calls_before calls_mid calls_now x m
-      (subst (λ (t : Option (List ℕ)). IfSome t (λ file. calls_now ≡ with_end calls_mid (relocation_calls script.hints.wr_buffer old new file))) h k);
+  bytes = grind (arith, nat_tests, after-same, redefined-start);
+  calls = grind (arith, nat_tests, calls-redefined);
 }
 
 pub redefined-ready : (script : script_type.Script) (old : head.Header) (before mid now : Option (List ℕ)) (calls_before calls_mid calls_now : Option (List DiskCall))
@@ -259,8 +193,7 @@ redefined-ready script old before mid now calls_before calls_mid calls_now (Err 
 pub redefined_long : (old : head.Header) (len : ℕ) (extras : List Extra) (result : Result head.Header Stop)
     → IfOk result (λ new. IsApplied old extras new) → IfOk result (λ new. new_end old new ≤ len)
     → IfOk result (λ new. dataset_end new ≤ len)
-redefined_long old len extras (Ok new) a h = omega (arith, same_end old new extras a.made, h)
-redefined_long old len extras (Err stop) a h = tt
+redefined_long old len extras result a h = grind (arith, nat_tests, same_end)
 
 -- ---- what is wrong with it
 
@@ -271,11 +204,7 @@ bad-header-stop script held (stops.Header e) f h o s =
     record { created = λ c. absurd (both_ways script.fresh f c); opened = λ _. inl (e, (h e refl, refl)) }
 bad-header-stop script held stops.Disk f h o s = absurd (omega (arith, s))
 bad-header-stop script held stops.Memory f h o s = absurd (omega (arith, s))
-bad-header-stop script held stops.Usage f h o s = absurd o
-bad-header-stop script held (stops.Script e) f h o s = absurd o
-bad-header-stop script held (stops.Layout e) f h o s = absurd o
-bad-header-stop script held (stops.Redefinition e) f h o s = absurd o
-bad-header-stop script held stops.Source f h o s = absurd o
+bad-header-stop script held _ f h o s = absurd o
 
 pub bad-header : {T U : Type 0} (script : script_type.Script) (held : Option (List ℕ)) (result : Result T Stop) (err : Stop) (left : Result U Stop) → script.fresh ≡ false
     → result ≡ Err err → ((e : HeaderErr) → result ≡ Err (stops.Header e) → IfSome held (λ file. HasFault (front file) e)) → IfErr result IsOfHeader
@@ -290,9 +219,7 @@ bad-header script held (Err other) err (Err stop) f r h o e =
 redefinition-told : (script : script_type.Script) (old : head.Header) (held : Option (List ℕ)) (e : RedefErr) → AddsNothing script false → IsOpened held old
     → redefined_fault old script.extra ≡ Some e → IfSome held (λ file. HasRedefinitionFault script file e)
 redefinition-told script old None e x o r = tt
-redefinition-told script old (Some file) e x o r =
-    let b = at_front (Some file) old o in
-    record { old = old; count = b.0; begins = b.1; refuses = fault-some script old x ∙ r }
+redefinition-told script old (Some file) e x o r = grind (arith, nat_tests, at_front, fault-some)
 
 bad-redefinition-stop : (script : script_type.Script) (old : head.Header) (held : Option (List ℕ)) (stop : Stop) → script.fresh ≡ false → AddsNothing script false
     → IsOpened held old → ((e : RedefErr) → stop ≡ stops.Redefinition e → redefined_fault old script.extra ≡ Some e) → IsOfRedefinition stop
@@ -301,11 +228,7 @@ bad-redefinition-stop script old held (stops.Redefinition e) f x p h o s =
     record { created = λ c. absurd (both_ways script.fresh f c); opened = λ _. inr (e, (redefinition-told script old held e x p (h e refl), refl)) }
 bad-redefinition-stop script old held stops.Disk f x p h o s = absurd (omega (arith, s))
 bad-redefinition-stop script old held stops.Memory f x p h o s = absurd (omega (arith, s))
-bad-redefinition-stop script old held stops.Usage f x p h o s = absurd o
-bad-redefinition-stop script old held (stops.Script e) f x p h o s = absurd o
-bad-redefinition-stop script old held (stops.Header e) f x p h o s = absurd o
-bad-redefinition-stop script old held (stops.Layout e) f x p h o s = absurd o
-bad-redefinition-stop script old held stops.Source f x p h o s = absurd o
+bad-redefinition-stop script old held _ f x p h o s = absurd o
 
 pub bad-redefinition : (script : script_type.Script) (old : head.Header) (held : Option (List ℕ)) (result : Result head.Header Stop) → script.fresh ≡ false
     → AddsNothing script false → IsOpened held old
@@ -322,10 +245,7 @@ same_script text a b r s = let e : Ok a ≡ Ok b = sym r ∙ s in cc
 -- a created dataset has no record
 pub created_long : (script : script_type.Script) (header : head.Header) (len : ℕ) → script.header.records ≡ 0 → header ≡ created_header script
     → len ≡ empty_end header → dataset_end header ≤ len
-created_long script header len r h l =
-    let none : header.records ≡ 0 = ap (λ (x : head.Header). x.records) h ∙ r in
-    let same : dataset_end header ≡ empty_end header = ap (λ (n : ℕ). end_of header (header_len header) n) none in
-    omega (arith, same, l)
+created_long script header len r h l = grind (arith, nat_tests)
 
 -- ---- a layout that is refused
 
@@ -346,8 +266,7 @@ untouched script held line t h f = let told = t.created f in h (record { created
 
 pub bad-dataset : {Untouched : Type 0} (left held : Option (List ℕ)) (script : script_type.Script) (told : Option (List ℕ)) → Asks left script
     → (IsMislaid script → Untouched) → IfSome told (TellsDataset script held) → IfSome told (IsBadDataset left held Untouched)
-bad-dataset left held script None a h t = tt
-bad-dataset left held script (Some line) a h t = record { script = script; asks = a; tells = t; unlaid = untouched script held line t h }
+bad-dataset left held script told a h t = grind (arith, nat_tests, untouched)
 
 pub bad-asked : {T : Type 0} (Untouched : Type 0) (left held : Option (List ℕ)) (script : script_type.Script) (result : Result T Stop) (err : Stop)
     → IsErrAnd result (λ stop. stop ≡ err) → Asks left script → (IsMislaid script → Untouched)

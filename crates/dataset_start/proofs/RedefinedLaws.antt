@@ -1,5 +1,5 @@
 -- The header and the file of a redefinition.
-use Rattle.dataset_start.proofs.Words.{◌≡◌, ℕ, ◌+◌, ◌-◌, ◌≤◌, List, [], ◌∷◌, ◌++◌, length, drop, replicate, fold, zip, refl, ap, ◌∙◌, arith, length-append, length-replicate, one_keeps, Header, Var, Extra, size_of, read, written, canon, header_len, end_of, place, all_indices, moved, redefined, redefined_header, with_extra, new_end, written_grows}
+use Rattle.dataset_start.proofs.Words.{◌≡◌, ℕ, ◌-◌, ◌≤◌, List, [], ◌∷◌, length, fold, zip, refl, ap, ◌∙◌, arith, length-append, length-replicate, one_keeps, Header, Var, Extra, header_len, end_of, moved, redefined, redefined_header, with_extra, new_end, written_grows, nat_tests}
 
 -- ---- the record count stays
 
@@ -21,19 +21,7 @@ fold_grows f g [] file = omega arith
 fold_grows f g (a ∷ list) file = omega (arith, g file a, fold_grows f g list (f file a))
 
 moved_grows : (old new : Header) (file into : List ℕ) (v : Var × Var) → length into ≤ length (moved old new file into v)
-moved_grows old new file into (v, w) =
-    fold_grows (λ f index. written f (place new w index) (read file (place old v index) (size_of v.kind)))
-    (λ f index. written_grows f (place new w index) (read file (place old v index) (size_of v.kind))) (all_indices old v) into
+moved_grows old new file into (v, w) = grind (arith, nat_tests, fold_grows, written_grows)
 
 pub long_enough : (old new : Header) (file : List ℕ) → new_end old new ≤ length (redefined file old new)
-long_enough old new file =
-    let end : ℕ = new_end old new in
-    let blank : List ℕ = canon new ++ replicate (end - header_len new) 0 ++ drop end file in
-    let grown : length blank ≤ length (redefined file old new) = fold_grows (moved old new file) (moved_grows old new file) (zip old.vars new.vars) blank in
-    omega (
-      arith,
-      grown,
-      length-append (canon new ++ replicate (end - header_len new) 0) (drop end file),
-      length-append (canon new) (replicate (end - header_len new) 0),
-      length-replicate {A = ℕ} (end - header_len new) 0,
-    )
+long_enough old new file = grind (arith, nat_tests, fold_grows, moved_grows, zip, length-append, length-replicate)

@@ -1,30 +1,20 @@
 -- What a fault of the disk, and one of a redefinition, leave, and what ends early after the script was read.
-use Rattle.dataset_start.proofs.Words.{◌≡◌, ℕ, List, Option, inl, inr, refl, sym, ap, subst, ◌∙◌, arith, Result, Ok, Err, IfErr, IsErrAnd, RedefErr, DiskErr, Script, Asks, IsBeforeStart, IsLaid, IsOfDataset, IsOfRedefinition, status_of, stop_of_disk, Stop}
+use Rattle.dataset_start.proofs.Words.{◌≡◌, ℕ, List, Option, inl, inr, sym, ap, ◌∙◌, arith, Result, Ok, Err, IfErr, IsErrAnd, RedefErr, DiskErr, Script, Asks, IsBeforeStart, IsLaid, IsOfDataset, IsOfRedefinition, status_of, stop_of_disk, Stop, nat_tests}
 use Rattle.nc_outside.specs.declared.disk.DiskErr.TheVariants as disk
 use Rattle.dataset_start.specs.declared.stop.Stop.TheVariants as stops
 
 not_four : (err : DiskErr) → status_of (stop_of_disk err) ≡ 4 → ⊥
-not_four disk.Failed s = omega (arith, s)
-not_four disk.Memory s = omega (arith, s)
+not_four err s = grind (arith, nat_tests)
 
 -- a fault of the disk is none of the dataset
 pub disk-untold : {T : Type 0} (Q : Stop → Type 0) (result : Result T Stop) (err : DiskErr) → IsErrAnd result (λ stop. stop ≡ stop_of_disk err)
     → IfErr result (λ stop. status_of stop ≡ 4 → Q stop)
-disk-untold Q (Ok x) err e = tt
-disk-untold Q (Err stop) err e = λ s. absurd (not_four err (ap status_of (sym e) ∙ s))
+disk-untold xs result err e = grind (arith, nat_tests, not_four)
 
 -- what a refused redefinition leaves is left where the dataset is at fault
 pub redefinition-leaves : {T Q : Type 0} (result : Result T Stop) → ((e : RedefErr) → result ≡ Err (stops.Redefinition e) → Q) → IfErr result IsOfRedefinition
     → IfErr result (λ stop. status_of stop ≡ 4 → Q)
-redefinition-leaves (Ok x) left only = tt
-redefinition-leaves (Err (stops.Redefinition e)) left only = λ s. left e refl
-redefinition-leaves (Err stops.Disk) left only = λ s. absurd (omega (arith, s))
-redefinition-leaves (Err stops.Memory) left only = λ s. absurd (omega (arith, s))
-redefinition-leaves (Err stops.Usage) left only = absurd only
-redefinition-leaves (Err (stops.Script e)) left only = absurd only
-redefinition-leaves (Err (stops.Header e)) left only = absurd only
-redefinition-leaves (Err (stops.Layout e)) left only = absurd only
-redefinition-leaves (Err stops.Source) left only = absurd only
+redefinition-leaves result left only = grind (arith, nat_tests)
 
 -- ---- the script was read
 
@@ -51,8 +41,7 @@ late stops.Source only s = only
 
 pub not-before : {T : Type 0} (Q : Type 0) (result : Result T Stop) (err : Stop) → IsErrAnd result (λ stop. stop ≡ err) → IsOfDataset err
     → IfErr result (λ stop. IsBeforeStart (status_of stop) → Q)
-not-before Q (Ok x) err e only = tt
-not-before Q (Err stop) err e only = λ s. absurd (late stop (subst IsOfDataset (sym e) only) s)
+not-before xs result err e only = grind (arith, nat_tests, late)
 
 -- where the disk failed, the script is laid out
 pub laid-asked : {T : Type 0} (left : Option (List ℕ)) (script : Script) (result : Result T Stop) (err : Stop) → IsErrAnd result (λ stop. stop ≡ err) → Asks left script

@@ -8,6 +8,8 @@ pub use Rattle.std.specs.List.{list_all}
 pub use Rattle.std.specs.Prelude.{Err, IfErr, IfOk, IfSome, IsSomeAnd, Ok, Result, if◌then◌else◌}
 pub use Rattle.std.specs.Result.{IsErrAnd}
 pub use Rattle.std.specs.Vec.{with_items}
+pub use Rattle.std.proofs.lemmas.Bool.Decides.{nat_tests}
+pub use Rattle.std.proofs.lemmas.Grind.{common_steps}
 pub use Rattle.cdf_header.specs.Decoded.{BeginsWith}
 pub use Rattle.dataset_start.specs.Dataset.{AreHeadersOf, Asks, AsksForBadLayout, HasRedefinitionFault, IsBadDataset, IsBeforeStart, IsKept, IsLaid, IsMislaid, IsSoundFile, TellsDataset, created_header, creation_fault, front, header_of_run, redefinition_fault}
 pub use Rattle.dataset_start.specs.Limits.{max_text}

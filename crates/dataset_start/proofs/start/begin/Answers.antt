@@ -1,5 +1,5 @@
 use Rattle.dataset_start.proofs.Keeping.{read_kept}
-use Rattle.dataset_start.proofs.Words.{inl, inr, refl, on_err}
+use Rattle.dataset_start.proofs.Words.{inl, refl, on_err}
 use Rattle.dataset_start.proofs.NotReady.{left_unready}
 use Rattle.dataset_start.proofs.ReadyLaws.{bad-asked, laid-mislaid, of_bad_layout}
 use Rattle.dataset_start.proofs.Untold.{laid-asked, not-before}

@@ -2,19 +2,12 @@ use Rattle.dataset_start.proofs.Words.{◌≡◌, true, sym, subst, arith, Heade
 use Rattle.dataset_start.proofs.Keeping.{kept_header_align, kept_var_align}
 use Rattle.dataset_start.proofs.start.laid_out.Goals as goal
 
-pub lay_out-requires-clause-unplaced : goal.lay_out-requires-clause-unplaced
-lay_out-requires-clause-unplaced c =
-    subst (λ (h : Header). is_unplaced h ≡ true) (sym c.in_ok-header.ensures) (c.requires.kept.unplaced c.requires.fresh)
-
-pub lay_out-requires-clause-header_align : goal.lay_out-requires-clause-header_align
-lay_out-requires-clause-header_align c =
-    let own = kept_header_align c.args.script.now c.requires.kept in
-    (omega (arith, own.0), omega (arith, own.1))
-
-pub lay_out-requires-clause-var_align : goal.lay_out-requires-clause-var_align
-lay_out-requires-clause-var_align c =
-    let own = kept_var_align c.args.script.now c.requires.kept in
-    (omega (arith, own.0), omega (arith, own.1))
+pub lay_out-requires : goal.lay_out-requires
+lay_out-requires c = record {
+  unplaced = subst (λ (h : Header). is_unplaced h ≡ true) (sym c.in_ok-header.ensures) (c.requires.kept.unplaced c.requires.fresh);
+  header_align = let own = kept_header_align c.args.script.now c.requires.kept in (omega (arith, own.0), omega (arith, own.1));
+  var_align = let own = kept_var_align c.args.script.now c.requires.kept in (omega (arith, own.0), omega (arith, own.1));
+}
 
 pub returns-clause-writable : goal.returns-clause-writable
 returns-clause-writable c =

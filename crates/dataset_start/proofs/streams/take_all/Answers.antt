@@ -1,4 +1,4 @@
-use Rattle.dataset_start.proofs.Words.{◌≡◌, ℕ, List, ◌++◌, length, take, Option, Some, None, sym, ap, ◌∙◌, append_assoc, arith, length-take, with_front}
+use Rattle.dataset_start.proofs.Words.{◌≡◌, ℕ, List, ◌++◌, take, Option, Some, None, sym, ap, ◌∙◌, append_assoc, arith, length-take, with_front}
 use Rattle.std.proofs.Common.{length-append}
 use Rattle.dataset_start.proofs.streams.take_all.Goals as goal
 
