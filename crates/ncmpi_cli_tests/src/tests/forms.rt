@@ -102,6 +102,7 @@ fn a_run_of_each_form_ends_well(rt: HostRuntime) {
         let end = left(&rt, rt.alloc(), run, &OpenGate);
         is_wanted(&rt, rt.alloc(), &end, want);
         has_called(&rt, &end, calls);
+        drop(end);
     }
 }
 
@@ -121,6 +122,7 @@ fn a_made_script_is_summed_up(rt: HostRuntime) {
     assert_eq!(rt; end.status, 0);
     assert_eq!(rt; end.given.as_slice(), SUMMARY);
     assert_eq!(rt; end.held.len(), 388960);
+    drop(end);
 }
 
 // Words of no form.

@@ -72,6 +72,7 @@ fn each_other_status_has_its_line(rt: HostRuntime) {
     for (run, want) in &STATUSES {
         let end = left(&rt, rt.alloc(), run, &OpenGate);
         is_wanted(&rt, rt.alloc(), &end, want);
+        drop(end);
     }
 }
 
@@ -197,5 +198,6 @@ fn a_refused_call_ends_the_run(rt: HostRuntime) {
         let end = left(&rt, rt.alloc(), &run, &OpenGate);
         is_wanted(&rt, rt.alloc(), &end, &want);
         has_finished(&rt, &end, order);
+        drop(end);
     }
 }

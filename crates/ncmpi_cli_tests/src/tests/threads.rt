@@ -176,6 +176,8 @@ fn a_watcher_reads_before_the_first_step(rt: HostRuntime) {
     let end = left_by(&rt, alloc, &WATCHED, first, Point::Reading(0, 1));
     let readings = readings_of(&rt, alloc, &end, WATCHED_TEXT);
     assert!(rt; readings.as_slice().starts_with(b"0 0\n"));
+    drop(readings);
+    drop(end);
 }
 
 const WATCHED_BY_TWO: Run<'static> = Run {
@@ -192,6 +194,8 @@ fn the_second_watcher_reads_before_the_first_step(rt: HostRuntime) {
     let readings = readings_of(&rt, alloc, &end, WATCHED_TEXT);
     let second = readings.as_slice().get(68..82);
     assert!(rt; second == Some(b"watcher 1\n0 0\n".as_slice()));
+    drop(readings);
+    drop(end);
 }
 
 // Each rank puts its half twice.
@@ -221,6 +225,8 @@ fn a_watcher_reads_a_step_before_the_run_ends(rt: HostRuntime) {
     let readings = readings_of(&rt, alloc, &end, WATCHED_TWICE_TEXT);
     let ninth = readings.as_slice().get(32..36);
     assert!(rt; ninth == Some(b"1 0\n".as_slice()) || ninth == Some(b"2 0\n".as_slice()));
+    drop(readings);
+    drop(end);
 }
 
 const PUT_AND_GET: &[u8] = b"0 put_var_all v 1 2 3 4\n0 get_var_all v\nend\n";

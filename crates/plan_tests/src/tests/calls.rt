@@ -91,5 +91,6 @@ fn the_planned_calls_are_those_of_worked_runs(rt: HostRuntime) {
     for (text, calls) in &RUNS {
         let plan = planned(&rt, alloc, text);
         assert!(rt; calls_of(&rt, alloc, &plan).as_slice() == *calls);
+        drop(plan);
     }
 }

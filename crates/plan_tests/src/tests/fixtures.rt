@@ -24,7 +24,10 @@ pub(crate) fn planned<R: Abort + Wait>(rt: &R, alloc: Global, text: &[u8]) -> Ru
     let opening = open_fresh(alloc, &script, &header).expect(rt, NO_MEMORY);
     let end = end_of(&header, header.records);
     assert!(rt; end <= opening.size);
-    plan_run(rt, alloc, &header, &script, opening).expect(rt, NO_MEMORY)
+    let plan = plan_run(rt, alloc, &header, &script, opening).expect(rt, NO_MEMORY);
+    drop(header);
+    drop(script);
+    plan
 }
 
 fn script_of(rt: &impl Abort, alloc: Global, text: &[u8]) -> Script

@@ -47,4 +47,6 @@ fn columns_are_summed_up(rt: HostRuntime) {
     );
     assert!(rt; sums.read_over == 216 && sums.written_over == 20);
     assert!(rt; sums.matrix.len() == 12 && sums.matrix.as_slice().contains(&LAST));
+    drop(sums);
+    drop(plan);
 }

@@ -101,6 +101,7 @@ fn a_second_record_is_made(rt: HostRuntime) {
     };
     assert!(rt; given.start.as_slice() == COLUMN);
     assert!(rt; given.count.as_slice() == OF_EACH_RECORD);
+    drop(script);
 }
 
 /// The script of one record that a seed makes.
@@ -156,4 +157,7 @@ fn what_a_rank_did_is_summed_up(rt: HostRuntime) {
     let end = end_of(&rt, alloc, ORDER, &[OF_ONE_RANK], &[]);
     let text = summary_text(alloc, 7, 1, &script, &header, &end).expect(&rt, NO_MEMORY);
     assert_eq!(rt; text.as_slice(), SUMMARY);
+    drop(end);
+    drop(header);
+    drop(script);
 }

@@ -162,6 +162,9 @@ fn two_ranks_are_told(rt: HostRuntime) {
     let end = end_of(&rt, alloc, ORDER, &[OF_FIRST, OF_SECOND], &[3, 0]);
     let text = run_text(alloc, &script, &header, &end).expect(&rt, NO_MEMORY);
     assert_eq!(rt; text.as_slice(), TWO_RANKS_TEXT);
+    drop(end);
+    drop(script);
+    drop(header);
 }
 
 const ONE_RECORD_TEXT: &[u8] = b"// file format: CDF-1

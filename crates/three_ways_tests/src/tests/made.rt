@@ -36,6 +36,7 @@ fn again(rt: &impl Abort, alloc: Global, end: &Ended) -> Blob {
         begun.as_slice(),
         end.order.as_slice(),
     );
+    drop(script);
     bytes
 }
 

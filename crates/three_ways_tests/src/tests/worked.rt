@@ -44,6 +44,9 @@ pub(super) fn again(
     };
     let header = header_of(rt, alloc, bytes.as_slice());
     let text = run_text(alloc, &script, &header, &end).expect(rt, NO_MEMORY);
+    drop(end);
+    drop(header);
+    drop(script);
     (bytes, text)
 }
 
