@@ -198,14 +198,25 @@ record_step header v g number inner ids starts counts strides p q r t e a b c d 
     transport (λ i. 1 ≤ length (sym p i) → 1 ≤ length (sym q i) → 1 ≤ length (sym r i) → 1 ≤ length (sym t i) → inner ≡ min (product (rest (sym r i))) (2 ^ 64 - 1)
     → RecordStep header v g number inner (sym p i) (sym q i) (sym r i) (sym t i)) (λ a b c d is. record_step_of header v g number inner e a b c d valid below small is) a b c d is
 
-no_record : (starts counts strides : List ℕ) (number : ℕ) → length counts < 1 → HasRecord (index_at starts strides (coordinates_of counts number)) → ⊥
-no_record [] counts strides number l h = h
-no_record (s ∷ starts) [] [] number l h = h
-no_record (s ∷ starts) [] (t ∷ strides) number l h = h
-no_record (s ∷ starts) (n ∷ counts) strides number l h = omega arith
+record_entries : (starts counts strides : List ℕ) (number : ℕ) → HasRecord (index_at starts strides (coordinates_of counts number)) → (1 ≤ length starts) × (1 ≤ length counts) × (1 ≤ length strides)
+record_entries [] counts strides number h = absurd h
+record_entries (s ∷ starts) [] [] number h = absurd h
+record_entries (s ∷ starts) [] (t ∷ strides) number h = absurd h
+record_entries (s ∷ starts) (n ∷ counts) [] number h = absurd h
+record_entries (s ∷ starts) (n ∷ counts) (t ∷ strides) number h = (omega arith, omega arith, omega arith)
 
-pub no_record_counts : (header : Header) (v : Var) (g : Region) (number : ℕ) → is_record header v ≡ true → length g.count < 1 → IsElement header v (index_of g number) → ⊥
-no_record_counts header v g number e l valid = no_record g.start g.count g.stride number l (index_record header v (index_of g number) e valid).0
+-- the region of an element in a record has an entry for the record dimension
+pub has_record_entry : (header : Header) (v : Var) (g : Region) (number : ℕ) → is_record header v ≡ true → IsElement header v (index_of g number)
+    → (1 ≤ length g.start) × (1 ≤ length g.count) × (1 ≤ length g.stride)
+has_record_entry header v g number e valid = record_entries g.start g.count g.stride number (index_record header v (index_of g number) e valid).0
+
+record_first : (header : Header) (dims : List ℕ) → starts_with_zero (lengths_of header dims) ≡ true → 1 ≤ length dims
+record_first header [] e = cc
+record_first header (id ∷ dims) e = omega arith
+
+-- and the variable has that dimension
+pub has_record_dimension : (header : Header) (v : Var) → is_record header v ≡ true → 1 ≤ length v.dims
+has_record_dimension header v e = record_first header v.dims e
 
 -- ---- runs of a variable
 

@@ -8,7 +8,7 @@ pub use Rattle.std.proofs.lemmas.Bool.Decides.{nat_tests}
 pub use Rattle.std.proofs.lemmas.Cmp.{nat_list_cmp_total}
 pub use Rattle.std.proofs.lemmas.Fn.{always_returns_same, filter_same}
 pub use Rattle.std.proofs.lemmas.Grind.{common_steps, same_number_lists}
-pub use Rattle.std.proofs.lemmas.List.{append_assoc, drop-drop, drop_all, get_or-append_right, get_or-drop, get_or_append_left, get_or_default, length-append, length-drop, length-map, map-append, take_all, take_rest, with_items_is}
+pub use Rattle.std.proofs.lemmas.List.{append_assoc, drop-drop, drop_all, get_or-append_right, get_or-drop, get_or_append_left, get_or_default, length-append, length-drop, length-map, map-append, map_more, map_push, take_all, take_rest, with_items_is}
 pub use Rattle.std.proofs.lemmas.List.Edits.{length-swap, swapped_from_swap}
 pub use Rattle.std.proofs.lemmas.List.Elements.{All-cons, All-head, All-map, All-nil, All-tail}
 pub use Rattle.std.proofs.lemmas.List.Folds.{list_any-append}

@@ -30,44 +30,51 @@ pub fn check(
     ensures ok { OnOk result (spec.check header.now var region.now known direction ≡ code.Ok) }
     ensures refused { IfErr result (λ refusal. (refusal ≡ spec.check header.now var region.now known direction) × (refusal ≡ code.Ok → ⊥)) }
 {
-    match variable(header, var) {
-        None => Err(Code::ENotVar),
-        Some(var) => check_var(header, measures, var, region, known, direction),
+    let ends = Ends { direction, known };
+    match code_of(header, measures, var, region, ends) {
+        Code::Ok => Ok(()),
+        code => Err(code),
     }
 }
 
-pub(crate) fn check_var(
+/// The code of the first cause, or `Ok`.
+fn code_of(header: &Header, measures: &Measures, var: usize, region: &Region, ends: Ends) -> Code
+    requires measured { AreMeasures header.now measures.now }
+    ensures { result ≡ spec.check header.now var region.now ends.known ends.direction }
+{
+    match variable(header, var) {
+        None => Code::ENotVar,
+        Some(var) => region_code(header, measures, var, region, ends),
+    }
+}
+
+/// The same of a variable that the header has.
+pub(crate) fn region_code(
     header: &Header,
     measures: &Measures,
     var: &Var,
     region: &Region,
-    known: u64,
-    direction: Direction,
-) -> Result<(), Code>
+    ends: Ends,
+) -> Code
     requires measured { AreMeasures header.now measures.now }
-    ensures ok { OnOk result (spec.check_var header.now var.now region.now known direction ≡ code.Ok) }
-    ensures refused { IfErr result (λ refusal. (refusal ≡ spec.check_var header.now var.now region.now known direction) × (refusal ≡ code.Ok → ⊥)) }
+    ensures { result ≡ spec.check_var header.now var.now region.now ends.known ends.direction }
 {
     if other_shape(var.dims.len(), region) {
-        return Err(Code::EInvalCoords);
+        return Code::EInvalCoords;
     }
     if has_zero(region.stride.as_slice()) {
-        return Err(Code::EStride);
+        return Code::EStride;
     }
-    let ends = Ends { direction, known };
-    let ids = var.dims.as_slice();
-    let starts = region.start.as_slice();
-    let counts = region.count.as_slice();
-    if some_start(header, ends, ids, starts, counts) {
-        return Err(Code::EInvalCoords);
+    if starts_past(header, var, region, ends) {
+        return Code::EInvalCoords;
     }
-    if some_edge(header, ends, ids, starts, counts, region.stride.as_slice()) {
-        return Err(Code::EEdge);
+    if ends_past(header, var, region, ends) {
+        return Code::EEdge;
     }
     if asks_too_much(header, measures, var, region) {
-        return Err(Code::ETooLarge);
+        return Code::ETooLarge;
     }
-    Ok(())
+    Code::Ok
 }
 
 fn other_shape(dims: usize, region: &Region) -> bool
@@ -131,7 +138,20 @@ pub(crate) fn last_of(start: u64, count: u64, stride: u64) -> u128
     u128::from(start) + u128::from(count.saturating_sub(1)) * u128::from(stride)
 }
 
-/// Whether some start is refused.
+/// Whether some start of the region is refused.
+fn starts_past(header: &Header, var: &Var, region: &Region, ends: Ends) -> bool
+    ensures { result ≡ spec.some_start (spec.bounds header.now var.now ends.known ends.direction) region.now.start region.now.count }
+{
+    some_start(
+        header,
+        ends,
+        var.dims.as_slice(),
+        region.start.as_slice(),
+        region.count.as_slice(),
+    )
+}
+
+/// The same of lists.
 fn some_start(header: &Header, ends: Ends, ids: &[u32], starts: &[u64], counts: &[u64]) -> bool
     ensures { result ≡ spec.some_start (bounds_of header.now ends ids.now) starts.now counts.now }
 {
@@ -146,7 +166,21 @@ fn some_start(header: &Header, ends: Ends, ids: &[u32], starts: &[u64], counts: 
         || some_start(header, ends, ids, starts, counts)
 }
 
-/// Whether some last element is refused.
+/// Whether some last element of the region is refused.
+fn ends_past(header: &Header, var: &Var, region: &Region, ends: Ends) -> bool
+    ensures { result ≡ spec.some_edge (spec.bounds header.now var.now ends.known ends.direction) region.now.start region.now.count region.now.stride }
+{
+    some_edge(
+        header,
+        ends,
+        var.dims.as_slice(),
+        region.start.as_slice(),
+        region.count.as_slice(),
+        region.stride.as_slice(),
+    )
+}
+
+/// The same of lists.
 fn some_edge(
     header: &Header,
     ends: Ends,

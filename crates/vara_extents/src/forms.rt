@@ -1,7 +1,5 @@
 // What a form leaves out.
-ghost use Rattle.std.specs.Prelude.{◌≡◌, ◌<◌, [], length, map, replicate, true, slice_get, IfOk, IfSome, if◌then◌else◌, ◌==◌, ℕ, List};
-ghost use Rattle.nc_base.specs.declared.request.Form.TheVariants as form;
-ghost use Rattle.serial_spec.specs.SoundHeaders.{is_sound};
+ghost use Rattle.std.specs.Prelude.{◌≡◌, ◌<◌, length, replicate, slice_get, IfOk, IfSome, if◌then◌else◌, ◌==◌, ℕ, List};
 ghost use Rattle.serial_spec.specs.RegionCheck as spec;
 
 use nc_base::{Form, Given, Header, Memory, Region, SizeList, Var};
@@ -34,56 +32,69 @@ fn region_of(
     ensures { IfOk result (λ region. region ≡ spec.widen header.now var.now given.now known) }
 {
     let dims = var.dims.len();
+    Ok(Region {
+        start: start_of(alloc, given, dims)?,
+        count: count_of(alloc, header, var, given, known)?,
+        stride: stride_of(alloc, given, dims)?,
+        imap: imap_of(alloc, given)?,
+        packed: is_packed(given),
+    })
+}
+
+// The lists of a region, each by what the form says of it.
+
+fn start_of(alloc: Global, given: &Given, dims: usize) -> Result<SizeList, Memory>
+    ensures { (whole : List ℕ) → IfOk result (λ list. list ≡ (spec.region_of given.now.form dims whole given.now).start) }
+{
     match given.form {
-        Form::Var1 => Ok(Region {
-            start: given.start.clone(alloc)?,
-            count: repeated(alloc, 1, dims)?,
-            stride: repeated(alloc, 1, dims)?,
-            imap: SizeList::new(alloc),
-            packed: true,
-        }),
-        Form::Var => Ok(Region {
-            start: repeated(alloc, 0, dims)?,
-            count: known_lengths(alloc, header, var, known)?,
-            stride: repeated(alloc, 1, dims)?,
-            imap: SizeList::new(alloc),
-            packed: true,
-        }),
-        Form::Vara => Ok(Region {
-            start: given.start.clone(alloc)?,
-            count: given.count.clone(alloc)?,
-            stride: repeated(alloc, 1, dims)?,
-            imap: SizeList::new(alloc),
-            packed: true,
-        }),
-        Form::Vars => Ok(Region {
-            start: given.start.clone(alloc)?,
-            count: given.count.clone(alloc)?,
-            stride: given.stride.clone(alloc)?,
-            imap: SizeList::new(alloc),
-            packed: true,
-        }),
-        Form::Varm => Ok(Region {
-            start: given.start.clone(alloc)?,
-            count: given.count.clone(alloc)?,
-            stride: given.stride.clone(alloc)?,
-            imap: given.imap.clone(alloc)?,
-            packed: false,
-        }),
-        Form::Varn => Ok(no_region(alloc)),
+        Form::Var => repeated(alloc, 0, dims),
+        Form::Var1 | Form::Vara | Form::Vars | Form::Varm => given.start.clone(alloc),
+        Form::Varn => Ok(SizeList::new(alloc)),
     }
 }
 
-/// What stands for the region of a form that has parts in its place.
-fn no_region(alloc: Global) -> Region
-    ensures { result ≡ record { start = []; count = []; stride = []; imap = []; packed = true } }
+fn count_of(
+    alloc: Global,
+    header: &Header,
+    var: &Var,
+    given: &Given,
+    known: u64,
+) -> Result<SizeList, Memory>
+    ensures { IfOk result (λ list. list ≡ (spec.widen header.now var.now given.now known).count) }
 {
-    Region {
-        start: SizeList::new(alloc),
-        count: SizeList::new(alloc),
-        stride: SizeList::new(alloc),
-        imap: SizeList::new(alloc),
-        packed: true,
+    match given.form {
+        Form::Var1 => repeated(alloc, 1, var.dims.len()),
+        Form::Var => known_lengths(alloc, header, var, known),
+        Form::Vara | Form::Vars | Form::Varm => given.count.clone(alloc),
+        Form::Varn => Ok(SizeList::new(alloc)),
+    }
+}
+
+fn stride_of(alloc: Global, given: &Given, dims: usize) -> Result<SizeList, Memory>
+    ensures { (whole : List ℕ) → IfOk result (λ list. list ≡ (spec.region_of given.now.form dims whole given.now).stride) }
+{
+    match given.form {
+        Form::Var1 | Form::Var | Form::Vara => repeated(alloc, 1, dims),
+        Form::Vars | Form::Varm => given.stride.clone(alloc),
+        Form::Varn => Ok(SizeList::new(alloc)),
+    }
+}
+
+fn imap_of(alloc: Global, given: &Given) -> Result<SizeList, Memory>
+    ensures { (dims : ℕ) (whole : List ℕ) → IfOk result (λ list. list ≡ (spec.region_of given.now.form dims whole given.now).imap) }
+{
+    match given.form {
+        Form::Varm => given.imap.clone(alloc),
+        Form::Var1 | Form::Var | Form::Vara | Form::Vars | Form::Varn => Ok(SizeList::new(alloc)),
+    }
+}
+
+fn is_packed(given: &Given) -> bool
+    ensures { (dims : ℕ) (whole : List ℕ) → result ≡ (spec.region_of given.now.form dims whole given.now).packed }
+{
+    match given.form {
+        Form::Varm => false,
+        Form::Var1 | Form::Var | Form::Vara | Form::Vars | Form::Varn => true,
     }
 }
 

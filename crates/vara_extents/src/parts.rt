@@ -10,7 +10,7 @@ ghost use Rattle.vara_extents.specs.Parts.{code_by_boxes, parts_code, together_c
 ghost use Rattle.serial_spec.specs.Refusal.{IsRefusal};
 
 use crate::boxes::some_meet;
-use crate::causes::{Ends, check_var};
+use crate::causes::{Ends, region_code};
 use crate::forms::repeated;
 use crate::needs::variable;
 use nc_base::{
@@ -178,16 +178,6 @@ fn first_refusal(
         }
     }
     Code::Ok
-}
-
-fn region_code(header: &Header, measures: &Measures, var: &Var, region: &Region, ends: Ends) -> Code
-    requires measured { AreMeasures header.now measures.now }
-    ensures { result ≡ spec.check_var header.now var.now region.now ends.known ends.direction }
-{
-    match check_var(header, measures, var, region, ends.known, ends.direction) {
-        Ok(()) => Code::Ok,
-        Err(code) => code,
-    }
 }
 
 fn is_ok(code: Code) -> bool

@@ -1,12 +1,25 @@
 -- The begin, the records before, and the bytes of the rows before in the record.
 use Rattle.vara_extents.proofs.Words.{◌≡◌, ◌+◌, ◌*◌, ◌/◌, ◌%◌, ℕ, get_or, length, ap, ◌∙◌, arith, mul-le-mul_left, size_of, row_below_bytes, row_of}
-use Rattle.vara_extents.proofs.RowSteps.{rest, record_step, no_record_counts}
+use Rattle.vara_extents.proofs.RowSteps.{rest, record_step, has_record_dimension, has_record_entry}
 use Rattle.vara_extents.proofs.runs.record_place.Goals as goal
+
+pub returns-in_default : goal.returns-in_default
+returns-in_default c = absurd (omega (arith, has_record_dimension c.args.header.now c.args.var.now c.requires.record_variable, ap length c.as_slice.ensures, c.in_default.len_below))
+
+pub returns-in_default-as_slice : goal.returns-in_default-as_slice
+returns-in_default-as_slice c =
+    let some = has_record_entry c.args.header.now c.args.var.now c.args.region.now c.args.number c.requires.record_variable c.requires.valid in
+    absurd (omega (arith, some.0, ap length c.as_slice-2.ensures, c.in_default-as_slice.len_below))
 
 pub returns-in_default-as_slice-2 : goal.returns-in_default-as_slice-2
 returns-in_default-as_slice-2 c =
-    absurd (no_record_counts c.args.header.now c.args.var.now c.args.region.now c.args.number c.requires.record_variable
-    (omega (arith, ap length c.as_slice-3.ensures, c.in_default-as_slice-2.len_below)) c.requires.valid)
+    let some = has_record_entry c.args.header.now c.args.var.now c.args.region.now c.args.number c.requires.record_variable c.requires.valid in
+    absurd (omega (arith, some.1, ap length c.as_slice-3.ensures, c.in_default-as_slice-2.len_below))
+
+pub returns-in_default-as_slice-3 : goal.returns-in_default-as_slice-3
+returns-in_default-as_slice-3 c =
+    let some = has_record_entry c.args.header.now c.args.var.now c.args.region.now c.args.number c.requires.record_variable c.requires.valid in
+    absurd (omega (arith, some.2, ap length c.as_slice-4.ensures, c.in_default-as_slice-3.len_below))
 
 pub overflow_mul-record : goal.overflow_mul-record
 overflow_mul-record c =

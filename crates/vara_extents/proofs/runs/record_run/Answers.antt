@@ -1,7 +1,22 @@
 -- The runs of a record, and those of records that touch.
 use Rattle.vara_extents.proofs.Words.{◌*◌, ◌^◌, ℕ, List, length, get_or, ap, sym, subst, ◌∙◌, arith, mul-le, size_most, size_of, product, place, index_of, AreRuns}
-use Rattle.vara_extents.proofs.RowSteps.{rest, inner_small, record_kept, record_merged, same_have_rests, run_low}
+use Rattle.vara_extents.proofs.RowSteps.{rest, inner_small, has_record_dimension, same_rests, record_kept, record_merged, same_have_rests, run_low}
 use Rattle.vara_extents.proofs.runs.record_run.Goals as goal
+
+pub returns-in_default : goal.returns-in_default
+returns-in_default c = absurd (omega (arith, has_record_dimension c.args.header.now c.args.var.now c.requires.record_variable, ap length c.as_slice.ensures, c.in_default.len_below))
+
+pub inner_run-inner-requires : goal.inner_run-inner-requires
+inner_run-inner-requires c =
+    let counts = ap product c.as_slice-2.ensures in
+    let inner = inner_small c.as_slice-2.result.now 0 c.in-len1-up-as_slice.len_at_least (omega (arith, counts, c.requires.some)) (omega (arith, counts, c.requires.small)) in
+    let ids = ap length c.as_slice.ensures in
+    record {
+      some = inner.0;
+      small = inner.1;
+      counts = same_rests c.as_slice-2.result.now c.as_slice.result.now (omega (arith, ids, ap length c.as_slice-2.ensures, c.requires.counts));
+      strides = same_rests c.as_slice-3.result.now c.as_slice.result.now (omega (arith, ids, ap length c.as_slice-3.ensures, c.requires.strides));
+    }
 
 pub overflow_mul-touching : goal.overflow_mul-touching
 overflow_mul-touching c =
