@@ -8,7 +8,7 @@ pub use Rattle.std.proofs.lemmas.Grind.{common_steps}
 pub use Rattle.std.proofs.lemmas.Int.{int_wrap-add_right, ints, of_z-to_z, to_z-of_z, wrapping_add-bits, wrapping_mul-bits}
 pub use Rattle.std.proofs.lemmas.List.{drop_all, drop_more, flat_map_more, get_or-map, get_or-take, length-map, length-replicate, length-take-le, map-append, take-append-drop, take-map, take_all, take_more, take_more_set, take_rest}
 pub use Rattle.std.proofs.lemmas.List.Concat.{flat_map-append}
-pub use Rattle.std.proofs.lemmas.List.Folds.{flat_map-map, list_any-append}
+pub use Rattle.std.proofs.lemmas.List.Folds.{flat_map-map, list_any-append, list_any_more}
 pub use Rattle.std.proofs.lemmas.List.FromFn.{fill_by_all, length-map-range_with_len, length-range_with_len, map-range_with_len_more}
 pub use Rattle.std.proofs.lemmas.List.Sums.{sum_by-cons}
 pub use Rattle.std.proofs.lemmas.Option.{slice_get-get_or, slice_get_cases}
@@ -18,9 +18,9 @@ unfoldable pub use Rattle.std.specs.Int.{int_wrap}
 pub use Rattle.std.specs.Int.RustNames.{unsigned_abs}
 pub use Rattle.std.specs.List.{list_any, range_with_len}
 pub use Rattle.std.specs.Option.{option_or}
-pub use Rattle.std.specs.Prelude.{IfErr, Result, flat_map, is_none, min, option_map, slice_get, ℤ, ◌%◌, ◌*ℤ◌}
+pub use Rattle.std.specs.Prelude.{IfErr, IfOk, Result, flat_map, is_none, min, option_map, slice_get, ℤ, ◌%◌, ◌*ℤ◌}
 pub use Rattle.std.specs.Simd.{first_chunks}
-pub use Rattle.imap_extents.specs.Found.{bits_in, char_in, in_order, value_of_last}
+pub use Rattle.imap_extents.specs.Found.{bits_in, char_in, in_order, value_of_last, values_in}
 pub use Rattle.imap_extents.specs.Refusals.{IsRangeRefusal}
 pub use Rattle.imap_extents.specs.Saturated.{saturated}
 pub use Rattle.list_laws.proofs.Maps.{any_map, map_map}

@@ -1,6 +1,7 @@
 mod Cited
 mod BlockLaws
 mod CodeLaws
+mod EachLaws
 mod EndLaws
 mod FrontLaws
 mod OrderLaws

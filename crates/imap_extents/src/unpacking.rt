@@ -1,13 +1,14 @@
 // From the bytes of a request to memory.
-ghost use Rattle.std.specs.Prelude.{◌≡◌, ◌+◌, ◌*◌, ◌/◌, ◌<◌, ◌≤◌, length, map, replicate, None, Some, IfOk};
+ghost use Rattle.std.specs.Prelude.{◌≡◌, ◌+◌, ◌*◌, ◌/◌, ◌<◌, ◌≤◌, [], length, map, replicate, None, Some, IfOk};
 ghost use Rattle.std.specs.List.{range_with_len};
 ghost use Rattle.std.specs.Simd.{first_chunks};
+ghost use Rattle.nc_base.specs.declared.request.Values.TheVariants.{Numbers};
 ghost use Rattle.serial_spec.specs.ExternalForm as external;
 ghost use Rattle.serial_spec.specs.Layout.{product, greatest};
 ghost use Rattle.serial_spec.specs.Limits.{most_elements};
-ghost use Rattle.serial_spec.specs.Request.{cells, number_in, spread};
+ghost use Rattle.serial_spec.specs.Request.{cells, gathered, number_in, spread};
 ghost use Rattle.imap_extents.specs.Mapped.{IsMapped};
-ghost use Rattle.imap_extents.specs.Found.{value_of_last, char_in, bits_in, in_order};
+ghost use Rattle.imap_extents.specs.Found.{value_of_last, char_in, bits_in, in_order, values_in};
 
 use crate::decoding::{narrow_numbers, narrow_patterns, wide_numbers, wide_patterns};
 use crate::positions::positions_of;
@@ -28,11 +29,7 @@ pub fn unpack(alloc: Global, kind: NcType, region: &Region, bytes: &[u8]) -> Res
     }
     let positions = positions_of(alloc, region)?;
     let found = last_values(alloc, kind, &positions, bytes)?;
-    match kind {
-        NcType::Char => Ok(Values::Text(Blob::from_vec(characters(alloc, &found)?))),
-        NcType::Float | NcType::Double => { Ok(Values::Bits(patterns(alloc, &found)?)) }
-        _ => Ok(Values::Numbers(numbers(alloc, &found)?)),
-    }
+    values_of(alloc, kind, &found)
 }
 
 /// The values of bytes, one after another.
@@ -43,14 +40,24 @@ fn unpack_front(alloc: Global, kind: NcType, bytes: &[u8]) -> Result<Values, Mem
         NcType::Char => Ok(Values::Text(Blob::from_vec(decode_text(alloc, bytes)?))),
         NcType::Float => Ok(Values::Bits(narrow_patterns(alloc, bytes)?)),
         NcType::Double => Ok(Values::Bits(wide_patterns(alloc, bytes)?)),
-        NcType::Byte => Ok(Values::Numbers(narrow_numbers::<i8, 1>(alloc, bytes)?)),
-        NcType::UByte => Ok(Values::Numbers(narrow_numbers::<u8, 1>(alloc, bytes)?)),
-        NcType::Short => Ok(Values::Numbers(narrow_numbers::<i16, 2>(alloc, bytes)?)),
-        NcType::UShort => Ok(Values::Numbers(narrow_numbers::<u16, 2>(alloc, bytes)?)),
-        NcType::Int => Ok(Values::Numbers(narrow_numbers::<i32, 4>(alloc, bytes)?)),
-        NcType::UInt => Ok(Values::Numbers(wide_numbers::<u32, 4>(alloc, bytes)?)),
-        NcType::Int64 => Ok(Values::Numbers(wide_numbers::<i64, 8>(alloc, bytes)?)),
-        NcType::UInt64 => Ok(Values::Numbers(decode_numbers::<8>(alloc, NcType::UInt64, bytes)?)),
+        _ => Ok(Values::Numbers(whole_numbers(alloc, kind, bytes)?)),
+    }
+}
+
+/// The numbers of bytes, one after another, where the type is one of numbers.
+fn whole_numbers(alloc: Global, kind: NcType, bytes: &[u8]) -> Result<NumberList, Memory>
+    requires { gathered (external.class_of kind) [] ≡ Numbers [] }
+    ensures { IfOk result (λ numbers. Numbers numbers ≡ in_order kind (length bytes.now / external.size_of kind) bytes.now) }
+{
+    match kind {
+        NcType::Byte => narrow_numbers::<i8, 1>(alloc, bytes),
+        NcType::UByte => narrow_numbers::<u8, 1>(alloc, bytes),
+        NcType::Short => narrow_numbers::<i16, 2>(alloc, bytes),
+        NcType::UShort => narrow_numbers::<u16, 2>(alloc, bytes),
+        NcType::Int => narrow_numbers::<i32, 4>(alloc, bytes),
+        NcType::UInt => wide_numbers::<u32, 4>(alloc, bytes),
+        NcType::Int64 => wide_numbers::<i64, 8>(alloc, bytes),
+        _ => decode_numbers::<8>(alloc, NcType::UInt64, bytes),
     }
 }
 
@@ -144,6 +151,17 @@ fn none_found(alloc: Global, count: usize) -> Result<Vec<Option<Value>>, Memory>
     ensures { IfOk result (λ found. found.items ≡ replicate count None) }
 {
     Ok(vec![in alloc; None; count]?)
+}
+
+/// The values that were found, in the words of their type.
+fn values_of(alloc: Global, kind: NcType, found: &[Option<Value>]) -> Result<Values, Memory>
+    ensures { IfOk result (λ values. values ≡ values_in (external.class_of kind) found.now) }
+{
+    match kind {
+        NcType::Char => Ok(Values::Text(Blob::from_vec(characters(alloc, found)?))),
+        NcType::Float | NcType::Double => Ok(Values::Bits(patterns(alloc, found)?)),
+        _ => Ok(Values::Numbers(numbers(alloc, found)?)),
+    }
 }
 
 /// The numbers, 0 where there is none.

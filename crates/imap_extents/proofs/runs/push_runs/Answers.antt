@@ -1,6 +1,6 @@
-use Rattle.imap_extents.proofs.Cited.{◌-◌, ◌++◌, ◌∙◌, ap, sym, refl, not, map, append-nil, arith, ℕ, List, min, flat_map, list_any, range_with_len, err_from_is_err_and, Value, ext, fits}
+use Rattle.imap_extents.proofs.Cited.{◌≡◌, ◌-◌, ◌++◌, ◌∙◌, ap, sym, subst, refl, not, false, take, map, append-nil, arith, ℕ, List, min, flat_map, list_any, range_with_len, take_all, err_from_is_err_and, Value, ext, fits}
 use Rattle.imap_extents.proofs.RefusalLaws.{part_refused}
-use Rattle.imap_extents.proofs.RunLaws.{forms_more, fits_more, rest_more, part_hit, none_first}
+use Rattle.imap_extents.proofs.RunLaws.{told, forms_more, fits_more, rest_more, part_hit, none_first}
 use Rattle.imap_extents.proofs.runs.push_runs.Goals as goal
 
 pub loop-run-init : goal.loop-run-init
@@ -49,3 +49,13 @@ returns-in_err-push_run-clause-refused g c =
     c.in_err-push_run.ensures.refused in
     let p = err_from_is_err_and c.from_residual.result c.from_residual.ensures.1 in
     rw (p.1, p.2) why
+
+pub returns : goal.returns
+returns g c =
+    let all = take_all c.loop-run.run-index c.args.runs.now c.loop-run-test.false in
+    let front : List g.row.R.Denot → List Value = λ rs. take c.args.count (told g.R.Run.told_at g.R.Run.size rs) in
+    record {
+      ok = c.loop-run.invariant.form ∙ ap (λ (rs : List g.row.R.Denot). c.args.bytes.now.items ++ flat_map (λ v. ext c.args.kind v) (front rs)) all;
+      right = subst (λ (rs : List g.row.R.Denot). list_any (λ v. not (fits c.args.kind v)) (front rs) ≡ false) all c.loop-run.invariant.fit;
+      refused = tt;
+    }
