@@ -32,7 +32,7 @@ pub use Rattle.nc_outside.proofs.ToldLaws.{calls_more, no_calls}
 pub use Rattle.nc_outside.specs.DiskState.{PartlyWritten}
 pub use Rattle.nc_outside.specs.Told.{BothTold, after, with_end}
 pub use Rattle.overlay_laws.proofs.ChangeLaws.{between_next}
-pub use Rattle.overlay_laws.proofs.WindowCounts.{count_is, stores_before, stores_more, window_inside, windows_of}
+pub use Rattle.overlay_laws.proofs.WindowCounts.{count_is, stores_before, stores_more, window_inside, windows_of, windows_reach}
 pub use Rattle.overlay_laws.specs.Changes.{IsBetween}
 pub use Rattle.serial_spec.proofs.ApartLaws.{none_shared, none_with}
 pub use Rattle.serial_spec.proofs.FileLaws.{get_or-written_above, get_or-written_below, get_or-written_within, length-written_inside, write_none, written-inside}

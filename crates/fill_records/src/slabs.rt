@@ -1,5 +1,5 @@
 // The filling of a new dataset.
-ghost use Rattle.std.specs.Prelude.{◌≡◌, ◌<◌, ◌≤◌, ◌+◌, ◌%◌, ◌^◌, true, flat_map, length, take, drop, slice_get, IfSome, IfOk, OnOk, OnErr};
+ghost use Rattle.std.specs.Prelude.{◌≡◌, ◌<◌, ◌≤◌, ◌+◌, ◌-◌, ◌*◌, ◌%◌, ◌^◌, min, true, flat_map, length, take, drop, slice_get, IfSome, IfOk, OnOk, OnErr};
 ghost use Rattle.fill_records.specs.Filling.{fill_stores, repeated, filled_variable, variable_stores};
 ghost use Rattle.nc_outside.specs.Cause.{HasDiskCause};
 ghost use Rattle.nc_outside.specs.Told.{after, with_end, BothTold};
@@ -104,10 +104,9 @@ fn write_value<D: Disk>(
 {
     let _length = disk.size();
     let copies = copies_of(alloc, value, size.min(len) as usize)?;
-    for window in 0..len.div_ceil(size) {
-        let at = window * size;
-        let bytes = bytes_from(&copies, value.len(), at, size.min(len - at) as usize);
-        disk.write_at(alloc, begin + at, bytes)?;
+    for number in 0..len.div_ceil(size) {
+        let window = window_of(value, &copies, len, size, number);
+        disk.write_at(alloc, begin + window.at, window.bytes)?;
     }
     Ok(())
 }
@@ -120,6 +119,31 @@ fn copies_of(alloc: Global, value: &[u8], len: usize) -> Result<Vec<u8>, Memory>
     ensures len { IfOk result (λ copies. len + length value.now ≤ length copies.items) }
 {
     Ok(value.repeat(alloc, len.div_ceil(value.len()) + 1)?)
+}
+
+// A window of the bytes that are written: how many stand before it, and its own.
+#[derive(Clone, Copy)]
+struct Window<'a> {
+    at: u64,
+    bytes: &'a [u8],
+}
+
+// The window with this number of `len` bytes, which are a value over and over, from copies of the value.
+fn window_of<'a>(value: &[u8], copies: &'a [u8], len: u64, size: u64, number: u64) -> Window<'a>
+    requires value { 1 ≤ length value.now }
+    requires copies { copies.now ≡ repeated value.now 0 (length copies.now) }
+    requires room { min size len + length value.now ≤ length copies.now }
+    requires inside { number * size < len }
+    ensures at { result.at ≡ number * size }
+    ensures inside { result.at < len }
+    ensures bytes { result.bytes.now ≡ repeated value.now (number * size) (min size (len - number * size)) }
+    ensures long { length result.bytes.now ≡ min size (len - number * size) }
+{
+    let at = number * size;
+    Window {
+        at,
+        bytes: bytes_from(copies, value.len(), at, size.min(len - at) as usize),
+    }
 }
 
 // The bytes of a window that begins `at` bytes after the first value, from copies of the value, whose length is `period`.

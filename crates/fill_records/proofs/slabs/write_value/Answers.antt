@@ -1,71 +1,75 @@
 -- Each window goes on where the one before it ended.
-use Rattle.fill_records.proofs.Words.{◌≡◌, ◌∙◌, ◌+◌, ◌-◌, ◌*◌, ◌<◌, ◌≤◌, min, sym, ap, refl, length, List, [], ◌∷◌, ℕ, arith, Store, written, repeated, on_err, calls_more, window_inside, stores_before, stores_more}
-use Rattle.fill_records.proofs.RepeatedLaws.{repeated_long}
+use Rattle.fill_records.proofs.Words.{◌≡◌, ◌∙◌, ◌+◌, ◌-◌, ◌*◌, ◌<◌, min, sym, ap, refl, length, List, [], ◌∷◌, ℕ, arith, Store, after, written, repeated, on_err, calls_more, window_inside, windows_reach, stores_before, stores_more}
 use Rattle.fill_records.proofs.TornLaws.{part_refused}
-use Rattle.fill_records.proofs.WindowLaws.{stores_all, told_more, for_told, window_bytes, window_written}
+use Rattle.fill_records.proofs.WindowLaws.{stores_all, told_more, for_told, window_written}
 use Rattle.fill_records.proofs.slabs.write_value.Goals as goal
 
-pub loop-window-preserved : goal.loop-window-preserved
-loop-window-preserved g c =
-    let inside : c.loop-window.window * c.args.size < c.args.len =
-    window_inside c.args.size c.args.len c.loop-window.window c.div_ceil-window-end.result c.requires.some c.div_ceil-window-end.ensures c.loop-window-test.true in
-    let made : c.deref.result.now ≡ repeated c.args.value.now 0 (length c.deref.result.now) =
-    c.deref.ensures.value ∙ c.in_ok-copies.ensures.bytes ∙ ap (λ (b : List ℕ). repeated c.args.value.now 0 (length b)) (sym c.deref.ensures.value) in
-    let room : c.min-in-loop-window.result + length c.args.value.now ≤ length c.deref.result.now =
-    omega (arith, c.in_ok-copies.ensures.len, ap (λ (b : List ℕ). length b) c.deref.ensures.value, c.min.ensures, c.min-in-loop-window.ensures) in
-    let bytes : c.bytes_from-bytes.result.now ≡ repeated c.args.value.now (c.loop-window.window * c.args.size) c.min-in-loop-window.result =
-    window_bytes c.args.value.now c.deref.result.now c.bytes_from-bytes.result.now (length c.args.value.now) (c.loop-window.window * c.args.size) c.min-in-loop-window.result refl
-    c.requires.value made room c.bytes_from-bytes.ensures in
-    let long = ap (λ (b : List ℕ). length b) bytes ∙ repeated_long c.args.value.now (c.loop-window.window * c.args.size) c.min-in-loop-window.result in
+pub window_of-window-requires-clause-copies : goal.window_of-window-requires-clause-copies
+window_of-window-requires-clause-copies g c =
+    c.deref.ensures.value ∙ c.in_ok-copies.ensures.bytes ∙ ap (λ (b : List ℕ). repeated c.args.value.now 0 (length b)) (sym c.deref.ensures.value)
+
+pub window_of-window-requires-clause-room : goal.window_of-window-requires-clause-room
+window_of-window-requires-clause-room g c = omega (arith, c.in_ok-copies.ensures.len, ap (λ (b : List ℕ). length b) c.deref.ensures.value, c.min.ensures)
+
+pub window_of-window-requires-clause-inside : goal.window_of-window-requires-clause-inside
+window_of-window-requires-clause-inside g c =
+    window_inside c.args.size c.args.len c.loop-number.number c.div_ceil-number-end.result c.requires.some c.div_ceil-number-end.ensures c.loop-number-test.true
+
+pub loop-number-preserved : goal.loop-number-preserved
+loop-number-preserved g c =
+    let done : ℕ = c.loop-number.number * c.args.size in
+    let window = c.window_of-window.ensures in
+    let inside : done < c.args.len = omega (arith, window.at, window.inside) in
+    let place : c.args.begin + c.window_of-window.result.at ≡ c.args.begin + done = omega (arith, window.at) in
     let later = c.in_ok-write_at.ensures.cause.later in
-    let before = c.loop-window.invariant.faults in
+    let before = c.loop-number.invariant.faults in
     record {
-      from = c.in_ok-write_at.ensures.from ∙ c.loop-window.invariant.from;
-      len = c.in_ok-write_at.ensures.len ∙ c.loop-window.invariant.len;
-      bytes = told_more (g.D.Disk.held c.args.disk.now) (g.D.Disk.held c.loop-window.disk) (g.D.Disk.held c.write_at.new.self)
-          (λ file. written file c.args.begin (repeated c.args.value.now 0 (min c.args.len (c.loop-window.window * c.args.size))))
-          (λ file. written file (c.args.begin + c.loop-window.window * c.args.size - g.D.Disk.from c.loop-window.disk) c.bytes_from-bytes.result.now)
-          (λ file. written file c.args.begin (repeated c.args.value.now 0 (min c.args.len ((c.loop-window.window + 1) * c.args.size))))
+      from = c.in_ok-write_at.ensures.from ∙ c.loop-number.invariant.from;
+      len = c.in_ok-write_at.ensures.len ∙ c.loop-number.invariant.len;
+      bytes = told_more (g.D.Disk.held c.args.disk.now) (g.D.Disk.held c.loop-number.disk) (g.D.Disk.held c.write_at.new.self)
+          (λ file. written file c.args.begin (repeated c.args.value.now 0 (min c.args.len done)))
+          (λ file. written file (c.args.begin + c.window_of-window.result.at - g.D.Disk.from c.loop-number.disk) c.window_of-window.result.bytes.now)
+          (λ file. written file c.args.begin (repeated c.args.value.now 0 (min c.args.len ((c.loop-number.number + 1) * c.args.size))))
           (for_told (g.D.Disk.held c.args.disk.now) (λ file e.
           let room = c.requires.long in
-          window_written c.args.value.now c.bytes_from-bytes.result.now file c.args.begin c.args.len c.args.size c.loop-window.window c.min-in-loop-window.result
-          (c.args.begin + c.loop-window.window * c.args.size) (g.D.Disk.from c.loop-window.disk) (omega arith) inside c.min-in-loop-window.ensures bytes c.loop-window.invariant.from refl) c.size-length.ensures.told)
-          c.loop-window.invariant.bytes c.in_ok-write_at.ensures.bytes;
-      calls = calls_more (g.D.Disk.calls c.args.disk.now) (g.D.Disk.calls c.loop-window.disk) (g.D.Disk.calls c.write_at.new.self)
-          (stores_before c.args.size c.args.begin c.args.len c.loop-window.window) (Store (c.args.begin + c.loop-window.window * c.args.size) (length c.bytes_from-bytes.result.now) ∷ [])
-          (stores_before c.args.size c.args.begin c.args.len (c.loop-window.window + 1))
-          (stores_more c.args.size c.args.begin c.args.len c.loop-window.window (c.args.begin + c.loop-window.window * c.args.size) c.min-in-loop-window.result c.bytes_from-bytes.result.now
-          refl c.min-in-loop-window.ensures long)
-          c.loop-window.invariant.calls c.in_ok-write_at.ensures.calls;
+          window_written c.args.value.now c.window_of-window.result.bytes.now file c.args.begin c.args.len c.args.size c.loop-number.number (min c.args.size (c.args.len - done))
+          (c.args.begin + c.window_of-window.result.at) (g.D.Disk.from c.loop-number.disk) (omega arith) inside refl window.bytes c.loop-number.invariant.from place) c.size-length.ensures.told)
+          c.loop-number.invariant.bytes c.in_ok-write_at.ensures.bytes;
+      calls = calls_more (g.D.Disk.calls c.args.disk.now) (g.D.Disk.calls c.loop-number.disk) (g.D.Disk.calls c.write_at.new.self)
+          (stores_before c.args.size c.args.begin c.args.len c.loop-number.number) (Store (c.args.begin + c.window_of-window.result.at) (length c.window_of-window.result.bytes.now) ∷ [])
+          (stores_before c.args.size c.args.begin c.args.len (c.loop-number.number + 1))
+          (stores_more c.args.size c.args.begin c.args.len c.loop-number.number (c.args.begin + c.window_of-window.result.at) (min c.args.size (c.args.len - done)) c.window_of-window.result.bytes.now
+          place refl window.long)
+          c.loop-number.invariant.calls c.in_ok-write_at.ensures.calls;
       faults = omega arith;
     }
 
+pub returns-clause-bytes : goal.returns-clause-bytes
+returns-clause-bytes g c =
+    let all : c.loop-number.number ≡ c.div_ceil-number-end.result = omega arith in
+    let reached = windows_reach c.args.size c.args.len c.div_ceil-number-end.result c.requires.some c.div_ceil-number-end.ensures in
+    let whole : min c.args.len (c.loop-number.number * c.args.size) ≡ c.args.len = omega (arith, reached, ap (λ (n : ℕ). n * c.args.size) all) in
+    c.loop-number.invariant.bytes ∙ ap (λ (n : ℕ). after (λ file. written file c.args.begin (repeated c.args.value.now 0 n)) (g.D.Disk.held c.args.disk.now)) whole
+
 pub returns-clause-calls : goal.returns-clause-calls
 returns-clause-calls g c =
-    stores_all c.args.size c.args.begin c.args.len c.loop-window.window c.div_ceil-window-end.result (g.D.Disk.calls c.args.disk.now) (g.D.Disk.calls c.loop-window.disk)
-    c.requires.some (omega arith) c.div_ceil-window-end.ensures c.loop-window.invariant.calls
+    stores_all c.args.size c.args.begin c.args.len c.loop-number.number c.div_ceil-number-end.result (g.D.Disk.calls c.args.disk.now) (g.D.Disk.calls c.loop-number.disk)
+    c.requires.some (omega arith) c.div_ceil-number-end.ensures c.loop-number.invariant.calls
 
 pub returns-in_err-write_at-clause-refused : goal.returns-in_err-write_at-clause-refused
 returns-in_err-write_at-clause-refused g c =
-    let inside : c.loop-window.window * c.args.size < c.args.len =
-    window_inside c.args.size c.args.len c.loop-window.window c.div_ceil-window-end.result c.requires.some c.div_ceil-window-end.ensures c.loop-window-test.true in
-    let made : c.deref.result.now ≡ repeated c.args.value.now 0 (length c.deref.result.now) =
-    c.deref.ensures.value ∙ c.in_ok-copies.ensures.bytes ∙ ap (λ (b : List ℕ). repeated c.args.value.now 0 (length b)) (sym c.deref.ensures.value) in
-    let room : c.min-in-loop-window.result + length c.args.value.now ≤ length c.deref.result.now =
-    omega (arith, c.in_ok-copies.ensures.len, ap (λ (b : List ℕ). length b) c.deref.ensures.value, c.min.ensures, c.min-in-loop-window.ensures) in
-    let bytes : c.bytes_from-bytes.result.now ≡ repeated c.args.value.now (c.loop-window.window * c.args.size) c.min-in-loop-window.result =
-    window_bytes c.args.value.now c.deref.result.now c.bytes_from-bytes.result.now (length c.args.value.now) (c.loop-window.window * c.args.size) c.min-in-loop-window.result refl
-    c.requires.value made room c.bytes_from-bytes.ensures in
-    let long = ap (λ (b : List ℕ). length b) bytes ∙ repeated_long c.args.value.now (c.loop-window.window * c.args.size) c.min-in-loop-window.result in
+    let done : ℕ = c.loop-number.number * c.args.size in
+    let window = c.window_of-window.ensures in
+    let inside : done < c.args.len = omega (arith, window.at, window.inside) in
+    let place : c.args.begin + c.window_of-window.result.at ≡ c.args.begin + done = omega (arith, window.at) in
     let room_all = c.requires.long in
-    let few = c.min-in-loop-window.ensures in
-    let zero = c.loop-window.invariant.from in
-    let more : (c.loop-window.window + 1) * c.args.size ≡ c.loop-window.window * c.args.size + c.args.size = omega arith in
+    let long = window.long in
+    let zero = c.loop-number.invariant.from in
     on_err c.from_residual-in_err-write_at.result
-    (part_refused (g.D.Disk.held c.args.disk.now) (g.D.Disk.held c.loop-window.disk) (g.D.Disk.held c.write_at.new.self) c.args.value.now c.bytes_from-bytes.result.now c.args.begin c.args.len
-    (min c.args.len (c.loop-window.window * c.args.size)) (min c.args.len ((c.loop-window.window + 1) * c.args.size))
-    (c.args.begin + c.loop-window.window * c.args.size - g.D.Disk.from c.loop-window.disk) (g.D.Disk.len c.args.disk.now) c.size-length.ensures.told (omega arith) (omega arith) (omega arith) (omega arith)
+    (part_refused (g.D.Disk.held c.args.disk.now) (g.D.Disk.held c.loop-number.disk) (g.D.Disk.held c.write_at.new.self) c.args.value.now c.window_of-window.result.bytes.now c.args.begin c.args.len
+    (min c.args.len done) (min c.args.len ((c.loop-number.number + 1) * c.args.size))
+    (c.args.begin + c.window_of-window.result.at - g.D.Disk.from c.loop-number.disk) (g.D.Disk.len c.args.disk.now) c.size-length.ensures.told (omega arith) (omega arith) (omega arith) (omega arith)
     (λ file e.
-    window_written c.args.value.now c.bytes_from-bytes.result.now file c.args.begin c.args.len c.args.size c.loop-window.window c.min-in-loop-window.result
-    (c.args.begin + c.loop-window.window * c.args.size) (g.D.Disk.from c.loop-window.disk) (omega arith) inside c.min-in-loop-window.ensures bytes c.loop-window.invariant.from refl)
-    c.loop-window.invariant.bytes c.in_err-write_at.ensures.refused)
+    window_written c.args.value.now c.window_of-window.result.bytes.now file c.args.begin c.args.len c.args.size c.loop-number.number (min c.args.size (c.args.len - done))
+    (c.args.begin + c.window_of-window.result.at) (g.D.Disk.from c.loop-number.disk) (omega arith) inside refl window.bytes c.loop-number.invariant.from place)
+    c.loop-number.invariant.bytes c.in_err-write_at.ensures.refused)
