@@ -1,5 +1,5 @@
 -- The values of the gets, added one after another by the ids of their requests.
-use Rattle.rank_core.proofs.Words.{◌≡◌, ℕ, ◌+◌, ◌<◌, ◌∙◌, ap, sym, refl, List, [], ◌∷◌, map, length, get_or, drop, zip, Bool, true, false, cond, eqb, Option, Some, None, arith, option_map, slice_get, cons_option, eqb-true, append_assoc, drop_more, get_or-map, length-map, Header, Var, NcType, Post, Values, Numbers, Text, Bits, Value, In, Class, class_of, got_values, values_for, with_more, kind_at, spread, gathered, joined}
+use Rattle.rank_core.proofs.Words.{◌≡◌, ℕ, ◌+◌, ◌<◌, ◌∙◌, ap, sym, refl, List, [], ◌∷◌, map, length, get_or, drop, zip, Bool, true, false, cond, eqb, Option, Some, None, arith, inr, option_map, slice_get, cons_option, eqb-true, append_assoc, drop_more, get_or-map, length-map, Header, Var, NcType, Item, Post, Values, Numbers, Text, Bits, Value, In, Class, class_of, got_values, values_for, with_more, kind_at, spread, gathered, is_ok_code, AreOnce, filled_by, joined}
 use Rattle.serial_spec.specs.ExternalForm as form
 
 -- ---- the kind of values
@@ -158,3 +158,23 @@ same_at f g xs ys i x y h l k e d =
 
 pub same_long : {A B : Type 0} (f : A → ℕ) (g : B → ℕ) (xs : List A) (ys : List B) → map f xs ≡ map g ys → length xs ≡ length ys
 same_long f g xs ys h = sym (length-map xs f) ∙ ap length h ∙ length-map ys g
+
+-- ---- the items that take them
+
+filled_at : (b : Bool) (v w : Option Values) → (b ≡ true → v ≡ w) → cond b v None ≡ cond b w None
+filled_at true v w h = h refl
+filled_at false v w h = refl
+
+pub filled_same : (m n : ℕ → Option Values) (i : Item) → (is_ok_code i.code ≡ true → m i.id ≡ n i.id) → filled_by m i ≡ filled_by n i
+filled_same m n i h = ap (λ (o : Option Values). record i { values = o }) (filled_at (is_ok_code i.code) (m i.id) (n i.id) h)
+
+-- an item takes no values but its own
+pub left_kept : (before after first : ℕ → Option Values) (item : Item) (items : List Item) → AreOnce (item ∷ items)
+    → ((q : ℕ) → (q ≡ item.id → ⊥) → after q ≡ before q) → (is_ok_code item.code ≡ false → (q : ℕ) → after q ≡ before q)
+    → ((i : Item) → In (item ∷ items) i → is_ok_code i.code ≡ true → before i.id ≡ first i.id)
+    → (i : Item) → In items i → is_ok_code i.code ≡ true → after i.id ≡ first i.id
+left_kept before after first item items once others kept left i here ok = by (is_ok_code item.code) refl
+  where
+    by : (b : Bool) → is_ok_code item.code ≡ b → after i.id ≡ first i.id
+    by true e = others i.id (once.0 e i here ok) ∙ left i (inr here) ok
+    by false e = kept e i.id ∙ left i (inr here) ok

@@ -48,19 +48,23 @@ module _ (t : Target) (given : Given) (values : Option Values) (there : IsTarget
     unfolding region_outcome
     region_empty h e = no_element _ _ _ _ (sym checked ∙ h) e ∙ region_is
 
-    pub region_unfit : (e : CallErr) → check t.header.now t.place g t.known way ≡ code.Ok → ltb 0 (product g.count) ≡ true
+    region_unfit : (e : CallErr) → check t.header.now t.place g t.known way ≡ code.Ok → ltb 0 (product g.count) ≡ true
         → IsRefusal (data_code t.var.now.kind g values) e → ComesTo (look_region t given values) (Err e)
     unfolding region_outcome
     region_unfit (refusal.Code c) h e r = data_refused _ _ _ _ c (sym checked ∙ h) e r.0 r.1 ∙ region_is
     region_unfit refusal.Memory h e r = r
 
-    pub region_asks : (bytes : List ℕ) (posts : List Post) → check t.header.now t.place g t.known way ≡ code.Ok → ltb 0 (product g.count) ≡ true
-        → data_code t.var.now.kind g values ≡ code.Ok → bytes ≡ data_bytes t.var.now.kind g values
-        → posts ≡ record { id = t.id; var = t.place; region = g; bytes = bytes } ∷ [] → look_of posts ≡ look_region t given values
+    region_asks : (posts : List Post) → check t.header.now t.place g t.known way ≡ code.Ok → ltb 0 (product g.count) ≡ true
+        → data_code t.var.now.kind g values ≡ code.Ok → posts ≡ post g ∷ [] → look_of posts ≡ look_region t given values
     unfolding region_outcome post
-    region_asks bytes posts h e right same is =
-        let of_bytes : List ℕ → List Post = λ b. record { id = t.id; var = t.place; region = g; bytes = b } ∷ [] in
-        ap look_of (is ∙ ap of_bytes same) ∙ all_right _ _ _ _ (sym checked ∙ h) e right ∙ region_is
+    region_asks posts h e right is = ap look_of is ∙ all_right _ _ _ _ (sym checked ∙ h) e right ∙ region_is
+
+    pub region_comes : (r : Result (List Post) CallErr) → check t.header.now t.place g t.known way ≡ code.Ok → ltb 0 (product g.count) ≡ true
+        → IfOk r (λ posts. posts ≡ record { id = t.id; var = t.place; region = g; bytes = data_bytes t.var.now.kind g values } ∷ [])
+        → OnOk r (data_code t.var.now.kind g values ≡ code.Ok) → IfErr r (IsRefusal (data_code t.var.now.kind g values)) → ComesTo (look_region t given values) r
+    unfolding post
+    region_comes (Ok posts) h e is right unfit = region_asks posts h e right is
+    region_comes (Err f) h e is right unfit = region_unfit f h e unfit
 
   -- ---- many regions
 

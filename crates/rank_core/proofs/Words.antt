@@ -5,7 +5,7 @@ pub use Rattle.std.proofs.Math.Seq.{take-length, take-suc}
 pub use Rattle.std.proofs.lemmas.Bool.{and_cases, and_from, and_left, and_parts, and_right, both_ways, cases_Bool, cases_lt, cases_order, cond-false, cond-true, eq-eqb, eqb-false, eqb-true, false_from_ne_true, le-ltb, leb-false, leb-true, lt-leb, lt-ltb, ltb-false, ltb-true, ne_eqb, not-false, not_from_true, or_from, or_left, or_parts, or_right}
 pub use Rattle.std.proofs.lemmas.Fn.{always_returns_same, filter_same}
 pub use Rattle.std.proofs.lemmas.Grind.{common_steps}
-pub use Rattle.std.proofs.lemmas.List.{append_assoc, drop_more, get_or-map, get_or_default, length-append, length-map, length-replicate, length-take, map-append, with_items_is}
+pub use Rattle.std.proofs.lemmas.List.{append_assoc, drop_more, get_or-map, get_or_default, length-append, length-map, length-replicate, length-take, map-append, map_more, map_push, with_items_is}
 pub use Rattle.std.proofs.lemmas.List.Concat.{flat_map-append}
 pub use Rattle.std.proofs.lemmas.List.Folds.{list_any-append}
 pub use Rattle.std.proofs.lemmas.List.FromFn.{get_or-range_with_len, length-range_with_len}

@@ -39,6 +39,21 @@ pub(super) fn look_region(
     if !has_element(&region) {
         return Ok(PostList::new(alloc));
     }
+    region_posts(alloc, target, region, values)
+}
+
+/// The list of the one post for a region.
+fn region_posts(
+    alloc: Global,
+    target: &Target,
+    region: Region,
+    values: Option<&Values>,
+) -> Result<PostList, CallErr>
+    requires mapped { IsMapped region }
+    ensures ok { IfOk result (λ posts. posts ≡ record { id = target.now.id; var = target.now.place; region = region; bytes = looks.data_bytes target.now.var.now.kind region (option_copied values.entry) } ∷ []) }
+    ensures right { OnOk result (looks.data_code target.now.var.now.kind region (option_copied values.entry) ≡ code.Ok) }
+    ensures refused { IfErr result (IsRefusal (looks.data_code target.now.var.now.kind region (option_copied values.entry))) }
+{
     let bytes = data_bytes(alloc, target.var.kind, &region, values)?;
     let post = Post {
         id: target.id,

@@ -1,10 +1,10 @@
 use Rattle.rank_core.proofs.Words.{◌≡◌, ◌∙◌, sym, ap, true, false, ltb, option_copied, err_from_is_err_and, product, look_of}
-use Rattle.rank_core.proofs.OutcomeLaws.{is_error, is_refused}
-use Rattle.rank_core.proofs.TargetLaws.{region_asks, region_empty, region_mapped, region_refused, region_unfit}
+use Rattle.rank_core.proofs.OutcomeLaws.{is_refused}
+use Rattle.rank_core.proofs.TargetLaws.{region_comes, region_empty, region_mapped, region_refused}
 use Rattle.rank_core.proofs.look.region.look_region.Goals as goal
 
-pub data_bytes-requires : goal.data_bytes-requires
-data_bytes-requires c =
+pub region_posts-requires : goal.region_posts-requires
+region_posts-requires c =
     record {
       mapped = region_mapped c.args.target.now c.args.given.now (option_copied c.args.values) c.requires.there c.direction_of.result c.direction_of.ensures
           c.in_ok-region.region c.in_ok-region.ensures c.in_ok-check.ensures.ok;
@@ -25,16 +25,8 @@ returns-then-not-has_element c =
     ∙ region_empty c.args.target.now c.args.given.now (option_copied c.args.values) c.requires.there c.direction_of.result c.direction_of.ensures
     c.in_ok-region.region c.in_ok-region.ensures c.in_ok-check.ensures.ok none
 
-pub returns-in_err-bytes : goal.returns-in_err-bytes
-returns-in_err-bytes c =
-    let p = err_from_is_err_and c.from_residual-in_err-bytes.result c.from_residual-in_err-bytes.ensures.1 in
-    let some : ltb 0 (product c.in_ok-region.region.count) ≡ true = sym c.has_element.ensures ∙ c.if-not-has_element.false in
-    is_error _ _ p.0 c.in_err-bytes.field-0.0 p.1 p.2
-    (region_unfit c.args.target.now c.args.given.now (option_copied c.args.values) c.requires.there c.direction_of.result c.direction_of.ensures
-    c.in_ok-region.region c.in_ok-region.ensures c.in_err-bytes.field-0.0 c.in_ok-check.ensures.ok some c.in_err-bytes.ensures.refused)
-
 pub returns : goal.returns
 returns c =
     let some : ltb 0 (product c.in_ok-region.region.count) ≡ true = sym c.has_element.ensures ∙ c.if-not-has_element.false in
-    region_asks c.args.target.now c.args.given.now (option_copied c.args.values) c.requires.there c.direction_of.result c.direction_of.ensures
-    c.in_ok-region.region c.in_ok-region.ensures c.in_ok-bytes.bytes c.in_ok-only.field-0 c.in_ok-check.ensures.ok some c.in_ok-bytes.ensures.right c.in_ok-bytes.ensures.ok c.in_ok-only.ensures
+    region_comes c.args.target.now c.args.given.now (option_copied c.args.values) c.requires.there c.direction_of.result c.direction_of.ensures
+    c.in_ok-region.region c.in_ok-region.ensures c.region_posts.result c.in_ok-check.ensures.ok some c.region_posts.ensures.ok c.region_posts.ensures.right c.region_posts.ensures.refused
