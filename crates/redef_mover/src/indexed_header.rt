@@ -1,11 +1,12 @@
 // A header that grows by additions, whose names are found by an index.
-ghost use Rattle.std.specs.Prelude.{◌≡◌, ◌<◌, ◌++◌, ◌∷◌, [], length, IfOk, OnOk};
+ghost use Rattle.std.specs.Prelude.{◌≡◌, ◌<◌, ◌++◌, ◌∷◌, ◌||◌, ◌&&◌, [], length, Option, Some, None, List, ℕ, bytes_eq, cond, IfOk, OnOk};
+ghost use Rattle.std.specs.Option.{option_or};
 ghost use Rattle.serial_spec.specs.Looks as looks;
 ghost use Rattle.serial_spec.specs.Redefinition as spec;
-ghost use Rattle.redef_mover.specs.Indexed.{attrs_at, given};
+ghost use Rattle.redef_mover.specs.Indexed.{attrs_at, given, has_name, is_same, place_of};
 
-use crate::name_index::{NameIndex, add_attr, add_place};
-use nc_base::{Attr, Dim, Header, Memory, Var};
+use crate::name_index::{AttrNames, NameIndex, Places, add_attr, add_place};
+use nc_base::{Attr, AttrList, Dim, DimList, Header, Memory, Var, VarList};
 use std::alloc::Global;
 use std::marker::Model;
 
@@ -78,8 +79,7 @@ impl<'a> IndexedHeader<'a> {
             mut header,
             mut index,
         } = self;
-        add_place(&mut index.dims, dim.name.as_slice(), header.dims.len())?;
-        header.dims.push(dim.clone(alloc)?)?;
+        push_dim(alloc, &mut index.dims, &mut header.dims, dim)?;
         Ok(IndexedHeader { header, index })
     }
 
@@ -93,8 +93,7 @@ impl<'a> IndexedHeader<'a> {
             mut header,
             mut index,
         } = self;
-        add_place(&mut index.vars, name, header.vars.len())?;
-        header.vars.push(var)?;
+        push_var(&mut index.vars, &mut header.vars, name, var)?;
         Ok(IndexedHeader { header, index })
     }
 
@@ -106,8 +105,7 @@ impl<'a> IndexedHeader<'a> {
             mut header,
             mut index,
         } = self;
-        add_attr(&mut index.attrs, None, attr.name.as_slice())?;
-        header.attrs.push(attr.clone(alloc)?)?;
+        push_attr(alloc, &mut index.attrs, &mut header.attrs, attr)?;
         Ok(IndexedHeader { header, index })
     }
 
@@ -134,10 +132,67 @@ impl<'a> IndexedHeader<'a> {
             mut header,
             mut index,
         } = self;
-        add_attr(&mut index.attrs, Some(place), attr.name.as_slice())?;
-        give(header.vars.as_mut_slice(), place, attr.clone(alloc)?)?;
+        push_attr_at(alloc, &mut index.attrs, &mut header.vars, place, attr)?;
         Ok(IndexedHeader { header, index })
     }
+}
+
+/// Adds a dimension, and its place under its name.
+fn push_dim<'a>(
+    alloc: Global,
+    places: &mut Places<'a>,
+    dims: &mut DimList,
+    dim: &'a Dim,
+) -> Result<(), Memory>
+    ensures placed { OnOk result ((q : List ℕ) → place_of places.new q ≡ option_or (place_of places.old q) (cond (bytes_eq dim.now.name q) (Some (length dims.old)) None)) }
+    ensures listed { OnOk result (dims.new ≡ dims.old ++ dim.now ∷ []) }
+{
+    add_place(places, dim.name.as_slice(), dims.len())?;
+    dims.push(dim.clone(alloc)?)
+}
+
+/// Adds a variable, and its place under this name.
+fn push_var<'a>(
+    places: &mut Places<'a>,
+    vars: &mut VarList,
+    name: &'a [u8],
+    var: Var,
+) -> Result<(), Memory>
+    ensures placed { OnOk result ((q : List ℕ) → place_of places.new q ≡ option_or (place_of places.old q) (cond (bytes_eq name.now q) (Some (length vars.old)) None)) }
+    ensures listed { OnOk result (vars.new ≡ vars.old ++ var ∷ []) }
+{
+    add_place(places, name, vars.len())?;
+    vars.push(var)
+}
+
+/// Adds an attribute of the dataset, and its name.
+fn push_attr<'a>(
+    alloc: Global,
+    names: &mut AttrNames<'a>,
+    attrs: &mut AttrList,
+    attr: &'a Attr,
+) -> Result<(), Memory>
+    ensures named { OnOk result ((o : Option ℕ) (q : List ℕ) → has_name names.new o q ≡ (has_name names.old o q || (is_same None o && bytes_eq attr.now.name q))) }
+    ensures listed { OnOk result (attrs.new ≡ attrs.old ++ attr.now ∷ []) }
+{
+    add_attr(names, None, attr.name.as_slice())?;
+    attrs.push(attr.clone(alloc)?)
+}
+
+/// Adds an attribute of the variable at this place, and its name.
+fn push_attr_at<'a>(
+    alloc: Global,
+    names: &mut AttrNames<'a>,
+    vars: &mut VarList,
+    place: usize,
+    attr: &'a Attr,
+) -> Result<(), Memory>
+    requires { place < length vars.old }
+    ensures named { OnOk result ((o : Option ℕ) (q : List ℕ) → has_name names.new o q ≡ (has_name names.old o q || (is_same (Some place) o && bytes_eq attr.now.name q))) }
+    ensures grown { OnOk result (vars.new ≡ given vars.old place attr.now) }
+{
+    add_attr(names, Some(place), attr.name.as_slice())?;
+    give(vars.as_mut_slice(), place, attr.clone(alloc)?)
 }
 
 /// Gives the variable at this place an attribute.
