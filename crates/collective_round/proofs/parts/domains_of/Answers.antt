@@ -5,6 +5,11 @@ use Rattle.collective_round.proofs.DomainSteps.{domain_is, in_range_hints}
 use Rattle.collective_round.proofs.parts.domains_of.Goals as goal
 use Rattle.collective_round.proofs.parts.domains_of.Goals.{then-domain-gt0, else-domain-gt0}
 
+pub cut-domain-requires : goal.cut-domain-requires
+cut-domain-requires c =
+    let range = in_range_hints c.args.hints.now c.requires.hints in
+    record { order = omega arith; limit = c.reach_of-reach.ensures.limit; number = c.loop-a-test.true; few = range.nodes.1; least_unit = range.unit.0; greatest_unit = range.unit.1 }
+
 pub loop-a-preserved : goal.loop-a-preserved
 loop-a-preserved c =
     let range = in_range_hints c.args.hints.now c.requires.hints in
