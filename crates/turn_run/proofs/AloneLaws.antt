@@ -147,6 +147,12 @@ pub taken_asks : (header : Header) (own : List Call) (a b : Runner) (o : Offer) 
 taken_asks header own a b o e f h =
     (λ i. (let g : Going = record { rank = (f i).state; answers = h i; calls = drop (suc (length (h i))) own } in g, Some o)) ∙ sym (arrived_held header own a o e)
 
+-- it went on to that offer
+pub asks_on : (header : Header) (own all : List Call) (old new taken : Runner) (o : Offer) → own ≡ all → old.held ≡ None → advance header (between own old) ≡ (going_of own new, new.held)
+    → (new.held ≡ None → drop (length new.answers) own ≡ []) → new.held ≡ Some o → taken.rank ≡ new.rank → taken.answers ≡ new.answers → (asking all taken, Some o) ≡ arrived header all old
+asks_on header own all old new taken o e free went ended held rank answers =
+    taken_asks header all new taken o held rank answers ∙ sym (subst (λ (cs : List Call). arrived header cs old ≡ arrived header cs new) e (arrived_gone header own old new free went ended))
+
 pub same_runner : (a b : Runner) → b.rank ≡ a.rank → b.answers ≡ a.answers → b.held ≡ a.held → b ≡ a
 same_runner a b e f h = λ i. record { rank = e i; answers = f i; held = h i }
 
@@ -154,6 +160,13 @@ pub alone_asks : (script : Script) (header : Header) (order : List Mark) (r : �
     → IsPlaced script header order r (going_of own runner) runner.held → AsksAlone script header order r (asking own runner) o
 alone_asks script header order r own runner o e k w = subst (λ (j : OfferKind). IsPlacedWith script header order r (asking own runner, o) j) k
     (subst (λ (s : Going). IsPlaced script header order r s (Some o)) (going_held own runner o e) (subst (λ (m : Option Offer). IsPlaced script header order r (going_of own runner) m) e w))
+
+-- its offer was taken
+pub taken_alone : (script : Script) (header : Header) (order : List Mark) (r : ℕ) (own all : List Call) (runner taken : Runner) (o : Offer) → own ≡ all → runner.held ≡ Some o → o.kind ≡ offer.Solo
+    → taken.rank ≡ runner.rank → taken.answers ≡ runner.answers → IsPlaced script header order r (going_of own runner) runner.held → AsksAlone script header order r (asking all taken) o
+taken_alone script header order r own all runner taken o e held kind rank answers placed =
+    subst (λ (s : Going). AsksAlone script header order r s o) (ap (λ a. a.0) (sym (arrived_held header all runner o held) ∙ sym (taken_asks header all runner taken o held rank answers)))
+    (alone_asks script header order r all runner o held kind (subst (λ (cs : List Call). IsPlaced script header order r (going_of cs runner) runner.held) e placed))
 
 pub way_free : (script : Script) (header : Header) (order : List Mark) (r : ℕ) (own : List Call) (runner : Runner) → runner.held ≡ None
     → IsPlaced script header order r (going_of own runner) runner.held → IsOnWay script order r (between own runner) None

@@ -31,7 +31,7 @@ pub use Rattle.join_laws.proofs.ReplyLaws.{gots_long}
 pub use Rattle.join_laws.proofs.StandsAlike.{AllTell, close_alike, meets_like, same_beside, solo_like}
 pub use Rattle.join_laws.specs.Alike.{AreAlikeEnds, IsLike, blank}
 pub use Rattle.list_laws.proofs.Each.{all_joined}
-pub use Rattle.list_laws.proofs.Maps.{entry_map, entry_map_none, map_map, mapped_entry}
+pub use Rattle.list_laws.proofs.Maps.{entry_map, entry_map_none, map_map, map_more, mapped_entry}
 pub use Rattle.list_laws.proofs.Numbers.{le_two}
 pub use Rattle.list_laws.proofs.Optional.{if_some_at, value_of_some}
 pub use Rattle.list_laws.proofs.Places.{drop_at, each_more, entry_below, entry_read, entry_replicate, entry_set, entry_set_other, left_more, set_own, take_next}

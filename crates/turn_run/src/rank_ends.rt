@@ -105,7 +105,6 @@ fn greatest_known(ends: &[RankEnd]) -> u64
 }
 
 /// How many requests each rank left.
-#[tactic(auto, using(list_laws::proofs::Maps::map_more))]
 fn pending_of(alloc: Global, ends: &[RankEnd]) -> Result<SizeList, Memory>
     ensures { IfOk result (λ sizes. sizes ≡ map (λ end. end.pending) ends.now) }
 {

@@ -101,12 +101,15 @@ impl<'a> Runner<'a> {
     {
         let Setup { header, script, .. } = lent.setup;
         let calls = own_calls(script, number);
-        self.go_on(&lent.tools, header, script, number, calls)?;
-        'alone: while let Some(offer) = self.take_alone() {
-            self.do_alone(lent, disk, told, progress, Ask { number, offer })?;
+        'alone: loop {
             self.go_on(&lent.tools, header, script, number, calls)?;
+            match self.take_alone() {
+                None => return Ok(()),
+                Some(offer) => {
+                    self.do_alone(lent, disk, told, progress, Ask { number, offer })?;
+                }
+            }
         }
-        Ok(())
     }
 
     /// Goes through its calls up to its next offer, which it then holds, or to its end.
@@ -155,7 +158,7 @@ impl<'a> Runner<'a> {
         ensures rank { self.new.rank ≡ self.old.rank }
         ensures answers { self.new.answers ≡ self.old.answers }
         ensures taken { IfSome result (λ o. (self.old.held ≡ Some o) × (o.kind ≡ kind.Solo) × (self.new.held ≡ None)) }
-        ensures left { IfNone result ((self.new.held ≡ self.old.held) × IsMet self.old.held) }
+        ensures left { IfNone result ((self.new ≡ self.old) × IsMet self.old.held) }
     {
         match &self.held {
             Some(offer) if offer.kind == OfferKind::Solo => self.held.take(),

@@ -1,5 +1,5 @@
--- The rank stands at its next offer, or at its end.
-use Rattle.turn_run.proofs.Words.{◌≡◌, ◌-◌, ◌≤◌, drop, length, List, [], None, Some, slice_get, most_calls, setting_of, point, IsCount, calls_of, IsRunner, Arrived, arrived, HasGone, rank_stage, HasToldMore}
+-- The rank waits for its next call.
+use Rattle.turn_run.proofs.Words.{◌≡◌, ◌-◌, ◌≤◌, length, List, None, Some, slice_get, most_calls, setting_of, point, IsCount, IsOnWay, between, calls_of, Arrived, arrived, HasGone, rank_stage, HasToldMore}
 use Rattle.turn_run.proofs.runners.Runner.arrive.Given as goal
 
 abbrev pub invariant-alone : goal.invariant-alone
@@ -7,8 +7,9 @@ invariant-alone g l = record {
   from : g.D.Disk.from l.disk ≡ 0;
   longer : g.D.Disk.len l.fn.disk ≤ g.D.Disk.len l.disk;
   faults : g.D.Disk.faults l.fn.disk ≤ g.D.Disk.faults l.disk;
-  runner : IsRunner l.lent.setup.script.now l.lent.setup.header.now l.progress.order l.number l.self;
-  ended : l.self.held ≡ None → drop (length l.self.answers) (calls_of l.lent.setup.script.now l.number) ≡ [];
+  of_header : l.self.rank.header ≡ l.lent.setup.header.now;
+  free : l.self.held ≡ None;
+  way : IsOnWay l.lent.setup.script.now l.progress.order l.number (between (calls_of l.lent.setup.script.now l.number) l.self) None;
   known : IsCount l.lent.setup.header.now (g.D.Disk.len l.disk) l.self.rank.state.known;
   gone : HasGone l.lent.setup.script.now.hints (setting_of l.lent.setup.script.now l.lent.setup.header.now) l.number (rank_stage l.fn.progress.order (g.D.Disk.held l.fn.disk) (g.D.Disk.calls l.fn.disk) (arrived l.lent.setup.header.now (calls_of l.lent.setup.script.now l.number) l.fn.self)) (rank_stage l.progress.order (g.D.Disk.held l.disk) (g.D.Disk.calls l.disk) (arrived l.lent.setup.header.now (calls_of l.lent.setup.script.now l.number) l.self));
   count : l.progress.records ≡ l.fn.progress.records;
