@@ -169,13 +169,14 @@ fn hold_meetings<'s, E, R: Threads + Wait + Sync, D: Disk + 's, G: Gate, T: Told
     ensures cause { HasStepCause (D.faults disk.old) (D.faults disk.new) result }
 {
     let mut meetings = 0;
-    arrive_all(lent, disk, told, progress, runners)?;
-    'meetings: while all_hold(runners) {
+    'meetings: loop {
+        arrive_all(lent, disk, told, progress, runners)?;
+        if !all_hold(runners) {
+            return Ok(());
+        }
         meet(lent, crew, disk, told, progress, runners, meetings)?;
         meetings += 1;
-        arrive_all(lent, disk, told, progress, runners)?;
     }
-    Ok(())
 }
 
 /// Each rank goes on until it meets the others, or has made its calls.

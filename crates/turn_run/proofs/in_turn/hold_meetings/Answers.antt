@@ -1,126 +1,147 @@
--- One meeting more is held, and all have arrived again.
-use Rattle.turn_run.proofs.Words.{◌<◌, sym, ◌∙◌, true≢false, arith, err_from_is_err_and, most_calls, meetings, setting_of, IsNext, arrived_all, stage, all_between, AllSay}
-use Rattle.turn_run.proofs.StageLaws.{has_led_then}
+-- All have arrived, and one meeting more is held.
+use Rattle.turn_run.proofs.Words.{◌<◌, List, Mark, sym, refl, ◌∙◌, ap, true≢false, arith, err_from_is_err_and, most_calls, meetings, setting_of, IsNext, arrived_all, stage, all_between, AllSay}
+use Rattle.turn_run.proofs.StageLaws.{has_led_none, has_led_then}
 use Rattle.turn_run.proofs.TurnCauses.{cause_after, cause_done}
 use Rattle.turn_run.proofs.TurnEnds.{all_ended, met_number, next_meeting}
-use Rattle.turn_run.proofs.TurnSteps.{runners_begun}
 use Rattle.turn_run.proofs.CutLaws.{stopped_then, same_err}
 use Rattle.turn_run.proofs.SaidLaws.{between_up, have_reached, reached_then}
 use Rattle.turn_run.proofs.SaidMeet.{answers_after}
-use Rattle.turn_run.proofs.TellLaws.{told_then}
+use Rattle.turn_run.proofs.TellLaws.{told_none, told_then}
 use Rattle.turn_run.proofs.in_turn.hold_meetings.Goals as goal
+
+pub meetings-init : goal.meetings-init
+meetings-init g c = record {
+  from = c.requires.from;
+  longer = omega arith;
+  faults = omega arith;
+  number = ap (λ (ms : List Mark). meetings ms) (sym c.requires.none);
+  runners = c.requires.runners;
+  free = c.requires.free;
+  records = c.requires.records;
+  led = has_led_none _ _ _ _;
+  answered = λ e later last h. h;
+  told = told_none _ _ _ _ _ _ _ _ refl refl;
+}
+
+pub meet-requires-clause-number : goal.meet-requires-clause-number
+meet-requires-clause-number g c κs within = c.meetings.invariant.number ∙ sym c.in_ok-arrive_all.ensures.meetings
+
+pub meet-requires-clause-met : goal.meet-requires-clause-met
+meet-requires-clause-met g c κs within = c.all_hold.ensures.0 c.if-not-all_hold.false
 
 pub overflow_add-meetings : goal.overflow_add-meetings
 overflow_add-meetings g c =
-    let k = c.meetings.invariant in
-    let few : meetings c.meetings.progress.order < most_calls =
-    next_meeting c.args.lent.now.setup.script.now c.args.lent.now.setup.header.now _ c.meetings.progress.order c.meetings.runners c.requires.lawful k.runners k.arrived (c.all_hold.ensures.0 c.meetings-test.true) in
-    let number = k.number in
+    let k = c.meetings.invariant.number in let arrived = c.in_ok-arrive_all.ensures in
+    let few : meetings c.arrive_all.new.progress.order < most_calls =
+    next_meeting c.args.lent.now.setup.script.now c.args.lent.now.setup.header.now _ c.arrive_all.new.progress.order c.arrive_all.new.runners c.requires.lawful arrived.runners arrived.arrived (c.all_hold.ensures.0 c.if-not-all_hold.false) in
+    let same = arrived.meetings in
     omega arith
 
 pub meetings-smaller : goal.meetings-smaller
 meetings-smaller g c =
-    let k = c.meetings.invariant in
-    let few : meetings c.meetings.progress.order < most_calls =
-    next_meeting c.args.lent.now.setup.script.now c.args.lent.now.setup.header.now _ c.meetings.progress.order c.meetings.runners c.requires.lawful k.runners k.arrived (c.all_hold.ensures.0 c.meetings-test.true) in
-    let number = k.number in
+    let k = c.meetings.invariant.number in let arrived = c.in_ok-arrive_all.ensures in
+    let few : meetings c.arrive_all.new.progress.order < most_calls =
+    next_meeting c.args.lent.now.setup.script.now c.args.lent.now.setup.header.now _ c.arrive_all.new.progress.order c.arrive_all.new.runners c.requires.lawful arrived.runners arrived.arrived (c.all_hold.ensures.0 c.if-not-all_hold.false) in
+    let same = arrived.meetings in
     omega arith
 
 pub meetings-preserved : goal.meetings-preserved
 meetings-preserved g c =
-    let k = c.meetings.invariant in let met = c.in_ok-meet.ensures in
-    let arrived = c.in_ok-arrive_all-2.ensures in
+    let script = c.args.lent.now.setup.script.now in let header = c.args.lent.now.setup.header.now in
+    let k = c.meetings.invariant in let arrived = c.in_ok-arrive_all.ensures in
+    let met = c.in_ok-meet.ensures in let first = c.args.runners.now in
+    let led = has_led_then _ _ _ c.meetings.progress.order _ _ _ _ k.led arrived.led in
+    let a = stage (g.D.Disk.held c.args.disk.now) (g.D.Disk.calls c.args.disk.now) c.args.progress.now.records (arrived_all header script.calls first) in
+    let b = stage (g.D.Disk.held c.arrive_all.new.disk) (g.D.Disk.calls c.arrive_all.new.disk) c.arrive_all.new.progress.records (arrived_all header script.calls c.arrive_all.new.runners) in
+    let d = stage (g.D.Disk.held c.meet.new.disk) (g.D.Disk.calls c.meet.new.disk) c.meet.new.progress.records (arrived_all header script.calls c.meet.new.runners) in
     record {
-      from = arrived.from;
-      longer = omega arith;
-      faults = let a = met.cause.later in let b = arrived.cause.later in omega arith;
-      number = met_number c.meetings.progress.order c.meet.new.progress.order c.arrive_all-in-meetings.new.progress.order c.meetings.meetings _ k.number met.order arrived.meetings;
-      runners = arrived.runners;
-      arrived = arrived.arrived;
-      records = arrived.records;
-      led = has_led_then _ _ _ c.meet.new.progress.order _ _ _ _ (has_led_then _ _ _ c.meetings.progress.order _ _ _ _ k.led met.led) arrived.led;
-      told = told_then _ _ _ c.meet.new.progress.order _ _ _ _ _ _ (told_then _ _ _ c.meetings.progress.order _ _ _ _ _ _ c.meetings.invariant.told c.meetings.invariant.led c.meet.ensures.told)
-          (has_led_then _ _ _ c.meetings.progress.order _ _ _ _ c.meetings.invariant.led c.in_ok-meet.ensures.led) c.arrive_all-in-meetings.ensures.told;
+      from = met.from;
+      longer = let before = k.longer in let come = arrived.longer in let gone = met.longer in omega arith;
+      faults = let before = k.faults in let come = arrived.cause.later in let gone = met.cause.later in omega arith;
+      number = met_number c.arrive_all.new.progress.order c.meet.new.progress.order c.meet.new.progress.order c.meetings.meetings _ (k.number ∙ sym arrived.meetings) met.order refl;
+      runners = met.runners;
+      free = met.free;
+      records = met.records;
+      led = has_led_then _ _ _ c.arrive_all.new.progress.order _ _ _ _ led met.led;
+      answered = λ e later last h. answers_after script.hints (setting_of script header) e c.args.progress.now.order c.arrive_all.new.progress.order c.meet.new.progress.order later (meetings c.arrive_all.new.progress.order) a b d
+          (all_between script.calls first) (all_between script.calls c.meet.new.runners) last led met.led met.order (between_up header script.calls first c.requires.free) met.between h;
+      told = told_then _ _ _ c.arrive_all.new.progress.order _ _ _ _ _ _ (told_then _ _ _ c.meetings.progress.order _ _ _ _ _ _ k.told k.led c.arrive_all.ensures.told) led c.meet.ensures.told;
     }
 
-pub returns-in_err-arrive_all-2-clause-cause : goal.returns-in_err-arrive_all-2-clause-cause
-returns-in_err-arrive_all-2-clause-cause g c =
-    let p = err_from_is_err_and c.from_residual-in_err-arrive_all-2.result c.from_residual-in_err-arrive_all-2.ensures.1 in
-    let k = c.meetings.invariant.faults in let m = c.meet.ensures.cause.later in
-    rw (p.1, p.2) (cause_after (g.D.Disk.faults c.args.disk.now) (g.D.Disk.faults c.meet.new.disk) (g.D.Disk.faults c.arrive_all-in-meetings.new.disk) _ (omega arith)
-    c.in_err-arrive_all-2.ensures.cause)
+-- ---- all calls are made
 
-pub returns-clause-free : goal.returns-clause-free
-returns-clause-free g c =
-    let k = c.meetings.invariant in
-    all_ended c.args.lent.now.setup.script.now c.args.lent.now.setup.header.now _ c.meetings.progress.order c.meetings.runners c.requires.lawful k.runners k.arrived
-    (λ met. true≢false (sym (c.all_hold.ensures.1 met) ∙ c.meetings-test.false))
+pub returns-then-not-all_hold-clause-free : goal.returns-then-not-all_hold-clause-free
+returns-then-not-all_hold-clause-free g c =
+    let arrived = c.in_ok-arrive_all.ensures in
+    all_ended c.args.lent.now.setup.script.now c.args.lent.now.setup.header.now _ c.arrive_all.new.progress.order c.arrive_all.new.runners c.requires.lawful arrived.runners arrived.arrived
+    (λ met. true≢false (sym (c.all_hold.ensures.1 met) ∙ c.if-not-all_hold.true))
 
-pub returns-clause-begun : goal.returns-clause-begun
-returns-clause-begun g c = runners_begun c.args.lent.now.setup.script.now c.args.lent.now.setup.header.now _ c.meetings.progress.order c.meetings.runners c.meetings.invariant.runners
+pub returns-then-not-all_hold-clause-led : goal.returns-then-not-all_hold-clause-led
+returns-then-not-all_hold-clause-led g c = has_led_then _ _ _ c.meetings.progress.order _ _ _ _ c.meetings.invariant.led c.in_ok-arrive_all.ensures.led
 
-pub returns-clause-cause : goal.returns-clause-cause
-returns-clause-cause g c = cause_done _ _ _ c.meetings.invariant.faults
+pub returns-then-not-all_hold-clause-told : goal.returns-then-not-all_hold-clause-told
+returns-then-not-all_hold-clause-told g c = told_then _ _ _ c.meetings.progress.order _ _ _ _ _ _ c.meetings.invariant.told c.meetings.invariant.led c.arrive_all.ensures.told
+
+pub returns-then-not-all_hold-clause-cause : goal.returns-then-not-all_hold-clause-cause
+returns-then-not-all_hold-clause-cause g c = let k = c.meetings.invariant.faults in let m = c.arrive_all.ensures.cause.later in cause_done _ _ _ (omega arith)
+
+-- ---- a rank was cut off before a meeting
 
 pub returns-in_err-arrive_all-clause-cut : goal.returns-in_err-arrive_all-clause-cut
 returns-in_err-arrive_all-clause-cut g c e is =
-    let p = err_from_is_err_and c.from_residual.result c.from_residual.ensures.1 in
-    c.in_err-arrive_all.ensures.cut e (same_err c.from_residual.result e _ p.0 is p.1 p.2)
-
-pub returns-in_err-meet-clause-cut : goal.returns-in_err-meet-clause-cut
-returns-in_err-meet-clause-cut g c e is =
     let script = c.args.lent.now.setup.script.now in let header = c.args.lent.now.setup.header.now in
     let led = c.meetings.invariant.led in
-    let p = err_from_is_err_and c.from_residual-in_err-meet.result c.from_residual-in_err-meet.ensures.1 in
-    stopped_then (IsNext script c.meet.new.progress.order) script.hints (setting_of script header) e c.args.progress.now.order c.meetings.progress.order c.meet.new.progress.order led.more
+    let p = err_from_is_err_and c.from_residual.result c.from_residual.ensures.1 in
+    stopped_then (IsNext script c.arrive_all.new.progress.order) script.hints (setting_of script header) e c.args.progress.now.order c.meetings.progress.order c.arrive_all.new.progress.order led.more
     (stage (g.D.Disk.held c.args.disk.now) (g.D.Disk.calls c.args.disk.now) c.args.progress.now.records (arrived_all header script.calls c.args.runners.now))
-    (stage (g.D.Disk.held c.meetings.disk) (g.D.Disk.calls c.meetings.disk) c.meetings.progress.records (arrived_all header script.calls c.meetings.runners)) (g.D.Disk.held c.meet.new.disk) c.meet.new.progress.records
-    led.led led.grown (c.in_err-meet.ensures.cut e (same_err c.from_residual-in_err-meet.result e _ p.0 is p.1 p.2))
-
-pub returns-in_err-arrive_all-2-clause-cut : goal.returns-in_err-arrive_all-2-clause-cut
-returns-in_err-arrive_all-2-clause-cut g c e is =
-    let script = c.args.lent.now.setup.script.now in let header = c.args.lent.now.setup.header.now in
-    let led = has_led_then _ _ _ c.meetings.progress.order _ _ _ _ c.meetings.invariant.led c.in_ok-meet.ensures.led in
-    let p = err_from_is_err_and c.from_residual-in_err-arrive_all-2.result c.from_residual-in_err-arrive_all-2.ensures.1 in
-    stopped_then (IsNext script c.arrive_all-in-meetings.new.progress.order) script.hints (setting_of script header) e c.args.progress.now.order c.meet.new.progress.order c.arrive_all-in-meetings.new.progress.order led.more
-    (stage (g.D.Disk.held c.args.disk.now) (g.D.Disk.calls c.args.disk.now) c.args.progress.now.records (arrived_all header script.calls c.args.runners.now))
-    (stage (g.D.Disk.held c.meet.new.disk) (g.D.Disk.calls c.meet.new.disk) c.meet.new.progress.records (arrived_all header script.calls c.meet.new.runners)) (g.D.Disk.held c.arrive_all-in-meetings.new.disk) c.arrive_all-in-meetings.new.progress.records
-    led.led led.grown (c.in_err-arrive_all-2.ensures.cut e (same_err c.from_residual-in_err-arrive_all-2.result e _ p.0 is p.1 p.2))
+    (stage (g.D.Disk.held c.meetings.disk) (g.D.Disk.calls c.meetings.disk) c.meetings.progress.records (arrived_all header script.calls c.meetings.runners)) (g.D.Disk.held c.arrive_all.new.disk) c.arrive_all.new.progress.records
+    led.led led.grown (c.in_err-arrive_all.ensures.cut e (same_err c.from_residual.result e _ p.0 is p.1 p.2))
 
 pub returns-in_err-arrive_all-clause-answered : goal.returns-in_err-arrive_all-clause-answered
 returns-in_err-arrive_all-clause-answered g c e is =
     let p = err_from_is_err_and c.from_residual.result c.from_residual.ensures.1 in
-    c.in_err-arrive_all.ensures.answered e (same_err c.from_residual.result e _ p.0 is p.1 p.2)
+    c.meetings.invariant.answered e _ _ (c.in_err-arrive_all.ensures.answered e (same_err c.from_residual.result e _ p.0 is p.1 p.2))
+
+pub returns-in_err-arrive_all-clause-told : goal.returns-in_err-arrive_all-clause-told
+returns-in_err-arrive_all-clause-told g c = told_then _ _ _ c.meetings.progress.order _ _ _ _ _ _ c.meetings.invariant.told c.meetings.invariant.led c.arrive_all.ensures.told
+
+pub returns-in_err-arrive_all-clause-cause : goal.returns-in_err-arrive_all-clause-cause
+returns-in_err-arrive_all-clause-cause g c =
+    let p = err_from_is_err_and c.from_residual.result c.from_residual.ensures.1 in
+    rw (p.1, p.2) (cause_after (g.D.Disk.faults c.args.disk.now) (g.D.Disk.faults c.meetings.disk) (g.D.Disk.faults c.arrive_all.new.disk) _ c.meetings.invariant.faults c.in_err-arrive_all.ensures.cause)
+
+-- ---- the meeting was cut off
+
+pub returns-in_err-meet-clause-cut : goal.returns-in_err-meet-clause-cut
+returns-in_err-meet-clause-cut g c e is =
+    let script = c.args.lent.now.setup.script.now in let header = c.args.lent.now.setup.header.now in
+    let led = has_led_then _ _ _ c.meetings.progress.order _ _ _ _ c.meetings.invariant.led c.in_ok-arrive_all.ensures.led in
+    let p = err_from_is_err_and c.from_residual-in_err-meet.result c.from_residual-in_err-meet.ensures.1 in
+    stopped_then (IsNext script c.meet.new.progress.order) script.hints (setting_of script header) e c.args.progress.now.order c.arrive_all.new.progress.order c.meet.new.progress.order led.more
+    (stage (g.D.Disk.held c.args.disk.now) (g.D.Disk.calls c.args.disk.now) c.args.progress.now.records (arrived_all header script.calls c.args.runners.now))
+    (stage (g.D.Disk.held c.arrive_all.new.disk) (g.D.Disk.calls c.arrive_all.new.disk) c.arrive_all.new.progress.records (arrived_all header script.calls c.arrive_all.new.runners)) (g.D.Disk.held c.meet.new.disk) c.meet.new.progress.records
+    led.led led.grown (c.in_err-meet.ensures.cut e (same_err c.from_residual-in_err-meet.result e _ p.0 is p.1 p.2))
 
 pub returns-in_err-meet-clause-answered : goal.returns-in_err-meet-clause-answered
 returns-in_err-meet-clause-answered g c e is =
     let script = c.args.lent.now.setup.script.now in let header = c.args.lent.now.setup.header.now in
-    let s = setting_of script header in let led = c.meetings.invariant.led in
-    let first = c.args.runners.now in
+    let s = setting_of script header in let first = c.args.runners.now in
+    let led = has_led_then _ _ _ c.meetings.progress.order _ _ _ _ c.meetings.invariant.led c.in_ok-arrive_all.ensures.led in
     let p = err_from_is_err_and c.from_residual-in_err-meet.result c.from_residual-in_err-meet.ensures.1 in
     have_reached s e c.args.progress.now.order c.meet.new.progress.order (g.D.Disk.held c.args.disk.now) c.args.progress.now.records (all_between script.calls first) (arrived_all header script.calls first) c.meet.new.runners
     (between_up header script.calls first c.requires.free)
-    (reached_then (AllSay e c.meet.new.runners) script.hints s c.args.progress.now.order c.meetings.progress.order c.meet.new.progress.order led.more
+    (reached_then (AllSay e c.meet.new.runners) script.hints s c.args.progress.now.order c.arrive_all.new.progress.order c.meet.new.progress.order led.more
     (stage (g.D.Disk.held c.args.disk.now) (g.D.Disk.calls c.args.disk.now) c.args.progress.now.records (arrived_all header script.calls first))
-    (stage (g.D.Disk.held c.meetings.disk) (g.D.Disk.calls c.meetings.disk) c.meetings.progress.records (arrived_all header script.calls c.meetings.runners))
+    (stage (g.D.Disk.held c.arrive_all.new.disk) (g.D.Disk.calls c.arrive_all.new.disk) c.arrive_all.new.progress.records (arrived_all header script.calls c.arrive_all.new.runners))
     led.led led.grown (c.in_err-meet.ensures.answered e (same_err c.from_residual-in_err-meet.result e _ p.0 is p.1 p.2)))
 
-pub returns-in_err-arrive_all-2-clause-answered : goal.returns-in_err-arrive_all-2-clause-answered
-returns-in_err-arrive_all-2-clause-answered g c e is =
-    let script = c.args.lent.now.setup.script.now in let header = c.args.lent.now.setup.header.now in
-    let s = setting_of script header in let first = c.args.runners.now in
-    let p = err_from_is_err_and c.from_residual-in_err-arrive_all-2.result c.from_residual-in_err-arrive_all-2.ensures.1 in
-    let a = stage (g.D.Disk.held c.args.disk.now) (g.D.Disk.calls c.args.disk.now) c.args.progress.now.records (arrived_all header script.calls first) in
-    let b = stage (g.D.Disk.held c.meetings.disk) (g.D.Disk.calls c.meetings.disk) c.meetings.progress.records (arrived_all header script.calls c.meetings.runners) in
-    let d = stage (g.D.Disk.held c.meet.new.disk) (g.D.Disk.calls c.meet.new.disk) c.meet.new.progress.records (arrived_all header script.calls c.meet.new.runners) in
-    answers_after script.hints s e c.args.progress.now.order c.meetings.progress.order c.meet.new.progress.order c.arrive_all-in-meetings.new.progress.order (meetings c.meetings.progress.order) a b d (all_between script.calls first)
-    (all_between script.calls c.meet.new.runners) c.arrive_all-in-meetings.new.runners c.meetings.invariant.led c.in_ok-meet.ensures.led c.in_ok-meet.ensures.order (between_up header script.calls first c.requires.free)
-    c.in_ok-meet.ensures.between (c.in_err-arrive_all-2.ensures.answered e (same_err c.from_residual-in_err-arrive_all-2.result e _ p.0 is p.1 p.2))
-
 pub returns-in_err-meet-clause-told : goal.returns-in_err-meet-clause-told
-returns-in_err-meet-clause-told g c = told_then _ _ _ c.meetings.progress.order _ _ _ _ _ _ c.meetings.invariant.told c.meetings.invariant.led c.meet.ensures.told
+returns-in_err-meet-clause-told g c =
+    told_then _ _ _ c.arrive_all.new.progress.order _ _ _ _ _ _ (told_then _ _ _ c.meetings.progress.order _ _ _ _ _ _ c.meetings.invariant.told c.meetings.invariant.led c.arrive_all.ensures.told)
+    (has_led_then _ _ _ c.meetings.progress.order _ _ _ _ c.meetings.invariant.led c.in_ok-arrive_all.ensures.led) c.meet.ensures.told
 
-pub returns-in_err-arrive_all-2-clause-told : goal.returns-in_err-arrive_all-2-clause-told
-returns-in_err-arrive_all-2-clause-told g c =
-    told_then _ _ _ c.meet.new.progress.order _ _ _ _ _ _ (told_then _ _ _ c.meetings.progress.order _ _ _ _ _ _ c.meetings.invariant.told c.meetings.invariant.led c.meet.ensures.told)
-    (has_led_then _ _ _ c.meetings.progress.order _ _ _ _ c.meetings.invariant.led c.in_ok-meet.ensures.led) c.arrive_all-in-meetings.ensures.told
+pub returns-in_err-meet-clause-cause : goal.returns-in_err-meet-clause-cause
+returns-in_err-meet-clause-cause g c =
+    let p = err_from_is_err_and c.from_residual-in_err-meet.result c.from_residual-in_err-meet.ensures.1 in
+    let k = c.meetings.invariant.faults in let m = c.arrive_all.ensures.cause.later in
+    rw (p.1, p.2) (cause_after (g.D.Disk.faults c.args.disk.now) (g.D.Disk.faults c.arrive_all.new.disk) (g.D.Disk.faults c.meet.new.disk) _ (omega arith) c.in_err-meet.ensures.cause)
