@@ -4,7 +4,7 @@ use Rattle.nc_base.specs.declared.step.StepErr.TheVariants as fault
 use Rattle.file_owner.specs.declared.owner.Owner.{Owner as Held}
 use Rattle.file_owner.specs.declared.service.Halt.TheVariants as halt
 use Rattle.file_owner.proofs.RefusedSteps.{fault_none}
-use Rattle.file_owner.proofs.AlikeLaws.{lines_as, lines_none, lines_twice}
+use Rattle.file_owner.proofs.AlikeLaws.{lines_as, lines_none}
 use Rattle.file_owner.proofs.RunLaws.{run_more, run_none}
 use Rattle.file_owner.proofs.StopLaws.{more_none, more_one}
 
@@ -30,17 +30,12 @@ pub halt_ended : (hints : Hints) (s : Setting) (old mid : Receiver RankItem) (le
     → Grows x.lines (held_stops x.clients) lines → AllHaveEnded old.senders left → HasHalted hints s (taken_from old mid left) before (stopped_with x.records x.told x.calls x.order x.heard lines) halt.Ended
 halt_ended hints s old mid left before x lines h g all = grind (arith, nat_tests, append-nil, lines_as)
 
-pub halt_strange : (hints : Hints) (s : Setting) (old mid now : Receiver RankItem) (left end : List Bool) (before x : Standing) (number : ℕ) (item : RankItem) (first last : List (End OwnerItem))
+pub halt_strange : (hints : Hints) (s : Setting) (old mid now : Receiver RankItem) (left end : List Bool) (before x : Standing) (number : ℕ) (item : RankItem) (last : List (End OwnerItem))
     → HasServed hints s (taken_from old mid left) before x → HasTakenOne mid now left end (number, item) → ((file : List ℕ) → is_strange s (owner_at x file) (number, item) ≡ true)
-    → Grows x.lines (held_stops x.clients) first → Grows first (stops_for ((number, item) ∷ [])) last
+    → Grows x.lines (λ q. held_stops x.clients q ++ stops_for ((number, item) ∷ []) q) last
     → HasHalted hints s (taken_from old now end) before (stopped_with x.records x.told x.calls x.order x.heard last) (halt.Stranger number)
-halt_strange hints s old mid now left end before x number item first last h t strange g k =
-    grind (
-      arith,
-      nat_tests,
-      more_one old mid now h.more (number, item) h.taken t.items t.senders t.of t.low,
-      lines_twice x.lines first last (held_stops x.clients) (stops_for ((number, item) ∷ [])) g k,
-    )
+halt_strange hints s old mid now left end before x number item last h t strange g =
+    grind (arith, nat_tests, more_one old mid now h.more (number, item) h.taken t.items t.senders t.of t.low)
 
 pub halt_fault : (hints : Hints) (s : Setting) (old mid now : Receiver RankItem) (left end : List Bool) (before x : Standing) (a : Arrival) (e : StepErr) (n : ℕ) (held : Option (List ℕ)) (made : Option (List DiskCall))
     (marks : List Mark) (heard : Option (List (Mark × ℕ))) (last : List (End OwnerItem)) → HasServed hints s (taken_from old mid left) before x → HasTakenOne mid now left end a → marks ≡ x.order → heard ≡ x.heard → Grows x.lines (stops (owner_at x []) (a ∷ [])) last

@@ -122,6 +122,13 @@ impl Owner {
             order: MarkList::new(alloc),
         })
     }
+
+    /// The order of the steps that were done.
+    pub(crate) fn into_order(self) -> MarkList
+        ensures { result ≡ self.order }
+    {
+        self.order
+    }
 }
 
 /// Whether all clients hold an offer.

@@ -24,7 +24,7 @@ ghost use Rattle.var_layout.specs.Measures.{AreMeasures};
 
 use crate::lent::Outlets;
 use crate::owner::Owner;
-use crate::stops::{Senders, stop_arrival, stop_held, stop_rest};
+use crate::stops::{Senders, stop_held, stop_rest, stop_strange};
 use collective_round::Dataset;
 use nc_base::{Header, Hints, MarkList, OwnerItem, ServeEnd, StepErr};
 use nc_outside::{Disk, Gate, Told};
@@ -215,7 +215,7 @@ fn open_owner<'s, E, R: Threads + Wait + Sync, D: Disk + 's, G: Gate, T: Told>(
         Err(_) => (MarkList::new(tools.alloc), Halt::Fault(StepErr::Memory)),
         Ok(mut owner) => {
             let halt = serve_all(tools, crew, dataset, out, &mut owner, senders, inbox);
-            (owner.order, halt)
+            (owner.into_order(), halt)
         }
     }
 }
@@ -251,8 +251,7 @@ fn serve_all<'s, E, R: Threads + Wait + Sync, D: Disk + 's, G: Gate, T: Told>(
         }
         let (number, item) = senders.take(tools.rt, inbox, tools.gate);
         if owner.is_strange(dataset.header, dataset.measures, number, &item) {
-            stop_held(tools.rt, out.back, &owner.clients);
-            stop_arrival(tools.rt, out.back, number, &item);
+            stop_strange(tools.rt, out.back, &owner.clients, number, item);
             return Halt::Stranger(number);
         }
         let done = owner.arrive(tools, crew, dataset, out, number, item);

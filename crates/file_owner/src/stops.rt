@@ -76,13 +76,24 @@ impl Senders {
     }
 }
 
-/// Puts a stop on the line of an arrival that is an offer.
-pub(crate) fn stop_arrival<R: Wait>(
+/// Puts a stop on the line of each offer that is held, and then on that of an arrival that no rank of a script makes.
+pub(crate) fn stop_strange<R: Wait>(
     rt: &R,
     back: &mut LinePutList<OwnerItem>,
+    clients: &[Client],
     number: u32,
-    item: &RankItem,
+    item: RankItem,
 )
+    requires lines { length back.old ≡ length clients.now }
+    requires number { number < length back.old }
+    ensures { Grows back.old (λ q. held_stops clients.now q ++ stops_for ((number, item) ∷ []) q) back.new }
+{
+    stop_held(rt, back, clients);
+    stop_arrival(rt, back, number, &item);
+}
+
+/// Puts a stop on the line of an arrival that is an offer.
+fn stop_arrival<R: Wait>(rt: &R, back: &mut LinePutList<OwnerItem>, number: u32, item: &RankItem)
     requires { number < length back.old }
     ensures { Grows back.old (stops_for ((number, item.now) ∷ [])) back.new }
 {

@@ -1,5 +1,5 @@
 -- One more arrival is done, or it is the last one.
-use Rattle.file_owner.proofs.Words.{ℕ, Err, refl, ◌∙◌, subst, arith, dataset_setting, standing, Grows, held_stops, AllHaveEnded}
+use Rattle.file_owner.proofs.Words.{ℕ, ◌++◌, ◌∷◌, [], Err, refl, ◌∙◌, subst, arith, dataset_setting, standing, Grows, held_stops, stops_for, AllHaveEnded}
 use Rattle.file_owner.proofs.LentLaws.{same_then}
 use Rattle.file_owner.proofs.RefusedSteps.{fault_at}
 use Rattle.file_owner.proofs.HaltLaws.{fault_cause, halt_ended, halt_fault, halt_strange, no_cause, served_more, served_none, stranger_cause}
@@ -33,10 +33,10 @@ pub returns-then-is_strange-clause-halted : goal.returns-then-is_strange-clause-
 returns-then-is_strange-clause-halted g c =
     halt_strange c.args.dataset.now.hints.now (dataset_setting c.args.dataset.now) c.args.inbox.now c.loop.inbox c.take-number.new.inbox c.loop.senders.ended c.take-number.new.self.ended
     (standing g.D.Disk g.T.Told c.args.owner.now c.args.out.now)
-    (standing g.D.Disk g.T.Told c.loop.owner c.loop.out) c.take-number.result.0 c.take-number.result.1 c.stop_held-then-is_strange.new.back c.stop_arrival.new.back c.loop.invariant.served
+    (standing g.D.Disk g.T.Told c.loop.owner c.loop.out) c.take-number.result.0 c.take-number.result.1 c.stop_strange.new.back c.loop.invariant.served
     (record { items = c.take-number.ensures.items; senders = c.take-number.ensures.senders; of = c.take-number.ensures.of; low = c.take-number.ensures.number; noted = c.take-number.ensures.noted })
     (λ file. c.is_strange.ensures (dataset_setting c.args.dataset.now) file c.loop.out.records.now refl ∙ c.if-is_strange.true)
-    (subst (λ clients. Grows c.loop.out.back.now (held_stops clients) c.stop_held-then-is_strange.new.back) c.deref-then-is_strange.ensures.value c.stop_held-then-is_strange.ensures) c.stop_arrival.ensures
+    (subst (λ clients. Grows c.loop.out.back.now (λ q. held_stops clients q ++ stops_for (c.take-number.result ∷ []) q) c.stop_strange.new.back) c.deref-then-is_strange.ensures.value c.stop_strange.ensures)
 
 pub returns-then-is_strange-clause-cause : goal.returns-then-is_strange-clause-cause
 returns-then-is_strange-clause-cause g c = stranger_cause (g.D.Disk.faults c.args.out.now.disk.now) (g.D.Disk.faults c.loop.out.disk.now) c.take-number.result.0 c.loop.invariant.later
