@@ -1,5 +1,5 @@
 // The regions of calls.
-ghost use Rattle.std.specs.Prelude.{◌≡◌, [], map};
+ghost use Rattle.std.specs.Prelude.{◌≡◌, ◌≢◌, [], map};
 ghost use Rattle.script_spec.specs.ScriptWords.{all_some, size_of_text};
 ghost use Rattle.script_spec.specs.ScriptSteps.{list, or_fault};
 ghost use Rattle.script_spec.specs.ScriptCalls.{form_of_text, part, part_list, many_regions, region, given_of};
@@ -110,7 +110,37 @@ fn whole(alloc: Global, form: Form) -> Given
     }
 }
 
-/// Reads the region of a call of this form: many parts, or the first lists of one, of which each form has one more.
+/// Reads the lists of a region into one of this form that has none; each form has one more than the form before it.
+fn read_lists(
+    alloc: Global,
+    kind: Form,
+    given: &mut Given,
+    words: &mut Words<'_>,
+) -> Result<(), ReadErr>
+    requires form { kind ≢ form.Varn }
+    requires none { given.old ≡ given_of kind [] [] [] [] }
+    ensures { Gives (λ _. (given.new, words.new)) result (region kind words.old) }
+{
+    if kind == Form::Var {
+        return Ok(());
+    }
+    given.start = list(alloc, words)?;
+    if kind == Form::Var1 {
+        return Ok(());
+    }
+    given.count = list(alloc, words)?;
+    if kind == Form::Vara {
+        return Ok(());
+    }
+    given.stride = list(alloc, words)?;
+    if kind == Form::Vars {
+        return Ok(());
+    }
+    given.imap = list(alloc, words)?;
+    Ok(())
+}
+
+/// Reads the region of a call of this form: many parts, or the first lists of one.
 pub fn region(alloc: Global, form: Form, words: &mut Words<'_>) -> Result<Given, ReadErr>
     ensures { Gives (λ g. (g, words.new)) result (region form words.old) }
 {
@@ -118,21 +148,6 @@ pub fn region(alloc: Global, form: Form, words: &mut Words<'_>) -> Result<Given,
         return many_regions(alloc, words);
     }
     let mut given = whole(alloc, form);
-    if form == Form::Var {
-        return Ok(given);
-    }
-    given.start = list(alloc, words)?;
-    if form == Form::Var1 {
-        return Ok(given);
-    }
-    given.count = list(alloc, words)?;
-    if form == Form::Vara {
-        return Ok(given);
-    }
-    given.stride = list(alloc, words)?;
-    if form == Form::Vars {
-        return Ok(given);
-    }
-    given.imap = list(alloc, words)?;
+    read_lists(alloc, form, &mut given, words)?;
     Ok(given)
 }
