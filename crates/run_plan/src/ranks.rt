@@ -31,48 +31,57 @@ pub(crate) fn pending_of(alloc: Global, runners: &[Runner]) -> Result<SizeList, 
 }
 
 /// Each rank's answers, without the values that gets gave.
-pub(crate) fn answers_of(alloc: Global, runners: Vec<Runner>) -> Result<AnswerTable, Memory>
-    ensures { IfOk result (λ table. table ≡ map (λ runner. map without_values runner.answers) runners.entry.items) }
+#[tactic(auto, using(list_laws::proofs::Maps::map_more))]
+pub(crate) fn answers_of(alloc: Global, runners: &[Runner]) -> Result<AnswerTable, Memory>
+    ensures { IfOk result (λ table. table ≡ map (λ runner. map without_values runner.answers) runners.now) }
 {
     let mut table = AnswerTable::new(alloc);
     for runner in runners {
-        table.push(row_without_values(alloc, runner.answers)?)?;
+        table.push(row_without_values(alloc, runner.answers.as_slice())?)?;
     }
     Ok(table)
 }
 
-fn row_without_values(alloc: Global, answers: AnswerList) -> Result<AnswerList, Memory>
-    ensures { IfOk result (λ row. row ≡ map without_values answers) }
+#[tactic(auto, using(list_laws::proofs::Maps::map_more))]
+fn row_without_values(alloc: Global, answers: &[Answer]) -> Result<AnswerList, Memory>
+    ensures { IfOk result (λ row. row ≡ map without_values answers.now) }
 {
     let mut row = AnswerList::new(alloc);
-    for answer in answers.into_vec() {
+    for answer in answers {
         row.push(answer_without_values(alloc, answer)?)?;
     }
     Ok(row)
 }
 
-fn answer_without_values(alloc: Global, answer: Answer) -> Result<Answer, Memory>
-    ensures { IfOk result (λ bare. bare ≡ without_values answer) }
+fn answer_without_values(alloc: Global, answer: &Answer) -> Result<Answer, Memory>
+    ensures { IfOk result (λ bare. bare ≡ without_values answer.now) }
 {
     Ok(Answer {
         code: answer.code,
         pair: answer.pair,
         number: answer.number,
         values: None,
-        items: items_without_values(alloc, answer.items)?,
+        items: items_without_values(alloc, answer.items.as_slice())?,
     })
 }
 
-fn items_without_values(alloc: Global, items: ItemList) -> Result<ItemList, Memory>
-    ensures { IfOk result (λ bare. bare ≡ map item_without_values items) }
+#[tactic(auto, using(list_laws::proofs::Maps::map_more))]
+fn items_without_values(alloc: Global, items: &[Item]) -> Result<ItemList, Memory>
+    ensures { IfOk result (λ bare. bare ≡ map item_without_values items.now) }
 {
     let mut bare = ItemList::new(alloc);
-    for item in items.into_vec() {
-        bare.push(Item {
-            id: item.id,
-            code: item.code,
-            values: None,
-        })?;
+    for item in items {
+        bare.push(item_without_values(item))?;
     }
     Ok(bare)
+}
+
+fn item_without_values(item: &Item) -> Item
+    ensures { result ≡ item_without_values item.now }
+{
+    Item {
+        id: item.id,
+        code: item.code,
+        values: None,
+    }
 }

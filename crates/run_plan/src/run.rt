@@ -154,7 +154,7 @@ fn ended(
 {
     let known = greatest_known(&runners);
     let pending = pending_of(alloc, &runners)?;
-    let answers = answers_of(alloc, runners)?;
+    let answers = answers_of(alloc, &runners)?;
     Ok(RunPlan {
         opening,
         steps: progress.steps,

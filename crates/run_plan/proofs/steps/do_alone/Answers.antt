@@ -5,33 +5,20 @@ use Rattle.run_plan.proofs.FollowLaws.{order_more}
 use Rattle.run_plan.proofs.SoloLaws.{alone_device, alone_planned}
 use Rattle.run_plan.proofs.steps.do_alone.Goals as goal
 
-pub plan_solo-requires-clause-hints : goal.plan_solo-requires-clause-hints
-plan_solo-requires-clause-hints g c = lawful_hints c.args.lent.now.script.now c.requires.lawful
-
-pub plan_solo-requires-clause-few : goal.plan_solo-requires-clause-few
-plan_solo-requires-clause-few g c =
-    (asked_fit c.args.lent.now.header.now c.args.progress.now.size c.args.runner.now.rank.state.known c.args.offer.now c.requires.asked c.requires.known).few
-
-pub plan_solo-requires-clause-rank : goal.plan_solo-requires-clause-rank
-plan_solo-requires-clause-rank g c =
-    let few = (ranks_lawful c.args.lent.now.script.now c.requires.lawful).most in
-    let number = c.requires.number in
-    omega arith
-
-pub plan_solo-requires-clause-puts : goal.plan_solo-requires-clause-puts
-plan_solo-requires-clause-puts g c =
-    ranked_puts c.args.lent.now.header.now c.args.number c.args.offer.now.batch.puts (put_of c.args.lent.now.header.now c.args.offer.now c.requires.asked.sound)
-
-pub plan_solo-requires-clause-own : goal.plan_solo-requires-clause-own
-plan_solo-requires-clause-own g c = c.requires.asked.sound.own c.args.number
-
-pub plan_solo-requires-clause-gets : goal.plan_solo-requires-clause-gets
-plan_solo-requires-clause-gets g c =
-    let fit = asked_fit c.args.lent.now.header.now c.args.progress.now.size c.args.runner.now.rank.state.known c.args.offer.now c.requires.asked c.requires.known in
-    get_of c.args.lent.now.header.now c.args.progress.now.size c.args.offer.now fit.sound fit.known
-
-pub plan_solo-requires-clause-long : goal.plan_solo-requires-clause-long
-plan_solo-requires-clause-long g c = count_begins c.args.lent.now.header.now c.args.progress.now.size c.args.runner.now.rank.state.known c.requires.known
+pub plan_solo-requires : goal.plan_solo-requires
+plan_solo-requires g c = record {
+  sound = c.requires.sound;
+  measured = c.requires.measured;
+  hints = lawful_hints c.args.lent.now.script.now c.requires.lawful;
+  few = (asked_fit c.args.lent.now.header.now c.args.progress.now.size c.args.runner.now.rank.state.known c.args.offer.now c.requires.asked c.requires.known).few;
+  rank = omega (arith, (ranks_lawful c.args.lent.now.script.now c.requires.lawful).most, c.requires.number);
+  puts = ranked_puts c.args.lent.now.header.now c.args.number c.args.offer.now.batch.puts (put_of c.args.lent.now.header.now c.args.offer.now c.requires.asked.sound);
+  own = c.requires.asked.sound.own c.args.number;
+  gets =
+      let fit = asked_fit c.args.lent.now.header.now c.args.progress.now.size c.args.runner.now.rank.state.known c.args.offer.now c.requires.asked c.requires.known in
+      get_of c.args.lent.now.header.now c.args.progress.now.size c.args.offer.now fit.sound fit.known;
+  long = count_begins c.args.lent.now.header.now c.args.progress.now.size c.args.runner.now.rank.state.known c.requires.known;
+}
 
 pub zero_reply-requires : goal.zero_reply-requires
 zero_reply-requires g c = record {
@@ -41,14 +28,13 @@ zero_reply-requires g c = record {
       );
 }
 
-pub hear-requires-clause-waits : goal.hear-requires-clause-waits
-hear-requires-clause-waits g c =
-    (alone_waits c.args.lent.now.script.now c.args.lent.now.header.now (order_in c.args.progress.now.steps) c.args.number _ c.args.offer.now c.requires.asks).0
-
-pub hear-requires-clause-fits : goal.hear-requires-clause-fits
-hear-requires-clause-fits g c =
-    fits_open _ c.args.lent.now.header.now c.args.runner.now.rank.header c.args.offer.now.batch.gets c.in_ok-reply.reply.got c.requires.header
-    (alone_waits c.args.lent.now.script.now c.args.lent.now.header.now (order_in c.args.progress.now.steps) c.args.number _ c.args.offer.now c.requires.asks).1 c.in_ok-reply.ensures.row
+pub hear-requires : goal.hear-requires
+hear-requires g c = record {
+  waits = (alone_waits c.args.lent.now.script.now c.args.lent.now.header.now (order_in c.args.progress.now.steps) c.args.number _ c.args.offer.now c.requires.asks).0;
+  fits = fits_open _ c.args.lent.now.header.now c.args.runner.now.rank.header c.args.offer.now.batch.gets c.in_ok-reply.reply.got c.requires.header
+      (alone_waits c.args.lent.now.script.now c.args.lent.now.header.now (order_in c.args.progress.now.steps) c.args.number _ c.args.offer.now c.requires.asks).1
+      c.in_ok-reply.ensures.row;
+}
 
 pub returns-clause-way : goal.returns-clause-way
 returns-clause-way g c =

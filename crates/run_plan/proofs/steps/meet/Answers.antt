@@ -12,107 +12,75 @@ callers_of-requires g c = record {
   answers = few_answers c.args.lent.now.script.now c.args.lent.now.header.now _ (order_in c.args.progress.now.steps) c.args.runners.now c.requires.runners c.requires.arrived;
 }
 
-pub plan_meeting-requires-clause-hints : goal.plan_meeting-requires-clause-hints
-plan_meeting-requires-clause-hints g c = lawful_hints c.args.lent.now.script.now c.requires.lawful
-
-pub plan_meeting-requires-clause-few : goal.plan_meeting-requires-clause-few
-plan_meeting-requires-clause-few g c =
-    (meets_job c.requires.lawful c.requires.runners c.requires.met c.requires.arrived (c.as_slice-batches.ensures ∙ c.in_ok-job.ensures.batches)).few
-
-pub plan_meeting-requires-clause-puts : goal.plan_meeting-requires-clause-puts
-plan_meeting-requires-clause-puts g c =
-    (meets_job c.requires.lawful c.requires.runners c.requires.met c.requires.arrived (c.as_slice-batches.ensures ∙ c.in_ok-job.ensures.batches)).puts
-
-pub plan_meeting-requires-clause-own : goal.plan_meeting-requires-clause-own
-plan_meeting-requires-clause-own g c =
-    (meets_job c.requires.lawful c.requires.runners c.requires.met c.requires.arrived (c.as_slice-batches.ensures ∙ c.in_ok-job.ensures.batches)).own
-
-pub plan_meeting-requires-clause-gets : goal.plan_meeting-requires-clause-gets
-plan_meeting-requires-clause-gets g c =
-    (meets_job c.requires.lawful c.requires.runners c.requires.met c.requires.arrived (c.as_slice-batches.ensures ∙ c.in_ok-job.ensures.batches)).gets
-
-pub plan_meeting-requires-clause-long : goal.plan_meeting-requires-clause-long
-plan_meeting-requires-clause-long g c = count_begins c.args.lent.now.header.now c.args.progress.now.size c.args.progress.now.records c.requires.records
+pub plan_meeting-requires : goal.plan_meeting-requires
+plan_meeting-requires g c =
+    let job = meets_job c.requires.lawful c.requires.runners c.requires.met c.requires.arrived (c.as_slice-batches.ensures ∙ c.in_ok-job.ensures.batches) in
+    record {
+      hints = lawful_hints c.args.lent.now.script.now c.requires.lawful;
+      few = job.few;
+      puts = job.puts;
+      own = job.own;
+      gets = job.gets;
+      long = count_begins c.args.lent.now.header.now c.args.progress.now.size c.args.progress.now.records c.requires.records;
+      sound = c.requires.sound;
+      measured = c.requires.measured;
+    }
 
 pub table_for-requires : goal.table_for-requires
 table_for-requires g c = λ b m.
     batch_gets c.args.lent.now.header.now c.args.progress.now.size c.as_slice-batches.result.now
     (meets_job c.requires.lawful c.requires.runners c.requires.met c.requires.arrived (c.as_slice-batches.ensures ∙ c.in_ok-job.ensures.batches)).gets b m
 
-pub hear_all-requires-clause-long : goal.hear_all-requires-clause-long
-hear_all-requires-clause-long g c =
+pub hear_all-requires : goal.hear_all-requires
+hear_all-requires g c =
     let header = c.args.lent.now.header.now in
+    let same = c.as_slice-batches.ensures ∙ c.in_ok-job.ensures.batches in
     let rows = ap (λ t. map (λ blobs. map (λ blob. length blob) blobs) t) c.in_ok-zeros.ensures ∙ zero_rows header c.as_slice-batches.result.now in
-    table_long header c.args.runners.now c.as_slice-batches.result.now c.in_ok-zeros.zeros c.requires.met (c.as_slice-batches.ensures ∙ c.in_ok-job.ensures.batches) rows ∙ sym c.in_ok-job.ensures.freed.long
-
-pub hear_all-requires-clause-fit : goal.hear_all-requires-clause-fit
-hear_all-requires-clause-fit g c =
-    let header = c.args.lent.now.header.now in
-    let rows = ap (λ t. map (λ blobs. map (λ blob. length blob) blobs) t) c.in_ok-zeros.ensures ∙ zero_rows header c.as_slice-batches.result.now in
-    to_hear c.in_ok-zeros.zeros c.requires.runners c.requires.met c.requires.arrived c.in_ok-job.ensures.freed (c.as_slice-batches.ensures ∙ c.in_ok-job.ensures.batches) rows
+    record {
+      long = table_long header c.args.runners.now c.as_slice-batches.result.now c.in_ok-zeros.zeros c.requires.met same rows ∙ sym c.in_ok-job.ensures.freed.long;
+      fit = to_hear c.in_ok-zeros.zeros c.requires.runners c.requires.met c.requires.arrived c.in_ok-job.ensures.freed same rows;
+    }
 
 pub returns : goal.returns
-returns g c = record {
-  runners =
-      let script = c.args.lent.now.script.now in
-      let header = c.args.lent.now.header.now in
-      let job = meets_job c.requires.lawful c.requires.runners c.requires.met c.requires.arrived (c.as_slice-batches.ensures ∙ c.in_ok-job.ensures.batches) in
-      let s = setting_of script header in
-      let batches = c.as_slice-batches.result.now in
-      let order = order_in c.args.progress.now.steps in
-      let rows = ap (λ t. map (λ blobs. map (λ blob. length blob) blobs) t) c.in_ok-zeros.ensures ∙ zero_rows header batches in
-      let size = c.add.ensures.size ∙ c.in_ok-planned.ensures.size in
-      let rise = meets_rise c.requires.runners c.requires.met c.requires.arrived c.in_ok-job.ensures.known in
-      runners_after c.requires.runners c.requires.met c.requires.arrived c.in_ok-job.ensures.freed c.in_ok-hear_all.ensures.all
-      (table_long header c.args.runners.now batches c.in_ok-zeros.zeros c.requires.met (c.as_slice-batches.ensures ∙ c.in_ok-job.ensures.batches) rows)
-      (grown c.args.progress.now.size c.add.new.self.size _ size)
-      (met_counted s (puts_in batches) c.args.progress.now.size c.add.new.self.size c.args.progress.now.records c.in_ok-job.known c.in_ok-planned.planned.records c.requires.sound
-      job.puts c.requires.records rise size c.in_ok-planned.ensures.records)
-      (order_more c.args.progress.now.steps c.add.new.self.steps _ c.in_ok-add.ensures.steps ∙ ap (λ (k : ℕ). order ++ Meet k ∷ []) c.requires.number);
-  free =
-      let header = c.args.lent.now.header.now in
-      let batches = c.as_slice-batches.result.now in
-      let rows = ap (λ t. map (λ blobs. map (λ blob. length blob) blobs) t) c.in_ok-zeros.ensures ∙ zero_rows header batches in
-      free_after c.in_ok-job.ensures.freed c.in_ok-hear_all.ensures.all
-      (table_long header c.args.runners.now batches c.in_ok-zeros.zeros c.requires.met (c.as_slice-batches.ensures ∙ c.in_ok-job.ensures.batches) rows);
-  meetings =
-      sym (met_number (order_in c.args.progress.now.steps) (order_in c.add.new.self.steps) (order_in c.add.new.self.steps) c.args.number c.args.number c.requires.number
-      (order_more c.args.progress.now.steps c.add.new.self.steps _ c.in_ok-add.ensures.steps) refl);
-  records =
-      let script = c.args.lent.now.script.now in
-      let header = c.args.lent.now.header.now in
-      let job = meets_job c.requires.lawful c.requires.runners c.requires.met c.requires.arrived (c.as_slice-batches.ensures ∙ c.in_ok-job.ensures.batches) in
-      let order = order_in c.args.progress.now.steps in
-      let rise = meets_rise c.requires.runners c.requires.met c.requires.arrived c.in_ok-job.ensures.known in
-      met_counted (setting_of script header) (puts_in c.as_slice-batches.result.now) c.args.progress.now.size c.add.new.self.size c.args.progress.now.records c.in_ok-job.known c.in_ok-planned.planned.records c.requires.sound
-      job.puts c.requires.records rise (c.add.ensures.size ∙ c.in_ok-planned.ensures.size) c.in_ok-planned.ensures.records;
-  planned =
-      let script = c.args.lent.now.script.now in
-      let header = c.args.lent.now.header.now in
-      let job = meets_job c.requires.lawful c.requires.runners c.requires.met c.requires.arrived (c.as_slice-batches.ensures ∙ c.in_ok-job.ensures.batches) in
-      let s = setting_of script header in
-      let batches = c.as_slice-batches.result.now in
-      let order = order_in c.args.progress.now.steps in
-      let file = c.in_ok-planned.planned.file in
-      let step : StepPlan = record { mark = Meet c.args.number; callers = c.in_ok-callers.callers; file = file } in
-      let rows = ap (λ t. map (λ blobs. map (λ blob. length blob) blobs) t) c.in_ok-zeros.ensures ∙ zero_rows header batches in
-      let same = c.as_slice-batches.ensures ∙ c.in_ok-job.ensures.batches in
-      let wide = table_long header c.args.runners.now batches c.in_ok-zeros.zeros c.requires.met same rows in
-      subst (λ (steps : List StepPlan). HasPlannedAll script.hints s c.args.progress.now.steps steps
-      (plan_stage c.args.progress.now.size c.args.progress.now.records (arrived_all header script.calls c.args.runners.now))
-      (plan_stage c.add.new.self.size c.in_ok-planned.planned.records (arrived_all header script.calls c.hear_all.new.runners))) (sym c.in_ok-add.ensures.steps)
-      (meeting_planned script.hints s c.args.progress.now.steps script.calls c.args.runners.now c.hear_all.new.runners batches c.in_ok-job.known c.args.progress.now.records c.in_ok-planned.planned.records c.args.number
-      c.args.progress.now.size c.add.new.self.size file.overlap c.in_ok-zeros.zeros step c.requires.sound job.puts
-      (count_begins header c.args.progress.now.size c.args.progress.now.records c.requires.records) (taken_by c.requires.lawful c.requires.runners c.requires.met same c.in_ok-job.ensures.known)
-      (have_done c.requires.runners c.requires.met c.requires.arrived c.in_ok-job.ensures.freed c.in_ok-hear_all.ensures.all wide) c.in_ok-planned.ensures.overlap c.in_ok-planned.ensures.records rows refl (c.add.ensures.size ∙ c.in_ok-planned.ensures.size)
-      (meet_device script.hints s batches c.args.progress.now.size c.args.progress.now.records c.in_ok-planned.planned.records file c.in_ok-planned.ensures.put_calls c.in_ok-planned.ensures.count_calls
-      c.in_ok-planned.ensures.get_calls)
-      (record {
-        overlap = c.in_ok-planned.ensures.overlap;
-        asked_put = c.in_ok-planned.ensures.asked_put;
-        asked_get = c.in_ok-planned.ensures.asked_get;
-        put_domains = c.in_ok-planned.ensures.put_domains;
-        get_domains = c.in_ok-planned.ensures.get_domains;
-      })
-      c.in_ok-callers.ensures);
-}
+returns g c =
+    let script = c.args.lent.now.script.now in
+    let header = c.args.lent.now.header.now in
+    let s = setting_of script header in
+    let batches = c.as_slice-batches.result.now in
+    let order = order_in c.args.progress.now.steps in
+    let same = c.as_slice-batches.ensures ∙ c.in_ok-job.ensures.batches in
+    let job = meets_job c.requires.lawful c.requires.runners c.requires.met c.requires.arrived same in
+    let rows = ap (λ t. map (λ blobs. map (λ blob. length blob) blobs) t) c.in_ok-zeros.ensures ∙ zero_rows header batches in
+    let wide = table_long header c.args.runners.now batches c.in_ok-zeros.zeros c.requires.met same rows in
+    let size = c.add.ensures.size ∙ c.in_ok-planned.ensures.size in
+    let rise = meets_rise c.requires.runners c.requires.met c.requires.arrived c.in_ok-job.ensures.known in
+    let counted = met_counted s (puts_in batches) c.args.progress.now.size c.add.new.self.size c.args.progress.now.records c.in_ok-job.known c.in_ok-planned.planned.records c.requires.sound
+    job.puts c.requires.records rise size c.in_ok-planned.ensures.records in
+    let more = order_more c.args.progress.now.steps c.add.new.self.steps _ c.in_ok-add.ensures.steps in
+    record {
+      runners = runners_after c.requires.runners c.requires.met c.requires.arrived c.in_ok-job.ensures.freed c.in_ok-hear_all.ensures.all wide
+          (grown c.args.progress.now.size c.add.new.self.size _ size) counted (more ∙ ap (λ (k : ℕ). order ++ Meet k ∷ []) c.requires.number);
+      free = free_after c.in_ok-job.ensures.freed c.in_ok-hear_all.ensures.all wide;
+      meetings = sym (met_number order (order_in c.add.new.self.steps) (order_in c.add.new.self.steps) c.args.number c.args.number c.requires.number more refl);
+      records = counted;
+      planned =
+          let file = c.in_ok-planned.planned.file in
+          let step : StepPlan = record { mark = Meet c.args.number; callers = c.in_ok-callers.callers; file = file } in
+          subst (λ (steps : List StepPlan). HasPlannedAll script.hints s c.args.progress.now.steps steps
+          (plan_stage c.args.progress.now.size c.args.progress.now.records (arrived_all header script.calls c.args.runners.now))
+          (plan_stage c.add.new.self.size c.in_ok-planned.planned.records (arrived_all header script.calls c.hear_all.new.runners))) (sym c.in_ok-add.ensures.steps)
+          (meeting_planned script.hints s c.args.progress.now.steps script.calls c.args.runners.now c.hear_all.new.runners batches c.in_ok-job.known c.args.progress.now.records c.in_ok-planned.planned.records c.args.number
+          c.args.progress.now.size c.add.new.self.size file.overlap c.in_ok-zeros.zeros step c.requires.sound job.puts
+          (count_begins header c.args.progress.now.size c.args.progress.now.records c.requires.records) (taken_by c.requires.lawful c.requires.runners c.requires.met same c.in_ok-job.ensures.known)
+          (have_done c.requires.runners c.requires.met c.requires.arrived c.in_ok-job.ensures.freed c.in_ok-hear_all.ensures.all wide) c.in_ok-planned.ensures.overlap c.in_ok-planned.ensures.records rows refl size
+          (meet_device script.hints s batches c.args.progress.now.size c.args.progress.now.records c.in_ok-planned.planned.records file c.in_ok-planned.ensures.put_calls c.in_ok-planned.ensures.count_calls
+          c.in_ok-planned.ensures.get_calls)
+          (record {
+            overlap = c.in_ok-planned.ensures.overlap;
+            asked_put = c.in_ok-planned.ensures.asked_put;
+            asked_get = c.in_ok-planned.ensures.asked_get;
+            put_domains = c.in_ok-planned.ensures.put_domains;
+            get_domains = c.in_ok-planned.ensures.get_domains;
+          })
+          c.in_ok-callers.ensures);
+    }
