@@ -75,7 +75,7 @@ fn answers_of(alloc: Global, runners: Vec<Runner>) -> Result<AnswerTable, Memory
 {
     let mut table = Vec::new(alloc);
     for runner in runners {
-        table.push(runner.answers)?;
+        table.push(runner.into_answers())?;
     }
     Ok(AnswerTable::from_vec(table))
 }

@@ -41,8 +41,21 @@ impl<'a> Runner<'a> {
             calls,
             held: None,
         };
-        runner.go_on()?;
-        Ok(runner)
+        match runner.go_on() {
+            Ok(()) => Ok(runner),
+            Err(memory) => {
+                drop(runner);
+                Err(memory)
+            }
+        }
+    }
+
+    /// Its answers.
+    pub(crate) fn into_answers(self) -> AnswerList
+        ensures { result ≡ self.entry.answers }
+    {
+        let Runner { answers, .. } = self;
+        answers
     }
 
     /// Answers its call by the reply to its offer, and goes on to its next offer.

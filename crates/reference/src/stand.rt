@@ -43,12 +43,13 @@ impl<'a> Stand<'a> {
         ensures first { IfOk result (λ stand. stand_of stand ≡ first_stand header.now bytes.now script.now.calls) }
         ensures stands { IfOk result (λ stand. IsStanding script.now header.now [] stand) }
     {
+        let file = Vec::from_slice(alloc, bytes)?;
         let mut runners = Vec::new(alloc);
         for own in script.calls.as_slice() {
             runners.push(Runner::new(alloc, header, names, own.as_slice())?)?;
         }
         Ok(Stand {
-            file: Vec::from_slice(alloc, bytes)?,
+            file,
             records: header.records,
             runners,
         })

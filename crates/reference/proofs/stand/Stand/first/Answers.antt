@@ -21,8 +21,8 @@ pub returns-clause-first : goal.returns-clause-first
 returns-clause-first c =
     let same = ap (λ (xs : List (List Call)). length xs) c.as_slice-own-items.ensures in
     let past = c.loop-own-test.false in
-    first_is c.args.script.now c.args.header.now c.loop-own.own-index c.in_ok-from_slice.field-0.items c.args.bytes.now c.loop-own.runners.items (omega arith) c.loop-own.invariant
-    c.in_ok-from_slice.ensures.items
+    first_is c.args.script.now c.args.header.now c.loop-own.own-index c.in_ok-file.file.items c.args.bytes.now c.loop-own.runners.items (omega arith) c.loop-own.invariant
+    c.in_ok-file.ensures.items
 
 pub returns-clause-stands : goal.returns-clause-stands
 returns-clause-stands c =
@@ -30,5 +30,5 @@ returns-clause-stands c =
     let past = c.loop-own-test.false in
     let most = c.loop-own.auto.own-index-end in
     first_stands c.args.script.now c.args.header.now c.loop-own.own-index
-    (record { file = c.in_ok-from_slice.field-0; records = c.args.header.now.records; runners = c.loop-own.runners }) c.requires.sound c.requires.lawful (omega arith) c.loop-own.invariant
+    (record { file = c.in_ok-file.file; records = c.args.header.now.records; runners = c.loop-own.runners }) c.requires.sound c.requires.lawful (omega arith) c.loop-own.invariant
     refl
