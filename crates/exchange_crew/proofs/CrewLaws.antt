@@ -1,5 +1,5 @@
 -- Helpers that were handed parts one after another, each the next part.
-use Rattle.exchange_crew.proofs.Words.{◌≡◌, ◌+◌, List, [], ◌∷◌, ◌++◌, length, map, take, Some, Result, Ok, Err, arith, append-nil, length-append, length-map, map-append, slice_get, zip, IsOk, OnOk, AllZip, take_next, Extent, In, in_either, SomeZip, nat_tests}
+use Rattle.exchange_crew.proofs.Words.{ℕ, ◌≡◌, ◌+◌, ◌∙◌, List, [], ◌∷◌, ◌++◌, length, map, take, Option, None, Some, Result, Ok, Err, refl, sym, ap, subst, arith, append-nil, append_assoc, length-append, length-map, map-append, same_Some, slice_get, zip, ForSome, IfErr, IfOk, IsOk, OnOk, AllZip, middle_at, take_next, Aggregator, AreHanded, Extent, HasAdded, In, IsDomainOf, IsNext, Owned, Shares, SomeZip, domain_in, in_either, nat_tests}
 use Rattle.exchange_crew.proofs.BackLaws.{some_mapped, zip_mapped}
 
 pub workers_few : {S D : Type 0} (part : S → D) (workers : List S) (rest parts : List D) → map part workers ++ rest ≡ parts → length workers + length rest ≡ length parts
@@ -19,6 +19,51 @@ crew_domains {S} share workers now worker domains domain e is at shares =
 
 pub crew_each : {S : Type 0} (P : S → Type 0) (workers now : List S) (worker : S) → now ≡ workers ++ worker ∷ [] → ((s : S) → In workers s → P s) → P worker → (s : S) → In now s → P s
 crew_each {S} P workers now worker e all own s m = grind (arith, nat_tests, in_either)
+
+-- ---- parts that are handed out one after another
+
+pub none_handed : {W D : Type 0} (Fresh : W → Type 0) (part : W → D) (share : W → Extent) (domains : List Extent) (shares : Shares W D) → shares.workers.items ≡ [] → shares.rest.items ≡ []
+    → AreHanded Fresh part share domains [] shares
+none_handed {W} Fresh part share domains shares no_workers no_rest = record {
+  of_parts = λ i. map part (no_workers i) ++ no_rest i;
+  of_domains = ap (λ (ws : List W). map share ws) no_workers ∙ sym (ap (λ (ws : List W). take (length ws) domains) no_workers);
+  workers = λ worker m. absurd (subst (λ (ws : List W). In ws worker) no_workers m);
+}
+
+-- the domain at the place of a part
+pub part_domain : {D : Type 0} (from len : D → ℕ) (list : List Owned) (domains : List Extent) (parts yielded more : List D) (own : D) (place : ℕ) (domain : Extent)
+    → ((k : ℕ) (p : D) (d : Extent) → slice_get parts k ≡ Some p → slice_get domains k ≡ Some d → IsDomainOf list (from p) (len p) d) → yielded ++ own ∷ more ≡ parts → place ≡ length yielded
+    → slice_get domains place ≡ Some domain → IsDomainOf list (from own) (len own) domain
+part_domain from len list domains parts yielded more own place domain all whole e at =
+    all (length yielded) own domain (middle_at yielded more parts own whole) (subst (λ (k : ℕ). slice_get domains k ≡ Some domain) e at)
+
+-- the domain of the next aggregator
+pub next_domain : {W D : Type 0} (part : W → D) (from len : D → ℕ) (list : List Owned) (domains : List Extent) (parts yielded more : List D) (own : D) (shares : Shares W D) (next : Option Aggregator)
+    → ((k : ℕ) (p : D) (d : Extent) → slice_get parts k ≡ Some p → slice_get domains k ≡ Some d → IsDomainOf list (from p) (len p) d) → yielded ++ own ∷ more ≡ parts
+    → map part shares.workers.items ++ shares.rest.items ≡ yielded → IsNext domains shares next → ForSome next (λ a. IsDomainOf list (from own) (len own) a.domain)
+next_domain {W} {D} part from len list domains parts yielded more own shares next all whole handed n a e =
+    let few = workers_few part shares.workers.items shares.rest.items yielded handed in
+    let none = ap (λ (ds : List D). length ds) (n.none_left a e) in
+    part_domain from len list domains parts yielded more own (length shares.workers.items) a.domain all whole (omega arith) (n.domain a e)
+
+-- one part more was handed out, or is left
+pub handed_more : {W D : Type 0} (Fresh : W → Type 0) (part : W → D) (share : W → Extent) (domains : List Extent) (yielded : List D) (own : D) (old new : Shares W D) (next : Option Aggregator) (handed : Result W D)
+    → AreHanded Fresh part share domains yielded old → IsNext domains old next → HasAdded handed old new → IfOk handed Fresh → IfOk handed (λ worker. part worker ≡ own)
+    → IfOk handed (λ worker. domain_in next ≡ Some (share worker)) → IfErr handed (λ back. back ≡ own) → AreHanded Fresh part share domains (yielded ++ own ∷ []) new
+handed_more {W} {D} Fresh part share domains yielded own old new (Some a) (Ok worker) h n e fresh is of kept = record {
+  of_parts = subst (λ (rest : List D). map part new.workers.items ++ rest ≡ yielded ++ own ∷ []) (sym (e.rest ∙ append-nil old.rest.items))
+      (crew_parts part old.workers.items new.workers.items worker old.rest.items yielded own e.workers (n.none_left a refl) is h.of_parts);
+  of_domains = crew_domains share old.workers.items new.workers.items worker domains a.domain e.workers (sym (same_Some _ _ of)) (n.domain a refl) h.of_domains;
+  workers = crew_each Fresh old.workers.items new.workers.items worker e.workers h.workers fresh;
+}
+handed_more Fresh part share domains yielded own old new None (Ok worker) h n e fresh is of kept = absurd cc
+handed_more {W} {D} Fresh part share domains yielded own old new next (Err back) h n e fresh is of kept =
+    let same : new.workers.items ≡ old.workers.items = e.workers ∙ append-nil old.workers.items in
+    record {
+      of_parts = grind (arith, append_assoc (map part old.workers.items) old.rest.items (own ∷ []));
+      of_domains = subst (λ (ws : List W). map share ws ≡ take (length ws) domains) (sym same) h.of_domains;
+      workers = subst (λ (ws : List W). (worker : W) → In ws worker → Fresh worker) (sym same) h.workers;
+    }
 
 -- ---- one part more came back
 

@@ -15,6 +15,8 @@ mod walk;
 pub use errand::{Errand, PartBack, PartEnds};
 pub use plan::{Aggregator, GetPlan, PutPlan, Tools};
 pub use shared_job::SharedJob;
-pub use shares::{STACK_SIZE, Shares, give_back, make_rooms};
+pub use shares::{
+    STACK_SIZE, Shares, add_handed, aggregator_at, give_back, make_rooms, next_aggregator,
+};
 pub use spares::{Spares, resize_by_blocks};
 pub use walk::{Turn, TurnWalk, domain_windows, longest_window, next_window, window_list};

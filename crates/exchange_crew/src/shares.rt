@@ -1,8 +1,10 @@
 // The helpers of a step, and the parts that they were handed.
-ghost use Rattle.std.specs.Prelude.{◌≡◌, ◌≤◌, ◌++◌, ◌+◌, length, vec_capacity, IfOk};
+ghost use Rattle.std.specs.Prelude.{◌≡◌, ◌<◌, ◌≤◌, ◌++◌, ◌+◌, length, slice_get, vec_capacity, IfOk, Some};
+ghost use Rattle.exchange_crew.specs.Handed.{HasAdded, IsNext};
 ghost use Rattle.exchange_crew.specs.Rooms.{HasRooms};
 
-use nc_base::Memory;
+use crate::plan::Aggregator;
+use nc_base::{Extent, Memory};
 use std::alloc::Global;
 
 /// How many bytes of stack a helper's thread has. It calls few functions deep.
@@ -26,6 +28,49 @@ pub fn make_rooms<W: Drop, D: Drop>(alloc: Global, count: usize) -> Result<Share
         rest: Vec::with_capacity(alloc, count)?,
         back: Vec::with_capacity(alloc, count)?,
     })
+}
+
+/// The aggregator of the next part: none once a part was left, or where there is no domain for it.
+pub fn next_aggregator<W: Drop, D: Drop>(
+    shares: &Shares<W, D>,
+    domains: &[Extent],
+) -> Option<Aggregator>
+    requires { length domains.now ≤ 64 }
+    ensures { IsNext domains.now shares.now result }
+{
+    if !shares.rest.is_empty() {
+        return None;
+    }
+    let place = shares.workers.len();
+    if place < domains.len() {
+        Some(aggregator_at(0, domains, place))
+    } else {
+        None
+    }
+}
+
+/// The aggregator of the domain at this place, where the first one has this number.
+pub fn aggregator_at(first: u32, domains: &[Extent], place: usize) -> Aggregator
+    requires few { first + length domains.now ≤ 64 }
+    requires place { place < length domains.now }
+    ensures { slice_get domains.now place ≡ Some result.domain }
+{
+    Aggregator {
+        number: first + place as u32,
+        domain: domains[place],
+    }
+}
+
+/// Adds the helper that was handed the next part, or the part, where there is none.
+pub fn add_handed<W: Drop, D: Drop>(shares: &mut Shares<W, D>, handed: Result<W, D>)
+    requires workers { length shares.old.workers.items < vec_capacity shares.old.workers }
+    requires rest { length shares.old.rest.items < vec_capacity shares.old.rest }
+    ensures { HasAdded handed shares.old shares.new }
+{
+    match handed {
+        Ok(worker) => shares.workers.push_reserved(worker),
+        Err(part) => shares.rest.push_reserved(part),
+    }
 }
 
 /// Gives parts back behind the others.
