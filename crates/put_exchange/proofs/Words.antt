@@ -4,7 +4,7 @@ pub use Rattle.std.proofs.Math.Seq.{drop-append_seam, take-append_seam}
 pub use Rattle.std.proofs.lemmas.Bool.{and_from, and_parts, and_right, eqb-true, le-ltb, lt-ltb, ltb-false, ltb-true}
 pub use Rattle.std.proofs.lemmas.Bool.Decides.{nat_tests}
 pub use Rattle.std.proofs.lemmas.Grind.{common_steps, fold-append}
-pub use Rattle.std.proofs.lemmas.List.{append-nil, drop_all, length-append, length-drop, length-map, length-take, map-append, nil_from_length, take_more, take_rest}
+pub use Rattle.std.proofs.lemmas.List.{append-nil, drop_all, length-append, length-drop, length-map, length-take, map-append, take_more, take_rest}
 pub use Rattle.std.proofs.lemmas.List.Concat.{flat_map-append}
 pub use Rattle.std.proofs.lemmas.List.Elements.{filter-append}
 pub use Rattle.std.proofs.lemmas.List.FromFn.{length-range_with_len}
@@ -22,12 +22,13 @@ pub use Rattle.aggregator_rounds.specs.EntryParts.{IsCovered, part_at, part_in}
 pub use Rattle.aggregator_rounds.specs.Left.{IsPast}
 pub use Rattle.aggregator_rounds.specs.ToldWindows.{told_window}
 pub use Rattle.exchange_crew.proofs.BackLaws.{and_failed, and_first_ok, and_second_ok, at_index, back_more, both_long, each_new, err_not_ok, failed_more, map_new, middle_in, slice_kept, zip_push, zip_same}
-pub use Rattle.exchange_crew.proofs.CrewLaws.{AreOf, all_of, crew_domains, crew_each, crew_parts, some_of, workers_few}
+pub use Rattle.exchange_crew.proofs.CrewLaws.{AreOf, all_of, handed_more, next_domain, none_handed, part_domain, some_of, workers_few}
 pub use Rattle.exchange_crew.proofs.OneChanged.{each_twice, fewer_all, no_more_all}
 pub use Rattle.exchange_crew.proofs.PlanLaws.{plan_on, plan_turns, plan_windows}
 pub use Rattle.exchange_crew.proofs.SplitLaws.{domains_behind, failed_joined, first_parts, parts_behind, zip_joined}
 pub use Rattle.exchange_crew.proofs.TurnLaws.{at_begin, at_next, turn_end, turn_in, due_now, in_served, served_are, served_covered, served_ends, served_in, served_now, turn_limit}
 pub use Rattle.exchange_crew.specs.Cursor.{AreInFront, AreServed, IsAt}
+pub use Rattle.exchange_crew.specs.Handed.{AreHanded, domain_in}
 pub use Rattle.exchange_crew.specs.Hulls.{AreTurns, HaveWindows, IsTurn, LieOnPart}
 pub use Rattle.exchange_crew.specs.Parts.{PartState, SomeZip, part_state}
 pub use Rattle.exchange_crew.specs.Pieces.{ArePieces, meets, of_rank, pieces_in}
@@ -49,7 +50,7 @@ pub use Rattle.nc_base.specs.declared.plan.Job.{Job}
 pub use Rattle.nc_base.specs.declared.plan.Owned.{Owned}
 pub use Rattle.nc_base.specs.declared.plan.Post.{Post}
 pub use Rattle.nc_base.specs.declared.step.DiskCall.{DiskCall}
-pub use Rattle.nc_outside.proofs.ToldLaws.{with_end-nil}
+pub use Rattle.nc_outside.proofs.ToldLaws.{calls_more, with_end-nil}
 pub use Rattle.nc_outside.specs.Cause.{Rose}
 pub use Rattle.nc_outside.specs.Told.{BothTold, after, with_end}
 pub use Rattle.nc_outside.specs.declared.disk.Disk.{Ghosts as DiskGhosts}

@@ -1,11 +1,13 @@
 // Handing parts to helpers.
 ghost use Rattle.std.specs.Prelude.{◌≡◌, ◌≤◌, ◌++◌, [], ℕ, length, map, take, slice_get, vec_capacity, Some, IfOk, IfErr};
+ghost use Rattle.std.specs.Option.{ForSome};
 ghost use Rattle.nc_base.specs.declared.plan.Extent.{Extent};
 ghost use Rattle.overlay_laws.specs.Entries.{In};
 ghost use Rattle.aggregator_rounds.specs.Left.{IsPast};
+ghost use Rattle.exchange_crew.specs.Handed.{domain_in};
 ghost use Rattle.exchange_crew.specs.Plan.{IsDomainOf, IsPlanned};
 ghost use Rattle.put_exchange.specs.Dues.{turns_due, AreDue};
-ghost use Rattle.put_exchange.specs.Workers.{domain_of, part_of, IsFresh};
+ghost use Rattle.put_exchange.specs.Workers.{domain_of, part_of, IsFresh, IsOutfit};
 ghost use Rattle.put_exchange.specs.declared.handing.Worker.{Worker};
 
 use crate::helper::{PutDuty, PutJob, PutLines};
@@ -14,11 +16,15 @@ use crate::message::Message;
 use crate::packing::{Ahead, Mail, mail_of};
 use crate::sending::Feed;
 use crossbeam_channel::Sender;
-use exchange_crew::{Aggregator, Errand, PartBack, PartEnds, PutPlan, Shares, Spares, Tools};
-use nc_base::Extent;
+use exchange_crew::{
+    Aggregator, Errand, PartBack, PartEnds, PutPlan, Shares, Spares, Tools, add_handed,
+    next_aggregator,
+};
+use nc_base::{Extent, Memory};
 use nc_outside::Disk;
 use promised_reply::{Awaited, reply};
 use ruled_line::line;
+use std::alloc::Global;
 use std::snapshot::Snapshot;
 use std::sync::Wait;
 
@@ -33,6 +39,14 @@ pub(crate) struct PutHelper<D: Disk> {
 #[derive(Drop)]
 pub(crate) struct Worker<D: Disk> {
     pub helper: PutHelper<D>,
+    pub feed: Feed,
+}
+
+/// What a helper serves its part by, what is due in it, and what it is fed.
+#[derive(Drop)]
+pub(crate) struct Outfit {
+    pub lines: PutLines,
+    pub dues: Vec<Due>,
     pub feed: Feed,
 }
 
@@ -64,65 +78,73 @@ pub(crate) fn hand_all<R: Wait, D: Disk, G, K: Send + Drop>(
     let entries = plan.list.as_slice();
     let mut ahead = Ahead { place: 0, entries };
     for part in parts {
-        if shares.rest.is_empty() {
-            let number = shares.workers.len();
-            let aggregator = Aggregator {
-                number: number as u32,
-                domain: domains[number],
-            };
-            match hand_one(tools, helpers, spares, plan, aggregator, part, &mut ahead) {
-                Ok(worker) => shares.workers.push_reserved(worker),
-                Err(part) => shares.rest.push_reserved(part),
-            }
-        } else {
-            shares.rest.push_reserved(part);
-        }
+        let next = next_aggregator(shares, domains);
+        let handed = hand_one(tools, helpers, spares, plan, next, part, &mut ahead);
+        add_handed(shares, handed);
     }
 }
 
-// Hands a part to the helper of its number, with a line of its own, its messages and a buffer. Where there is none, or one of them can't be
-// had, the part comes back as it was.
+// Hands a part to the helper of its aggregator. Where there is none, or what it needs can't be had, the part comes back as it was.
 fn hand_one<'a, R: Wait, D: Disk, G, K: Send + Drop>(
     tools: &Tools<R, G>,
     helpers: &[Sender<Errand<PutJob<D>, K>>],
     spares: &mut Spares,
     plan: &PutPlan<'a>,
-    aggregator: Aggregator,
+    aggregator: Option<Aggregator>,
     part: D,
     ahead: &mut Ahead<'a>,
 ) -> Result<Worker<D>, D>
     requires plan { IsPlanned plan.now }
     requires line_low { 1 ≤ plan.now.hints.now.line_room }
     requires line_high { plan.now.hints.now.line_room ≤ 64 }
-    requires domain { IsDomainOf plan.now.list.now (D.from part) (D.len part) aggregator.domain }
+    requires domain { ForSome aggregator (λ a. IsDomainOf plan.now.list.now (D.from part) (D.len part) a.domain) }
     requires past { IsPast ahead.old.place plan.now.list.now ahead.old.entries.now }
     ensures past { IsPast ahead.new.place plan.now.list.now ahead.new.entries.now }
     ensures kept { IfErr result (λ back. back ≡ part) }
     ensures worker { IfOk result (λ worker. IsFresh D.Disk plan.now worker) }
     ensures part { IfOk result (λ worker. part_of worker ≡ part) }
-    ensures domain { IfOk result (λ worker. domain_of worker ≡ aggregator.domain) }
+    ensures domain { IfOk result (λ worker. domain_in aggregator ≡ Some (domain_of worker)) }
 {
+    let Some(aggregator) = aggregator else {
+        return Err(part);
+    };
     let Aggregator { number, domain } = aggregator;
     let Some(helper) = helpers.get(number as usize) else {
         return Err(part);
     };
-    let Ok((put, taken)) = line::<Message>(tools.alloc, plan.hints.line_room) else {
+    let Ok(outfit) = outfit_of(tools.alloc, spares, plan, domain, ahead) else {
         return Err(part);
     };
-    let Ok(Mail { rounds, dues }) = mail_of(tools.alloc, plan, domain, ahead) else {
-        return Err(part);
-    };
-    let room = plan.hints.cb_buffer.min(domain.len) as usize;
-    let Ok(buf) = spares.take(tools.alloc, room) else {
-        return Err(part);
-    };
-    let ends = PartEnds {
-        part,
-        lines: PutLines { line: taken, buf },
-    };
-    let awaited = ask(tools, helper, number, dues, ends)?;
+    let Outfit { lines, dues, feed } = outfit;
+    let awaited = ask(tools, helper, number, dues, PartEnds { part, lines })?;
     Ok(Worker {
         helper: PutHelper { domain, awaited },
+        feed,
+    })
+}
+
+// A line, the messages of a domain, and a buffer for its windows.
+fn outfit_of<'a>(
+    alloc: Global,
+    spares: &mut Spares,
+    plan: &PutPlan<'a>,
+    domain: Extent,
+    ahead: &mut Ahead<'a>,
+) -> Result<Outfit, Memory>
+    requires plan { IsPlanned plan.now }
+    requires line_low { 1 ≤ plan.now.hints.now.line_room }
+    requires line_high { plan.now.hints.now.line_room ≤ 64 }
+    requires past { IsPast ahead.old.place plan.now.list.now ahead.old.entries.now }
+    ensures past { IsPast ahead.new.place plan.now.list.now ahead.new.entries.now }
+    ensures outfit { IfOk result (λ outfit. IsOutfit plan.now domain outfit) }
+{
+    let (put, taken) = line::<Message>(alloc, plan.hints.line_room)?;
+    let Mail { rounds, dues } = mail_of(alloc, plan, domain, ahead)?;
+    let room = plan.hints.cb_buffer.min(domain.len) as usize;
+    let buf = spares.take(alloc, room)?;
+    Ok(Outfit {
+        lines: PutLines { line: taken, buf },
+        dues,
         feed: Feed { line: put, rounds },
     })
 }
@@ -154,13 +176,27 @@ fn ask<R: Wait, D: Disk, G, K: Send + Drop>(
         ends,
         answer,
     };
-    match helper.send(tools.rt, Errand::Put(job)) {
+    match send_put(tools.rt, helper, job) {
         Ok(()) => Ok(awaited),
+        Err(back) => {
+            let PutJob { ends, .. } = back;
+            Err(ends.part)
+        }
+    }
+}
+
+// Sends a helper a job of puts. Where it can't be sent it comes back.
+fn send_put<R: Wait, P: Send + Drop, K: Send + Drop>(
+    rt: &R,
+    helper: &Sender<Errand<P, K>>,
+    job: P,
+) -> Result<(), P>
+    ensures { IfErr result (λ back. back ≡ job) }
+{
+    match helper.send(rt, Errand::Put(job)) {
+        Ok(()) => Ok(()),
         Err(refused) => match refused.into_inner() {
-            Errand::Put(back) => {
-                let PutJob { ends, .. } = back;
-                Err(ends.part)
-            }
+            Errand::Put(back) => Err(back),
             Errand::Get(_) => unreachable!(),
         },
     }

@@ -19,7 +19,9 @@ ghost use Rattle.put_exchange.specs.Taken.{put_window, IsFilledBy};
 ghost use Rattle.exchange_crew.specs.Turns.{source_of};
 
 use aggregator_rounds::{close_window, lay_entry, open_window};
-use exchange_crew::{Aggregator, PutPlan, Spares, Tools, Turn, TurnWalk, longest_window};
+use exchange_crew::{
+    Aggregator, PutPlan, Spares, Tools, Turn, TurnWalk, aggregator_at, longest_window,
+};
 use nc_base::{Batch, Extent, Owned};
 use nc_outside::{Disk, DiskErr, Gate, Point};
 use std::alloc::Global;
@@ -133,11 +135,8 @@ pub(crate) fn put_in_turn<R: Wait, D: Disk, G: Gate>(
     };
     let mut end = Ok(());
     for part in parts {
-        let number = back.len();
-        let aggregator = Aggregator {
-            number: first + number as u32,
-            domain: domains[number],
-        };
+        let place = back.len();
+        let aggregator = aggregator_at(first, domains, place);
         let (part, came) = serve_next(tools, plan, aggregator, part, &mut buf, end);
         back.push_reserved(part);
         end = came;

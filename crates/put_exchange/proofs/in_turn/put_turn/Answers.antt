@@ -1,5 +1,5 @@
 -- The hull as it is written is the old one with the entries' bytes.
-use Rattle.put_exchange.proofs.Words.{◌≡◌, ◌+◌, length, map, rules, arith, common_steps, cell_of, clips_from, clips_within, told_window, window_told_by, window_refused_by, put_window, source_of}
+use Rattle.put_exchange.proofs.Words.{◌≡◌, ◌+◌, length, map, refl, calls_more, rules, arith, common_steps, cell_of, clips_from, clips_within, told_window, window_told_by, window_refused_by, put_window, source_of}
 use Rattle.put_exchange.proofs.PutLaws.{told_kept, told_whole}
 use Rattle.put_exchange.proofs.in_turn.put_turn.Goals as goal
 
@@ -21,6 +21,9 @@ pub returns-clause-between : goal.returns-clause-between
 returns-clause-between g c =
     told_whole (source_of c.args.batches.now) c.args.turn.now.entries.now (g.D.Disk.from c.args.part.now) (g.D.Disk.len c.args.part.now) (told_window c.args.turn.now.window)
     (g.D.Disk.held c.args.part.now) (g.D.Disk.held c.close_window.new.disk) c.size-size.ensures.told c.requires.low c.requires.high (returns-clause-bytes g c)
+
+pub returns-clause-calls : goal.returns-clause-calls
+returns-clause-calls g c = calls_more _ _ _ _ _ _ refl c.in_ok-open_window.ensures.calls c.in_ok-close_window.ensures.calls
 
 pub returns-in_err-close_window-clause-between : goal.returns-in_err-close_window-clause-between
 returns-in_err-close_window-clause-between g c =

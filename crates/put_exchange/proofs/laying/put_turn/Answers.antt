@@ -1,5 +1,5 @@
 -- The hull as it is written is the old one with the bytes of what was taken.
-use Rattle.put_exchange.proofs.Words.{◌≡◌, ◌∙◌, ◌+◌, List, ap, length, rules, arith, common_steps, after, cell_of, clips_from, clips_within, told_window, window_told_by, window_refused_by, Owned, Cell, write_cells, moved_down, Source, cells_in, put_window, Carry, IsFilledBy, err_not_ok}
+use Rattle.put_exchange.proofs.Words.{◌≡◌, ◌∙◌, ◌+◌, List, ap, length, refl, calls_more, rules, arith, common_steps, after, cell_of, clips_from, clips_within, told_window, window_told_by, window_refused_by, Owned, Cell, write_cells, moved_down, Source, cells_in, put_window, Carry, IsFilledBy, err_not_ok}
 use Rattle.std.specs.Prelude.{map}
 use Rattle.put_exchange.proofs.PutLaws.{told_kept, told_whole}
 use Rattle.put_exchange.proofs.laying.put_turn.Goals as goal
@@ -33,6 +33,9 @@ returns-clause-put g c =
           told_whole source picked from (g.D.Disk.len c.args.part.now) t (g.D.Disk.held c.args.part.now) (g.D.Disk.held c.close_window.new.disk) c.size-size.ensures.told c.requires.low c.requires.high
           (bytes source picked carry whole);
     }
+
+pub returns-clause-calls : goal.returns-clause-calls
+returns-clause-calls g c = calls_more _ _ _ _ _ _ refl c.in_ok-opened.ensures.calls c.in_ok-close_window.ensures.calls
 
 pub returns-in_err-close_window-clause-put : goal.returns-in_err-close_window-clause-put
 returns-in_err-close_window-clause-put g c =
