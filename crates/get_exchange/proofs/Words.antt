@@ -4,7 +4,7 @@ pub use Rattle.std.proofs.Math.ListN.{get_or-map}
 pub use Rattle.std.proofs.Math.Seq.{map-set_same}
 pub use Rattle.std.proofs.lemmas.Bool.{and_from}
 pub use Rattle.std.proofs.lemmas.Grind.{common_steps, fold-append}
-pub use Rattle.std.proofs.lemmas.List.{append-nil, drop_all, ext_get_or, get_or-set_other, get_or-set_same, get_or_default, length-append, length-drop, length-map, length-take, map-append, nil_from_length, take_all, take_more, take_rest}
+pub use Rattle.std.proofs.lemmas.List.{append-nil, drop_all, ext_get_or, get_or-set_other, get_or-set_same, get_or_default, length-append, length-drop, length-map, length-take, map-append, take_all, take_more, take_rest}
 pub use Rattle.std.proofs.lemmas.List.Elements.{filter-append}
 pub use Rattle.std.proofs.lemmas.Option.{same_Some, slice_get-get_or, slice_get_within}
 pub use Rattle.std.proofs.lemmas.Slice.Zip.{AllZip-long, length-zip}
@@ -19,12 +19,13 @@ pub use Rattle.aggregator_rounds.specs.EntryParts.{AreFilled, IsCovered, buffer_
 pub use Rattle.aggregator_rounds.specs.Left.{IsPast, entries_left}
 pub use Rattle.aggregator_rounds.specs.ToldWindows.{told_window}
 pub use Rattle.exchange_crew.proofs.BackLaws.{and_failed, and_first_ok, and_second_ok, at_index, back_more, both_long, each_new, err_not_ok, failed_more, map_new, middle_in, slice_kept, zip_push, zip_same}
-pub use Rattle.exchange_crew.proofs.CrewLaws.{AreOf, all_of, crew_domains, crew_each, crew_parts, each_joined, some_of, workers_few}
+pub use Rattle.exchange_crew.proofs.CrewLaws.{AreOf, all_of, each_joined, handed_more, next_domain, none_handed, part_domain, some_of, workers_few}
 pub use Rattle.exchange_crew.proofs.DomainTurns.{domain_part, domain_turns, domain_windows}
 pub use Rattle.exchange_crew.proofs.OneChanged.{fewer_all, set_each}
 pub use Rattle.exchange_crew.proofs.SplitLaws.{domains_behind, failed_joined, first_parts, parts_behind, some_first, some_second, zip_joined, zip_split}
 pub use Rattle.exchange_crew.proofs.TurnLaws.{at_begin, at_next, due_now, front_carried, in_served, left_ends, left_filled, left_sorted, served_ends, served_in, served_now, turn_limit}
 pub use Rattle.exchange_crew.specs.Cursor.{AreInFront, AreServed, IsAt}
+pub use Rattle.exchange_crew.specs.Handed.{AreHanded, domain_in}
 pub use Rattle.exchange_crew.specs.Hulls.{AreTurns, LieOnPart}
 pub use Rattle.exchange_crew.specs.Parts.{PartState, SomeZip, part_state}
 pub use Rattle.exchange_crew.specs.Plan.{IsDomainOf}

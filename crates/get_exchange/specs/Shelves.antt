@@ -3,6 +3,7 @@
 --     IsShelf list room shelf     what holds of a shelf at every moment
 --     part_of worker              the part that the helper was given
 --     domain_of worker            the bytes that it serves
+--     IsOutfit plan domain outfit what a helper of the domain is given, and the other end of its line
 --     IsStartedFor plan worker    its job is that of the plan, and it has the other end of this line
 --     IsFresh plan worker         nothing was taken of it, and all windows of its domain are due
 use Rattle.std.specs.Prelude.{◌≡◌, ℕ, ◌∷◌, [], map, min, List, Option, Some, None}
@@ -17,6 +18,7 @@ use Rattle.exchange_crew.specs.Cursor.{IsAt}
 use Rattle.get_exchange.specs.Gets.{get_turns}
 use Rattle.exchange_crew.specs.Turns.{Told, turns_ahead}
 use Rattle.get_exchange.specs.declared.shelf.Shelf.{Shelf}
+use Rattle.get_exchange.specs.declared.handing.Outfit.{Outfit}
 use Rattle.get_exchange.specs.declared.handing.ReadWorker.{ReadWorker}
 use Rattle.get_exchange.specs.declared.walk.ReadWalk.{ReadWalk}
 use Rattle.exchange_crew.specs.declared.plan.GetPlan.{GetPlan}
@@ -47,6 +49,12 @@ part_of worker = worker.helper.awaited.ends.value.part
 
 abbrev pub domain_of : {D : Type 0} → ReadWorker D → Extent
 domain_of worker = worker.helper.domain
+
+pub record IsOutfit (plan : GetPlan) (domain : Extent) (outfit : Outfit) : Type 0 where
+  pub windows : map told_window outfit.windows.items ≡ get_turns plan domain
+  pub line_of : outfit.lines.line.of ≡ outfit.line.of
+  pub put : outfit.lines.line.items ≡ []
+  pub taken : outfit.line.items ≡ []
 
 pub record IsStartedFor {D : Type 0} (plan : GetPlan) (worker : ReadWorker D) : Type 0 where
   pub windows : map told_window worker.helper.awaited.windows.value.items ≡ get_turns plan (domain_of worker)

@@ -1,5 +1,5 @@
 // The blobs that hulls are read into. They go round among the helpers of a step.
-ghost use Rattle.std.specs.Prelude.{◌≡◌, ◌<◌, ℕ, length, slice_get, IfOk, IfSome, Some};
+ghost use Rattle.std.specs.Prelude.{◌≡◌, ◌<◌, ℕ, length, slice_get, IfOk, IfSome, OnOk, Some};
 ghost use Rattle.get_exchange.specs.Gets.{IsGetPlanned};
 ghost use Rattle.get_exchange.specs.Lenders.{AreReady, IsReady};
 
@@ -46,19 +46,17 @@ pub(crate) fn lending_of<'a>(
     requires { IsGetPlanned plan.now }
     ensures { IfOk result (λ lending. AreReady lending.lenders.each.items) }
 {
-    let mut each = Vec::new(alloc);
-    let mut lines = Vec::new(alloc);
-    for domain in domains {
-        let (put, take) = line::<Blob>(alloc, 1)?;
-        each.push(Lender::new(plan, *domain, put))?;
-        lines.push(take)?;
-    }
-    lines.reverse();
-    Ok(Lending {
-        lenders: Lenders { each },
-        lines,
-        blobs: make_blobs(alloc, spares, plan, domains)?,
-    })
+    let blobs = make_blobs(alloc, spares, plan, domains)?;
+    let mut lending = Lending {
+        lenders: Lenders {
+            each: Vec::new(alloc),
+        },
+        lines: Vec::new(alloc),
+        blobs,
+    };
+    lending.add_lines(alloc, plan, domains)?;
+    lending.lines.reverse();
+    Ok(lending)
 }
 
 // Blobs that go round, of spare buffers.
@@ -77,6 +75,30 @@ fn make_blobs(
         blobs.push(Blob::from_vec(spares.room(alloc, longest)?))?;
     }
     Ok(blobs)
+}
+
+impl<'a> Lending<'a> {
+    ghost use Rattle.get_exchange.specs.Gets.{IsGetPlanned};
+    ghost use Rattle.get_exchange.specs.Lenders.{AreReady};
+
+    // A line for each domain, behind the others.
+    fn add_lines(
+        &mut self,
+        alloc: Global,
+        plan: &GetPlan<'a>,
+        domains: &[Extent],
+    ) -> Result<(), Memory>
+        requires plan { IsGetPlanned plan.now }
+        requires ready { AreReady self.old.lenders.each.items }
+        ensures { OnOk result (AreReady self.new.lenders.each.items) }
+    {
+        for domain in domains {
+            let (put, take) = line::<Blob>(alloc, 1)?;
+            self.lenders.each.push(Lender::new(plan, *domain, put))?;
+            self.lines.push(take)?;
+        }
+        Ok(())
+    }
 }
 
 impl<'a> Lender<'a> {

@@ -111,10 +111,9 @@ fn fetching_of<'a, D: Disk>(
     ensures rooms { IfOk result (λ fetching. HasRooms (length domains.now) fetching.shares) }
     ensures ready { IfOk result (λ fetching. AreReady fetching.lending.lenders.each.items) }
 {
-    Ok(Fetching {
-        shares: make_rooms(alloc, domains.len())?,
-        lending: lending_of(alloc, spares, plan, domains)?,
-    })
+    let lending = lending_of(alloc, spares, plan, domains)?;
+    let shares = make_rooms(alloc, domains.len())?;
+    Ok(Fetching { shares, lending })
 }
 
 // The gets by helpers, and of the parts that none has in turn.

@@ -1,13 +1,15 @@
 // Handing parts to helpers.
-ghost use Rattle.std.specs.Prelude.{◌≡◌, ◌≤◌, ◌++◌, [], ℕ, length, map, take, slice_get, vec_capacity, Some, IfOk, IfErr};
+ghost use Rattle.std.specs.Prelude.{◌≡◌, ◌≤◌, ◌++◌, [], ℕ, length, map, take, slice_get, vec_capacity, Some, IfOk, IfErr, IfSome};
+ghost use Rattle.std.specs.Option.{ForSome};
 ghost use Rattle.nc_base.specs.declared.plan.Extent.{Extent};
 ghost use Rattle.overlay_laws.specs.Entries.{In};
+ghost use Rattle.aggregator_rounds.specs.Left.{IsPast};
 ghost use Rattle.aggregator_rounds.specs.ToldWindows.{told_window};
+ghost use Rattle.exchange_crew.specs.Handed.{domain_in};
 ghost use Rattle.exchange_crew.specs.Hulls.{LieOnPart};
 ghost use Rattle.exchange_crew.specs.Plan.{IsDomainOf};
 ghost use Rattle.get_exchange.specs.Gets.{IsGetPlanned};
-ghost use Rattle.get_exchange.specs.Readers.{IsReader};
-ghost use Rattle.get_exchange.specs.Shelves.{domain_of, part_of, IsFresh};
+ghost use Rattle.get_exchange.specs.Shelves.{domain_of, part_of, IsFresh, IsOutfit};
 ghost use Rattle.get_exchange.specs.declared.handing.ReadWorker.{ReadWorker};
 
 use crate::helper::{GetDuty, GetJob, GetLines};
@@ -15,12 +17,16 @@ use crate::reading::Reading;
 use crate::shelf::{Shelf, shelf_of};
 use crate::walk::{Ahead, Reader};
 use crossbeam_channel::Sender;
-use exchange_crew::{Aggregator, Errand, GetPlan, PartBack, PartEnds, Shares, Tools, window_list};
+use exchange_crew::{
+    Aggregator, Errand, GetPlan, PartBack, PartEnds, Shares, Tools, add_handed, next_aggregator,
+    window_list,
+};
 use file_domains::Window;
 use nc_base::{Blob, Extent};
 use nc_outside::Disk;
 use promised_reply::{Awaited, reply};
 use ruled_line::{LineTake, line};
+use std::alloc::Global;
 use std::snapshot::Snapshot;
 use std::sync::Wait;
 
@@ -36,6 +42,14 @@ pub(crate) struct GetHelper<D: Disk> {
 pub(crate) struct ReadWorker<'a, D: Disk> {
     pub helper: GetHelper<D>,
     pub shelf: Shelf<'a>,
+}
+
+/// What a helper reads its part by, the windows that it reads, and the calling thread's end of its line.
+#[derive(Drop)]
+pub(crate) struct Outfit {
+    pub lines: GetLines,
+    pub windows: Vec<Window>,
+    pub line: LineTake<Reading>,
 }
 
 /// The parts, and the lines on which blobs are lent for them, the last one first.
@@ -72,70 +86,90 @@ pub(crate) fn hand_all<'a, R: Wait, D: Disk, G, P: Send + Drop>(
     let Supply { parts, mut lines } = supply;
     let mut ahead = Ahead::new(plan);
     for part in parts {
-        if shares.rest.is_empty() {
-            let number = shares.workers.len();
-            let aggregator = Aggregator {
-                number: number as u32,
-                domain: domains[number],
-            };
-            let entries = ahead.reach(plan, aggregator.domain);
-            let reader = Reader {
-                aggregator,
-                entries,
-            };
-            match hand_one(tools, helpers, plan, &reader, part, lines.pop()) {
-                Ok(worker) => shares.workers.push_reserved(worker),
-                Err(part) => shares.rest.push_reserved(part),
-            }
-        } else {
-            shares.rest.push_reserved(part);
-        }
+        let next = next_aggregator(shares, domains);
+        let handed = hand_one(tools, helpers, plan, next, part, lines.pop(), &mut ahead);
+        add_handed(shares, handed);
     }
 }
 
-// Hands a part to a helper, with a line for its readings. Where one of them can't be had the part comes back as it was.
+// Hands a part to the helper of its aggregator. Where there is none, or what it needs can't be had, the part comes back as it was.
 fn hand_one<'a, R: Wait, D: Disk, G, P: Send + Drop>(
     tools: &Tools<R, G>,
     helpers: &[Sender<Errand<P, GetJob<D>>>],
     plan: &GetPlan<'a>,
-    reader: &Reader<'a>,
+    aggregator: Option<Aggregator>,
     part: D,
     spare: Option<LineTake<Blob>>,
+    ahead: &mut Ahead<'a>,
 ) -> Result<ReadWorker<'a, D>, D>
     requires plan { IsGetPlanned plan.now }
     requires line_low { 1 ≤ plan.now.hints.now.line_room }
     requires line_high { plan.now.hints.now.line_room ≤ 64 }
-    requires reader { IsReader plan.now reader.now }
-    requires domain { IsDomainOf plan.now.list.now (D.from part) (D.len part) reader.now.aggregator.domain }
+    requires domain { ForSome aggregator (λ a. IsDomainOf plan.now.list.now (D.from part) (D.len part) a.domain) }
+    requires past { IsPast ahead.old.place plan.now.list.now ahead.old.entries.now }
+    ensures past { IsPast ahead.new.place plan.now.list.now ahead.new.entries.now }
     ensures kept { IfErr result (λ back. back ≡ part) }
     ensures worker { IfOk result (λ worker. IsFresh plan.now worker) }
     ensures part { IfOk result (λ worker. part_of worker ≡ part) }
-    ensures domain { IfOk result (λ worker. domain_of worker ≡ reader.now.aggregator.domain) }
+    ensures domain { IfOk result (λ worker. domain_in aggregator ≡ Some (domain_of worker)) }
 {
-    let Aggregator { number, domain } = reader.aggregator;
-    let Some(spare) = spare else {
+    let Some(aggregator) = aggregator else {
         return Err(part);
     };
-    let Ok((put, taken)) = line::<Reading>(tools.alloc, plan.hints.line_room) else {
+    let Aggregator { number, domain } = aggregator;
+    let entries = ahead.reach(plan, domain);
+    let Some(helper) = helpers.get(number as usize) else {
         return Err(part);
     };
-    let Ok(windows) = window_list(tools.alloc, plan.cover, plan.hints.cb_buffer, domain) else {
+    let Some(outfit) = outfit_of(tools.alloc, plan, domain, spare) else {
         return Err(part);
     };
-    let ends = PartEnds {
-        part,
-        lines: GetLines { line: put, spare },
+    let Outfit {
+        lines,
+        windows,
+        line,
+    } = outfit;
+    let awaited = ask(tools, helper, number, windows, PartEnds { part, lines })?;
+    let reader = Reader {
+        aggregator,
+        entries,
     };
-    let awaited = ask(tools, helpers, number, windows, ends)?;
-    let helper = GetHelper { domain, awaited };
-    let shelf = shelf_of(tools.alloc, plan, reader, taken);
-    Ok(ReadWorker { helper, shelf })
+    Ok(ReadWorker {
+        helper: GetHelper { domain, awaited },
+        shelf: shelf_of(tools.alloc, plan, &reader, line),
+    })
 }
 
-// Gives the helper of this number its job. Where it can't be had the part comes back as it was.
+// A line for readings, beside the one on which blobs are lent, and the windows of a domain. None where one of them can't be had.
+fn outfit_of(
+    alloc: Global,
+    plan: &GetPlan,
+    domain: Extent,
+    spare: Option<LineTake<Blob>>,
+) -> Option<Outfit>
+    requires plan { IsGetPlanned plan.now }
+    requires line_low { 1 ≤ plan.now.hints.now.line_room }
+    requires line_high { plan.now.hints.now.line_room ≤ 64 }
+    ensures { IfSome result (λ outfit. IsOutfit plan.now domain outfit) }
+{
+    let spare = spare?;
+    let Ok((put, taken)) = line::<Reading>(alloc, plan.hints.line_room) else {
+        return None;
+    };
+    let Ok(windows) = window_list(alloc, plan.cover, plan.hints.cb_buffer, domain) else {
+        return None;
+    };
+    Some(Outfit {
+        lines: GetLines { line: put, spare },
+        windows,
+        line: taken,
+    })
+}
+
+// Gives a helper its job. Where it can't be had the part comes back as it was.
 fn ask<R: Wait, D: Disk, G, P: Send + Drop>(
     tools: &Tools<R, G>,
-    helpers: &[Sender<Errand<P, GetJob<D>>>],
+    helper: &Sender<Errand<P, GetJob<D>>>,
     number: u32,
     windows: Vec<Window>,
     ends: PartEnds<D, GetLines>,
@@ -146,9 +180,6 @@ fn ask<R: Wait, D: Disk, G, P: Send + Drop>(
     ensures ends { IfOk result (λ awaited. awaited.ends.value ≡ ends) }
     ensures kept { IfErr result (λ part. part ≡ ends.part) }
 {
-    let Some(helper) = helpers.get(number as usize) else {
-        return Err(ends.part);
-    };
     let duty = GetDuty {
         windows: Snapshot::of(&windows),
         ends: Snapshot::of(&ends),
@@ -162,13 +193,27 @@ fn ask<R: Wait, D: Disk, G, P: Send + Drop>(
         ends,
         answer,
     };
-    match helper.send(tools.rt, Errand::Get(job)) {
+    match send_get(tools.rt, helper, job) {
         Ok(()) => Ok(awaited),
+        Err(back) => {
+            let GetJob { ends, .. } = back;
+            Err(ends.part)
+        }
+    }
+}
+
+// Sends a helper a job of gets. Where it can't be sent it comes back.
+fn send_get<R: Wait, P: Send + Drop, J: Send + Drop>(
+    rt: &R,
+    helper: &Sender<Errand<P, J>>,
+    job: J,
+) -> Result<(), J>
+    ensures { IfErr result (λ back. back ≡ job) }
+{
+    match helper.send(rt, Errand::Get(job)) {
+        Ok(()) => Ok(()),
         Err(refused) => match refused.into_inner() {
-            Errand::Get(back) => {
-                let GetJob { ends, .. } = back;
-                Err(ends.part)
-            }
+            Errand::Get(back) => Err(back),
             Errand::Put(_) => unreachable!(),
         },
     }

@@ -20,7 +20,7 @@ ghost use Rattle.exchange_crew.specs.Parts.{part_state, SomeZip};
 use crate::collecting::collect_entries;
 use crate::walk::{Ahead, ReadTurn, ReadWalk, Reader};
 use aggregator_rounds::get_window;
-use exchange_crew::{Aggregator, GetPlan, Spares, Tools, longest_window, next_window};
+use exchange_crew::{GetPlan, Spares, Tools, aggregator_at, longest_window, next_window};
 use nc_base::{BlobList, Extent, GotTable};
 use nc_outside::{Disk, DiskErr, Gate, Point};
 use std::alloc::Global;
@@ -102,11 +102,8 @@ fn read_parts<R: Wait, D: Disk, G: Gate>(
     let mut end = Ok(());
     let mut ahead = Ahead::new(plan);
     for part in parts {
-        let number = back.len();
-        let aggregator = Aggregator {
-            number: first + number as u32,
-            domain: domains[number],
-        };
+        let place = back.len();
+        let aggregator = aggregator_at(first, domains, place);
         let entries = ahead.reach(plan, aggregator.domain);
         let reader = Reader {
             aggregator,

@@ -1,5 +1,5 @@
 -- The windows of a domain lie on its part.
-use Rattle.get_exchange.proofs.Words.{List, subst, In, Told}
+use Rattle.get_exchange.proofs.Words.{List, ap, subst, In, Told, domain_in}
 use Rattle.get_exchange.proofs.FetchLaws.{get_on}
 use Rattle.get_exchange.proofs.handing.hand_one.Goals as goal
 
@@ -7,5 +7,8 @@ pub ask-requires-clause-on_part : goal.ask-requires-clause-on_part
 ask-requires-clause-on_part g c κs within =
     let plan = c.args.plan.now in
     λ t m.
-    get_on plan.list.now plan.cover.now plan.hints.now.cb_buffer (g.D.Disk.from c.args.part) (g.D.Disk.len c.args.part) c.args.reader.now.aggregator.domain c.requires.plan c.requires.domain
-    t (subst (λ (ts : List Told). In ts t) c.in-Ok-window_list.ensures m)
+    get_on plan.list.now plan.cover.now plan.hints.now.cb_buffer (g.D.Disk.from c.args.part) (g.D.Disk.len c.args.part) _ c.requires.plan (c.requires.domain _ c.in-Some.is)
+    t (subst (λ (ts : List Told). In ts t) c.in-Some-outfit_of.ensures.windows m)
+
+pub returns-clause-domain : goal.returns-clause-domain
+returns-clause-domain g c = ap (λ next. domain_in next) c.in-Some.is

@@ -1,12 +1,9 @@
 -- One part more was read.
-use Rattle.get_exchange.proofs.Words.{◌≡◌, ◌<◌, ◌∙◌, ◌++◌, ◌∷◌, [], refl, sym, ap, subst, length, append_assoc, get_or, List, Result, Ok, rules, arith, slice_get_within, common_steps, zip, OnOk, AllZip, Extent, Rose, DiskErr, at_in, get_turns, HasGot, HasReadParts, part_state, middle_at, at_index, back_more, both_long, failed_more, zip_push}
+use Rattle.get_exchange.proofs.Words.{ℕ, ◌≡◌, ◌∙◌, ◌++◌, ◌∷◌, [], refl, sym, ap, subst, length, append_assoc, List, Some, Result, Ok, rules, arith, slice_get, slice_get_within, common_steps, zip, OnOk, AllZip, Extent, Rose, DiskErr, at_in, get_turns, HasGot, HasReadParts, part_state, middle_at, part_domain, back_more, both_long, failed_more, zip_push}
 use Rattle.get_exchange.proofs.CollectLaws.{fit_as_long}
 use Rattle.get_exchange.proofs.FetchLaws.{got_later}
 use Rattle.get_exchange.proofs.PartReads.{none_zip, parts_none, parts_on}
 use Rattle.get_exchange.proofs.in_turn.read_parts.Goals as goal
-
-abbrev none : Extent
-none = record { at = 0; len = 0 }
 
 pub loop-part-init : goal.loop-part-init
 loop-part-init g c =
@@ -24,27 +21,24 @@ loop-part-init g c =
       failed = λ f. absurd cc;
     }
 
+pub aggregator_at-aggregator-requires-clause-place : goal.aggregator_at-aggregator-requires-clause-place
+aggregator_at-aggregator-requires-clause-place g c =
+    let middle = ap (λ v. c.loop-part.yielded ++ v) (sym c.in-Some.ensures.steps.0) ∙ c.loop-part.invariant.all in
+    let low = slice_get_within c.args.parts.items (length c.loop-part.yielded) c.in-Some.part (middle_at c.loop-part.yielded _ c.args.parts.items c.in-Some.part middle) in
+    let number : c.len-place.result ≡ length c.loop-part.back.items = first_of (search rules, grind (arith, common_steps)) in
+    omega (arith, low, number, c.loop-part.invariant.long, c.requires.one_each)
+
 pub read_next-part-requires-clause-domain : goal.read_next-part-requires-clause-domain
 read_next-part-requires-clause-domain g c κs within =
-    let middle = ap (λ v. c.loop-part.yielded ++ v) (sym c.in-Some.ensures.steps.0) ∙ c.loop-part.invariant.all in
-    let here = middle_at c.loop-part.yielded _ c.args.parts.items c.in-Some.part middle in
-    let low : length c.loop-part.yielded < length c.args.parts.items = slice_get_within c.args.parts.items (length c.loop-part.yielded) c.in-Some.part here in
-    let many = c.loop-part.invariant.long in
-    let number : c.len-number.result ≡ length c.loop-part.back.items = first_of (search rules, grind (arith, common_steps)) in
-    let long = c.requires.one_each in
-    c.requires.domains (length c.loop-part.yielded) c.in-Some.part _ here (at_index c.args.domains.now c.len-number.result (length c.loop-part.yielded) none (omega arith) (omega arith))
+    let number : c.len-place.result ≡ length c.loop-part.back.items = first_of (search rules, grind (arith, common_steps)) in
+    part_domain (λ d. g.D.Disk.from d) (λ d. g.D.Disk.len d) c.args.plan.now.list.now c.args.domains.now c.args.parts.items c.loop-part.yielded _ c.in-Some.part c.len-place.result
+    c.aggregator_at-aggregator.result.domain c.requires.domains (ap (λ v. c.loop-part.yielded ++ v) (sym c.in-Some.ensures.steps.0) ∙ c.loop-part.invariant.all) (number ∙ c.loop-part.invariant.long)
+    c.aggregator_at-aggregator.ensures
 
 pub read_next-part-requires-clause-room : goal.read_next-part-requires-clause-room
 read_next-part-requires-clause-room g c κs within =
-    let middle = ap (λ v. c.loop-part.yielded ++ v) (sym c.in-Some.ensures.steps.0) ∙ c.loop-part.invariant.all in
-    let here = middle_at c.loop-part.yielded _ c.args.parts.items c.in-Some.part middle in
-    let low : length c.loop-part.yielded < length c.args.parts.items = slice_get_within c.args.parts.items (length c.loop-part.yielded) c.in-Some.part here in
-    let many = c.loop-part.invariant.long in
-    let number : c.len-number.result ≡ length c.loop-part.back.items = first_of (search rules, grind (arith, common_steps)) in
-    let long = c.requires.one_each in
-    let domain = get_or c.args.domains.now c.len-number.result none in
-    let at = at_index c.args.domains.now c.len-number.result c.len-number.result none (omega arith) (omega arith) in
-    omega (arith, c.requires.buf_room domain (at_in c.args.domains.now c.len-number.result domain at), c.loop-part.invariant.buf)
+    let domain = c.aggregator_at-aggregator.result.domain in
+    omega (arith, c.requires.buf_room domain (at_in c.args.domains.now c.len-place.result domain c.aggregator_at-aggregator.ensures), c.loop-part.invariant.buf)
 
 pub read_next-part-requires-clause-fit : goal.read_next-part-requires-clause-fit
 read_next-part-requires-clause-fit g c κs within =
@@ -52,14 +46,10 @@ read_next-part-requires-clause-fit g c κs within =
 
 pub loop-part-preserved : goal.loop-part-preserved
 loop-part-preserved g c =
-    let middle = ap (λ v. c.loop-part.yielded ++ v) (sym c.in-Some.ensures.steps.0) ∙ c.loop-part.invariant.all in
-    let here = middle_at c.loop-part.yielded _ c.args.parts.items c.in-Some.part middle in
-    let low : length c.loop-part.yielded < length c.args.parts.items = slice_get_within c.args.parts.items (length c.loop-part.yielded) c.in-Some.part here in
     let many = c.loop-part.invariant.long in
-    let number : c.len-number.result ≡ length c.loop-part.back.items = first_of (search rules, grind (arith, common_steps)) in
-    let long = c.requires.one_each in
-    let domain = get_or c.args.domains.now c.len-number.result none in
-    let at = at_index c.args.domains.now c.len-number.result (length c.loop-part.yielded) none (omega arith) (omega arith) in
+    let number : c.len-place.result ≡ length c.loop-part.back.items = first_of (search rules, grind (arith, common_steps)) in
+    let domain = c.aggregator_at-aggregator.result.domain in
+    let at = subst (λ (k : ℕ). slice_get c.args.domains.now k ≡ Some domain) (number ∙ many) c.aggregator_at-aggregator.ensures in
     let pushed = c.push_reserved.ensures.items in
     let part = c.read_next-part.result.0 in
     let came = c.read_next-part.result.1 in
@@ -68,7 +58,7 @@ loop-part-preserved g c =
     let state = part_state g.D.Disk in
     let Got : Result (Unit {0}) DiskErr → g.row.D.Denot × Extent → g.row.D.Denot → Type 0 = λ r p d. HasGot (get_turns plan p.1) (state p.0) (state d) r in
     record {
-      all = append_assoc c.loop-part.yielded (c.in-Some.part ∷ []) _ ∙ middle;
+      all = append_assoc c.loop-part.yielded (c.in-Some.part ∷ []) _ ∙ ap (λ v. c.loop-part.yielded ++ v) (sym c.in-Some.ensures.steps.0) ∙ c.loop-part.invariant.all;
       long = both_long c.loop-part.yielded c.in-Some.part c.loop-part.back.items _ part pushed many;
       room = c.push_reserved.ensures.capacity ∙ c.loop-part.invariant.room;
       buf = c.read_next-part.ensures.buf ∙ c.loop-part.invariant.buf;
