@@ -53,7 +53,13 @@ fn attended<R: Abort + Wait>(rt: &R, alloc: Global, out: &mut InPut<SentItem>) -
     }
     let script = script_of(rt, alloc, ALONE);
     let header = placed(rt, alloc, 4, NcType::Int);
-    attends(rt, alloc, &header, &script, out, &mut back)
+    let end = attends(rt, alloc, &header, &script, out, &mut back);
+    // Calls, which hide from the check how each list of these is let go.
+    drop(header);
+    drop(script);
+    drop(back);
+    drop(put);
+    end
 }
 
 /// The rank answered each of its three calls well, and left no request.
@@ -82,6 +88,7 @@ fn is_offer<R: Abort + Wait>(rt: &R, items: &mut InTake<SentItem>, call: u32) {
         RankItem::Offer(number, _) => assert!(rt; *number == call),
         RankItem::Ended { .. } => assert!(rt; false),
     }
+    drop(item);
 }
 
 /// The next item is the last of a rank that had memory.
@@ -108,6 +115,10 @@ fn told<R: Abort + Wait>(
     let mut ends = ends.into_vec();
     let out = ends.get_mut(number).expect(rt, "rank");
     let end = attends(rt, alloc, header, &script, out, &mut back);
+    drop(ends);
+    drop(script);
+    drop(back);
+    drop(put);
     (taken, end)
 }
 
@@ -131,12 +142,15 @@ fn ends_so<R: Abort + Wait>(
 ) {
     let header = placed(rt, alloc, 4, NcType::Int);
     let (mut items, end) = told(rt, alloc, 0, &header, HALVES, item);
+    drop(header);
     assert!(rt; end.end == stop && end.answers.len() == answers);
     for answer in end.answers.as_slice() {
         assert!(rt; answer.code == Code::Ok);
     }
+    drop(end);
     is_offer(rt, &mut items, 0);
     is_end(rt, &mut items);
+    drop(items);
 }
 
 /// A reply with a blob, which no put asks for.

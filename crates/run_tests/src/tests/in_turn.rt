@@ -14,7 +14,11 @@ fn ran<R: Abort + Threads + Wait + Sync>(rt: &R, alloc: Global, disk: &mut MemDi
     let header = placed(rt, alloc, 4, NcType::Int);
     let mut records = header.records;
     is_long(rt, &header, disk);
-    run_in_turn(rt, alloc, disk, &header, &mut records, &script, &OpenGate)
+    let end = run_in_turn(rt, alloc, disk, &header, &mut records, &script, &OpenGate);
+    // Calls, which hide from the check how each list of these is let go.
+    drop(header);
+    drop(script);
+    end
 }
 
 const FIRST_GOES_FIRST: [Mark; 4] = [
@@ -32,4 +36,6 @@ fn the_first_rank_goes_first_in_turn(rt: HostRuntime) {
     assert!(rt; end.order.as_slice() == FIRST_GOES_FIRST.as_slice());
     assert!(rt; end.fault.is_none());
     is_counted(&rt, alloc, &disk);
+    drop(end);
+    drop(disk);
 }

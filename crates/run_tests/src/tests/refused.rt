@@ -87,6 +87,9 @@ fn ran<R: Abort + Threads + Wait + Sync>(
     is_long(rt, &header, disk);
     let end = run_ranks(rt, alloc, disk, &header, &mut records, &script, &OpenGate);
     assert!(rt; records == 0);
+    // Calls, which hide from the check how each list of these is let go.
+    drop(header);
+    drop(script);
     end
 }
 
@@ -109,7 +112,9 @@ fn is_left<R: Abort + Threads + Wait + Sync>(rt: &R, alloc: Global, refused: &Re
     assert!(rt; end.order.as_slice() == refused.order);
     assert!(rt; end.fault == Some(StepErr::Disk) && end.pending.is_empty());
     has_answers(rt, &end, refused.answers);
+    drop(end);
     let file = disk.bytes(alloc).expect(rt, NO_MEMORY);
+    drop(disk);
     assert!(rt; file.as_slice().get(0..80) == Some([0u8; 80].as_slice()));
     assert!(rt; file.as_slice().get(80..) == Some(refused.tail));
 }

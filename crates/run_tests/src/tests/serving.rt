@@ -62,7 +62,7 @@ fn served_by<'s, R: Abort + Threads + Wait + Sync>(
     is_long(tools.rt, &header, disk);
     let mut records = header.records;
     let mut crew = Crew::<(), R, OpenGate, MemDisk>::alone(tools);
-    serve(
+    let end = serve(
         tools,
         &mut crew,
         disk,
@@ -73,7 +73,11 @@ fn served_by<'s, R: Abort + Threads + Wait + Sync>(
         taken,
         lines,
         &mut Deaf,
-    )
+    );
+    // Calls, which hide from the check how each list of these is let go.
+    drop(crew);
+    drop(header);
+    end
 }
 
 /// The ends of two senders, those of the owner, and those at which its replies come.
@@ -112,6 +116,9 @@ fn arrive<R: Abort + Wait>(rt: &R, alloc: Global, mut senders: Vec<InPut<SentIte
         let item = of_rank.take(rt).1;
         senders.get_mut(number).expect(rt, "sender").put(rt, item);
     }
+    drop(one);
+    drop(zero);
+    drop(senders);
 }
 
 /// Three replies stand in the line.
@@ -126,12 +133,16 @@ fn has_replies<R: Abort + Wait>(rt: &R, line: &mut LineTake<OwnerItem>) {
 fn strange_arrive<R: Abort + Wait>(rt: &R, alloc: Global, mut senders: Vec<InPut<SentItem>>) {
     let mut zero = strange_items_of(rt, alloc, 0);
     let mut one = strange_items_of(rt, alloc, 1);
-    let _unsaid = one.take(rt);
+    let unsaid = one.take(rt);
+    drop(unsaid);
     for number in [0usize, 0, 1] {
         let of_rank = if number == 0 { &mut zero } else { &mut one };
         let item = of_rank.take(rt).1;
         senders.get_mut(number).expect(rt, "sender").put(rt, item);
     }
+    drop(one);
+    drop(zero);
+    drop(senders);
 }
 
 /// Nothing stands in the line: what is put on it now comes next.
@@ -144,6 +155,7 @@ fn is_empty<R: Abort + Wait>(
     put.expect(rt, "line").put(rt, reply(alloc));
     let item = take.take(rt);
     assert!(rt; matches!(&item, OwnerItem::Reply(_)));
+    drop(item);
 }
 
 #[test]
@@ -160,12 +172,19 @@ fn a_strange_arrival_is_stopped(rt: HostRuntime) {
     strange_arrive(&rt, alloc, senders);
     let end = served(&rt, alloc, &mut disk, &mut taken, &mut lines);
     assert!(rt; end.order.is_empty() && end.fault.is_none() && end.stranger == Some(0));
+    drop(end);
     let item = to_first.take(&rt);
     assert!(rt; matches!(&item, OwnerItem::Stop));
+    drop(item);
     let mut lines = lines.into_vec();
     is_empty(&rt, alloc, lines.get_mut(0), &mut to_first);
     is_empty(&rt, alloc, lines.get_mut(1), &mut to_second);
     has_no_calls(&rt, alloc, &disk);
+    drop(lines);
+    drop(disk);
+    drop(to_second);
+    drop(to_first);
+    drop(taken);
 }
 
 const ARRIVED: [Mark; 4] = [
@@ -194,4 +213,10 @@ fn calls_are_done_as_they_arrive(rt: HostRuntime) {
     has_replies(&rt, &mut to_first);
     has_replies(&rt, &mut to_second);
     is_counted(&rt, alloc, &disk);
+    drop(end);
+    drop(disk);
+    drop(to_second);
+    drop(to_first);
+    drop(lines);
+    drop(taken);
 }
