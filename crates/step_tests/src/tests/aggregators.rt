@@ -148,6 +148,9 @@ fn puts_go_domain_by_domain(rt: HostRuntime) {
         let mut disk = disk_of(&rt, alloc, old_file(&rt, alloc, 112), &[]);
         is_done(&rt, alloc, &OpenGate, &mut disk, &set, &HOLED);
         has_calls(&rt, alloc, &disk, &PUT_CALLS);
+        // Calls, which hide from the check how each list of these is let go.
+        drop(disk);
+        drop(set);
     }
 }
 
@@ -209,6 +212,8 @@ fn gets_go_domain_by_domain(rt: HostRuntime) {
         let mut disk = disk_of(&rt, alloc, put_but(&rt, alloc, 0, 0), &[]);
         is_got(&rt, alloc, &mut disk, &set);
         has_calls(&rt, alloc, &disk, &GET_CALLS);
+        drop(disk);
+        drop(set);
     }
 }
 
@@ -240,6 +245,8 @@ fn is_refused<R: Abort + Threads + Wait + Sync>(
     let left = put_but(rt, alloc, from, to);
     has_bytes(rt, alloc, &disk, 0, left.as_slice());
     is_done(rt, alloc, &OpenGate, &mut disk, &set, &HOLED);
+    drop(disk);
+    drop(set);
 }
 
 // In turn, what stands behind the refused call is not begun.
@@ -320,6 +327,9 @@ fn meets<R: Abort + Threads + Wait + Sync>(rt: &R, alloc: Global, meeting: &Meet
     let mut disk = disk_of(rt, alloc, old_file(rt, alloc, 112), &[]);
     is_done(rt, alloc, &gate, &mut disk, &set, &meeting.puts);
     assert!(rt; gate.met() == meeting.met);
+    drop(disk);
+    drop(set);
+    drop(gate);
 }
 
 #[test]
@@ -363,6 +373,8 @@ fn put_and_get_again<'s, E, R: Abort + Threads + Wait + Sync>(
         put_and_get(tools, &mut crew, &mut disk, set);
     }
     has_bytes(rt, alloc, &disk, 80, PUT);
+    drop(crew);
+    drop(disk);
 }
 
 fn stay<R: Abort + Threads + Wait + Sync>(rt: &R, alloc: Global, way: Way) {

@@ -224,6 +224,9 @@ fn put_without_helpers<'s, R: Abort + Threads + Wait + Sync>(
     let mut crew = Crew::<(), R, OpenGate, MemDisk>::alone(tools);
     let mut records = 0;
     let end = put_all(tools, &mut crew, disk, &dataset, &mut records, &job);
+    // Calls, which hide from the check how each list of these is let go.
+    drop(crew);
+    drop(job);
     (end, records)
 }
 

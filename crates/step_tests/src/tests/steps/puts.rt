@@ -159,6 +159,9 @@ fn puts_end<R: Abort + Threads + Wait + Sync>(rt: &R, alloc: Global, puts: &Puts
     let (end, records) = put_two(rt, alloc, &OpenGate, &mut disk, &set, a, b);
     assert!(rt; end == Ok(puts.end) && records == puts.records);
     has(rt, alloc, &disk, puts.calls, puts.tail);
+    // Calls, which hide from the check how each list of these is let go.
+    drop(disk);
+    drop(set);
 }
 
 #[test]
@@ -186,6 +189,8 @@ fn a_refused_count_is_not_told(rt: HostRuntime) {
     ];
     has(&rt, alloc, &disk, &calls, b"\0\0\0\0\0\0ab");
     has_bytes(&rt, alloc, &disk, 0, &[OLD; 80]);
+    drop(disk);
+    drop(set);
 }
 
 /// The header of a new dataset as bytes: `dim t unlimited`, `var short s [t]`, no record.
@@ -227,4 +232,6 @@ fn a_refused_count_leaves_a_new_dataset_without_a_record(rt: HostRuntime) {
     let calls = [DiskCall::Grow(88), DiskCall::Store(86, 2)];
     has(&rt, alloc, &disk, &calls, b"\0\0\0\0\0\0\0\x07");
     has_bytes(&rt, alloc, &disk, 0, NEW);
+    drop(disk);
+    drop(header);
 }
