@@ -65,6 +65,9 @@ fn is_packed(
 {
     let bytes = pack(alloc, kind, &region, &values).expect(rt, REFUSED);
     assert!(rt; bytes.as_slice() == form);
+    // Calls, which hide from the check how each list of these is let go.
+    drop(values);
+    drop(region);
 }
 
 #[test]
@@ -132,5 +135,9 @@ fn later_element_stands(rt: HostRuntime) {
     let region = together(&rt, alloc);
     let bytes = [0, 0, 0, 1, 0x3f, 0x80, 0, 0];
     let found = unpacked(&rt, alloc, NcType::Float, &region, &bytes);
-    assert!(rt; found == bits(&rt, alloc, &[0x3f80_0000]));
+    let wanted = bits(&rt, alloc, &[0x3f80_0000]);
+    assert!(rt; found == wanted);
+    drop(wanted);
+    drop(found);
+    drop(region);
 }

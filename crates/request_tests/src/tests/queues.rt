@@ -61,6 +61,10 @@ fn items_stand_as_listed(rt: HostRuntime) {
     let taken = taken(&rt, alloc, &mut queue, &choice);
     assert!(rt; taken.batch.puts.len() == 1 && taken.batch.gets.len() == 1);
     expect_items(&rt, &taken.items, &FIVE);
+    // Calls, which hide from the check how each list of these is let go.
+    drop(taken);
+    drop(choice);
+    drop(queue);
 }
 
 #[test]
@@ -75,6 +79,9 @@ fn a_buffered_put_is_cancelled(rt: HostRuntime) {
     let items = queue.cancel(alloc, &choice).expect(&rt, NO_MEMORY);
     expect_items(&rt, &items, &[(0, Code::Ok)]);
     assert!(rt; queue.detach() == Ok(()));
+    drop(items);
+    drop(choice);
+    drop(queue);
 }
 
 fn expect_starts(rt: &impl Abort, posts: &PostList, starts: &[u64]) {
@@ -94,6 +101,8 @@ fn parts_of_one_request_are_taken_together(rt: HostRuntime) {
     let taken = taken(&rt, alloc, &mut queue, &Choice::Every);
     expect_items(&rt, &taken.items, &[(0, Code::Ok)]);
     expect_starts(&rt, &taken.batch.puts, &[4, 1]);
+    drop(taken);
+    drop(queue);
 }
 
 /// Posts a put under an id that is not posted.
@@ -131,4 +140,7 @@ fn many_requests_waited_for_in_reverse_order(rt: HostRuntime) {
     assert!(rt; taken.items.len() == 65536);
     assert!(rt; taken.batch.puts.len() == 65536);
     assert!(rt; queue.pending() == 0);
+    drop(taken);
+    drop(choice);
+    drop(queue);
 }

@@ -35,7 +35,13 @@ fn a_whole_variable_has_the_known_records(rt: HostRuntime) {
     assert!(rt; header.vars.len() == 1);
     let whole = given(alloc, Form::Var, PartList::new(alloc));
     let widened = widen(alloc, &header, 0, &whole, 3).expect(&rt, NO_MEMORY);
-    assert!(rt; widened == region(alloc, 0, 3, 1).expect(&rt, NO_MEMORY));
+    let wanted = region(alloc, 0, 3, 1).expect(&rt, NO_MEMORY);
+    assert!(rt; widened == wanted);
+    // Calls, which hide from the check how each list of these is let go.
+    drop(wanted);
+    drop(widened);
+    drop(whole);
+    drop(header);
 }
 
 /// A put of the region gives these extents, each with its place and its length.
@@ -61,7 +67,9 @@ fn elements_that_follow_one_another_are_one_extent(rt: HostRuntime) {
     for (stride, extents) in STRIDES {
         let region = region(rt.alloc(), 1, 3, stride).expect(&rt, NO_MEMORY);
         assert_extents(&rt, &header, &region, extents);
+        drop(region);
     }
+    drop(header);
 }
 
 fn part(rt: &impl Abort, alloc: Global, start: u64, count: u64) -> Part {
@@ -80,7 +88,9 @@ fn refusal(rt: &impl Abort, alloc: Global, header: &Header, start: u64) -> Optio
         direction: Direction::Put,
         known: 0,
     };
-    check_parts(alloc, header, &Measures::of(header), 0, &given, ends).err()
+    let refused = check_parts(alloc, header, &Measures::of(header), 0, &given, ends).err();
+    drop(given);
+    refused
 }
 
 #[test]
@@ -88,4 +98,5 @@ fn parts_of_a_put_share_no_element(rt: HostRuntime) {
     let header = header_of(&rt, rt.alloc(), 4);
     assert!(rt; refusal(&rt, rt.alloc(), &header, 2).is_none());
     assert!(rt; refusal(&rt, rt.alloc(), &header, 1) == Some(CallErr::Code(Code::ESelf)));
+    drop(header);
 }
