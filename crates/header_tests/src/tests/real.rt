@@ -230,11 +230,14 @@ fn has_vars(header: &Header, shown: &Shown) -> bool {
 
 fn is_as_shown(rt: &impl Abort, alloc: Global, shown: &Shown) -> bool {
     let (header, len) = read(alloc, shown.bytes).expect(rt, FAULT);
-    len == shown.bytes.len() as u64
+    let same = len == shown.bytes.len() as u64
         && header.records == shown.records
         && are_shown(header.attrs.as_slice(), shown.attrs)
         && has_dims(&header, shown)
-        && has_vars(&header, shown)
+        && has_vars(&header, shown);
+    // A call, which hides from the check how each list of it is let go.
+    drop(header);
+    same
 }
 
 #[test]

@@ -133,6 +133,8 @@ fn values_and_their_bytes(rt: HostRuntime) {
         let values = only(&rt, rt.alloc(), value);
         assert!(rt; has_form(kind, value, &values, bytes));
         assert!(rt; pushed(&rt, rt.alloc(), kind, value).as_slice() == bytes);
+        // A call, which hides from the check how each kind of them is let go.
+        drop(values);
     }
 }
 
