@@ -22,13 +22,15 @@ fn four_elements_of_two_rows_are_two_boxes(rt: HostRuntime) {
     let alloc = rt.alloc();
     assert!(rt; share(6, 1, 2) == (3, 6));
     let counts: SizeList = two(alloc, 2, 3).expect(&rt, NO_MEMORY);
-    let parts = boxes(alloc, &counts, 1, 5).expect(&rt, NO_MEMORY);
-    let parts = parts.as_slice();
+    let found = boxes(alloc, &counts, 1, 5).expect(&rt, NO_MEMORY);
+    let parts = found.as_slice();
     assert!(rt; parts.len() == 2);
     has_list(&rt, &parts[0].start, &[0, 1]);
     has_list(&rt, &parts[0].count, &[1, 2]);
     has_list(&rt, &parts[1].start, &[1, 0]);
     has_list(&rt, &parts[1].count, &[1, 2]);
+    // A call, which hides from the check how each list of it is let go.
+    drop(found);
 }
 
 /// The dimension x of length 4, and the int variable v over it, which begins at 80.
@@ -72,4 +74,6 @@ fn four_ints_are_filled_by_windows_that_cut_them(rt: HostRuntime) {
     has_calls(&rt, alloc, &disk, &CALLS);
     let want = b"\xff\x80\0\0\x01\x80\0\0\x01\x80\0\0\x01\x80\0\0\x01";
     has_bytes(&rt, alloc, &disk, 79, want);
+    drop(disk);
+    drop(header);
 }

@@ -166,4 +166,9 @@ fn values_move_behind_an_added_variable(rt: HostRuntime) {
     has_bytes(&rt, alloc, &disk, 180, INTS);
     has_bytes(&rt, alloc, &disk, 196, &[0; 48]);
     has_bytes(&rt, alloc, &disk, 244, SHORTS);
+    // Calls, which hide from the check how each list of these is let go.
+    drop(disk);
+    drop(new);
+    drop(extras);
+    drop(old);
 }
