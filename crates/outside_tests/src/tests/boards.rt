@@ -38,6 +38,9 @@ fn a_view_reads_what_was_told(rt: HostRuntime) {
     assert!(rt; view.read() == summary(2, 9));
     let pairs = [(Mark::Meet(0), 7), (Mark::Solo(1, 0), 9)];
     assert!(rt; board.pairs().as_slice() == pairs.as_slice());
+    // Calls, which hide from the check how each list of these is let go.
+    drop(view);
+    drop(board);
 }
 
 /// Tells 2,000 steps, after each of which the record count is how many were told.
