@@ -11,35 +11,23 @@ loop-number-init c =
     ap (λ (ss : List Shift). c.args.calls.now.items ++ all_calls c.args.window (reverse (slabs_further c.args.offset.old c.args.offset.new ss)))
     (take_all (length c.args.slabs.now) c.args.slabs.now (omega arith))
 
-pub further-requires-clause-old_end : goal.further-requires-clause-old_end
-further-requires-clause-old_end c =
+pub further-requires : goal.further-requires
+further-requires c =
     let k : c.loop-number.number - 1 < length c.args.slabs.now = omega arith in
     let low = c.requires.low (further c.args.offset.old c.args.offset.new (slab_of (get_or c.args.slabs.now (c.loop-number.number - 1) none)))
     (in_record c.args.offset.old c.args.offset.new c.args.slabs.now (c.loop-number.number - 1) none k) in
-    let from = low.0 in
-    omega arith
+    record { old_end = omega (arith, low.0); end = omega (arith, low.1) }
 
-pub further-requires-clause-end : goal.further-requires-clause-end
-further-requires-clause-end c =
+pub push_changed-requires : goal.push_changed-requires
+push_changed-requires c =
     let k : c.loop-number.number - 1 < length c.args.slabs.now = omega arith in
     let low = c.requires.low (further c.args.offset.old c.args.offset.new (slab_of (get_or c.args.slabs.now (c.loop-number.number - 1) none)))
     (in_record c.args.offset.old c.args.offset.new c.args.slabs.now (c.loop-number.number - 1) none k) in
-    let to = low.1 in
-    omega arith
-
-pub push_changed-requires-clause-old_end : goal.push_changed-requires-clause-old_end
-push_changed-requires-clause-old_end c =
-    let k : c.loop-number.number - 1 < length c.args.slabs.now = omega arith in
-    let low = c.requires.low (further c.args.offset.old c.args.offset.new (slab_of (get_or c.args.slabs.now (c.loop-number.number - 1) none)))
-    (in_record c.args.offset.old c.args.offset.new c.args.slabs.now (c.loop-number.number - 1) none k) in
-    subst (λ (s : Slab). s.from + s.len < 2 ^ 62) (sym c.further.ensures) low.0
-
-pub push_changed-requires-clause-end : goal.push_changed-requires-clause-end
-push_changed-requires-clause-end c =
-    let k : c.loop-number.number - 1 < length c.args.slabs.now = omega arith in
-    let low = c.requires.low (further c.args.offset.old c.args.offset.new (slab_of (get_or c.args.slabs.now (c.loop-number.number - 1) none)))
-    (in_record c.args.offset.old c.args.offset.new c.args.slabs.now (c.loop-number.number - 1) none k) in
-    subst (λ (s : Slab). s.to + s.len < 2 ^ 62) (sym c.further.ensures) low.1
+    record {
+      some = c.requires.some;
+      old_end = subst (λ (s : Slab). s.from + s.len < 2 ^ 62) (sym c.further.ensures) low.0;
+      end = subst (λ (s : Slab). s.to + s.len < 2 ^ 62) (sym c.further.ensures) low.1;
+    }
 
 pub loop-number-preserved : goal.loop-number-preserved
 loop-number-preserved c =

@@ -8,12 +8,11 @@ returns-then-is_empty c =
     sym (append-nil c.args.calls.now.items)
     ∙ ap (λ calls. c.args.calls.now.items ++ calls) (sym (nothing_added c.args.script.now c.args.old.now c.args.new.now (c.is_empty.ensures.0 c.if-is_empty.true)))
 
-pub push_redefinition-requires-clause-applied : goal.push_redefinition-requires-clause-applied
-push_redefinition-requires-clause-applied c =
-    (c.args.script.now.extra, c.requires.applied (some_extras c.args.script.now (λ none. both_ways _ c.if-is_empty.false (c.is_empty.ensures.1 none))))
-
-pub push_redefinition-requires-clause-some : goal.push_redefinition-requires-clause-some
-push_redefinition-requires-clause-some c = (kept_wr_buffer c.args.script.now c.requires.kept).0
+pub push_redefinition-requires : goal.push_redefinition-requires
+push_redefinition-requires c = record {
+  applied = (c.args.script.now.extra, c.requires.applied (some_extras c.args.script.now (λ none. both_ways _ c.if-is_empty.false (c.is_empty.ensures.1 none))));
+  some = (kept_wr_buffer c.args.script.now c.requires.kept).0;
+}
 
 pub returns : goal.returns
 returns c =

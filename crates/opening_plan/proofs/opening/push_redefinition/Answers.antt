@@ -3,18 +3,13 @@ use Rattle.opening_plan.proofs.Words.{◌≡◌, refl, arith, header_len, rising
 use Rattle.opening_plan.proofs.OpeningLaws.{carried_calls, laws_of, rising_low}
 use Rattle.opening_plan.proofs.opening.push_redefinition.Goals as goal
 
-pub new-requires-clause-sound : goal.new-requires-clause-sound
-new-requires-clause-sound c = (laws_of c.args.old.now c.args.new.now c.requires.applied).carriable.sound
-
-pub new-requires-clause-new_sound : goal.new-requires-clause-new_sound
-new-requires-clause-new_sound c = writable_is_sound c.args.new.now (laws_of c.args.old.now c.args.new.now c.requires.applied).carriable.writable
-
-pub new-requires-clause-risen : goal.new-requires-clause-risen
-new-requires-clause-risen c = (header_len c.args.old.now, header_len c.args.new.now, (laws_of c.args.old.now c.args.new.now c.requires.applied).carriable.risen)
-
-pub new-requires-clause-short : goal.new-requires-clause-short
-new-requires-clause-short c = λ s i.
-    (rising_low c.args.old.now c.args.new.now (laws_of c.args.old.now c.args.new.now c.requires.applied) (rising c.args.old.now c.args.new.now) refl s i).1
+pub new-requires : goal.new-requires
+new-requires c = record {
+  sound = (laws_of c.args.old.now c.args.new.now c.requires.applied).carriable.sound;
+  new_sound = writable_is_sound c.args.new.now (laws_of c.args.old.now c.args.new.now c.requires.applied).carriable.writable;
+  risen = (header_len c.args.old.now, header_len c.args.new.now, (laws_of c.args.old.now c.args.new.now c.requires.applied).carriable.risen);
+  short = λ s i. (rising_low c.args.old.now c.args.new.now (laws_of c.args.old.now c.args.new.now c.requires.applied) (rising c.args.old.now c.args.new.now) refl s i).1;
+}
 
 pub push_moves-requires-clause-low : goal.push_moves-requires-clause-low
 push_moves-requires-clause-low c =

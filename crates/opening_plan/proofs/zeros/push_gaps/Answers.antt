@@ -66,17 +66,13 @@ loop-slab-preserved c =
           (ap (λ xs. gaps_before at xs) split) c.loop-slab.invariant.calls c.in_ok-push_stores.ensures;
     }
 
-pub returns-clause-place : goal.returns-clause-place
-returns-clause-place c =
-    let all : length c.args.slabs.now ≤ c.loop-slab.slab-index = omega arith in
-    none_behind c.loop-slab.at (behind c.args.at (slabs_further c.args.offset.old c.args.offset.new c.args.slabs.now))
-    (slabs_further c.args.offset.old c.args.offset.new (drop c.loop-slab.slab-index c.args.slabs.now))
-    (none_after c.args.offset.old c.args.offset.new c.args.slabs.now c.loop-slab.slab-index all) c.loop-slab.invariant.place
-
-pub returns-clause-calls : goal.returns-clause-calls
-returns-clause-calls c =
-    let all : length c.args.slabs.now ≤ c.loop-slab.slab-index = omega arith in
-    none_left (c.args.calls.now.items ++ gap_calls c.args.window (gaps_before c.args.at (slabs_further c.args.offset.old c.args.offset.new c.args.slabs.now))) c.loop-slab.calls.items
-    (gap_calls c.args.window (gaps_before c.loop-slab.at (slabs_further c.args.offset.old c.args.offset.new (drop c.loop-slab.slab-index c.args.slabs.now))))
-    (ap (λ xs. gap_calls c.args.window (gaps_before c.loop-slab.at xs)) (none_after c.args.offset.old c.args.offset.new c.args.slabs.now c.loop-slab.slab-index all))
-    c.loop-slab.invariant.calls
+pub returns : goal.returns
+returns c =
+    let all : List Slab = slabs_further c.args.offset.old c.args.offset.new c.args.slabs.now in
+    let left : List Slab = slabs_further c.args.offset.old c.args.offset.new (drop c.loop-slab.slab-index c.args.slabs.now) in
+    let over = none_after c.args.offset.old c.args.offset.new c.args.slabs.now c.loop-slab.slab-index (omega arith) in
+    record {
+      place = none_behind c.loop-slab.at (behind c.args.at all) left over c.loop-slab.invariant.place;
+      calls = none_left (c.args.calls.now.items ++ gap_calls c.args.window (gaps_before c.args.at all)) c.loop-slab.calls.items
+          (gap_calls c.args.window (gaps_before c.loop-slab.at left)) (ap (λ xs. gap_calls c.args.window (gaps_before c.loop-slab.at xs)) over) c.loop-slab.invariant.calls;
+    }
