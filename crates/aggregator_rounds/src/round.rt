@@ -9,7 +9,8 @@ ghost use Rattle.nc_outside.specs.DiskState.{PartlyWritten};
 ghost use Rattle.aggregator_rounds.specs.ToldWindows.{told_window};
 
 use file_domains::Window;
-use nc_outside::{Disk, DiskErr};
+use nc_base::StepErr;
+use nc_outside::Disk;
 use std::alloc::Global;
 
 /// Reads the hull, unless the window is full.
@@ -18,7 +19,7 @@ pub fn open_window<D: Disk>(
     disk: &mut D,
     window: &Window,
     buf: &mut [u8],
-) -> Result<(), DiskErr>
+) -> Result<(), StepErr>
     requires low { D.from disk.old ≤ window.now.hull.at }
     requires high { window.now.hull.at + window.now.hull.len ≤ D.from disk.old + D.len disk.old }
     requires room { length buf.old ≡ window.now.hull.len }
@@ -46,7 +47,7 @@ pub fn close_window<D: Disk>(
     disk: &mut D,
     window: &Window,
     buf: &[u8],
-) -> Result<(), DiskErr>
+) -> Result<(), StepErr>
     requires low { D.from disk.old ≤ window.now.hull.at }
     requires high { window.now.hull.at + window.now.hull.len ≤ D.from disk.old + D.len disk.old }
     requires room { length buf.now ≡ window.now.hull.len }
@@ -69,7 +70,7 @@ pub fn get_window<D: Disk>(
     disk: &mut D,
     window: &Window,
     buf: &mut [u8],
-) -> Result<(), DiskErr>
+) -> Result<(), StepErr>
     requires low { D.from disk.old ≤ window.now.hull.at }
     requires high { window.now.hull.at + window.now.hull.len ≤ D.from disk.old + D.len disk.old }
     requires room { length buf.old ≡ window.now.hull.len }

@@ -1,5 +1,5 @@
 -- Puts on the parts of a disk, which are joined again.
-use Rattle.collective_round.proofs.Words.{◌≡◌, ℕ, ◌+◌, ◌-◌, ◌^◌, ◌<◌, ◌≤◌, sym, subst, List, [], ◌∷◌, length, map, Result, arith, flat_map, zip, IfSome, IsErrOf, AllZip, Extent, Owned, HasDiskCause, Rose, DiskErr, Failed, AreFilled, LieOn, entries_within, ranges, In, HaveSame, Source, end_after, IsCover, spans, flat_in, in_left, in_range, in_right, range_high, HasPut, PartState, SomeZip, Told, parts_of, with_parts, Adjoin, AreDomains, Follow, IsFront, nat_tests}
+use Rattle.collective_round.proofs.Words.{◌≡◌, ℕ, ◌+◌, ◌-◌, ◌^◌, ◌<◌, ◌≤◌, sym, subst, List, [], ◌∷◌, length, map, Result, arith, flat_map, zip, IfSome, IsErrOf, AllZip, Extent, Owned, HasDiskCause, Rose, StepErr, Disk, AreFilled, LieOn, entries_within, ranges, In, HaveSame, Source, end_after, IsCover, spans, flat_in, in_left, in_range, in_right, range_high, HasPut, PartState, SomeZip, Told, parts_of, with_parts, Adjoin, AreDomains, Follow, IsFront, nat_tests}
 use Rattle.collective_round.proofs.PartSplits.{joined_at_least}
 use Rattle.collective_round.proofs.PartDomains.{cells_behind, domains_room}
 use Rattle.collective_round.proofs.PartLaws.{joined_rose}
@@ -35,9 +35,9 @@ pub are_split : {D : Type 0} (state : D → PartState) (disk front : PartState) 
 are_split state disk front cover domains list parts begin h same on div front_is are = grind (arith, nat_tests, plan_room cover domains list disk.len h same on div)
 
 -- the parts fail only where a count rose
-pub parts_cause : {D T : Type 0} (state : D → PartState) (disk front new : PartState) (domains : List Extent) (parts news : List D) (end : Result T DiskErr)
+pub parts_cause : {D T : Type 0} (state : D → PartState) (disk front new : PartState) (domains : List Extent) (parts news : List D) (end : Result T StepErr)
     → map state parts ≡ parts_of disk domains → disk.faults < 2 ^ 64 → disk.faults ≤ front.faults
-    → (IsErrOf end Failed → SomeZip (λ old new. Rose (state old).faults (state new).faults) parts news) → new ≡ with_parts front (map state news)
+    → (IsErrOf end Disk → SomeZip (λ old new. Rose (state old).faults (state new).faults) parts news) → new ≡ with_parts front (map state news)
     → HasDiskCause disk.faults new.faults end
 parts_cause state disk front new domains parts news end are counted later failed joined =
     grind (arith, nat_tests, joined_at_least disk.faults front (map state news) counted later, joined_rose)

@@ -66,8 +66,8 @@ pub use Rattle.nc_outside.proofs.ToldLaws.{after-after, after-same, told_as, wit
 pub use Rattle.nc_outside.specs.Cause.{HasDiskCause, Rose, both_faults}
 pub use Rattle.nc_outside.specs.DiskState.{PartlyWritten}
 pub use Rattle.nc_outside.specs.Told.{BothTold, after, joined, with_end}
-pub use Rattle.nc_outside.specs.declared.disk.DiskErr.{DiskErr}
-pub use Rattle.nc_outside.specs.declared.disk.DiskErr.TheVariants.{Failed}
+pub use Rattle.nc_base.specs.declared.step.StepErr.{StepErr}
+pub use Rattle.nc_base.specs.declared.step.StepErr.TheVariants.{Disk}
 pub use Rattle.overlap_report.proofs.OriginSteps.{of_says, origin_at, says_of}
 pub use Rattle.overlap_report.specs.Parts.{IsPartOfOne}
 pub use Rattle.overlay_laws.proofs.CoverLaws.{cover_in_order, hull_told, same_ascending, spans_ascend}

@@ -11,8 +11,8 @@ ghost use Rattle.collective_round.specs.Parts.{parts_of, with_parts, Adjoin, Are
 ghost use Rattle.exchange_crew.specs.Parts.{part_state};
 
 use file_domains::cut;
-use nc_base::{Extent, Hints, Memory};
-use nc_outside::{Disk, DiskErr};
+use nc_base::{Extent, Hints, Memory, StepErr};
+use nc_outside::Disk;
 use std::alloc::Global;
 
 /// The domains of a step that have a byte, in order of their places. Those without one stand behind them, so the place of a domain
@@ -66,7 +66,7 @@ pub(crate) fn split<D: Disk>(
     alloc: Global,
     disk: &mut D,
     domains: &[Extent],
-) -> Result<Vec<D>, DiskErr>
+) -> Result<Vec<D>, StepErr>
     requires from { D.from disk.old ≡ 0 }
     requires domains { Adjoin domains.now }
     requires room { end_after 0 domains.now ≤ D.len disk.old }
@@ -95,7 +95,7 @@ fn split_backwards<D: Disk>(
     disk: &mut D,
     domains: &[Extent],
     parts: &mut Vec<D>,
-) -> Result<(), DiskErr>
+) -> Result<(), StepErr>
     requires from { D.from disk.old ≡ 0 }
     requires domains { Adjoin domains.now }
     requires room { end_after 0 domains.now ≤ D.len disk.old }

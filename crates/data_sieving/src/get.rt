@@ -13,8 +13,8 @@ ghost use Rattle.data_sieving.specs.Walked.{entries_in, HasGotPart};
 
 use crate::walk::{SieveWalk, SieveWindow};
 use aggregator_rounds::{Unserved, collect_entry, get_window};
-use nc_base::{Blob, BlobList, Extent, Owned};
-use nc_outside::{Disk, DiskErr};
+use nc_base::{Blob, BlobList, Extent, Owned, StepErr};
+use nc_outside::Disk;
 use std::alloc::Global;
 
 /// Reads the bytes of sorted entries, each into the blob of its slot, window by window. A window's hull is read at once, so that
@@ -30,7 +30,7 @@ pub fn sieve_get<D: Disk>(
     list: &[Owned],
     buf: &mut [u8],
     into: &mut BlobList,
-) -> Result<(), DiskErr>
+) -> Result<(), StepErr>
     requires sorted { IsByPlace (extents list.now) }
     requires ends { EndBelow (2 ^ 62) (extents list.now) }
     requires filled { AreFilled list.now }
@@ -70,7 +70,7 @@ fn read_window<D: Disk>(
     next: &SieveWindow,
     buf: &mut [u8],
     blobs: &mut [Blob],
-) -> Result<(), DiskErr>
+) -> Result<(), StepErr>
     requires low { D.from disk.old ≤ next.now.window.hull.at }
     requires high { next.now.window.hull.at + next.now.window.hull.len ≤ D.from disk.old + D.len disk.old }
     requires hull { next.now.window.hull.at + next.now.window.hull.len < 2 ^ 62 }

@@ -15,8 +15,8 @@ ghost use Rattle.data_sieving.specs.Walked.{entries_in};
 
 use crate::walk::{SieveWalk, SieveWindow};
 use aggregator_rounds::{Unserved, close_window, lay_entry, open_window};
-use nc_base::{Extent, Owned, PostList};
-use nc_outside::{Disk, DiskErr};
+use nc_base::{Extent, Owned, PostList, StepErr};
+use nc_outside::Disk;
 use std::alloc::Global;
 
 /// Writes the bytes of sorted entries, each of which has them in the post of its slot, window by window. Where entries share a
@@ -32,7 +32,7 @@ pub fn sieve_put<D: Disk>(
     list: &[Owned],
     puts: &PostList,
     buf: &mut [u8],
-) -> Result<(), DiskErr>
+) -> Result<(), StepErr>
     requires sorted { IsByPlace (extents list.now) }
     requires ends { EndBelow (2 ^ 62) (extents list.now) }
     requires filled { AreFilled list.now }
@@ -70,7 +70,7 @@ fn put_window<D: Disk>(
     next: &SieveWindow,
     puts: &PostList,
     buf: &mut [u8],
-) -> Result<(), DiskErr>
+) -> Result<(), StepErr>
     requires low { D.from disk.old ≤ next.now.window.hull.at }
     requires high { next.now.window.hull.at + next.now.window.hull.len ≤ D.from disk.old + D.len disk.old }
     requires hull { next.now.window.hull.at + next.now.window.hull.len < 2 ^ 62 }

@@ -1,13 +1,13 @@
 -- What a fault of the disk, and one of a redefinition, leave, and what ends early after the script was read.
-use Rattle.dataset_start.proofs.Words.{◌≡◌, ℕ, List, Option, inl, inr, sym, ap, ◌∙◌, arith, Result, Ok, Err, IfErr, IsErrAnd, RedefErr, DiskErr, Script, Asks, IsBeforeStart, IsLaid, IsOfDataset, IsOfRedefinition, status_of, stop_of_disk, Stop, nat_tests}
-use Rattle.nc_outside.specs.declared.disk.DiskErr.TheVariants as disk
+use Rattle.dataset_start.proofs.Words.{◌≡◌, ℕ, List, Option, inl, inr, sym, ap, ◌∙◌, arith, Result, Ok, Err, IfErr, IsErrAnd, RedefErr, StepErr, Script, Asks, IsBeforeStart, IsLaid, IsOfDataset, IsOfRedefinition, status_of, stop_of_disk, Stop, nat_tests}
+use Rattle.nc_base.specs.declared.step.StepErr.TheVariants as step
 use Rattle.dataset_start.specs.declared.stop.Stop.TheVariants as stops
 
-not_four : (err : DiskErr) → status_of (stop_of_disk err) ≡ 4 → ⊥
+not_four : (err : StepErr) → status_of (stop_of_disk err) ≡ 4 → ⊥
 not_four err s = grind (arith, nat_tests)
 
 -- a fault of the disk is none of the dataset
-pub disk-untold : {T : Type 0} (Q : Stop → Type 0) (result : Result T Stop) (err : DiskErr) → IsErrAnd result (λ stop. stop ≡ stop_of_disk err)
+pub disk-untold : {T : Type 0} (Q : Stop → Type 0) (result : Result T Stop) (err : StepErr) → IsErrAnd result (λ stop. stop ≡ stop_of_disk err)
     → IfErr result (λ stop. status_of stop ≡ 4 → Q stop)
 disk-untold xs result err e = grind (arith, nat_tests, not_four)
 

@@ -32,7 +32,7 @@ pub use Rattle.nc_base.specs.declared.step.DiskCall.TheVariants.{Grow, Store}
 pub use Rattle.nc_outside.proofs.ToldLaws.{after-after, after-same, told_as, with_end-with_end}
 pub use Rattle.nc_outside.specs.DiskState.{PartlyWritten}
 pub use Rattle.nc_outside.specs.Told.{BothTold, after, with_end, with_front}
-pub use Rattle.nc_outside.specs.declared.disk.DiskErr.{DiskErr}
+pub use Rattle.nc_base.specs.declared.step.StepErr.{StepErr}
 pub use Rattle.overlay_laws.specs.Changes.{IsBetween}
 pub use Rattle.redef_laws.proofs.MovedLaws.{writable_is_sound}
 pub use Rattle.redef_laws.specs.Applied.{IsApplied}

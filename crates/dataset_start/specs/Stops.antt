@@ -7,17 +7,17 @@ use Rattle.nc_base.specs.declared.errors.RedefErr.TheVariants as redefinition
 use Rattle.nc_base.specs.declared.errors.ScriptErr.{ScriptErr}
 use Rattle.nc_base.specs.declared.errors.ScriptKind.{ScriptKind}
 use Rattle.nc_base.specs.declared.errors.ScriptKind.TheVariants as kind
-use Rattle.nc_outside.specs.declared.disk.DiskErr.{DiskErr}
-use Rattle.nc_outside.specs.declared.disk.DiskErr.TheVariants as disk
+use Rattle.nc_base.specs.declared.step.StepErr.{StepErr}
+use Rattle.nc_base.specs.declared.step.StepErr.TheVariants as step
 use Rattle.script_spec.specs.Texts.{disk_line, header_line, layout_line, redef_line, script_line, usage_line}
 use Rattle.dataset_start.specs.declared.streams.TakeErr.{TakeErr}
 use Rattle.dataset_start.specs.declared.streams.TakeErr.TheVariants as take
 use Rattle.dataset_start.specs.declared.stop.Stop.{Stop}
 use Rattle.dataset_start.specs.declared.stop.Stop.TheVariants.{Usage, Script, Header, Layout, Redefinition, Source, Disk, Memory}
 
-abbrev pub stop_of_disk : DiskErr → Stop
-stop_of_disk disk.Failed = Disk
-stop_of_disk disk.Memory = Memory
+abbrev pub stop_of_disk : StepErr → Stop
+stop_of_disk step.Disk = Disk
+stop_of_disk step.Memory = Memory
 
 abbrev pub stop_of_take : TakeErr → Stop
 stop_of_take take.Fault = Source

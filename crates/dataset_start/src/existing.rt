@@ -15,8 +15,8 @@ ghost use Rattle.dataset_start.specs.Stops.{line_of, status_of, IsOfHeader, IsOf
 use crate::redefined::redefine;
 use crate::stop::Stop;
 use cdf_header::decode;
-use nc_base::{Header, MAX_HEADER_BYTES, Script};
-use nc_outside::{Disk, DiskErr};
+use nc_base::{Header, MAX_HEADER_BYTES, Script, StepErr};
+use nc_outside::Disk;
 use std::alloc::Global;
 use var_layout::end_of;
 
@@ -70,7 +70,7 @@ pub fn read_header<D: Disk>(alloc: Global, disk: &mut D, name: &str) -> Result<H
 }
 
 // Starts the disk, and reads the first bytes of the dataset, among which its header stands.
-fn first_bytes<D: Disk>(alloc: Global, disk: &mut D, name: &str) -> Result<Vec<u8>, DiskErr>
+fn first_bytes<D: Disk>(alloc: Global, disk: &mut D, name: &str) -> Result<Vec<u8>, StepErr>
     ensures bytes { IfOk result (λ bytes. IfSome (D.held disk.old) (λ file. bytes.items ≡ front file)) }
     ensures few { IfOk result (λ bytes. length bytes.items ≤ 2 ^ 20) }
     ensures calls { OnOk result (IfSome (D.held disk.old) (λ file. D.calls disk.new ≡ after (λ _. head_load file) (D.calls disk.old))) }
@@ -83,7 +83,7 @@ fn first_bytes<D: Disk>(alloc: Global, disk: &mut D, name: &str) -> Result<Vec<u
     Ok(bytes)
 }
 
-fn read_front<D: Disk>(alloc: Global, disk: &mut D) -> Result<Vec<u8>, DiskErr>
+fn read_front<D: Disk>(alloc: Global, disk: &mut D) -> Result<Vec<u8>, StepErr>
     requires from { D.from disk.old ≡ 0 }
     ensures bytes { IfOk result (λ bytes. IfSome (D.held disk.old) (λ file. bytes.items ≡ front file)) }
     ensures few { IfOk result (λ bytes. length bytes.items ≤ 2 ^ 20) }
@@ -102,7 +102,7 @@ fn read_front<D: Disk>(alloc: Global, disk: &mut D) -> Result<Vec<u8>, DiskErr>
 }
 
 // Makes a file that is shorter than its end as long.
-fn lengthen<D: Disk>(alloc: Global, disk: &mut D, header: &Header) -> Result<(), DiskErr>
+fn lengthen<D: Disk>(alloc: Global, disk: &mut D, header: &Header) -> Result<(), StepErr>
     requires sound { is_sound header.now ≡ true }
     requires from { D.from disk.old ≡ 0 }
     ensures bytes { OnOk result (D.held disk.new ≡ after (λ file. longer file (dataset_end header.now)) (D.held disk.old)) }

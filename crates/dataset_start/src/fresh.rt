@@ -12,8 +12,8 @@ ghost use Rattle.dataset_start.specs.Readiness.{blank_file, empty_end, fill_call
 
 use cdf_header::encode;
 use fill_records::prefill;
-use nc_base::{Header, Script};
-use nc_outside::{Disk, DiskErr};
+use nc_base::{Header, Script, StepErr};
+use nc_outside::Disk;
 use std::alloc::Global;
 use var_layout::end_of;
 
@@ -23,7 +23,7 @@ pub(crate) fn create<D: Disk>(
     disk: &mut D,
     name: &str,
     header: &Header,
-) -> Result<(), DiskErr>
+) -> Result<(), StepErr>
     requires writable { is_writable header.now ≡ true }
     ensures bytes { OnOk result (D.held disk.new ≡ after (λ _. blank_file header.now) (D.held disk.old)) }
     ensures refused { OnErr result (BothTold (λ old left. IsTornCreation (canon header.now) (blank_file header.now) old left) (D.held disk.old) (D.held disk.new)) }
@@ -46,7 +46,7 @@ pub(crate) fn fill<D: Disk>(
     disk: &mut D,
     script: &Script,
     header: &Header,
-) -> Result<(), DiskErr>
+) -> Result<(), StepErr>
     requires sound { is_sound header.now ≡ true }
     requires hints { are_lawful_hints script.now.hints ≡ true }
     requires from { D.from disk.old ≡ 0 }

@@ -5,8 +5,7 @@ ghost use Rattle.dataset_start.specs.declared.stop.Stop.TheVariants.{Layout, Mem
 ghost use Rattle.dataset_start.specs.Stops.{fixed_line_of, line_of, status_of, stop_of_disk, stop_of_header, stop_of_redefinition, stop_of_script, stop_of_take};
 
 use crate::streams::TakeErr;
-use nc_base::{Blob, HeaderErr, LayoutErr, RedefErr, ScriptErr, ScriptKind};
-use nc_outside::DiskErr;
+use nc_base::{Blob, HeaderErr, LayoutErr, RedefErr, ScriptErr, ScriptKind, StepErr};
 use printed_text::{disk_line, header_line, layout_line, redef_line, script_line, usage_line};
 use std::alloc::{AllocError, Global};
 
@@ -77,13 +76,13 @@ impl From<LayoutErr> for Stop {
     }
 }
 
-impl From<DiskErr> for Stop {
+impl From<StepErr> for Stop {
     ghost from_gives = { λ e stop. stop ≡ stop_of_disk e };
 
-    fn from(e: DiskErr) -> Self {
+    fn from(e: StepErr) -> Self {
         match e {
-            DiskErr::Failed => Stop::Disk,
-            DiskErr::Memory => Stop::Memory,
+            StepErr::Disk => Stop::Disk,
+            StepErr::Memory => Stop::Memory,
         }
     }
 }

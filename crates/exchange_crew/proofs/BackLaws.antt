@@ -1,5 +1,5 @@
 -- Parts that come back one after another.
-use Rattle.exchange_crew.proofs.Words.{◌≡◌, ℕ, zero, suc, ◌+◌, ◌<◌, ◌≤◌, ◌⊎◌, min, get_or, inl, inr, refl, sym, ◌∙◌, ap, subst, List, [], ◌∷◌, ◌++◌, length, map, take, drop, Some, Result, Ok, Err, arith, length-append, take_more, slice_get_within, slice_get-get_or, all_zipped_more, slice_get, zip, OnOk, IsErr, IsErrOf, IsOk, AllZip, result_and, entry_below, refilled, Extent, DiskErr, Failed, In, in_either, in_right, at_in, in_at, SomeZip, zip_weaker, nat_tests}
+use Rattle.exchange_crew.proofs.Words.{◌≡◌, ℕ, zero, suc, ◌+◌, ◌<◌, ◌≤◌, ◌⊎◌, min, get_or, inl, inr, refl, sym, ◌∙◌, ap, subst, List, [], ◌∷◌, ◌++◌, length, map, take, drop, Some, Result, Ok, Err, arith, length-append, take_more, slice_get_within, slice_get-get_or, all_zipped_more, slice_get, zip, OnOk, IsErr, IsErrOf, IsOk, AllZip, result_and, entry_below, refilled, Extent, StepErr, Disk, In, in_either, in_right, at_in, in_at, SomeZip, zip_weaker, nat_tests}
 
 -- ---- two lists, place by place
 
@@ -77,12 +77,12 @@ pub back_more : {A B T E : Type 0} (R : Result T E → A → B → Type 0) (xs :
     → ((a : A) (b : B) → R end a b → R came a b) → AllZip (R end) xs ys → R came x y → now ≡ ys ++ y ∷ [] → AllZip (R came) (xs ++ x ∷ []) now
 back_more {A} {B} R xs ys now x y end came later h r e = subst (λ (v : List B). AllZip (R came) (xs ++ x ∷ []) v) (sym e) (zip_more (R end) (R came) xs ys x y later h r)
 
-pub failed_more : {A B T : Type 0} (R : A → B → Type 0) (xs : List A) (ys now : List B) (x : A) (y : B) (end came : Result T DiskErr) → length ys ≡ length xs
-    → (IsErrOf end Failed → SomeZip R xs ys) → (IsErrOf came Failed → IsErrOf end Failed ⊎ R x y) → now ≡ ys ++ y ∷ [] → IsErrOf came Failed → SomeZip R (xs ++ x ∷ []) now
+pub failed_more : {A B T : Type 0} (R : A → B → Type 0) (xs : List A) (ys now : List B) (x : A) (y : B) (end came : Result T StepErr) → length ys ≡ length xs
+    → (IsErrOf end Disk → SomeZip R xs ys) → (IsErrOf came Disk → IsErrOf end Disk ⊎ R x y) → now ≡ ys ++ y ∷ [] → IsErrOf came Disk → SomeZip R (xs ++ x ∷ []) now
 failed_more {A} {B} R xs ys now x y end came long before own e f =
     subst (λ (v : List B). SomeZip R (xs ++ x ∷ []) v) (sym e) (elim (own f) [ inl g ↦ some_more R xs ys x y (before g) | inr r ↦ some_last R xs ys x y long r ])
 
-pub and_failed : {T : Type 0} (end came : Result T DiskErr) → IsErrOf (result_and end came) Failed → IsErrOf end Failed ⊎ IsErrOf came Failed
+pub and_failed : {T : Type 0} (end came : Result T StepErr) → IsErrOf (result_and end came) Disk → IsErrOf end Disk ⊎ IsErrOf came Disk
 and_failed (Ok x) came f = inr f
 and_failed (Err x) came f = inl f
 

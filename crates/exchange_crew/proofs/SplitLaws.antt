@@ -1,5 +1,5 @@
 -- The first parts, and those behind them: what holds of both holds of all.
-use Rattle.exchange_crew.proofs.Words.{◌≡◌, ℕ, zero, suc, ◌+◌, inl, inr, ap, ◌∙◌, List, [], ◌∷◌, ◌++◌, length, map, take, drop, Some, Result, arith, drop-append_seam, take-append_seam, length-map, slice_get, zip, IsErrOf, AllZip, result_and, Extent, Owned, DiskErr, Failed, IsDomainOf, SomeZip, nat_tests}
+use Rattle.exchange_crew.proofs.Words.{◌≡◌, ℕ, zero, suc, ◌+◌, inl, inr, ap, ◌∙◌, List, [], ◌∷◌, ◌++◌, length, map, take, drop, Some, Result, arith, drop-append_seam, take-append_seam, length-map, slice_get, zip, IsErrOf, AllZip, result_and, Extent, Owned, StepErr, Disk, IsDomainOf, SomeZip, nat_tests}
 use Rattle.exchange_crew.proofs.BackLaws.{and_failed}
 
 pub zip_split : {A B : Type 0} (k : ℕ) (xs : List A) (ds : List B) → length ds ≡ length xs → zip xs ds ≡ zip (take k xs) (take k ds) ++ zip (drop k xs) (drop k ds)
@@ -47,6 +47,6 @@ domains_behind {D} from len list n parts rest domains more behind later each k p
 
 -- ---- a fault among them
 
-pub failed_joined : {D T : Type 0} (R : D → D → Type 0) (parts rest back others whole : List D) (end came : Result T DiskErr) → rest ≡ drop (length back) parts → whole ≡ back ++ others
-    → (IsErrOf end Failed → SomeZip R (take (length back) parts) back) → (IsErrOf came Failed → SomeZip R rest others) → IsErrOf (result_and end came) Failed → SomeZip R parts whole
+pub failed_joined : {D T : Type 0} (R : D → D → Type 0) (parts rest back others whole : List D) (end came : Result T StepErr) → rest ≡ drop (length back) parts → whole ≡ back ++ others
+    → (IsErrOf end Disk → SomeZip R (take (length back) parts) back) → (IsErrOf came Disk → SomeZip R rest others) → IsErrOf (result_and end came) Disk → SomeZip R parts whole
 failed_joined {D} R parts rest back others whole end came behind all first second f = grind (arith, nat_tests, and_failed end came f, some_first, some_second)

@@ -38,8 +38,8 @@ pub use Rattle.list_laws.proofs.Truth.{equal_true, no_both}
 pub use Rattle.nc_base.specs.declared.plan.Batch.{Batch}
 pub use Rattle.nc_base.specs.declared.plan.Extent.{Extent}
 pub use Rattle.nc_base.specs.declared.plan.Owned.{Owned}
-pub use Rattle.nc_outside.specs.declared.disk.DiskErr.{DiskErr}
-pub use Rattle.nc_outside.specs.declared.disk.DiskErr.TheVariants.{Failed}
+pub use Rattle.nc_base.specs.declared.step.StepErr.{StepErr}
+pub use Rattle.nc_base.specs.declared.step.StepErr.TheVariants.{Disk}
 pub use Rattle.overlay_laws.proofs.CoverLaws.{same_ascending, spans_ascend}
 pub use Rattle.overlay_laws.proofs.DomainLaws.{share}
 pub use Rattle.overlay_laws.proofs.EntryLaws.{in_extents}

@@ -1,6 +1,6 @@
 // What a helper is told, and what comes back of it.
-use nc_outside::DiskErr;
 
+use nc_base::StepErr;
 /// A job of a helper, of puts or of gets. Both go over one line, so that one thread does both.
 #[derive(Drop)]
 pub enum Errand<P, G> {
@@ -19,5 +19,5 @@ pub struct PartEnds<D: Drop, L: Drop> {
 #[derive(Drop)]
 pub struct PartBack<D: Drop, L: Drop> {
     pub ends: PartEnds<D, L>,
-    pub end: Result<(), DiskErr>,
+    pub end: Result<(), StepErr>,
 }

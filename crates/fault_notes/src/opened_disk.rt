@@ -1,5 +1,6 @@
 // A disk that remembers what it opened.
-use nc_outside::{Disk, DiskErr};
+use nc_base::StepErr;
+use nc_outside::Disk;
 use std::alloc::Global;
 
 /// A disk, of which the length of an existing dataset is kept, and the first bytes that are read of it.
@@ -60,7 +61,7 @@ impl<D: Disk> Disk for OpenedDisk<D> {
 
     ghost sure = { λ d. D.sure d.disk };
 
-    fn start(&mut self, alloc: Global, name: &str, fresh: bool) -> Result<(), DiskErr> {
+    fn start(&mut self, alloc: Global, name: &str, fresh: bool) -> Result<(), StepErr> {
         self.disk.start(alloc, name, fresh)?;
         if !fresh {
             self.length = self.disk.size();
@@ -73,21 +74,21 @@ impl<D: Disk> Disk for OpenedDisk<D> {
         self.disk.size()
     }
 
-    fn grow(&mut self, alloc: Global, size: u64) -> Result<(), DiskErr> {
+    fn grow(&mut self, alloc: Global, size: u64) -> Result<(), StepErr> {
         self.disk.grow(alloc, size)
     }
 
-    fn read_at(&mut self, alloc: Global, at: u64, into: &mut [u8]) -> Result<(), DiskErr> {
+    fn read_at(&mut self, alloc: Global, at: u64, into: &mut [u8]) -> Result<(), StepErr> {
         self.disk.read_at(alloc, at, into)?;
         keep_first(&mut self.front, into);
         Ok(())
     }
 
-    fn write_at(&mut self, alloc: Global, at: u64, bytes: &[u8]) -> Result<(), DiskErr> {
+    fn write_at(&mut self, alloc: Global, at: u64, bytes: &[u8]) -> Result<(), StepErr> {
         self.disk.write_at(alloc, at, bytes)
     }
 
-    fn split_off(&mut self, alloc: Global, at: u64) -> Result<Self, DiskErr> {
+    fn split_off(&mut self, alloc: Global, at: u64) -> Result<Self, StepErr> {
         let disk = self.disk.split_off(alloc, at)?;
         Ok(OpenedDisk {
             disk,

@@ -1,9 +1,10 @@
 // What the owner does at an arrival.
 ghost use Rattle.std.specs.Prelude.{◌≡◌, ◌+◌, ◌≤◌, ◌<◌, ◌++◌, ◌∷◌, [], ℕ, List, length, map, false, true, IfOk, OnOk, OnErr};
 ghost use Rattle.std.specs.List.{list_all};
+ghost use Rattle.nc_outside.specs.Cause.{HasDiskCause};
 ghost use Rattle.nc_base.specs.declared.step.RankItem.TheVariants as item;
 ghost use Rattle.serial_spec.specs.Owner.{Client, freed, holds, is_strange, offers_held, stops};
-ghost use Rattle.collective_round.specs.Rounds.{dataset_setting, HasStepCause};
+ghost use Rattle.collective_round.specs.Rounds.{dataset_setting};
 ghost use Rattle.rank_items.specs.Own.{HasOwnPuts};
 ghost use Rattle.turn_run.specs.Counts.{IsCount, IsFit};
 ghost use Rattle.file_owner.specs.Lent.{AreSame, IsReadable};
@@ -64,7 +65,7 @@ impl Owner {
         ensures count { IsCount dataset.now.header.now (D.len out.new.disk.now) out.new.records.now }
         ensures from { D.from out.new.disk.now ≡ 0 }
         ensures longer { D.len out.old.disk.now ≤ D.len out.new.disk.now }
-        ensures cause { HasStepCause (D.faults out.old.disk.now) (D.faults out.new.disk.now) result }
+        ensures cause { HasDiskCause (D.faults out.old.disk.now) (D.faults out.new.disk.now) result }
     {
         match item {
             RankItem::Ended { memory } => {
@@ -124,7 +125,7 @@ impl Owner {
             (standing D.Disk T.Told self.old out.old) (D.held out.new.disk.now) out.new.records.now) }
         ensures from { D.from out.new.disk.now ≡ 0 }
         ensures longer { D.len out.old.disk.now ≤ D.len out.new.disk.now }
-        ensures cause { HasStepCause (D.faults out.old.disk.now) (D.faults out.new.disk.now) result }
+        ensures cause { HasDiskCause (D.faults out.old.disk.now) (D.faults out.new.disk.now) result }
     {
         match self.reply_alone(tools, dataset, out, solo) {
             Ok(()) => Ok(()),
@@ -164,7 +165,7 @@ impl Owner {
             (standing D.Disk T.Told self.old out.old) (D.held out.new.disk.now) out.new.records.now) }
         ensures from { D.from out.new.disk.now ≡ 0 }
         ensures longer { D.len out.old.disk.now ≤ D.len out.new.disk.now }
-        ensures cause { HasStepCause (D.faults out.old.disk.now) (D.faults out.new.disk.now) result }
+        ensures cause { HasDiskCause (D.faults out.old.disk.now) (D.faults out.new.disk.now) result }
     {
         let reply = solo_reply(tools.alloc, out.disk, dataset, solo.number, solo.offer)?;
         let mark = Mark::Solo(solo.number, solo.call);
@@ -207,7 +208,7 @@ impl Owner {
         ensures count { IsCount dataset.now.header.now (D.len out.new.disk.now) out.new.records.now }
         ensures from { D.from out.new.disk.now ≡ 0 }
         ensures longer { D.len out.old.disk.now ≤ D.len out.new.disk.now }
-        ensures cause { HasStepCause (D.faults out.old.disk.now) (D.faults out.new.disk.now) result }
+        ensures cause { HasDiskCause (D.faults out.old.disk.now) (D.faults out.new.disk.now) result }
     {
         match self.reply_together(tools, crew, dataset, out) {
             Ok(()) => Ok(()),
@@ -256,7 +257,7 @@ impl Owner {
         ensures count { IsCount dataset.now.header.now (D.len out.new.disk.now) out.new.records.now }
         ensures from { D.from out.new.disk.now ≡ 0 }
         ensures longer { D.len out.old.disk.now ≤ D.len out.new.disk.now }
-        ensures cause { HasStepCause (D.faults out.old.disk.now) (D.faults out.new.disk.now) result }
+        ensures cause { HasDiskCause (D.faults out.old.disk.now) (D.faults out.new.disk.now) result }
     {
         let Tools { rt, alloc, gate: _ } = *tools;
         let (job, known) = self.take_job(alloc)?;

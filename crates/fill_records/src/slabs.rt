@@ -12,8 +12,8 @@ ghost use Rattle.serial_spec.specs.SoundHeaders.{is_sound};
 ghost use Rattle.serial_spec.specs.Layout.{end_of};
 
 use crate::fill_value;
-use nc_base::{Header, Memory};
-use nc_outside::{Disk, DiskErr};
+use nc_base::{Header, Memory, StepErr};
+use nc_outside::Disk;
 use std::alloc::Global;
 use type_external::size_of;
 use var_layout::{is_record, slab};
@@ -27,7 +27,7 @@ pub fn prefill<D: Disk>(
     disk: &mut D,
     header: &Header,
     size: u64,
-) -> Result<(), DiskErr>
+) -> Result<(), StepErr>
     requires sound { is_sound header.now ≡ true }
     requires from { D.from disk.old ≡ 0 }
     requires long { end_of header.now (header_len header.now) 0 ≤ D.len disk.old }
@@ -54,7 +54,7 @@ fn fill_variable<D: Disk>(
     header: &Header,
     var: usize,
     size: u64,
-) -> Result<(), DiskErr>
+) -> Result<(), StepErr>
     requires sound { is_sound header.now ≡ true }
     requires there { var < length header.now.vars }
     requires from { D.from disk.old ≡ 0 }
@@ -87,7 +87,7 @@ fn write_value<D: Disk>(
     begin: u64,
     len: u64,
     size: u64,
-) -> Result<(), DiskErr>
+) -> Result<(), StepErr>
     requires value { 1 ≤ length value.now }
     requires short { length value.now ≤ 8 }
     requires from { D.from disk.old ≡ 0 }

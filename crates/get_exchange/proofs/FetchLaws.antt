@@ -1,5 +1,5 @@
 -- A helper that reads window after window: what is left to be read gives the whole.
-use Rattle.get_exchange.proofs.Words.{◌≡◌, ℕ, ◌+◌, ◌-◌, ◌≤◌, inl, inr, refl, sym, ◌∙◌, ap, subst, List, [], ◌∷◌, ◌++◌, length, drop, suc, Option, Some, None, Result, append_assoc, arith, append-nil, length-append, flat_map, slice_get, IfSome, IsOk, OnOk, Extent, Owned, DiskCall, with_end-nil, with_end-with_end, with_end, DiskErr, load_calls, In, read, Window, told_window, drop_at, HasFetched, get_turns, reading_of, AreRead, HasGot, IsGetPlan, LieOnPart, IsDomainOf, PartState, domain_of, IsStartedFor, Told, turns_of, Reading, Hull, ReadWorker, GetPlan, domain_part, nat_tests}
+use Rattle.get_exchange.proofs.Words.{◌≡◌, ℕ, ◌+◌, ◌-◌, ◌≤◌, inl, inr, refl, sym, ◌∙◌, ap, subst, List, [], ◌∷◌, ◌++◌, length, drop, suc, Option, Some, None, Result, append_assoc, arith, append-nil, length-append, flat_map, slice_get, IfSome, IsOk, OnOk, Extent, Owned, DiskCall, with_end-nil, with_end-with_end, with_end, StepErr, load_calls, In, read, Window, told_window, drop_at, HasFetched, get_turns, reading_of, AreRead, HasGot, IsGetPlan, LieOnPart, IsDomainOf, PartState, domain_of, IsStartedFor, Told, turns_of, Reading, Hull, ReadWorker, GetPlan, domain_part, nat_tests}
 use Rattle.std.specs.Prelude.{map}
 use mathlib.Core.List.{IsPrefix}
 
@@ -68,7 +68,7 @@ fetch_end from len all ahead put held calls made s none = grind (arith, nat_test
 pub got_later : {T E : Type 0} (ts : List Told) (old new : PartState) (end came : Result T E) → OnOk came (IsOk end) → HasGot ts old new end → HasGot ts old new came
 got_later ts old new end came ok h = grind (arith, nat_tests)
 
-pub joined_fetched : {D T : Type 0} (plan : GetPlan) (worker : ReadWorker D) (old new : PartState) (put : List Reading) (end : Result T DiskErr) → IsStartedFor plan worker
+pub joined_fetched : {D T : Type 0} (plan : GetPlan) (worker : ReadWorker D) (old new : PartState) (put : List Reading) (end : Result T StepErr) → IsStartedFor plan worker
     → HasFetched (map told_window worker.helper.awaited.windows.value.items) old new put end → HasFetched (get_turns plan (domain_of worker)) old new put end
 joined_fetched plan worker old new put end is fetched = subst (λ (ts : List Told). HasFetched ts old new put end) is.windows fetched
 
@@ -83,6 +83,6 @@ whole_read ts from None put taken e same = tt
 whole_read ts from (Some file) put taken e same = same ∙ e
 
 -- what was taken off the line is what was put, as far as it goes
-pub taken_read : {T : Type 0} (ts : List Told) (old new : PartState) (put taken : List Reading) (end : Result T DiskErr) → HasFetched ts old new put end → IsPrefix taken put
+pub taken_read : {T : Type 0} (ts : List Told) (old new : PartState) (put taken : List Reading) (end : Result T StepErr) → HasFetched ts old new put end → IsPrefix taken put
     → (length taken ≡ length put → taken ≡ put) → OnOk end (AreRead ts old.from old.held taken)
 taken_read ts old new put taken end f front whole = grind (arith, nat_tests, front_read, whole_read)

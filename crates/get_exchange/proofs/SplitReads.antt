@@ -1,5 +1,5 @@
 -- The first parts, which helpers read, and those behind them, which are read in turn.
-use Rattle.get_exchange.proofs.Words.{◌≡◌, ℕ, inl, inr, sym, ◌∙◌, ap, subst, List, ◌++◌, length, take, drop, Option, Result, Ok, Err, arith, map-append, AllZip-long, length-zip, zip, OnOk, AllZip, result_and, Extent, DiskErr, In, in_either, in_left, in_right, get_turns, HasGot, told_in, HasReadParts, PartState, Told, GetPlan, and_first_ok, and_second_ok, zip_joined, zip_split}
+use Rattle.get_exchange.proofs.Words.{◌≡◌, ℕ, inl, inr, sym, ◌∙◌, ap, subst, List, ◌++◌, length, take, drop, Option, Result, Ok, Err, arith, map-append, AllZip-long, length-zip, zip, OnOk, AllZip, result_and, Extent, StepErr, In, in_either, in_left, in_right, get_turns, HasGot, told_in, HasReadParts, PartState, Told, GetPlan, and_first_ok, and_second_ok, zip_joined, zip_split}
 use Rattle.get_exchange.proofs.PartReads.{all_got_later}
 use Rattle.get_exchange.proofs.ReadLaws.{log_joined}
 
@@ -9,7 +9,7 @@ back_long Q xs ds ys long all = omega (arith, AllZip-long Q (zip xs ds) ys all, 
 
 -- ---- what came of both
 
-pub got_joined : {D T : Type 0} (plan : GetPlan) (state : D → PartState) (parts rest : List D) (domains more : List Extent) (back others whole : List D) (end came : Result T DiskErr)
+pub got_joined : {D T : Type 0} (plan : GetPlan) (state : D → PartState) (parts rest : List D) (domains more : List Extent) (back others whole : List D) (end came : Result T StepErr)
     → length domains ≡ length parts → rest ≡ drop (length back) parts → more ≡ drop (length back) domains → whole ≡ back ++ others
     → AllZip (λ p d. HasGot (get_turns plan p.1) (state p.0) (state d) end) (zip (take (length back) parts) (take (length back) domains)) back
     → AllZip (λ p d. HasGot (get_turns plan p.1) (state p.0) (state d) came) (zip rest more) others

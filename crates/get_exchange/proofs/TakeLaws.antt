@@ -1,5 +1,5 @@
 -- Hulls that are taken off the lines of helpers, one after another.
-use Rattle.get_exchange.proofs.Words.{◌≡◌, ℕ, ◌+◌, ◌-◌, inl, inr, refl, sym, ◌∙◌, ap, subst, List, [], ◌∷◌, ◌++◌, length, map, set, Bool, true, false, Option, Some, Result, Ok, Err, append_assoc, arith, append-nil, length-map, map-append, same_Some, slice_get_within, slice_get, ◌==◌, IfErr, IfSome, OnOk, result_and, entry_below, entry_set, entry_set_other, Owned, DiskErr, Memory, read, In, in_either, in_left, in_right, turns_due, IsFresh, IsStartedFor, FitTable, HasCollected, HaveOnePlaces, AreServed, reading_of, AreRead, told_in, HasTaken, HasTakenOf, HasTakenTurn, HaveTakenTurns, IsKept, IsTakenOf, Log, Told, Reading, Hull, Shelf, ReadWorker, GetPlan, each_new, set_each, nat_tests}
+use Rattle.get_exchange.proofs.Words.{◌≡◌, ℕ, ◌+◌, ◌-◌, inl, inr, refl, sym, ◌∙◌, ap, subst, List, [], ◌∷◌, ◌++◌, length, map, set, Bool, true, false, Option, Some, Result, Ok, Err, append_assoc, arith, append-nil, length-map, map-append, same_Some, slice_get_within, slice_get, ◌==◌, IfErr, IfSome, OnOk, result_and, entry_below, entry_set, entry_set_other, Owned, StepErr, Memory, read, In, in_either, in_left, in_right, turns_due, IsFresh, IsStartedFor, FitTable, HasCollected, HaveOnePlaces, AreServed, reading_of, AreRead, told_in, HasTaken, HasTakenOf, HasTakenTurn, HaveTakenTurns, IsKept, IsTakenOf, Log, Told, Reading, Hull, Shelf, ReadWorker, GetPlan, each_new, set_each, nat_tests}
 use borrow.Author.Tests.{eqb-true, eqb-false}
 use Rattle.get_exchange.proofs.ReadLaws.{hull_collected, log_joined, log_one}
 
@@ -94,7 +94,7 @@ pub taken_on : {D T E : Type 0} (list : List Owned) (olds mids : List (ReadWorke
 taken_on list olds mids k mid new before between now (Ok y) (Ok x) long at h t = taken_more list olds mids k mid new before between now long at h t
 taken_on list olds mids k mid new before between now _ _ long at h t = tt
 
-pub both_memory : {T : Type 0} (end came : Result T DiskErr) → IfErr end (λ e. e ≡ Memory) → IfErr came (λ e. e ≡ Memory) → IfErr (result_and end came) (λ e. e ≡ Memory)
+pub both_memory : {T : Type 0} (end came : Result T StepErr) → IfErr end (λ e. e ≡ Memory) → IfErr came (λ e. e ≡ Memory) → IfErr (result_and end came) (λ e. e ≡ Memory)
 both_memory (Err x) came h g = h
 both_memory (Ok y) came h g = g
 

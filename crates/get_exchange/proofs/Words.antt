@@ -55,8 +55,8 @@ pub use Rattle.nc_base.specs.declared.step.DiskCall.{DiskCall}
 pub use Rattle.nc_outside.proofs.ToldLaws.{with_end-nil, with_end-with_end}
 pub use Rattle.nc_outside.specs.Cause.{Rose}
 pub use Rattle.nc_outside.specs.Told.{with_end}
-pub use Rattle.nc_outside.specs.declared.disk.DiskErr.{DiskErr}
-pub use Rattle.nc_outside.specs.declared.disk.DiskErr.TheVariants.{Failed, Memory}
+pub use Rattle.nc_base.specs.declared.step.StepErr.{StepErr}
+pub use Rattle.nc_base.specs.declared.step.StepErr.TheVariants.{Disk, Memory}
 pub use Rattle.overlay_laws.proofs.EntryLaws.{in_extents, says_cases, says_left, says_right}
 pub use Rattle.overlay_laws.proofs.HullLaws.{in_either, in_left, in_right}
 pub use Rattle.overlay_laws.proofs.Members.{entry_in, in_map, in_zip, map_in, zip_in}

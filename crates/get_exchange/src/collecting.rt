@@ -1,7 +1,7 @@
 // What the calling thread does: round by round it takes the hulls off the lines, and copies their bytes into the blobs of the entries.
 ghost use Rattle.std.specs.Prelude.{◌≡◌, ◌+◌, ◌^◌, ◌<◌, ◌≤◌, ℕ, [], length, slice_get, IfErr, IfNone, IfSome, None, OnOk, Some};
 ghost use Rattle.serial_spec.specs.File.{written};
-ghost use Rattle.nc_outside.specs.declared.disk.DiskErr.TheVariants.{Memory};
+ghost use Rattle.nc_base.specs.declared.step.StepErr.TheVariants as fault;
 ghost use Rattle.overlay_laws.specs.Lines.{extents, EndBelow};
 ghost use Rattle.aggregator_rounds.specs.EntryParts.{AreFilled, buffer_cell};
 ghost use Rattle.get_exchange.specs.Blobs.{blob_at, with_blob, AreAsLong, FitTable, HasCollected, HaveOnePlaces};
@@ -18,8 +18,8 @@ use crate::shelf::Shelf;
 use crate::walk::ReadTurn;
 use aggregator_rounds::collect_entry;
 use exchange_crew::{GetPlan, Spares, next_window};
-use nc_base::{Blob, BlobList, Extent, Owned};
-use nc_outside::{Disk, DiskErr};
+use nc_base::{Blob, BlobList, Extent, Owned, StepErr};
+use nc_outside::Disk;
 use std::sync::Wait;
 
 /// Takes the hulls of all windows: round by round, and in a round by aggregator. `Memory` where one didn't come, whose helper then has
@@ -31,7 +31,7 @@ pub(crate) fn take_all<R: Wait, D: Disk>(
     workers: &mut [ReadWorker<D>],
     lenders: &mut Lenders,
     table: &mut [BlobList],
-) -> Result<(), DiskErr>
+) -> Result<(), StepErr>
     requires plan { IsGetPlanned plan.now }
     requires one_place { HaveOnePlaces plan.now.list.now }
     requires lenders { AreReady lenders.old.each.items }
@@ -42,7 +42,7 @@ pub(crate) fn take_all<R: Wait, D: Disk>(
     ensures none { (k : ℕ) (worker : ReadWorker D) → slice_get workers.new k ≡ Some worker → turns_due worker.shelf ≡ [] }
     ensures blobs { AreAsLong table.old table.new }
     ensures taken { OnOk result (HaveTakenTurns plan.now.list.now workers.old workers.new table.old table.new) }
-    ensures memory { IfErr result (λ e. e ≡ Memory) }
+    ensures memory { IfErr result (λ e. e ≡ fault.Memory) }
 {
     let mut end = Ok(());
     'rounds: while let Some(k) = least_round(workers) {
@@ -108,7 +108,7 @@ pub(crate) fn take_turn<R: Wait>(
     plan: &GetPlan,
     shelf: &mut Shelf,
     table: &mut [BlobList],
-) -> (Result<(), DiskErr>, Option<Blob>)
+) -> (Result<(), StepErr>, Option<Blob>)
     requires plan { IsGetPlanned plan.now }
     requires one_place { HaveOnePlaces plan.now.list.now }
     requires ready { IsShelfIn plan.now.list.now shelf.old }
@@ -118,7 +118,7 @@ pub(crate) fn take_turn<R: Wait>(
     ensures blobs { AreAsLong table.old table.new }
     ensures fewer { (turns_due shelf.old ≡ [] → ⊥) → length (turns_due shelf.new) < length (turns_due shelf.old) }
     ensures taken { OnOk result.0 (HasTakenTurn plan.now.list.now shelf.old shelf.new table.old table.new) }
-    ensures memory { IfErr result.0 (λ e. e ≡ Memory) }
+    ensures memory { IfErr result.0 (λ e. e ≡ fault.Memory) }
 {
     let Some(window) = shelf.next else {
         return (Ok(()), None);
@@ -133,13 +133,13 @@ pub(crate) fn take_turn<R: Wait>(
         }
         Reading::Ended(blob) => {
             shelf.next = None;
-            (Err(DiskErr::Memory), Some(blob))
+            (Err(StepErr::Memory), Some(blob))
         }
     }
 }
 
 // Copies the entries' bytes out of those of a window's hull. What another thread put is known only by its type, so its length is tested.
-fn collect_hull(turn: &ReadTurn, bytes: &Blob, table: &mut [BlobList]) -> Result<(), DiskErr>
+fn collect_hull(turn: &ReadTurn, bytes: &Blob, table: &mut [BlobList]) -> Result<(), StepErr>
     requires hull { turn.now.window.hull.at + turn.now.window.hull.len < 2 ^ 62 }
     requires ends { EndBelow (2 ^ 62) (extents (entries_in turn.now)) }
     requires filled { AreFilled (entries_in turn.now) }
@@ -147,10 +147,10 @@ fn collect_hull(turn: &ReadTurn, bytes: &Blob, table: &mut [BlobList]) -> Result
     ensures long { OnOk result (length bytes.now ≡ turn.now.window.hull.len) }
     ensures collected { OnOk result (HasCollected turn.now.window.hull.at (turn.now.window.hull.at + turn.now.window.hull.len) bytes.now (entries_in turn.now) table.old table.new) }
     ensures blobs { AreAsLong table.old table.new }
-    ensures memory { IfErr result (λ e. e ≡ Memory) }
+    ensures memory { IfErr result (λ e. e ≡ fault.Memory) }
 {
     if bytes.len() as u64 != turn.window.hull.len {
-        return Err(DiskErr::Memory);
+        return Err(StepErr::Memory);
     }
     collect_entries(turn, bytes.as_slice(), table);
     Ok(())

@@ -3,7 +3,7 @@ ghost use Rattle.std.specs.Prelude.{◌≡◌, ◌+◌, ◌<◌, ◌≤◌, ℕ,
 ghost use Rattle.std.specs.List.{AllZip};
 ghost use Rattle.nc_base.specs.declared.plan.Extent.{Extent};
 ghost use Rattle.nc_outside.specs.Cause.{Rose};
-ghost use Rattle.nc_outside.specs.declared.disk.DiskErr.TheVariants.{Failed};
+ghost use Rattle.nc_base.specs.declared.step.StepErr.TheVariants as fault;
 ghost use Rattle.overlay_laws.specs.Entries.{In};
 ghost use Rattle.serial_spec.specs.File.{read};
 ghost use Rattle.aggregator_rounds.specs.EntryParts.{IsCovered};
@@ -23,8 +23,8 @@ use crate::in_turn::get_in_turn;
 use crate::results::take_back;
 use crossbeam_channel::Sender;
 use exchange_crew::{Errand, GetPlan, Shares, Spares, Tools, give_back, make_rooms};
-use nc_base::{Extent, GotTable, Memory};
-use nc_outside::{Disk, DiskErr, Gate};
+use nc_base::{Extent, GotTable, Memory, StepErr};
+use nc_outside::{Disk, Gate};
 use std::alloc::Global;
 use std::sync::Wait;
 
@@ -42,7 +42,7 @@ pub fn exchange_get<R: Wait, D: Disk, G: Gate, P: Send + Drop>(
     domains: &[Extent],
     parts: Vec<D>,
     into: &mut GotTable,
-) -> (Vec<D>, Result<(), DiskErr>)
+) -> (Vec<D>, Result<(), StepErr>)
     requires plan { IsGetPlanned plan.now }
     requires line_low { 1 ≤ plan.now.hints.now.line_room }
     requires line_high { plan.now.hints.now.line_room ≤ 64 }
@@ -56,7 +56,7 @@ pub fn exchange_get<R: Wait, D: Disk, G: Gate, P: Send + Drop>(
         (part_state D.Disk p.0) (part_state D.Disk new) result.1) (zip parts.items domains.now) result.0.items }
     ensures read { (file : List ℕ) → ((part : D) → In parts.items part → D.held part ≡ Some (read file (D.from part) (D.len part))) → OnOk result.1 (HasRead file plan.now.list.now into.old into.new) }
     ensures blobs { AreAsLong into.old into.new }
-    ensures failed { IsErrOf result.1 Failed → SomeZip (λ old new. Rose (D.faults old) (D.faults new)) parts.items result.0.items }
+    ensures failed { IsErrOf result.1 fault.Disk → SomeZip (λ old new. Rose (D.faults old) (D.faults new)) parts.items result.0.items }
 {
     get_parts(tools, helpers, spares, plan, domains, parts, into)
 }
@@ -70,7 +70,7 @@ fn get_parts<R: Wait, D: Disk, G: Gate, P: Send + Drop>(
     domains: &[Extent],
     parts: Vec<D>,
     into: &mut GotTable,
-) -> (Vec<D>, Result<(), DiskErr>)
+) -> (Vec<D>, Result<(), StepErr>)
     requires plan { IsGetPlanned plan.now }
     requires line_low { 1 ≤ plan.now.hints.now.line_room }
     requires line_high { plan.now.hints.now.line_room ≤ 64 }
@@ -83,7 +83,7 @@ fn get_parts<R: Wait, D: Disk, G: Gate, P: Send + Drop>(
         (part_state D.Disk p.0) (part_state D.Disk new) result.1) (zip parts.items domains.now) result.0.items }
     ensures read { OnOk result.1 (HasReadParts (λ part. D.from part) (λ part. D.held part) plan.now (zip parts.items domains.now) into.old into.new) }
     ensures blobs { AreAsLong into.old into.new }
-    ensures failed { IsErrOf result.1 Failed → SomeZip (λ old new. Rose (D.faults old) (D.faults new)) parts.items result.0.items }
+    ensures failed { IsErrOf result.1 fault.Disk → SomeZip (λ old new. Rose (D.faults old) (D.faults new)) parts.items result.0.items }
 {
     if helpers.is_empty() {
         return get_in_turn(tools, spares, plan, 0, domains, parts, into);
@@ -126,7 +126,7 @@ fn get_helped<'a, R: Wait, D: Disk, G: Gate, P: Send + Drop>(
     parts: Vec<D>,
     fetching: Fetching<'a, D>,
     into: &mut GotTable,
-) -> (Vec<D>, Result<(), DiskErr>)
+) -> (Vec<D>, Result<(), StepErr>)
     requires plan { IsGetPlanned plan.now }
     requires line_low { 1 ≤ plan.now.hints.now.line_room }
     requires line_high { plan.now.hints.now.line_room ≤ 64 }
@@ -141,7 +141,7 @@ fn get_helped<'a, R: Wait, D: Disk, G: Gate, P: Send + Drop>(
         (part_state D.Disk p.0) (part_state D.Disk new) result.1) (zip parts.items domains.now) result.0.items }
     ensures read { OnOk result.1 (HasReadParts (λ part. D.from part) (λ part. D.held part) plan.now (zip parts.items domains.now) into.old into.new) }
     ensures blobs { AreAsLong into.old into.new }
-    ensures failed { IsErrOf result.1 Failed → SomeZip (λ old new. Rose (D.faults old) (D.faults new)) parts.items result.0.items }
+    ensures failed { IsErrOf result.1 fault.Disk → SomeZip (λ old new. Rose (D.faults old) (D.faults new)) parts.items result.0.items }
 {
     let Served {
         mut back,
@@ -167,7 +167,7 @@ fn get_helped<'a, R: Wait, D: Disk, G: Gate, P: Send + Drop>(
 struct Served<D: Drop> {
     back: Vec<D>,
     rest: Vec<D>,
-    end: Result<(), DiskErr>,
+    end: Result<(), StepErr>,
 }
 
 // The gets of the parts that helpers take.
@@ -199,7 +199,7 @@ fn get_served<'a, R: Wait, D: Disk, G: Gate, P: Send + Drop>(
     ensures read { OnOk result.end (HasReadParts (λ part. D.from part) (λ part. D.held part) plan.now
         (zip (take (length result.back.items) parts.items) (take (length result.back.items) domains.now)) into.old into.new) }
     ensures blobs { AreAsLong into.old into.new }
-    ensures failed { IsErrOf result.end Failed → SomeZip (λ old new. Rose (D.faults old) (D.faults new)) (take (length result.back.items) parts.items) result.back.items }
+    ensures failed { IsErrOf result.end fault.Disk → SomeZip (λ old new. Rose (D.faults old) (D.faults new)) (take (length result.back.items) parts.items) result.back.items }
 {
     let Fetching {
         mut shares,

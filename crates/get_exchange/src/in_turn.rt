@@ -3,7 +3,7 @@ ghost use Rattle.std.specs.Prelude.{◌≡◌, ◌⊎◌, ◌+◌, ◌^◌, ◌<
 ghost use Rattle.std.specs.List.{AllZip};
 ghost use Rattle.nc_base.specs.declared.plan.Extent.{Extent};
 ghost use Rattle.nc_outside.specs.Cause.{HasDiskCause, Rose};
-ghost use Rattle.nc_outside.specs.declared.disk.DiskErr.TheVariants.{Failed};
+ghost use Rattle.nc_base.specs.declared.step.StepErr.TheVariants as fault;
 ghost use Rattle.nc_outside.specs.Told.{with_end};
 ghost use Rattle.overlay_laws.specs.Changes.{load_calls};
 ghost use Rattle.overlay_laws.specs.Entries.{In};
@@ -21,8 +21,8 @@ use crate::collecting::collect_entries;
 use crate::walk::{Ahead, ReadTurn, ReadWalk, Reader};
 use aggregator_rounds::get_window;
 use exchange_crew::{GetPlan, Spares, Tools, aggregator_at, longest_window, next_window};
-use nc_base::{BlobList, Extent, GotTable};
-use nc_outside::{Disk, DiskErr, Gate, Point};
+use nc_base::{BlobList, Extent, GotTable, StepErr};
+use nc_outside::{Disk, Gate, Point};
 use std::alloc::Global;
 use std::sync::Wait;
 
@@ -42,7 +42,7 @@ pub(crate) fn get_in_turn<R: Wait, D: Disk, G: Gate>(
     domains: &[Extent],
     parts: Vec<D>,
     into: &mut GotTable,
-) -> (Vec<D>, Result<(), DiskErr>)
+) -> (Vec<D>, Result<(), StepErr>)
     requires plan { IsGetPlanned plan.now }
     requires few { first + length domains.now ≤ 64 }
     requires one_each { length domains.now ≡ length parts.items }
@@ -53,14 +53,14 @@ pub(crate) fn get_in_turn<R: Wait, D: Disk, G: Gate>(
         (part_state D.Disk p.0) (part_state D.Disk new) result.1) (zip parts.items domains.now) result.0.items }
     ensures read { OnOk result.1 (HasReadParts (λ part. D.from part) (λ part. D.held part) plan.now (zip parts.items domains.now) into.old into.new) }
     ensures blobs { AreAsLong into.old into.new }
-    ensures failed { IsErrOf result.1 Failed → SomeZip (λ old new. Rose (D.faults old) (D.faults new)) parts.items result.0.items }
+    ensures failed { IsErrOf result.1 fault.Disk → SomeZip (λ old new. Rose (D.faults old) (D.faults new)) parts.items result.0.items }
 {
     let Ok(back) = Vec::with_capacity(tools.alloc, parts.len()) else {
-        return (parts, Err(DiskErr::Memory));
+        return (parts, Err(StepErr::Memory));
     };
     let size = longest_window(plan.hints.cb_buffer, domains) as usize;
     let Ok(buf) = spares.take(tools.alloc, size) else {
-        return (parts, Err(DiskErr::Memory));
+        return (parts, Err(StepErr::Memory));
     };
     let mut room = ReadRoom {
         table: into.take().into_vec(),
@@ -82,7 +82,7 @@ fn read_parts<R: Wait, D: Disk, G: Gate>(
     parts: Vec<D>,
     back: Vec<D>,
     room: &mut ReadRoom,
-) -> (Vec<D>, Result<(), DiskErr>)
+) -> (Vec<D>, Result<(), StepErr>)
     requires plan { IsGetPlanned plan.now }
     requires few { first + length domains.now ≤ 64 }
     requires one_each { length domains.now ≡ length parts.items }
@@ -96,7 +96,7 @@ fn read_parts<R: Wait, D: Disk, G: Gate>(
         (part_state D.Disk p.0) (part_state D.Disk new) result.1) (zip parts.items domains.now) result.0.items }
     ensures read { OnOk result.1 (HasReadParts (λ part. D.from part) (λ part. D.held part) plan.now (zip parts.items domains.now) room.old.table.items room.new.table.items) }
     ensures blobs { AreAsLong room.old.table.items room.new.table.items }
-    ensures failed { IsErrOf result.1 Failed → SomeZip (λ old new. Rose (D.faults old) (D.faults new)) parts.items result.0.items }
+    ensures failed { IsErrOf result.1 fault.Disk → SomeZip (λ old new. Rose (D.faults old) (D.faults new)) parts.items result.0.items }
 {
     let mut back = back;
     let mut end = Ok(());
@@ -123,8 +123,8 @@ fn read_next<'a, R: Wait, D: Disk, G: Gate>(
     reader: &Reader<'a>,
     part: D,
     room: &mut ReadRoom,
-    before: Result<(), DiskErr>,
-) -> (D, Result<(), DiskErr>)
+    before: Result<(), StepErr>,
+) -> (D, Result<(), StepErr>)
     requires plan { IsGetPlanned plan.now }
     requires reader { IsReader plan.now reader.now }
     requires domain { IsDomainOf plan.now.list.now (D.from part) (D.len part) reader.now.aggregator.domain }
@@ -137,7 +137,7 @@ fn read_next<'a, R: Wait, D: Disk, G: Gate>(
     ensures read { OnOk result.1 (HasReadTurns plan.now.list.now (get_turns plan.now reader.now.aggregator.domain) (D.from part) (D.held part) room.old.table.items room.new.table.items) }
     ensures blobs { AreAsLong room.old.table.items room.new.table.items }
     ensures buf { length room.new.buf.items ≡ length room.old.buf.items }
-    ensures failed { IsErrOf result.1 Failed → IsErrOf before Failed ⊎ Rose (D.faults part) (D.faults result.0) }
+    ensures failed { IsErrOf result.1 fault.Disk → IsErrOf before fault.Disk ⊎ Rose (D.faults part) (D.faults result.0) }
 {
     if let Err(fault) = before {
         return (part, Err(fault));
@@ -162,7 +162,7 @@ fn collect_part<'a, R: Wait, D: Disk, G: Gate>(
     part: &mut D,
     buf: &mut [u8],
     table: &mut [BlobList],
-) -> Result<(), DiskErr>
+) -> Result<(), StepErr>
     requires plan { IsGetPlanned plan.now }
     requires reader { IsReader plan.now reader.now }
     requires domain { IsDomainOf plan.now.list.now (D.from part.old) (D.len part.old) reader.now.aggregator.domain }
@@ -173,7 +173,7 @@ fn collect_part<'a, R: Wait, D: Disk, G: Gate>(
         (part_state D.Disk part.old) (part_state D.Disk part.new) result }
     ensures read { OnOk result (HasReadTurns plan.now.list.now (get_turns plan.now reader.now.aggregator.domain) (D.from part.old) (D.held part.old) table.old table.new) }
     ensures blobs { AreAsLong table.old table.new }
-    ensures failed { IsErrOf result Failed → Rose (D.faults part.old) (D.faults part.new) }
+    ensures failed { IsErrOf result fault.Disk → Rose (D.faults part.old) (D.faults part.new) }
 {
     let mut walk = ReadWalk::new(tools.alloc, plan, reader);
     'turns: while let Some(window) = next_window(&mut walk.windows) {
@@ -195,7 +195,7 @@ fn collect_turn<D: Disk>(
     turn: &ReadTurn,
     buf: &mut [u8],
     table: &mut [BlobList],
-) -> Result<(), DiskErr>
+) -> Result<(), StepErr>
     requires low { D.from part.old ≤ turn.now.window.hull.at }
     requires high { turn.now.window.hull.at + turn.now.window.hull.len ≤ D.from part.old + D.len part.old }
     requires hull { turn.now.window.hull.at + turn.now.window.hull.len < 2 ^ 62 }

@@ -1,7 +1,7 @@
 // What a helper does: window after window it reads the hull, and puts it on its line.
 ghost use Rattle.std.specs.Prelude.{◌≡◌, ◌+◌, ◌-◌, ◌≤◌, [], length, map, IfSome, IsErrOf, OnOk};
 ghost use Rattle.nc_outside.specs.Cause.{HasDiskCause, Rose};
-ghost use Rattle.nc_outside.specs.declared.disk.DiskErr.TheVariants.{Failed};
+ghost use Rattle.nc_base.specs.declared.step.StepErr.TheVariants as fault;
 ghost use Rattle.nc_outside.specs.Told.{with_end};
 ghost use Rattle.overlay_laws.specs.Changes.{load_calls};
 ghost use Rattle.serial_spec.specs.File.{read};
@@ -14,8 +14,8 @@ use crate::helper::GetLines;
 use aggregator_rounds::get_window;
 use exchange_crew::{Tools, resize_by_blocks};
 use file_domains::Window;
-use nc_base::Blob;
-use nc_outside::{Disk, DiskErr, Gate, Point};
+use nc_base::{Blob, StepErr};
+use nc_outside::{Disk, Gate, Point};
 use std::alloc::Global;
 use std::sync::Wait;
 
@@ -38,7 +38,7 @@ pub(crate) fn read_part<R: Wait, D: Disk, G: Gate>(
     windows: &[Window],
     part: &mut D,
     lines: &mut GetLines,
-) -> Result<(), DiskErr>
+) -> Result<(), StepErr>
     requires on_part { LieOnPart (D.from part.old) (D.len part.old) (map told_window windows.now) }
     requires empty { lines.old.line.items ≡ [] }
     ensures of { lines.new.line.of ≡ lines.old.line.of }
@@ -46,7 +46,7 @@ pub(crate) fn read_part<R: Wait, D: Disk, G: Gate>(
     ensures read { OnOk result (IfSome (D.held part.old) (λ file. lines.new.line.items ≡ map (λ t. reading_of (D.from part.old) file t) (map told_window windows.now))) }
     ensures got { HasGot (map told_window windows.now)
         (part_state D.Disk part.old) (part_state D.Disk part.new) result }
-    ensures failed { IsErrOf result Failed → Rose (D.faults part.old) (D.faults part.new) }
+    ensures failed { IsErrOf result fault.Disk → Rose (D.faults part.old) (D.faults part.new) }
 {
     for window in windows {
         tools
@@ -74,7 +74,7 @@ fn read_turn<D: Disk>(
     window: &Window,
     part: &mut D,
     bytes: &mut Vec<u8>,
-) -> Result<(), DiskErr>
+) -> Result<(), StepErr>
     requires low { D.from part.old ≤ window.now.hull.at }
     requires high { window.now.hull.at + window.now.hull.len ≤ D.from part.old + D.len part.old }
     ensures read { OnOk result (IfSome (D.held part.old) (λ file. bytes.new.items ≡ read file (window.now.hull.at - D.from part.old) window.now.hull.len)) }

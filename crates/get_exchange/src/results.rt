@@ -3,7 +3,7 @@ ghost use Rattle.std.specs.Prelude.{◌≡◌, ◌≤◌, [], length, vec_capaci
 ghost use Rattle.std.specs.List.{AllZip};
 ghost use Rattle.nc_outside.specs.Cause.{Rose};
 ghost use Rattle.overlay_laws.specs.Entries.{In};
-ghost use Rattle.nc_outside.specs.declared.disk.DiskErr.TheVariants.{Failed};
+ghost use Rattle.nc_base.specs.declared.step.StepErr.TheVariants as fault;
 ghost use Rattle.get_exchange.specs.Gets.{get_turns, AreRead, HasGot};
 ghost use Rattle.exchange_crew.specs.Parts.{part_state, SomeZip};
 ghost use Rattle.get_exchange.specs.Shelves.{domain_of, part_of, IsStartedFor};
@@ -11,7 +11,8 @@ ghost use Rattle.get_exchange.specs.declared.handing.ReadWorker.{ReadWorker};
 
 use crate::handing::ReadWorker;
 use exchange_crew::{GetPlan, PartBack, PartEnds};
-use nc_outside::{Disk, DiskErr};
+use nc_base::StepErr;
+use nc_outside::Disk;
 use ruled_line::settle;
 use std::sync::Wait;
 
@@ -21,7 +22,7 @@ pub(crate) fn take_back<R: Wait, D: Disk>(
     plan: &GetPlan,
     workers: Vec<ReadWorker<D>>,
     back: &mut Vec<D>,
-) -> Result<(), DiskErr>
+) -> Result<(), StepErr>
     requires workers { (worker : ReadWorker D) → In workers.items worker → IsStartedFor plan.now worker }
     requires none { back.old.items ≡ [] }
     requires room { length workers.items ≤ vec_capacity back.old }
@@ -29,7 +30,7 @@ pub(crate) fn take_back<R: Wait, D: Disk>(
     ensures long { length back.new.items ≡ length workers.entry.items }
     ensures got { AllZip (λ worker new. HasGot (get_turns plan.now (domain_of worker))
         (part_state D.Disk (part_of worker)) (part_state D.Disk new) result) workers.entry.items back.new.items }
-    ensures failed { IsErrOf result Failed → SomeZip (λ worker new. Rose (D.faults (part_of worker)) (D.faults new)) workers.entry.items back.new.items }
+    ensures failed { IsErrOf result fault.Disk → SomeZip (λ worker new. Rose (D.faults (part_of worker)) (D.faults new)) workers.entry.items back.new.items }
     ensures read { OnOk result ((worker : ReadWorker D) → In workers.entry.items worker → AreRead (get_turns plan.now (domain_of worker)) (D.from (part_of worker)) (D.held (part_of worker)) worker.shelf.line.items) }
 {
     let mut end = Ok(());
@@ -46,11 +47,11 @@ fn take_one<R: Wait, D: Disk>(
     rt: &R,
     plan: &GetPlan,
     worker: ReadWorker<D>,
-) -> (D, Result<(), DiskErr>)
+) -> (D, Result<(), StepErr>)
     requires { IsStartedFor plan.now worker }
     ensures got { HasGot (get_turns plan.now (domain_of worker.entry))
         (part_state D.Disk (part_of worker.entry)) (part_state D.Disk result.0) result.1 }
-    ensures failed { IsErrOf result.1 Failed → Rose (D.faults (part_of worker.entry)) (D.faults result.0) }
+    ensures failed { IsErrOf result.1 fault.Disk → Rose (D.faults (part_of worker.entry)) (D.faults result.0) }
     ensures read { OnOk result.1 (AreRead (get_turns plan.now (domain_of worker.entry)) (D.from (part_of worker.entry)) (D.held (part_of worker.entry)) worker.entry.shelf.line.items) }
 {
     let ReadWorker { helper, shelf } = worker;

@@ -3,7 +3,7 @@ ghost use Rattle.std.specs.Prelude.{◌≡◌, ◌^◌, ℕ, List, Option, lengt
 ghost use Rattle.nc_outside.specs.Cause.{HasDiskCause};
 ghost use Rattle.dataset_start.specs.Dataset.{front};
 
-use nc_outside::DiskErr;
+use nc_base::StepErr;
 use std::alloc::Global;
 
 /// The first bytes of a dataset, among which its header stands, and how many it has in all.
@@ -22,7 +22,7 @@ pub trait DatasetFront: Drop {
     ghost faults: { Self → ℕ };
 
     /// The front of the dataset of that name: at most 2^20 bytes.
-    fn front(&mut self, alloc: Global, name: &str) -> Result<Front, DiskErr>
+    fn front(&mut self, alloc: Global, name: &str) -> Result<Front, StepErr>
         ensures bytes { IfOk result (λ seen. IfSome (held self.old name.now) (λ file. seen.bytes.items ≡ front file)) }
         ensures size { IfOk result (λ seen. IfSome (held self.old name.now) (λ file. seen.size ≡ length file)) }
         ensures many { IfOk result (λ seen. length seen.bytes.items ≡ min seen.size (2 ^ 20)) }

@@ -3,8 +3,7 @@ ghost use Rattle.std.specs.Prelude.{◌≡◌, ◌≤◌, ◌^◌, length, min, 
 ghost use Rattle.nc_outside.specs.Cause.{Rose};
 
 use crate::dataset::{DatasetFront, Front};
-use nc_base::MAX_HEADER_BYTES;
-use nc_outside::DiskErr;
+use nc_base::{MAX_HEADER_BYTES, StepErr};
 use std::alloc::Global;
 use std::fs::File;
 use std::io;
@@ -28,12 +27,12 @@ impl<R: Files<File = File> + Drop> FileFront<R> {
     }
 
     // Counts a call that failed.
-    fn failed(&mut self) -> DiskErr
+    fn failed(&mut self) -> StepErr
         ensures rose { Rose self.old.faults self.new.faults }
         ensures later { self.old.faults ≤ self.new.faults }
     {
         self.faults = self.faults.saturating_add(1);
-        DiskErr::Failed
+        StepErr::Disk
     }
 }
 
@@ -44,7 +43,7 @@ fn open<R: Files<File = File>>(rt: &R, name: &str) -> io::Result<(File, u64)> {
 }
 
 // The front of a file of so many bytes. Where it is shorter by now, it can't be read.
-fn read_front(alloc: Global, file: &File, size: u64) -> Result<Front, DiskErr>
+fn read_front(alloc: Global, file: &File, size: u64) -> Result<Front, StepErr>
     ensures { IfOk result (λ seen. length seen.bytes.items ≡ min seen.size (2 ^ 20)) }
 {
     let len = size.min(MAX_HEADER_BYTES) as usize;
@@ -57,7 +56,7 @@ fn read_front(alloc: Global, file: &File, size: u64) -> Result<Front, DiskErr>
     let mut bytes = vec![in alloc; 0; len]?;
     match file.read_exact_at(&mut bytes, 0) {
         Ok(()) => Ok(Front { bytes, size }),
-        Err(_) => Err(DiskErr::Failed),
+        Err(_) => Err(StepErr::Disk),
     }
 }
 
@@ -68,14 +67,14 @@ impl<R: Files<File = File> + Drop> DatasetFront for FileFront<R> {
 
     ghost faults = { λ d. d.faults };
 
-    fn front(&mut self, alloc: Global, name: &str) -> Result<Front, DiskErr> {
+    fn front(&mut self, alloc: Global, name: &str) -> Result<Front, StepErr> {
         let Ok((file, size)) = open(&self.rt, name) else {
             return Err(self.failed());
         };
         match read_front(alloc, &file, size) {
             Ok(seen) => Ok(seen),
-            Err(DiskErr::Memory) => Err(DiskErr::Memory),
-            Err(DiskErr::Failed) => Err(self.failed()),
+            Err(StepErr::Memory) => Err(StepErr::Memory),
+            Err(StepErr::Disk) => Err(self.failed()),
         }
     }
 }

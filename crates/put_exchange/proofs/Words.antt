@@ -54,8 +54,8 @@ pub use Rattle.nc_outside.proofs.ToldLaws.{calls_more, with_end-nil}
 pub use Rattle.nc_outside.specs.Cause.{Rose}
 pub use Rattle.nc_outside.specs.Told.{BothTold, after, with_end}
 pub use Rattle.nc_outside.specs.declared.disk.Disk.{Ghosts as DiskGhosts}
-pub use Rattle.nc_outside.specs.declared.disk.DiskErr.{DiskErr}
-pub use Rattle.nc_outside.specs.declared.disk.DiskErr.TheVariants.{Failed}
+pub use Rattle.nc_base.specs.declared.step.StepErr.{StepErr}
+pub use Rattle.nc_base.specs.declared.step.StepErr.TheVariants.{Disk}
 pub use Rattle.overlay_laws.proofs.ChangeLaws.{between_next}
 pub use Rattle.overlay_laws.proofs.EntryLaws.{says_cases, says_left, says_right}
 pub use Rattle.overlay_laws.proofs.HullLaws.{flat_in, in_flat, in_left, in_range, in_right}

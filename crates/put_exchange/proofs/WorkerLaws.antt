@@ -1,5 +1,5 @@
 -- Helpers that have their jobs, and were fed.
-use Rattle.put_exchange.proofs.Words.{◌≡◌, ℕ, sym, ◌∙◌, ap, subst, List, length, map, min, Some, Result, append-nil, slice_get, In, DiskErr, DiskGhosts, Sent, domain_of, part_of, HasFed, IsFed, IsFresh, IsStartedFor, HasPut, HasServed, IsPlanOn, message_counts, planned_turns, source_in, AreTurns, HaveWindows, IsPlan, PartState, Told, PutPlan, Worker, AreDue, Batch, Extent, IsDomainOf, Owned, ◌≤◌, arith, each_new, map_new, plan_on, plan_turns, plan_windows, turn_end, turn_in, turns_of, nat_tests}
+use Rattle.put_exchange.proofs.Words.{◌≡◌, ℕ, sym, ◌∙◌, ap, subst, List, length, map, min, Some, Result, append-nil, slice_get, In, StepErr, DiskGhosts, Sent, domain_of, part_of, HasFed, IsFed, IsFresh, IsStartedFor, HasPut, HasServed, IsPlanOn, message_counts, planned_turns, source_in, AreTurns, HaveWindows, IsPlan, PartState, Told, PutPlan, Worker, AreDue, Batch, Extent, IsDomainOf, Owned, ◌≤◌, arith, each_new, map_new, plan_on, plan_turns, plan_windows, turn_end, turn_in, turns_of, nat_tests}
 
 fed_worker : {D : Type 0} (disk : DiskGhosts D) (plan : PutPlan) (old new : Worker D) → HasFed old new → IsFresh disk plan old → IsFed disk plan new
 fed_worker disk plan old new h f = grind (arith, nat_tests, append-nil new.feed.line.items)
@@ -52,7 +52,7 @@ plan_of disk plan worker p s =
       counts = s.counts ∙ sym (ap (λ (ts : List Told). message_counts (source_in plan) (length batches) list ts) s.windows);
     }
 
-pub worker_served : {D T : Type 0} (disk : DiskGhosts D) (plan : PutPlan) (worker : Worker D) (old new : PartState) (taken : List Sent) (end : Result T DiskErr)
+pub worker_served : {D T : Type 0} (disk : DiskGhosts D) (plan : PutPlan) (worker : Worker D) (old new : PartState) (taken : List Sent) (end : Result T StepErr)
     → IsPlan plan.job.now.batches plan.list.now plan.cover.now plan.hints.now.cb_buffer → IsFed disk plan worker → old.from ≡ disk.from (part_of worker) → old.len ≡ disk.len (part_of worker)
     → HasServed worker.helper.awaited.dues.value.items old new taken end → (length taken ≡ length worker.feed.line.items → taken ≡ worker.feed.line.items)
     → HasPut (source_in plan) plan.list.now (planned_turns plan (domain_of worker)) old new end

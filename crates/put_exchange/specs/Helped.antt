@@ -6,8 +6,8 @@
 use Rattle.std.specs.Prelude.{◌≡◌, ℕ, ◌<◌, List, length, map, Result, IsErrOf}
 use Rattle.nc_base.specs.declared.plan.Owned.{Owned}
 use Rattle.nc_outside.specs.Cause.{Rose}
-use Rattle.nc_outside.specs.declared.disk.DiskErr.{DiskErr}
-use Rattle.nc_outside.specs.declared.disk.DiskErr.TheVariants.{Failed}
+use Rattle.nc_base.specs.declared.step.StepErr.{StepErr}
+use Rattle.nc_base.specs.declared.step.StepErr.TheVariants.{Disk}
 use Rattle.nc_outside.specs.declared.disk.Disk.{Ghosts as DiskGhosts}
 use Rattle.overlay_laws.specs.Entries.{In, Source, cell_of}
 use Rattle.serial_spec.specs.Said.{said_by, IsOneValued}
@@ -31,12 +31,12 @@ pub record IsPlanOn (source : Source) (ranks : ℕ) (list : List Owned) (from le
   pub windows : HaveWindows from len list (turns_due dues)
   pub counts : counts_due dues ≡ message_counts source ranks list (turns_due dues)
 
-pub record HasServed {T : Type 0} (dues : List Due) (old new : PartState) (taken : List Sent) (end : Result T DiskErr) : Type 0 where
+pub record HasServed {T : Type 0} (dues : List Due) (old new : PartState) (taken : List Sent) (end : Result T StepErr) : Type 0 where
   pub many : (source : Source) (ranks : ℕ) (list : List Owned) → IsPlanOn source ranks list old.from old.len dues
       → length taken ≡ length (messages_of source ranks list (turns_due dues))
   pub put : (source : Source) (ranks : ℕ) (list : List Owned) → IsPlanOn source ranks list old.from old.len dues
       → taken ≡ messages_of source ranks list (turns_due dues) → HasPut source list (turns_due dues) old new end
-  pub failed : IsErrOf end Failed → Rose old.faults new.faults
+  pub failed : IsErrOf end Disk → Rose old.faults new.faults
 
 pub record HasGivenBack {D : Type 0} (disk : DiskGhosts D) (dues : List Due) (ends : PartEnds D PutLines) (back : PartBack D PutLines) : Type 0 where
   pub line_of : back.ends.lines.line.of ≡ ends.lines.line.of

@@ -3,7 +3,7 @@ ghost use Rattle.std.specs.Prelude.{◌≡◌, ◌≤◌, ℕ, drop, length, sli
 ghost use Rattle.std.specs.List.{AllZip};
 ghost use Rattle.nc_base.specs.declared.plan.Extent.{Extent};
 ghost use Rattle.nc_outside.specs.Cause.{Rose};
-ghost use Rattle.nc_outside.specs.declared.disk.DiskErr.TheVariants.{Failed};
+ghost use Rattle.nc_base.specs.declared.step.StepErr.TheVariants as fault;
 ghost use Rattle.exchange_crew.specs.Plan.{planned_turns, source_in, IsDomainOf, IsPlanned};
 ghost use Rattle.exchange_crew.specs.Parts.{part_state, SomeZip};
 ghost use Rattle.exchange_crew.specs.Rooms.{HasRooms};
@@ -16,8 +16,8 @@ use crate::results::take_back;
 use crate::sending::send_all;
 use crossbeam_channel::Sender;
 use exchange_crew::{Errand, PutPlan, Shares, Spares, Tools, give_back, make_rooms};
-use nc_base::Extent;
-use nc_outside::{Disk, DiskErr, Gate};
+use nc_base::{Extent, StepErr};
+use nc_outside::{Disk, Gate};
 use std::sync::Wait;
 
 /// Does the puts of a plan on the parts of a disk. Each part is handed to a helper of its own, over the domain at its place, and the pieces
@@ -33,7 +33,7 @@ pub fn exchange_put<R: Wait, D: Disk, G: Gate, K: Send + Drop>(
     plan: &PutPlan,
     domains: &[Extent],
     parts: Vec<D>,
-) -> (Vec<D>, Result<(), DiskErr>)
+) -> (Vec<D>, Result<(), StepErr>)
     requires plan { IsPlanned plan.now }
     requires line_low { 1 ≤ plan.now.hints.now.line_room }
     requires line_high { plan.now.hints.now.line_room ≤ 64 }
@@ -42,7 +42,7 @@ pub fn exchange_put<R: Wait, D: Disk, G: Gate, K: Send + Drop>(
     requires domains { (k : ℕ) (part : D) (domain : Extent) → slice_get parts.items k ≡ Some part → slice_get domains.now k ≡ Some domain → IsDomainOf plan.now.list.now (D.from part) (D.len part) domain }
     ensures put { AllZip (λ p new. HasPut (source_in plan.now) plan.now.list.now (planned_turns plan.now p.1)
         (part_state D.Disk p.0) (part_state D.Disk new) result.1) (zip parts.items domains.now) result.0.items }
-    ensures failed { IsErrOf result.1 Failed → SomeZip (λ old new. Rose (D.faults old) (D.faults new)) parts.items result.0.items }
+    ensures failed { IsErrOf result.1 fault.Disk → SomeZip (λ old new. Rose (D.faults old) (D.faults new)) parts.items result.0.items }
 {
     if helpers.is_empty() {
         return put_in_turn(tools, spares, plan, 0, domains, parts);
@@ -62,7 +62,7 @@ fn put_helped<R: Wait, D: Disk, G: Gate, K: Send + Drop>(
     domains: &[Extent],
     parts: Vec<D>,
     shares: Shares<Worker<D>, D>,
-) -> (Vec<D>, Result<(), DiskErr>)
+) -> (Vec<D>, Result<(), StepErr>)
     requires plan { IsPlanned plan.now }
     requires line_low { 1 ≤ plan.now.hints.now.line_room }
     requires line_high { plan.now.hints.now.line_room ≤ 64 }
@@ -72,7 +72,7 @@ fn put_helped<R: Wait, D: Disk, G: Gate, K: Send + Drop>(
     requires rooms { HasRooms (length parts.items) shares }
     ensures put { AllZip (λ p new. HasPut (source_in plan.now) plan.now.list.now (planned_turns plan.now p.1)
         (part_state D.Disk p.0) (part_state D.Disk new) result.1) (zip parts.items domains.now) result.0.items }
-    ensures failed { IsErrOf result.1 Failed → SomeZip (λ old new. Rose (D.faults old) (D.faults new)) parts.items result.0.items }
+    ensures failed { IsErrOf result.1 fault.Disk → SomeZip (λ old new. Rose (D.faults old) (D.faults new)) parts.items result.0.items }
 {
     let Served {
         mut back,
@@ -90,7 +90,7 @@ fn put_helped<R: Wait, D: Disk, G: Gate, K: Send + Drop>(
 struct Served<D: Drop> {
     back: Vec<D>,
     rest: Vec<D>,
-    end: Result<(), DiskErr>,
+    end: Result<(), StepErr>,
 }
 
 // The puts on the parts that helpers take.
@@ -115,7 +115,7 @@ fn put_served<R: Wait, D: Disk, G: Gate, K: Send + Drop>(
     ensures room { length parts.items ≤ vec_capacity result.back }
     ensures put { AllZip (λ p new. HasPut (source_in plan.now) plan.now.list.now (planned_turns plan.now p.1)
         (part_state D.Disk p.0) (part_state D.Disk new) result.end) (zip (take (length result.back.items) parts.items) (take (length result.back.items) domains.now)) result.back.items }
-    ensures failed { IsErrOf result.end Failed → SomeZip (λ old new. Rose (D.faults old) (D.faults new)) (take (length result.back.items) parts.items) result.back.items }
+    ensures failed { IsErrOf result.end fault.Disk → SomeZip (λ old new. Rose (D.faults old) (D.faults new)) (take (length result.back.items) parts.items) result.back.items }
 {
     let mut shares = shares;
     hand_all(tools, helpers, spares, plan, domains, parts, &mut shares);

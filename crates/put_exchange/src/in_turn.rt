@@ -3,7 +3,7 @@ ghost use Rattle.std.specs.Prelude.{◌≡◌, ◌∷◌, [], ◌⊎◌, ◌+◌
 ghost use Rattle.std.specs.List.{AllZip};
 ghost use Rattle.nc_base.specs.declared.plan.Extent.{Extent};
 ghost use Rattle.nc_outside.specs.Cause.{HasDiskCause, Rose};
-ghost use Rattle.nc_outside.specs.declared.disk.DiskErr.TheVariants.{Failed};
+ghost use Rattle.nc_base.specs.declared.step.StepErr.TheVariants as fault;
 ghost use Rattle.nc_outside.specs.Told.{after, with_end, BothTold};
 ghost use Rattle.overlay_laws.specs.Changes.{store_calls, IsBetween};
 ghost use Rattle.overlay_laws.specs.Entries.{cell_of};
@@ -22,8 +22,8 @@ use aggregator_rounds::{close_window, lay_entry, open_window};
 use exchange_crew::{
     Aggregator, PutPlan, Spares, Tools, Turn, TurnWalk, aggregator_at, longest_window,
 };
-use nc_base::{Batch, Extent, Owned};
-use nc_outside::{Disk, DiskErr, Gate, Point};
+use nc_base::{Batch, Extent, Owned, StepErr};
+use nc_outside::{Disk, Gate, Point};
 use std::alloc::Global;
 use std::sync::Wait;
 
@@ -34,13 +34,13 @@ pub(crate) fn lay_in_turn<R: Wait, D: Disk, G: Gate>(
     aggregator: Aggregator,
     part: &mut D,
     buf: &mut [u8],
-) -> Result<(), DiskErr>
+) -> Result<(), StepErr>
     requires plan { IsPlanned plan.now }
     requires domain { IsDomainOf plan.now.list.now (D.from part.old) (D.len part.old) aggregator.domain }
     requires room { min plan.now.hints.now.cb_buffer aggregator.domain.len ≤ length buf.old }
     ensures put { HasPut (source_in plan.now) plan.now.list.now (planned_turns plan.now aggregator.domain)
         (part_state D.Disk part.old) (part_state D.Disk part.new) result }
-    ensures failed { IsErrOf result Failed → Rose (D.faults part.old) (D.faults part.new) }
+    ensures failed { IsErrOf result fault.Disk → Rose (D.faults part.old) (D.faults part.new) }
 {
     let _size = part.size();
     let batches = plan.job.job().batches.as_slice();
@@ -62,7 +62,7 @@ fn put_turn<D: Disk>(
     turn: &Turn,
     batches: &[Batch],
     buf: &mut [u8],
-) -> Result<(), DiskErr>
+) -> Result<(), StepErr>
     requires low { D.from part.old ≤ turn.now.window.hull.at }
     requires high { turn.now.window.hull.at + turn.now.window.hull.len ≤ D.from part.old + D.len part.old }
     requires hull { turn.now.window.hull.at + turn.now.window.hull.len < 2 ^ 62 }
@@ -114,7 +114,7 @@ pub(crate) fn put_in_turn<R: Wait, D: Disk, G: Gate>(
     first: u32,
     domains: &[Extent],
     parts: Vec<D>,
-) -> (Vec<D>, Result<(), DiskErr>)
+) -> (Vec<D>, Result<(), StepErr>)
     requires plan { IsPlanned plan.now }
     requires few { first + length domains.now ≤ 64 }
     requires one_each { length domains.now ≡ length parts.items }
@@ -122,16 +122,16 @@ pub(crate) fn put_in_turn<R: Wait, D: Disk, G: Gate>(
     ensures long { length result.0.items ≡ length parts.items }
     ensures put { AllZip (λ p new. HasPut (source_in plan.now) plan.now.list.now (planned_turns plan.now p.1)
         (part_state D.Disk p.0) (part_state D.Disk new) result.1) (zip parts.items domains.now) result.0.items }
-    ensures failed { IsErrOf result.1 Failed → SomeZip (λ old new. Rose (D.faults old) (D.faults new)) parts.items result.0.items }
+    ensures failed { IsErrOf result.1 fault.Disk → SomeZip (λ old new. Rose (D.faults old) (D.faults new)) parts.items result.0.items }
 {
     let mut back = match Vec::with_capacity(tools.alloc, parts.len()) {
         Ok(back) => back,
-        Err(_) => return (parts, Err(DiskErr::Memory)),
+        Err(_) => return (parts, Err(StepErr::Memory)),
     };
     let size = longest_window(plan.hints.cb_buffer, domains) as usize;
     let mut buf = match spares.take(tools.alloc, size) {
         Ok(buf) => buf,
-        Err(_) => return (parts, Err(DiskErr::Memory)),
+        Err(_) => return (parts, Err(StepErr::Memory)),
     };
     let mut end = Ok(());
     for part in parts {
@@ -152,15 +152,15 @@ fn serve_next<R: Wait, D: Disk, G: Gate>(
     aggregator: Aggregator,
     part: D,
     buf: &mut [u8],
-    before: Result<(), DiskErr>,
-) -> (D, Result<(), DiskErr>)
+    before: Result<(), StepErr>,
+) -> (D, Result<(), StepErr>)
     requires plan { IsPlanned plan.now }
     requires domain { IsDomainOf plan.now.list.now (D.from part) (D.len part) aggregator.domain }
     requires room { min plan.now.hints.now.cb_buffer aggregator.domain.len ≤ length buf.old }
     ensures put { HasPut (source_in plan.now) plan.now.list.now (planned_turns plan.now aggregator.domain)
         (part_state D.Disk part) (part_state D.Disk result.0) result.1 }
     ensures ok { OnOk result.1 (IsOk before) }
-    ensures failed { IsErrOf result.1 Failed → IsErrOf before Failed ⊎ Rose (D.faults part) (D.faults result.0) }
+    ensures failed { IsErrOf result.1 fault.Disk → IsErrOf before fault.Disk ⊎ Rose (D.faults part) (D.faults result.0) }
 {
     if let Err(fault) = before {
         return (part, Err(fault));

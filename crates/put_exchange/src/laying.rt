@@ -1,7 +1,7 @@
 // What a helper does: window after window it takes the messages of its part, and lays them.
 ghost use Rattle.std.specs.Prelude.{◌≡◌, ◌+◌, ◌^◌, ◌<◌, ◌≤◌, [], length, IsOk, IsErr, IsErrOf, OnOk, ◌⊎◌};
 ghost use Rattle.nc_outside.specs.Cause.{HasDiskCause, Rose};
-ghost use Rattle.nc_outside.specs.declared.disk.DiskErr.TheVariants.{Failed};
+ghost use Rattle.nc_base.specs.declared.step.StepErr.TheVariants as fault;
 ghost use Rattle.nc_outside.specs.Told.{with_end};
 ghost use Rattle.overlay_laws.specs.Changes.{store_calls};
 ghost use Rattle.aggregator_rounds.specs.ToldWindows.{told_window};
@@ -14,8 +14,8 @@ use crate::message::Message;
 use aggregator_rounds::{close_window, open_window};
 use exchange_crew::Tools;
 use file_domains::Window;
-use nc_base::Extent;
-use nc_outside::{Disk, DiskErr, Gate, Point};
+use nc_base::{Extent, StepErr};
+use nc_outside::{Disk, Gate, Point};
 use ruled_line::LineTake;
 use std::sync::Wait;
 
@@ -37,7 +37,7 @@ pub(crate) fn lay_part<R: Wait, D: Disk, G: Gate>(
     part: &mut D,
     line: &mut LineTake<Message>,
     buf: &mut [u8],
-) -> Result<(), DiskErr>
+) -> Result<(), StepErr>
     requires due { AreDue (D.from part.old) (D.len part.old) (length buf.old) (turns_due dues.now) }
     requires empty { line.old.items ≡ [] }
     ensures of { line.new.of ≡ line.old.of }
@@ -61,8 +61,8 @@ fn serve_turn<R: Wait, D: Disk, G>(
     part: &mut D,
     line: &mut LineTake<Message>,
     buf: &mut [u8],
-    before: Result<(), DiskErr>,
-) -> Result<(), DiskErr>
+    before: Result<(), StepErr>,
+) -> Result<(), StepErr>
     requires low { D.from part.old ≤ due.now.window.hull.at }
     requires high { due.now.window.hull.at + due.now.window.hull.len ≤ D.from part.old + D.len part.old }
     requires hull { due.now.window.hull.at + due.now.window.hull.len < 2 ^ 62 }
@@ -76,7 +76,7 @@ fn serve_turn<R: Wait, D: Disk, G>(
     ensures from { D.from part.new ≡ D.from part.old }
     ensures len { D.len part.new ≡ D.len part.old }
     ensures later { D.faults part.old ≤ D.faults part.new }
-    ensures failed { IsErrOf result Failed → IsErrOf before Failed ⊎ Rose (D.faults part.old) (D.faults part.new) }
+    ensures failed { IsErrOf result fault.Disk → IsErrOf before fault.Disk ⊎ Rose (D.faults part.old) (D.faults part.new) }
 {
     if let Err(fault) = before {
         drop_messages(tools.rt, due.count, line);
@@ -92,7 +92,7 @@ fn put_turn<R: Wait, D: Disk, G>(
     part: &mut D,
     line: &mut LineTake<Message>,
     buf: &mut [u8],
-) -> Result<(), DiskErr>
+) -> Result<(), StepErr>
     requires low { D.from part.old ≤ due.now.window.hull.at }
     requires high { due.now.window.hull.at + due.now.window.hull.len ≤ D.from part.old + D.len part.old }
     requires hull { due.now.window.hull.at + due.now.window.hull.len < 2 ^ 62 }

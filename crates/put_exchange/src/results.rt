@@ -3,7 +3,7 @@ ghost use Rattle.std.specs.Prelude.{◌≡◌, ◌≤◌, [], length, vec_capaci
 ghost use Rattle.std.specs.List.{AllZip};
 ghost use Rattle.nc_outside.specs.Cause.{Rose};
 ghost use Rattle.overlay_laws.specs.Entries.{In};
-ghost use Rattle.nc_outside.specs.declared.disk.DiskErr.TheVariants.{Failed};
+ghost use Rattle.nc_base.specs.declared.step.StepErr.TheVariants as fault;
 ghost use Rattle.exchange_crew.specs.Plan.{planned_turns, source_in, IsPlanned};
 ghost use Rattle.exchange_crew.specs.Parts.{part_state, SomeZip};
 ghost use Rattle.put_exchange.specs.Put.{HasPut};
@@ -13,7 +13,8 @@ ghost use Rattle.put_exchange.specs.declared.handing.Worker.{Worker};
 use crate::handing::Worker;
 use crate::helper::PutLines;
 use exchange_crew::{PartBack, PartEnds, PutPlan, Spares};
-use nc_outside::{Disk, DiskErr};
+use nc_base::StepErr;
+use nc_outside::Disk;
 use ruled_line::settle;
 use std::sync::Wait;
 
@@ -25,7 +26,7 @@ pub(crate) fn take_back<R: Wait, D: Disk>(
     plan: &PutPlan,
     workers: Vec<Worker<D>>,
     back: &mut Vec<D>,
-) -> Result<(), DiskErr>
+) -> Result<(), StepErr>
     requires plan { IsPlanned plan.now }
     requires workers { (worker : Worker D) → In workers.items worker → IsFed D.Disk plan.now worker }
     requires none { back.old.items ≡ [] }
@@ -34,7 +35,7 @@ pub(crate) fn take_back<R: Wait, D: Disk>(
     ensures long { length back.new.items ≡ length workers.items }
     ensures put { AllZip (λ worker new. HasPut (source_in plan.now) plan.now.list.now (planned_turns plan.now (domain_of worker))
         (part_state D.Disk (part_of worker)) (part_state D.Disk new) result) workers.items back.new.items }
-    ensures failed { IsErrOf result Failed → SomeZip (λ worker new. Rose (D.faults (part_of worker)) (D.faults new)) workers.items back.new.items }
+    ensures failed { IsErrOf result fault.Disk → SomeZip (λ worker new. Rose (D.faults (part_of worker)) (D.faults new)) workers.items back.new.items }
 {
     let mut end = Ok(());
     for worker in workers {
@@ -51,12 +52,12 @@ fn take_one<R: Wait, D: Disk>(
     spares: &mut Spares,
     plan: &PutPlan,
     worker: Worker<D>,
-) -> (D, Result<(), DiskErr>)
+) -> (D, Result<(), StepErr>)
     requires plan { IsPlanned plan.now }
     requires worker { IsFed D.Disk plan.now worker }
     ensures put { HasPut (source_in plan.now) plan.now.list.now (planned_turns plan.now (domain_of worker))
         (part_state D.Disk (part_of worker)) (part_state D.Disk result.0) result.1 }
-    ensures failed { IsErrOf result.1 Failed → Rose (D.faults (part_of worker)) (D.faults result.0) }
+    ensures failed { IsErrOf result.1 fault.Disk → Rose (D.faults (part_of worker)) (D.faults result.0) }
 {
     let Worker { helper, feed } = worker;
     let PartBack { ends, end } = helper.awaited.take(rt);

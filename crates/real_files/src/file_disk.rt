@@ -3,7 +3,8 @@ ghost use Rattle.std.specs.Prelude.{◌≡◌, true, IfOk};
 
 use crate::faults::Faults;
 use crate::streams::is_stream;
-use nc_outside::{Disk, DiskErr};
+use nc_base::StepErr;
+use nc_outside::Disk;
 use std::alloc::Global;
 use std::fs::{File, OpenOptions};
 use std::io;
@@ -102,11 +103,11 @@ impl<R: Files<File = File> + Clone + Send + Drop> Disk for FileDisk<R> {
 
     ghost sure = { λ _. ⊥ };
 
-    fn start(&mut self, alloc: Global, name: &str, fresh: bool) -> Result<(), DiskErr> {
+    fn start(&mut self, alloc: Global, name: &str, fresh: bool) -> Result<(), StepErr> {
         match open_whole(&self.rt, name, fresh) {
             Ok((file, len)) => {
                 let Ok(file) = Arc::new(alloc, file) else {
-                    return Err(DiskErr::Memory);
+                    return Err(StepErr::Memory);
                 };
                 self.file = Some(file);
                 self.from = 0;
@@ -115,7 +116,7 @@ impl<R: Files<File = File> + Clone + Send + Drop> Disk for FileDisk<R> {
             }
             Err(e) => {
                 self.faults.add(e);
-                Err(DiskErr::Failed)
+                Err(StepErr::Disk)
             }
         }
     }
@@ -125,7 +126,7 @@ impl<R: Files<File = File> + Clone + Send + Drop> Disk for FileDisk<R> {
         self.end.saturating_sub(self.from)
     }
 
-    fn grow(&mut self, _alloc: Global, size: u64) -> Result<(), DiskErr> {
+    fn grow(&mut self, _alloc: Global, size: u64) -> Result<(), StepErr> {
         let done = match &self.file {
             Some(file) => lengthen(file, size),
             None => Err(ErrorKind::NotFound.into()),
@@ -137,12 +138,12 @@ impl<R: Files<File = File> + Clone + Send + Drop> Disk for FileDisk<R> {
             }
             Err(e) => {
                 self.faults.add(e);
-                Err(DiskErr::Failed)
+                Err(StepErr::Disk)
             }
         }
     }
 
-    fn read_at(&mut self, _alloc: Global, at: u64, into: &mut [u8]) -> Result<(), DiskErr> {
+    fn read_at(&mut self, _alloc: Global, at: u64, into: &mut [u8]) -> Result<(), StepErr> {
         let done = match &self.file {
             Some(file) => file.read_exact_at(into, at),
             None => Err(ErrorKind::NotFound.into()),
@@ -151,12 +152,12 @@ impl<R: Files<File = File> + Clone + Send + Drop> Disk for FileDisk<R> {
             Ok(()) => Ok(()),
             Err(e) => {
                 self.faults.add(e);
-                Err(DiskErr::Failed)
+                Err(StepErr::Disk)
             }
         }
     }
 
-    fn write_at(&mut self, _alloc: Global, at: u64, bytes: &[u8]) -> Result<(), DiskErr> {
+    fn write_at(&mut self, _alloc: Global, at: u64, bytes: &[u8]) -> Result<(), StepErr> {
         let done = match &self.file {
             Some(file) => file.write_all_at(bytes, at),
             None => Err(ErrorKind::NotFound.into()),
@@ -165,12 +166,12 @@ impl<R: Files<File = File> + Clone + Send + Drop> Disk for FileDisk<R> {
             Ok(()) => Ok(()),
             Err(e) => {
                 self.faults.add(e);
-                Err(DiskErr::Failed)
+                Err(StepErr::Disk)
             }
         }
     }
 
-    fn split_off(&mut self, _alloc: Global, at: u64) -> Result<Self, DiskErr> {
+    fn split_off(&mut self, _alloc: Global, at: u64) -> Result<Self, StepErr> {
         let rt = self.rt.clone()?;
         let file = match &self.file {
             Some(file) => Some(Arc::try_clone(file)?),

@@ -12,8 +12,8 @@ use crate::gaps::{Zeros, clear_gaps};
 use crate::moving::move_all;
 use crate::slabs::Slabs;
 use cdf_header::encode;
-use nc_base::Header;
-use nc_outside::{Disk, DiskErr};
+use nc_base::{Header, StepErr};
+use nc_outside::Disk;
 use std::alloc::Global;
 use var_layout::end_of;
 
@@ -27,7 +27,7 @@ pub(crate) fn carry<D: Disk>(
     old: &Header,
     new: &Header,
     size: u64,
-) -> Result<(), DiskErr>
+) -> Result<(), StepErr>
     requires carriable { IsCarriable old.now new.now }
     requires from { D.from disk.old ≡ 0 }
     requires some { 1 ≤ size }
@@ -55,7 +55,7 @@ pub(crate) fn carry<D: Disk>(
 }
 
 // Makes the file longer, if it is too short.
-fn grow_to<D: Disk>(alloc: Global, disk: &mut D, end: u64) -> Result<(), DiskErr>
+fn grow_to<D: Disk>(alloc: Global, disk: &mut D, end: u64) -> Result<(), StepErr>
     requires from { D.from disk.old ≡ 0 }
     requires below { end < 2 ^ 63 }
     ensures bytes { OnOk result (D.held disk.new ≡ after (λ file. longer file end) (D.held disk.old)) }

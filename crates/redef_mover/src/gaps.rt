@@ -8,7 +8,8 @@ ghost use Rattle.redef_mover.specs.Moves.{all_cleared, behind, cleared, further,
 ghost use Rattle.serial_spec.specs.DeviceCalls.{stores};
 
 use crate::slabs::{Offset, Shift, Slabs};
-use nc_outside::{Disk, DiskErr};
+use nc_base::StepErr;
+use nc_outside::Disk;
 use std::alloc::Global;
 
 /// Zeros to be written.
@@ -28,7 +29,7 @@ pub(crate) fn clear_gaps<D: Disk>(
     first: u64,
     end: u64,
     zeros: Zeros,
-) -> Result<(), DiskErr>
+) -> Result<(), StepErr>
     requires from { D.from disk.old ≡ 0 }
     requires spaced { AreSpaced first end (listed slabs.now) }
     requires steps { AreSteps slabs.now.step slabs.now.count }
@@ -59,7 +60,7 @@ fn clear_before<D: Disk>(
     offset: Offset,
     mut at: u64,
     zeros: Zeros,
-) -> Result<u64, DiskErr>
+) -> Result<u64, StepErr>
     requires from { D.from disk.old ≡ 0 }
     requires clearable { AreClearable (D.len disk.old) zeros.window (length zeros.bytes.now) at (map (further offset.old offset.new) (map slab_of slabs.now)) }
     requires some { 1 ≤ zeros.window }
@@ -88,7 +89,7 @@ fn clear<D: Disk>(
     at: u64,
     len: u64,
     zeros: Zeros,
-) -> Result<(), DiskErr>
+) -> Result<(), StepErr>
     requires from { D.from disk.old ≡ 0 }
     requires inside { at + len ≤ D.len disk.old }
     requires some { 1 ≤ zeros.window }

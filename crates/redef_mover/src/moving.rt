@@ -6,7 +6,8 @@ ghost use Rattle.redef_mover.specs.Kept.{IsKept, IsOutside, IsUnmoved};
 ghost use Rattle.redef_mover.specs.Moves.{all_calls, all_moved, further, listed, slab_calls, slab_moved, slab_of, window_calls, AreListed, AreMovable, IsMovable};
 
 use crate::slabs::{Offset, Shift, Slabs};
-use nc_outside::{Disk, DiskErr};
+use nc_base::StepErr;
+use nc_outside::Disk;
 use std::alloc::Global;
 
 /// Moves all slabs whose place changes, the highest first, so that no byte is written over before it is moved.
@@ -16,7 +17,7 @@ pub(crate) fn move_all<D: Disk>(
     slabs: &Slabs,
     size: u64,
     buf: &mut [u8],
-) -> Result<(), DiskErr>
+) -> Result<(), StepErr>
     requires from { D.from disk.old ≡ 0 }
     requires slabs { AreListed (D.len disk.old) size (length buf.old) slabs.now }
     requires some { 1 ≤ size }
@@ -48,7 +49,7 @@ fn move_slabs<D: Disk>(
     offset: Offset,
     size: u64,
     buf: &mut [u8],
-) -> Result<(), DiskErr>
+) -> Result<(), StepErr>
     requires from { D.from disk.old ≡ 0 }
     requires movable { AreMovable (D.len disk.old) size (length buf.old) (map (further offset.old offset.new) (map slab_of slabs.now)) }
     requires some { 1 ≤ size }
@@ -73,7 +74,7 @@ fn move_changed<D: Disk>(
     slab: &Shift,
     size: u64,
     buf: &mut [u8],
-) -> Result<(), DiskErr>
+) -> Result<(), StepErr>
     requires from { D.from disk.old ≡ 0 }
     requires movable { IsMovable (D.len disk.old) size (length buf.old) (slab_of slab.now) }
     requires some { 1 ≤ size }
@@ -97,7 +98,7 @@ fn move_slab<D: Disk>(
     slab: &Shift,
     size: u64,
     buf: &mut [u8],
-) -> Result<(), DiskErr>
+) -> Result<(), StepErr>
     requires from { D.from disk.old ≡ 0 }
     requires movable { IsMovable (D.len disk.old) size (length buf.old) (slab_of slab.now) }
     requires some { 1 ≤ size }
@@ -121,7 +122,7 @@ fn move_window<D: Disk>(
     disk: &mut D,
     window: &Shift,
     buf: &mut [u8],
-) -> Result<(), DiskErr>
+) -> Result<(), StepErr>
     requires from { D.from disk.old ≡ 0 }
     requires old_end { window.now.from + window.now.len ≤ D.len disk.old }
     requires end { window.now.to + window.now.len ≤ D.len disk.old }

@@ -11,8 +11,8 @@ ghost use Rattle.redef_laws.specs.Shifted.{new_end};
 ghost use Rattle.redef_mover.specs.Relocation.{relocation_calls, KeepsPlaces};
 
 use crate::carried::carry;
-use nc_base::Header;
-use nc_outside::{Disk, DiskErr};
+use nc_base::{Header, StepErr};
+use nc_outside::Disk;
 use std::alloc::Global;
 
 /// Moves the bytes of the old variables to their new places, in windows of `size` bytes, from the highest one down; then writes
@@ -26,7 +26,7 @@ pub fn relocate<D: Disk>(
     old: &Header,
     new: &Header,
     size: u64,
-) -> Result<(), DiskErr>
+) -> Result<(), StepErr>
     requires applied { (extras : List Extra) × IsApplied old.now extras new.now }
     requires from { D.from disk.old ≡ 0 }
     requires size { (1 ≤ size) × (size ≤ 2 ^ 25) }

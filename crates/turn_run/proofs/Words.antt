@@ -20,7 +20,7 @@ pub use Rattle.collective_round.proofs.PutLaws.{no_calls, none_windows}
 pub use Rattle.collective_round.proofs.TornFiles.{counted_past, torn_by, torn_sides, torn_wider}
 pub use Rattle.collective_round.proofs.TornLaws.{done_torn, round_grows}
 pub use Rattle.collective_round.specs.Ended.{pair_of}
-pub use Rattle.collective_round.specs.Rounds.{AreGets, ArePuts, HasStepCause, IsGet, IsPut, after_round, as_setting, counted, gets_in, posts_in, puts_in, puts_of_batch, setting}
+pub use Rattle.collective_round.specs.Rounds.{AreGets, ArePuts, IsGet, IsPut, after_round, as_setting, counted, gets_in, posts_in, puts_in, puts_of_batch, setting}
 pub use Rattle.collective_round.specs.declared.collective.PutEnd.{PutEnd}
 pub use Rattle.collective_round.specs.declared.collective.PutEnd.TheVariants.{Done, Overlap}
 pub use Rattle.join_laws.proofs.Completing.{completed, completed_by}
@@ -64,7 +64,7 @@ pub use Rattle.nc_base.specs.declared.step.StepErr.{StepErr}
 pub use Rattle.nc_base.specs.declared.step.StepErr.TheVariants.{Disk, Memory}
 pub use Rattle.nc_base.specs.declared.step.Want.{Want}
 pub use Rattle.nc_outside.proofs.ToldLaws.{rose_before, told_as, with_end-nil, with_end-with_end}
-pub use Rattle.nc_outside.specs.Cause.{Rose}
+pub use Rattle.nc_outside.specs.Cause.{HasDiskCause, Rose}
 pub use Rattle.nc_outside.specs.Told.{BothTold, after, with_end}
 pub use Rattle.overlay_laws.proofs.HullLaws.{in_either}
 pub use Rattle.overlay_laws.proofs.SaidLaws.{same_file}

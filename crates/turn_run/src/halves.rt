@@ -2,6 +2,7 @@
 ghost use Rattle.std.specs.Prelude.{◌≡◌, ◌≤◌, ◌<◌, ◌++◌, [], map, flat_map, max, length, nat_lt, true, IfOk, IfSome, OnOk, OnErr};
 ghost use Rattle.std.specs.Int.{byte_len};
 ghost use Rattle.std.specs.List.{list_all};
+ghost use Rattle.nc_outside.specs.Cause.{HasDiskCause};
 ghost use Rattle.nc_outside.specs.Told.{after, with_end, BothTold};
 ghost use Rattle.serial_spec.specs.DeviceCalls.{collective_windows, get_bytes, loads, put_calls, store_records};
 ghost use Rattle.serial_spec.specs.FileStep.{end_for, get_post, told};
@@ -16,7 +17,7 @@ ghost use Rattle.serial_spec.specs.SharedByte.{covered, holdings, IsOwnOnce};
 ghost use Rattle.serial_spec.specs.SoundHeaders.{is_sound};
 ghost use Rattle.serial_spec.specs.Torn.{IsTorn};
 ghost use Rattle.collective_round.specs.Ended.{pair_of};
-ghost use Rattle.collective_round.specs.Rounds.{after_round, counted, dataset_setting, gets_in, puts_in, AreFew, AreGets, ArePuts, HasStepCause};
+ghost use Rattle.collective_round.specs.Rounds.{after_round, counted, dataset_setting, gets_in, puts_in, AreFew, AreGets, ArePuts};
 ghost use Rattle.var_layout.specs.Measures.{AreMeasures};
 
 use collective_round::{Dataset, PutEnd, get_all, put_all};
@@ -57,7 +58,7 @@ pub(crate) fn put_half<'s, E, R: Threads + Wait + Sync, D: Disk + 's, G: Gate>(
         (after_round (dataset_setting dataset.now) (puts_in job.now.batches) (counted old records.old)).file left) (D.held disk.old) (D.held disk.new)) }
     ensures from { D.from disk.new ≡ 0 }
     ensures grown { D.len disk.old ≤ D.len disk.new }
-    ensures cause { HasStepCause (D.faults disk.old) (D.faults disk.new) result }
+    ensures cause { HasDiskCause (D.faults disk.old) (D.faults disk.new) result }
 {
     if have_no_puts(job.job().batches.as_slice()) {
         let _size = disk.size();
@@ -93,7 +94,7 @@ pub(crate) fn get_half<'s, E, R: Threads + Wait + Sync, D: Disk + 's, G: Gate>(
     ensures bytes { D.held disk.new ≡ D.held disk.old }
     ensures from { D.from disk.new ≡ 0 }
     ensures len { D.len disk.new ≡ D.len disk.old }
-    ensures cause { HasStepCause (D.faults disk.old) (D.faults disk.new) result }
+    ensures cause { HasDiskCause (D.faults disk.old) (D.faults disk.new) result }
 {
     let batches = job.batches.as_slice();
     if have_no_gets(batches) {

@@ -1,12 +1,12 @@
 // A run of the ranks in turn.
 ghost use Rattle.std.specs.Prelude.{◌≡◌, ◌≤◌, [], length, map, replicate, vec_capacity, true, IfOk, OnOk, IsTrue, ◌↔◌, Err};
+ghost use Rattle.nc_outside.specs.Cause.{HasDiskCause};
 ghost use Rattle.nc_base.specs.declared.run.RankStop.TheVariants as stop;
 ghost use Rattle.nc_base.specs.declared.step.StepErr.{StepErr as Fault};
 ghost use Rattle.serial_spec.specs.HeaderBytes.{header_len};
 ghost use Rattle.serial_spec.specs.SoundHeaders.{is_sound};
 ghost use Rattle.serial_spec.specs.Lawful.{is_lawful};
 ghost use Rattle.serial_spec.specs.Layout.{end_of};
-ghost use Rattle.collective_round.specs.Rounds.{HasStepCause};
 ghost use Rattle.rank_core.specs.Indexed.{IsIndexOf};
 ghost use Rattle.run_laws.specs.Ways.{meetings};
 ghost use Rattle.turn_run.specs.Begun.{HasBegun};
@@ -166,7 +166,7 @@ fn hold_meetings<'s, E, R: Threads + Wait + Sync, D: Disk + 's, G: Gate, T: Told
     ensures begun { HasBegun lent.now.setup.script.now progress.new.order }
     ensures from { D.from disk.new ≡ 0 }
     ensures longer { D.len disk.old ≤ D.len disk.new }
-    ensures cause { HasStepCause (D.faults disk.old) (D.faults disk.new) result }
+    ensures cause { HasDiskCause (D.faults disk.old) (D.faults disk.new) result }
 {
     let mut meetings = 0;
     'meetings: loop {
@@ -206,7 +206,7 @@ fn arrive_all<R: Threads + Wait + Sync, D: Disk, G: Gate, T: Told>(
     ensures begun { HasBegun lent.now.setup.script.now progress.new.order }
     ensures from { D.from disk.new ≡ 0 }
     ensures longer { D.len disk.old ≤ D.len disk.new }
-    ensures cause { HasStepCause (D.faults disk.old) (D.faults disk.new) result }
+    ensures cause { HasDiskCause (D.faults disk.old) (D.faults disk.new) result }
 {
     for (number, runner) in runners.iter_mut().enumerate() {
         runner.arrive(lent, disk, told, progress, number as u32)?;

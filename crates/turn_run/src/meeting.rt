@@ -4,6 +4,7 @@ ghost use Rattle.std.specs.Int.{byte_len};
 ghost use Rattle.std.specs.Option.{option_to_list};
 ghost use Rattle.nc_base.specs.declared.step.Mark.TheVariants as mark;
 ghost use Rattle.nc_base.specs.declared.step.StepErr.{StepErr as Fault};
+ghost use Rattle.nc_outside.specs.Cause.{HasDiskCause};
 ghost use Rattle.nc_outside.specs.Told.{after, with_end, BothTold};
 ghost use Rattle.serial_spec.specs.Owner.{needed_now};
 ghost use Rattle.serial_spec.specs.FileStep.{get_post, known_by, told};
@@ -14,7 +15,7 @@ ghost use Rattle.serial_spec.specs.RankSide.{wanted};
 ghost use Rattle.serial_spec.specs.SerialEnd.{advance, after_mark, Going};
 ghost use Rattle.serial_spec.specs.SharedByte.{covered};
 ghost use Rattle.serial_spec.specs.Torn.{IsTorn};
-ghost use Rattle.collective_round.specs.Rounds.{dataset_setting, counted, puts_in, HasStepCause};
+ghost use Rattle.collective_round.specs.Rounds.{dataset_setting, counted, puts_in};
 ghost use Rattle.run_laws.specs.Ways.{meetings};
 ghost use Rattle.turn_run.specs.Begun.{HasBegun};
 ghost use Rattle.turn_run.specs.Counts.{IsCount, IsRise};
@@ -73,7 +74,7 @@ pub(crate) fn meet<'s, E, R: Threads + Wait + Sync, D: Disk + 's, G: Gate, T: To
     ensures begun { HasBegun lent.now.setup.script.now progress.new.order }
     ensures from { D.from disk.new ≡ 0 }
     ensures longer { D.len disk.old ≤ D.len disk.new }
-    ensures cause { HasStepCause (D.faults disk.old) (D.faults disk.new) result }
+    ensures cause { HasDiskCause (D.faults disk.old) (D.faults disk.new) result }
 {
     let (job, known) = take_shared_job(lent.tools.alloc, runners)?;
     let dataset = Dataset {
@@ -199,7 +200,7 @@ pub fn meet_on_file<'s, E, R: Threads + Wait + Sync, D: Disk + 's, G: Gate>(
     ensures count { IsCount dataset.now.header.now (D.len disk.new) records.new }
     ensures from { D.from disk.new ≡ 0 }
     ensures longer { D.len disk.old ≤ D.len disk.new }
-    ensures cause { HasStepCause (D.faults disk.old) (D.faults disk.new) result }
+    ensures cause { HasDiskCause (D.faults disk.old) (D.faults disk.new) result }
 {
     let _size = disk.size();
     let end = put_half(tools, crew, disk, dataset, records, job)?;

@@ -1,5 +1,6 @@
 // A rank that goes through its calls.
 ghost use Rattle.std.specs.Prelude.{◌≡◌, ◌+◌, ◌<◌, ◌≤◌, ◌∷◌, ◌++◌, [], List, length, map, drop, filter, None, Some, true, is_some, IfNone, IfSome, OnOk, OnErr, Err};
+ghost use Rattle.nc_outside.specs.Cause.{HasDiskCause};
 ghost use Rattle.nc_base.specs.declared.answer.Answer.{Answer};
 ghost use Rattle.nc_base.specs.declared.step.Mark.{Mark};
 ghost use Rattle.nc_base.specs.declared.step.StepErr.{StepErr as Fault};
@@ -10,7 +11,6 @@ ghost use Rattle.serial_spec.specs.Lawful.{is_lawful};
 ghost use Rattle.serial_spec.specs.RankMachine.{new_rank};
 ghost use Rattle.serial_spec.specs.RankSide.{wanted};
 ghost use Rattle.serial_spec.specs.SerialEnd.{advance};
-ghost use Rattle.collective_round.specs.Rounds.{HasStepCause};
 ghost use Rattle.var_layout.specs.Measures.{AreMeasures};
 ghost use Rattle.rank_core.specs.Indexed.{IsIndexOf};
 ghost use Rattle.run_laws.specs.Ways.{IsOnWay, AsksAlone};
@@ -97,7 +97,7 @@ impl<'a> Runner<'a> {
         ensures begun { OnErr result ((rest : List Mark) × (filter (concerns number) progress.new.order ++ rest ≡ marks lent.now.setup.script.now.calls number)) }
         ensures from { D.from disk.new ≡ 0 }
         ensures longer { D.len disk.old ≤ D.len disk.new }
-        ensures cause { HasStepCause (D.faults disk.old) (D.faults disk.new) result }
+        ensures cause { HasDiskCause (D.faults disk.old) (D.faults disk.new) result }
     {
         let Setup { header, script, .. } = lent.setup;
         let calls = own_calls(script, number);
@@ -200,7 +200,7 @@ impl<'a> Runner<'a> {
         ensures begun { OnErr result ((rest : List Mark) × (filter (concerns ask.number) progress.new.order ++ rest ≡ marks lent.now.setup.script.now.calls ask.number)) }
         ensures from { D.from disk.new ≡ 0 }
         ensures longer { D.len disk.old ≤ D.len disk.new }
-        ensures cause { HasStepCause (D.faults disk.old) (D.faults disk.new) result }
+        ensures cause { HasDiskCause (D.faults disk.old) (D.faults disk.new) result }
     {
         let dataset = Dataset {
             header: lent.setup.header,

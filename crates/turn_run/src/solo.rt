@@ -1,5 +1,6 @@
 // The step of one rank alone.
 ghost use Rattle.std.specs.Prelude.{◌≡◌, ◌≤◌, ◌<◌, map, max, length, true, IfOk, IfSome, OnOk, OnErr};
+ghost use Rattle.nc_outside.specs.Cause.{HasDiskCause};
 ghost use Rattle.nc_outside.specs.Told.{after, with_end, BothTold};
 ghost use Rattle.serial_spec.specs.Owner.{needed_now};
 ghost use Rattle.serial_spec.specs.DeviceCalls.{solo_calls};
@@ -11,7 +12,7 @@ ghost use Rattle.serial_spec.specs.SharedByte.{covered};
 ghost use Rattle.serial_spec.specs.Torn.{IsTorn};
 ghost use Rattle.rank_core.specs.Offered.{IsSoundOffer};
 ghost use Rattle.collective_round.specs.Ended.{pair_of};
-ghost use Rattle.collective_round.specs.Rounds.{dataset_setting, counted, HasStepCause};
+ghost use Rattle.collective_round.specs.Rounds.{dataset_setting, counted};
 ghost use Rattle.turn_run.specs.Counts.{IsCount, IsFit};
 ghost use Rattle.turn_run.specs.Steps.{needed_after};
 ghost use Rattle.var_layout.specs.Measures.{AreMeasures};
@@ -46,7 +47,7 @@ pub fn solo_reply<D: Disk>(
     ensures count { IfOk result (λ reply. IsCount dataset.now.header.now (D.len disk.new) reply.records) }
     ensures from { D.from disk.new ≡ 0 }
     ensures longer { D.len disk.old ≤ D.len disk.new }
-    ensures cause { HasStepCause (D.faults disk.old) (D.faults disk.new) result }
+    ensures cause { HasDiskCause (D.faults disk.old) (D.faults disk.new) result }
 {
     let _size = disk.size();
     let end = put_solo(alloc, disk, dataset, number, &offer.batch)?;

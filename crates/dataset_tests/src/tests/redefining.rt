@@ -8,8 +8,10 @@ ghost use Rattle.nc_base.specs.declared.header.NcType.TheVariants.{Int, Short};
 ghost use Rattle.redef_laws.specs.Applied.{IsApplied};
 
 use super::{file, has_bytes, has_calls};
-use nc_base::{AttrList, DimList, DiskCall, Extra, ExtraList, Header, NcType, Var, VarList};
-use nc_outside::{DiskErr, MemDisk};
+use nc_base::{
+    AttrList, DimList, DiskCall, Extra, ExtraList, Header, NcType, StepErr, Var, VarList,
+};
+use nc_outside::MemDisk;
 use redef_mover::{apply, relocate};
 use std::alloc::Global;
 use std::process::Abort;
@@ -107,7 +109,7 @@ fn moves(
     new: &Header,
     extras: &ExtraList,
     size: u64,
-) -> Result<(), DiskErr>
+) -> Result<(), StepErr>
     requires applied { IsApplied old.now extras.now new.now }
     requires from { disk.old.from ≡ 0 }
     requires some { 1 ≤ size }

@@ -1,5 +1,5 @@
 -- What was split off goes back.
-use Rattle.collective_round.proofs.Words.{◌≡◌, ◌+◌, ◌-◌, ◌^◌, ◌∙◌, min, sym, ap, subst, List, drop, map, arith, Failed, PartState, part_state, parts_of, with_parts, Follow}
+use Rattle.collective_round.proofs.Words.{◌≡◌, ◌+◌, ◌-◌, ◌^◌, ◌∙◌, min, sym, ap, subst, List, drop, map, arith, Disk, PartState, part_state, parts_of, with_parts, Follow}
 use Rattle.collective_round.proofs.PartLaws.{parts_follow, parts_rejoined}
 use Rattle.collective_round.proofs.PartSplits.{adjoin_dropped, end_dropped, joined_at_least, same_fault}
 use Rattle.collective_round.proofs.parts.split.Goals as goal
@@ -44,6 +44,6 @@ returns-in-Err-clause-cause g c = λ counted.
     record {
       later = omega arith;
       failed = λ f.
-          let rose = cause.failed (same_fault c.in-Err.fault Failed f) in
+          let rose = cause.failed (same_fault c.in-Err.fault Disk f) in
           omega (arith, joined_at_least (min (g.D.Disk.faults c.args.disk.now + 1) (2 ^ 64 - 1)) mid parts (omega arith) rose);
     }

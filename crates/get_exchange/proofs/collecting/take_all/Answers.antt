@@ -1,5 +1,5 @@
 -- One window of one helper was taken.
-use Rattle.get_exchange.proofs.Words.{◌≡◌, ◌∙◌, refl, sym, subst, set, Some, Result, get_or, length-set, same_Some, slice_get-get_or, slice_get, IfErr, OnOk, DiskErr, Memory, HaveTakenTurns, IsKept, IsShelfIn, turns_due, ReadWorker, fewer_all, set_each}
+use Rattle.get_exchange.proofs.Words.{◌≡◌, ◌∙◌, refl, sym, subst, set, Some, Result, get_or, length-set, same_Some, slice_get-get_or, slice_get, IfErr, OnOk, StepErr, Memory, HaveTakenTurns, IsKept, IsShelfIn, turns_due, ReadWorker, fewer_all, set_each}
 use Rattle.get_exchange.proofs.CollectLaws.{fit_as_long}
 use Rattle.get_exchange.proofs.TakeLaws.{both_memory, kept_more, kept_none, taken_none, taken_on}
 use Rattle.get_exchange.proofs.collecting.take_all.Goals as goal
@@ -48,9 +48,9 @@ rounds-preserved g c =
           (λ o e. kept_more o worker new (c.rounds.invariant.kept k o worker e own) refl c.take_turn-came.ensures.of)
           (λ r s e o h. c.rounds.invariant.kept r o s h e) a now second old first;
       blobs = c.take_turn-came.ensures.blobs ∙ c.rounds.invariant.blobs;
-      taken = subst (λ (r : Result (Unit {0}) DiskErr). OnOk r (HaveTakenTurns list c.args.workers.now (set c.rounds.workers k new) c.args.table.now c.take_turn-came.new.table)) (sym c.and-end.ensures)
+      taken = subst (λ (r : Result (Unit {0}) StepErr). OnOk r (HaveTakenTurns list c.args.workers.now (set c.rounds.workers k new) c.args.table.now c.take_turn-came.new.table)) (sym c.and-end.ensures)
           (taken_on list c.args.workers.now c.rounds.workers k worker new c.args.table.now c.rounds.table c.take_turn-came.new.table c.rounds.end c.take_turn-came.result.0
           c.rounds.invariant.long own c.rounds.invariant.taken c.take_turn-came.ensures.taken);
       lenders = c.hand_on.ensures;
-      memory = subst (λ (r : Result (Unit {0}) DiskErr). IfErr r (λ e. e ≡ Memory)) (sym c.and-end.ensures) (both_memory c.rounds.end c.take_turn-came.result.0 c.rounds.invariant.memory c.take_turn-came.ensures.memory);
+      memory = subst (λ (r : Result (Unit {0}) StepErr). IfErr r (λ e. e ≡ Memory)) (sym c.and-end.ensures) (both_memory c.rounds.end c.take_turn-came.result.0 c.rounds.invariant.memory c.take_turn-came.ensures.memory);
     }

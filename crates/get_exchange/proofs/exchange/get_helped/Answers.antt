@@ -1,5 +1,5 @@
 -- The first parts came back from helpers, and those behind them were read in turn.
-use Rattle.get_exchange.proofs.Words.{◌≡◌, ◌-◌, ◌∙◌, ℕ, List, sym, ap, subst, length, take, drop, Result, rules, arith, common_steps, length-drop, take_rest, zip, IsErrOf, OnOk, AllZip, Extent, Rose, DiskErr, Failed, part_state, get_turns, HasGot, HasReadParts, domains_behind, failed_joined}
+use Rattle.get_exchange.proofs.Words.{◌≡◌, ◌-◌, ◌∙◌, ℕ, List, sym, ap, subst, length, take, drop, Result, rules, arith, common_steps, length-drop, take_rest, zip, IsErrOf, OnOk, AllZip, Extent, Rose, StepErr, Disk, part_state, get_turns, HasGot, HasReadParts, domains_behind, failed_joined}
 use Rattle.get_exchange.proofs.CollectLaws.{fit_as_long}
 use Rattle.get_exchange.proofs.SplitReads.{back_long, got_joined, parts_joined}
 use Rattle.get_exchange.proofs.exchange.get_helped.Goals as goal
@@ -51,18 +51,18 @@ returns g c =
       got =
           let whole = c.give_back.new.back.items in
           let state = part_state g.D.Disk in
-          subst (λ (r : Result (Unit {0}) DiskErr). AllZip (λ p d. HasGot (get_turns plan p.1) (state p.0) (state d) r) (zip parts domains) whole) (sym c.and.ensures)
+          subst (λ (r : Result (Unit {0}) StepErr). AllZip (λ p d. HasGot (get_turns plan p.1) (state p.0) (state d) r) (zip parts domains) whole) (sym c.and.ensures)
           (got_joined plan state parts _ domains _ served.back.items others.0.items _ served.end others.1 c.requires.one_each c.get_served-back.ensures.rest
           (take_rest domains count ∙ ap (λ (n : ℕ). drop n domains) number) c.give_back.ensures c.get_served-back.ensures.got c.get_in_turn-others.ensures.got);
       read =
           let from = λ (d : g.row.D.Denot). g.D.Disk.from d in
           let held = λ (d : g.row.D.Denot). g.D.Disk.held d in
-          subst (λ (r : Result (Unit {0}) DiskErr). OnOk r (HasReadParts from held plan (zip parts domains) c.args.into.now c.get_in_turn-others.new.into)) (sym c.and.ensures)
+          subst (λ (r : Result (Unit {0}) StepErr). OnOk r (HasReadParts from held plan (zip parts domains) c.args.into.now c.get_in_turn-others.new.into)) (sym c.and.ensures)
           (parts_joined from held plan (length served.back.items) parts _ domains _ c.args.into.now c.get_served-back.new.into c.get_in_turn-others.new.into served.end
           others.1 c.requires.one_each c.get_served-back.ensures.rest (take_rest domains count ∙ ap (λ (n : ℕ). drop n domains) number) c.get_served-back.ensures.read
           c.get_in_turn-others.ensures.read);
       blobs = first_of (search rules, grind (arith, common_steps));
       failed = λ f. failed_joined (λ (a b : g.row.D.Denot). Rose (g.D.Disk.faults a) (g.D.Disk.faults b)) c.args.parts.items _ served.back.items others.0.items _ served.end
           others.1 c.get_served-back.ensures.rest c.give_back.ensures c.get_served-back.ensures.failed c.get_in_turn-others.ensures.failed
-          (subst (λ (r : Result (Unit {0}) DiskErr). IsErrOf r Failed) c.and.ensures f);
+          (subst (λ (r : Result (Unit {0}) StepErr). IsErrOf r Disk) c.and.ensures f);
     }

@@ -1,5 +1,5 @@
 -- The parts that helpers took are the first ones, and come back read.
-use Rattle.get_exchange.proofs.Words.{◌≡◌, ◌∙◌, ℕ, List, sym, ap, subst, length, map, take, vec_capacity, Some, Result, rules, arith, common_steps, slice_get, zip, IsErrOf, IsOk, OnOk, AllZip, Extent, Rose, DiskErr, Failed, In, at_in, AreAsLong, get_turns, AreRead, HasGot, HasReadParts, HaveTakenTurns, IsKept, part_state, SomeZip, domain_of, part_of, ReadWorker, and_first_ok, slice_kept, all_of, some_of, workers_few, AreOf, first_parts, parts_behind}
+use Rattle.get_exchange.proofs.Words.{◌≡◌, ◌∙◌, ℕ, List, sym, ap, subst, length, map, take, vec_capacity, Some, Result, rules, arith, common_steps, slice_get, zip, IsErrOf, IsOk, OnOk, AllZip, Extent, Rose, StepErr, Disk, In, at_in, AreAsLong, get_turns, AreRead, HasGot, HasReadParts, HaveTakenTurns, IsKept, part_state, SomeZip, domain_of, part_of, ReadWorker, and_first_ok, slice_kept, all_of, some_of, workers_few, AreOf, first_parts, parts_behind}
 use Rattle.get_exchange.proofs.PartReads.{all_got_later, all_read, and_memory, kept_domains, kept_parts, rows_long}
 use Rattle.get_exchange.proofs.TakeLaws.{kept_workers}
 use Rattle.get_exchange.proofs.exchange.get_served.Goals as goal
@@ -60,7 +60,7 @@ returns g c =
           let state = part_state g.D.Disk in
           let Got : g.row.D.Denot × Extent → g.row.D.Denot → Type 0 = λ p d. HasGot (get_turns plan p.1) (state p.0) (state d) c.take_back-end.result in
           all_got_later (λ (p : g.row.D.Denot × Extent). get_turns plan p.1) state _ back c.take_back-end.result c.and.result
-          (subst (λ (r : Result (Unit {0}) DiskErr). OnOk r (IsOk c.take_back-end.result)) (sym c.and.ensures) (and_first_ok c.take_back-end.result c.take_all-came.result))
+          (subst (λ (r : Result (Unit {0}) StepErr). OnOk r (IsOk c.take_back-end.result)) (sym c.and.ensures) (and_first_ok c.take_back-end.result c.take_all-came.result))
           (all_of (λ worker. part_of worker) (λ worker. domain_of worker) last (take (length back) parts) back (take (length back) domains) Got of
           (subst (λ (ws : List (ReadWorker g.row.D.Denot)). AllZip (λ worker d. Got (part_of worker, domain_of worker) d) ws back) whole c.take_back-end.ensures.got));
       read =
@@ -68,7 +68,7 @@ returns g c =
           let held = λ (d : g.row.D.Denot). g.D.Disk.held d in
           let pairs = zip (take (length back) parts) (take (length back) domains) in
           subst (λ (t : List (List (List ℕ))). OnOk c.and.result (HasReadParts from held plan pairs c.args.into.now t)) (sym made)
-          (subst (λ (r : Result (Unit {0}) DiskErr). OnOk r (HasReadParts from held plan pairs c.args.into.now filled)) (sym c.and.ensures)
+          (subst (λ (r : Result (Unit {0}) StepErr). OnOk r (HasReadParts from held plan pairs c.args.into.now filled)) (sym c.and.ensures)
           (all_read from held plan first last (take (length back) parts) (take (length back) domains) c.args.into.now filled c.take_back-end.result c.take_all-came.result
           of long c.hand_all.ensures.workers kept c.take_all-came.ensures.none
           (subst (λ (t : List (List (List ℕ))). OnOk c.take_all-came.result (HaveTakenTurns plan.list.now first last t filled)) (given ∙ begun)
@@ -82,5 +82,5 @@ returns g c =
           let Failing : g.row.D.Denot → g.row.D.Denot → Type 0 = λ a b. Rose (g.D.Disk.faults a) (g.D.Disk.faults b) in
           λ f. some_of (λ worker. part_of worker) (λ worker. domain_of worker) last (take (length back) parts) back (take (length back) domains) Failing of
           (subst (λ (ws : List (ReadWorker g.row.D.Denot)). SomeZip (λ worker d. Failing (part_of worker) d) ws back) whole (c.take_back-end.ensures.failed
-          (and_memory c.take_back-end.result c.take_all-came.result c.take_all-came.ensures.memory (subst (λ (r : Result (Unit {0}) DiskErr). IsErrOf r Failed) c.and.ensures f))));
+          (and_memory c.take_back-end.result c.take_all-came.result c.take_all-came.ensures.memory (subst (λ (r : Result (Unit {0}) StepErr). IsErrOf r Disk) c.and.ensures f))));
     }

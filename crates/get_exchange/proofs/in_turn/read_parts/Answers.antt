@@ -1,5 +1,5 @@
 -- One part more was read.
-use Rattle.get_exchange.proofs.Words.{ℕ, ◌≡◌, ◌∙◌, ◌++◌, ◌∷◌, [], refl, sym, ap, subst, length, append_assoc, List, Some, Result, Ok, rules, arith, slice_get, slice_get_within, common_steps, zip, OnOk, AllZip, Extent, Rose, DiskErr, at_in, get_turns, HasGot, HasReadParts, part_state, middle_at, part_domain, back_more, both_long, failed_more, zip_push}
+use Rattle.get_exchange.proofs.Words.{ℕ, ◌≡◌, ◌∙◌, ◌++◌, ◌∷◌, [], refl, sym, ap, subst, length, append_assoc, List, Some, Result, Ok, rules, arith, slice_get, slice_get_within, common_steps, zip, OnOk, AllZip, Extent, Rose, StepErr, at_in, get_turns, HasGot, HasReadParts, part_state, middle_at, part_domain, back_more, both_long, failed_more, zip_push}
 use Rattle.get_exchange.proofs.CollectLaws.{fit_as_long}
 use Rattle.get_exchange.proofs.FetchLaws.{got_later}
 use Rattle.get_exchange.proofs.PartReads.{none_zip, parts_none, parts_on}
@@ -8,7 +8,7 @@ use Rattle.get_exchange.proofs.in_turn.read_parts.Goals as goal
 pub loop-part-init : goal.loop-part-init
 loop-part-init g c =
     let state = part_state g.D.Disk in
-    let Got : Result (Unit {0}) DiskErr → g.row.D.Denot × Extent → g.row.D.Denot → Type 0 = λ r p d. HasGot (get_turns c.args.plan.now p.1) (state p.0) (state d) r in
+    let Got : Result (Unit {0}) StepErr → g.row.D.Denot × Extent → g.row.D.Denot → Type 0 = λ r p d. HasGot (get_turns c.args.plan.now p.1) (state p.0) (state d) r in
     record {
       all = first_of (search rules, grind (arith, common_steps));
       long = ap (λ (ds : List g.row.D.Denot). length ds) c.requires.none;
@@ -56,7 +56,7 @@ loop-part-preserved g c =
     let plan = c.args.plan.now in
     let more = zip_push c.loop-part.yielded c.args.domains.now c.in-Some.part domain at in
     let state = part_state g.D.Disk in
-    let Got : Result (Unit {0}) DiskErr → g.row.D.Denot × Extent → g.row.D.Denot → Type 0 = λ r p d. HasGot (get_turns plan p.1) (state p.0) (state d) r in
+    let Got : Result (Unit {0}) StepErr → g.row.D.Denot × Extent → g.row.D.Denot → Type 0 = λ r p d. HasGot (get_turns plan p.1) (state p.0) (state d) r in
     record {
       all = append_assoc c.loop-part.yielded (c.in-Some.part ∷ []) _ ∙ ap (λ v. c.loop-part.yielded ++ v) (sym c.in-Some.ensures.steps.0) ∙ c.loop-part.invariant.all;
       long = both_long c.loop-part.yielded c.in-Some.part c.loop-part.back.items _ part pushed many;

@@ -1,5 +1,5 @@
 -- The parts so far were read, up to the first fault.
-use Rattle.get_exchange.proofs.Words.{◌≡◌, ◌++◌, length, vec_capacity, zip, IsErrOf, OnOk, AllZip, Rose, Failed, AreAsLong, get_turns, HasGot, HasReadParts, IsPast, part_state, SomeZip}
+use Rattle.get_exchange.proofs.Words.{◌≡◌, ◌++◌, length, vec_capacity, zip, IsErrOf, OnOk, AllZip, Rose, Disk, AreAsLong, get_turns, HasGot, HasReadParts, IsPast, part_state, SomeZip}
 use Rattle.get_exchange.proofs.in_turn.read_parts.Given as goal
 
 abbrev pub invariant-loop-part : goal.invariant-loop-part
@@ -14,5 +14,5 @@ invariant-loop-part g l = record {
   read : OnOk l.end (HasReadParts (λ part. g.D.Disk.from part) (λ part. g.D.Disk.held part) l.plan (zip l.yielded l.domains) l.initial.room.table.items l.room.table.items);
   blobs : AreAsLong l.initial.room.table.items l.room.table.items;
   past : IsPast l.ahead.place l.plan.list.now l.ahead.entries.now;
-  failed : IsErrOf l.end Failed → SomeZip (λ old new. Rose (g.D.Disk.faults old) (g.D.Disk.faults new)) l.yielded l.back.items;
+  failed : IsErrOf l.end Disk → SomeZip (λ old new. Rose (g.D.Disk.faults old) (g.D.Disk.faults new)) l.yielded l.back.items;
 }

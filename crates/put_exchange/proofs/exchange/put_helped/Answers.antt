@@ -1,5 +1,5 @@
 -- The first parts came back from helpers, and those behind them were served in turn.
-use Rattle.put_exchange.proofs.Words.{◌≡◌, ◌-◌, ◌∙◌, ℕ, List, sym, ap, subst, length, take, drop, Result, rules, arith, common_steps, length-drop, take_rest, zip, IsErrOf, AllZip, Extent, Rose, DiskErr, Failed, planned_turns, source_in, part_state, HasPut, domains_behind, failed_joined}
+use Rattle.put_exchange.proofs.Words.{◌≡◌, ◌-◌, ◌∙◌, ℕ, List, sym, ap, subst, length, take, drop, Result, rules, arith, common_steps, length-drop, take_rest, zip, IsErrOf, AllZip, Extent, Rose, StepErr, Disk, planned_turns, source_in, part_state, HasPut, domains_behind, failed_joined}
 use Rattle.put_exchange.proofs.SplitPuts.{put_joined}
 use Rattle.put_exchange.proofs.exchange.put_helped.Goals as goal
 
@@ -45,12 +45,12 @@ returns g c =
           let count = c.len-served.result in
           let number : count ≡ length served.back.items = first_of (search rules, grind (arith, common_steps)) in
           let state = part_state g.D.Disk in
-          subst (λ (r : Result (Unit {0}) DiskErr). AllZip (λ p d. HasPut (source_in plan) plan.list.now (planned_turns plan p.1) (state p.0) (state d) r) (zip parts domains) whole) (sym c.and.ensures)
+          subst (λ (r : Result (Unit {0}) StepErr). AllZip (λ p d. HasPut (source_in plan) plan.list.now (planned_turns plan p.1) (state p.0) (state d) r) (zip parts domains) whole) (sym c.and.ensures)
           (put_joined (source_in plan) plan.list.now (λ p. planned_turns plan p.1) state parts served.rest.items domains (take (length domains - count) (drop count domains)) served.back.items others.0.items whole
           served.end others.1 c.requires.one_each c.put_served-back.ensures.rest (take_rest domains count ∙ ap (λ (n : ℕ). drop n domains) number) c.give_back.ensures
           c.put_served-back.ensures.put c.put_in_turn-others.ensures.put);
       failed = λ f.
           failed_joined (λ (a b : g.row.D.Denot). Rose (g.D.Disk.faults a) (g.D.Disk.faults b)) c.args.parts.items served.rest.items served.back.items others.0.items c.give_back.new.back.items served.end others.1
           c.put_served-back.ensures.rest c.give_back.ensures c.put_served-back.ensures.failed c.put_in_turn-others.ensures.failed
-          (subst (λ (r : Result (Unit {0}) DiskErr). IsErrOf r Failed) c.and.ensures f);
+          (subst (λ (r : Result (Unit {0}) StepErr). IsErrOf r Disk) c.and.ensures f);
     }

@@ -1,5 +1,5 @@
 -- One part more was served.
-use Rattle.put_exchange.proofs.Words.{ℕ, ◌≡◌, ◌≤◌, ◌∙◌, ◌++◌, ◌∷◌, [], sym, ap, subst, length, append_assoc, List, Some, Result, rules, arith, slice_get, slice_get_within, common_steps, zip, AllZip, Extent, Rose, DiskErr, at_in, planned_turns, source_in, part_state, HasPut, middle_at, part_domain, back_more, both_long, failed_more, zip_push, zip_same}
+use Rattle.put_exchange.proofs.Words.{ℕ, ◌≡◌, ◌≤◌, ◌∙◌, ◌++◌, ◌∷◌, [], sym, ap, subst, length, append_assoc, List, Some, Result, rules, arith, slice_get, slice_get_within, common_steps, zip, AllZip, Extent, Rose, StepErr, at_in, planned_turns, source_in, part_state, HasPut, middle_at, part_domain, back_more, both_long, failed_more, zip_push, zip_same}
 use Rattle.put_exchange.proofs.PutLaws.{put_later, put_untouched}
 use Rattle.put_exchange.proofs.in_turn.put_in_turn.Goals as goal
 
@@ -48,7 +48,7 @@ loop-part-preserved g c =
     let came = c.serve_next-part.result.1 in
     let plan = c.args.plan.now in
     let state = part_state g.D.Disk in
-    let Put : Result (Unit {0}) DiskErr → g.row.D.Denot × Extent → g.row.D.Denot → Type 0
+    let Put : Result (Unit {0}) StepErr → g.row.D.Denot × Extent → g.row.D.Denot → Type 0
     = λ r p d. HasPut (source_in plan) plan.list.now (planned_turns plan p.1) (state p.0) (state d) r in
     record {
       all = append_assoc c.loop-part.yielded (c.in-Some.part ∷ []) _ ∙ ap (λ v. c.loop-part.yielded ++ v) (sym c.in-Some.ensures.steps.0) ∙ c.loop-part.invariant.all;

@@ -1,5 +1,5 @@
 -- What is left to be served gives the whole of any such plan, once its messages were taken.
-use Rattle.put_exchange.proofs.Words.{◌≡◌, ℕ, ◌≤◌, List, drop, length, IsErrOf, Rose, Failed, Owned, Source, turns_due, IsPlanOn}
+use Rattle.put_exchange.proofs.Words.{◌≡◌, ℕ, ◌≤◌, List, drop, length, IsErrOf, Rose, Disk, Owned, Source, turns_due, IsPlanOn}
 use Rattle.put_exchange.proofs.ServeLaws.{IsServed}
 use Rattle.put_exchange.proofs.laying.lay_part.Given as goal
 
@@ -13,5 +13,5 @@ invariant-loop-due g l = record {
   from : g.D.Disk.from l.part ≡ g.D.Disk.from l.initial.part;
   len : g.D.Disk.len l.part ≡ g.D.Disk.len l.initial.part;
   later : g.D.Disk.faults l.initial.part ≤ g.D.Disk.faults l.part;
-  failed : IsErrOf l.end Failed → Rose (g.D.Disk.faults l.initial.part) (g.D.Disk.faults l.part);
+  failed : IsErrOf l.end Disk → Rose (g.D.Disk.faults l.initial.part) (g.D.Disk.faults l.part);
 }

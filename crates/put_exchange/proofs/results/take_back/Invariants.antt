@@ -1,5 +1,5 @@
 -- The parts of the helpers so far came back.
-use Rattle.put_exchange.proofs.Words.{◌≡◌, ◌++◌, length, vec_capacity, IsErrOf, AllZip, Rose, Failed, planned_turns, source_in, part_state, SomeZip, HasPut, domain_of, part_of}
+use Rattle.put_exchange.proofs.Words.{◌≡◌, ◌++◌, length, vec_capacity, IsErrOf, AllZip, Rose, Disk, planned_turns, source_in, part_state, SomeZip, HasPut, domain_of, part_of}
 use Rattle.put_exchange.proofs.results.take_back.Given as goal
 
 abbrev pub invariant-loop-worker : goal.invariant-loop-worker
@@ -10,5 +10,5 @@ invariant-loop-worker g l = record {
   put : AllZip
       (λ worker new. HasPut (source_in l.plan) l.plan.list.now (planned_turns l.plan (domain_of worker))
       (part_state g.D.Disk (part_of worker)) (part_state g.D.Disk new) l.end) l.yielded l.back.items;
-  failed : IsErrOf l.end Failed → SomeZip (λ worker new. Rose (g.D.Disk.faults (part_of worker)) (g.D.Disk.faults new)) l.yielded l.back.items;
+  failed : IsErrOf l.end Disk → SomeZip (λ worker new. Rose (g.D.Disk.faults (part_of worker)) (g.D.Disk.faults new)) l.yielded l.back.items;
 }
