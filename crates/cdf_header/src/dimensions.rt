@@ -1,25 +1,22 @@
 // Sections of a header, and the dimensions.
-ghost use Rattle.std.specs.Prelude.{◌≡◌};
 ghost use Rattle.serial_spec.specs.HeaderFaults.{Count, DimLength};
 ghost use Rattle.cdf_header.specs.Sections.{section_of};
 ghost use Rattle.cdf_header.specs.Reading.{Gives, field_at, absent_at, dim_at, each_at, count_at, dims_at};
 
-use crate::cursor::Cursor;
+use crate::header_bytes::HeaderBytes;
 use crate::section::Section;
 use crate::stop::Stop;
 use nc_base::{Dim, DimList, FILE_LIMIT, HeaderErr, MAX_DIMS, MAX_VARS};
 use std::alloc::Global;
 
-impl<'a> Cursor<'a> {
+impl HeaderBytes<'_> {
     /// The tag of a section: whether the section is absent.
     #[tactic(auto, unfolding(crate::specs::Reading::absent_at))]
-    pub(crate) fn tag(&mut self, section: Section) -> Result<bool, Stop>
-        ensures bytes { self.new.bytes ≡ self.old.bytes }
-        ensures version { self.new.version ≡ self.old.version }
-        ensures read { Gives (λ found. (found, self.new.at)) result (absent_at self.old.version self.old.bytes.now (section_of section) self.old.at) }
+    pub(crate) fn tag(&self, at: &mut usize, section: Section) -> Result<bool, Stop>
+        ensures read { Gives (λ found. (found, at.new)) result (absent_at self.now.version self.now.bytes.now (section_of section) at.old) }
     {
-        let start = self.at as u64;
-        let n = self.word()?;
+        let start = *at as u64;
+        let n = self.word(at)?;
         let wanted = match section {
             Section::Dimensions => 10,
             Section::Attributes => 12,
@@ -32,13 +29,16 @@ impl<'a> Cursor<'a> {
     }
 
     /// The count of a section, which is 0 where the section is absent.
-    pub(crate) fn entry_count(&mut self, section: Section, absent: bool) -> Result<u64, Stop>
-        ensures bytes { self.new.bytes ≡ self.old.bytes }
-        ensures version { self.new.version ≡ self.old.version }
-        ensures read { Gives (λ found. (found, self.new.at)) result (field_at self.old.version self.old.bytes.now (Count (section_of section) absent) self.old.at) }
+    pub(crate) fn entry_count(
+        &self,
+        at: &mut usize,
+        section: Section,
+        absent: bool,
+    ) -> Result<u64, Stop>
+        ensures read { Gives (λ found. (found, at.new)) result (field_at self.now.version self.now.bytes.now (Count (section_of section) absent) at.old) }
     {
-        let start = self.at as u64;
-        let n = self.number()?;
+        let start = *at as u64;
+        let n = self.number(at)?;
         if absent {
             if n != 0 {
                 return Err(Stop::Fault(HeaderErr::BadNumber(start)));
@@ -61,23 +61,19 @@ impl<'a> Cursor<'a> {
 
     /// The tag and the count of a section.
     #[tactic(auto, unfolding(crate::specs::Reading::count_at))]
-    pub(crate) fn count(&mut self, section: Section) -> Result<u64, Stop>
-        ensures bytes { self.new.bytes ≡ self.old.bytes }
-        ensures version { self.new.version ≡ self.old.version }
-        ensures read { Gives (λ found. (found, self.new.at)) result (count_at self.old.version self.old.bytes.now (section_of section) self.old.at) }
+    pub(crate) fn count(&self, at: &mut usize, section: Section) -> Result<u64, Stop>
+        ensures read { Gives (λ found. (found, at.new)) result (count_at self.now.version self.now.bytes.now (section_of section) at.old) }
     {
-        let absent = self.tag(section)?;
-        self.entry_count(section, absent)
+        let absent = self.tag(at, section)?;
+        self.entry_count(at, section, absent)
     }
 
     /// The length of a dimension.
-    pub(crate) fn dim_length(&mut self) -> Result<u64, Stop>
-        ensures bytes { self.new.bytes ≡ self.old.bytes }
-        ensures version { self.new.version ≡ self.old.version }
-        ensures read { Gives (λ found. (found, self.new.at)) result (field_at self.old.version self.old.bytes.now DimLength self.old.at) }
+    pub(crate) fn dim_length(&self, at: &mut usize) -> Result<u64, Stop>
+        ensures read { Gives (λ found. (found, at.new)) result (field_at self.now.version self.now.bytes.now DimLength at.old) }
     {
-        let start = self.at as u64;
-        let n = self.number()?;
+        let start = *at as u64;
+        let n = self.number(at)?;
         if self.is_negative(n) || n > FILE_LIMIT {
             return Err(Stop::Fault(HeaderErr::BadNumber(start)));
         }
@@ -86,25 +82,26 @@ impl<'a> Cursor<'a> {
 
     /// A dimension.
     #[tactic(auto, unfolding(crate::specs::Reading::dim_at))]
-    pub(crate) fn dim(&mut self, alloc: Global) -> Result<Dim, Stop>
-        ensures bytes { self.new.bytes ≡ self.old.bytes }
-        ensures version { self.new.version ≡ self.old.version }
-        ensures read { Gives (λ found. (found, self.new.at)) result (dim_at self.old.version self.old.bytes.now self.old.at) }
+    pub(crate) fn dim(&self, alloc: Global, at: &mut usize) -> Result<Dim, Stop>
+        ensures read { Gives (λ found. (found, at.new)) result (dim_at self.now.version self.now.bytes.now at.old) }
     {
-        let name = self.name(alloc)?;
-        let len = self.dim_length()?;
+        let name = self.name(alloc, at)?;
+        let len = self.dim_length(at)?;
         Ok(Dim { name, len })
     }
 
     /// So many dimensions.
-    pub(crate) fn each_dim(&mut self, alloc: Global, count: u64) -> Result<DimList, Stop>
-        ensures bytes { self.new.bytes ≡ self.old.bytes }
-        ensures version { self.new.version ≡ self.old.version }
-        ensures read { Gives (λ found. (found, self.new.at)) result (each_at (dim_at self.old.version self.old.bytes.now) count self.old.at) }
+    pub(crate) fn each_dim(
+        &self,
+        alloc: Global,
+        at: &mut usize,
+        count: u64,
+    ) -> Result<DimList, Stop>
+        ensures read { Gives (λ found. (found, at.new)) result (each_at (dim_at self.now.version self.now.bytes.now) count at.old) }
     {
         let mut found = DimList::new(alloc);
         for _ in 0..count {
-            let dim = self.dim(alloc)?;
+            let dim = self.dim(alloc, at)?;
             found.push(dim)?;
         }
         Ok(found)
@@ -112,12 +109,10 @@ impl<'a> Cursor<'a> {
 
     /// The list of dimensions.
     #[tactic(auto, unfolding(crate::specs::Reading::dims_at))]
-    pub(crate) fn dims(&mut self, alloc: Global) -> Result<DimList, Stop>
-        ensures bytes { self.new.bytes ≡ self.old.bytes }
-        ensures version { self.new.version ≡ self.old.version }
-        ensures read { Gives (λ found. (found, self.new.at)) result (dims_at self.old.version self.old.bytes.now self.old.at) }
+    pub(crate) fn dims(&self, alloc: Global, at: &mut usize) -> Result<DimList, Stop>
+        ensures read { Gives (λ found. (found, at.new)) result (dims_at self.now.version self.now.bytes.now at.old) }
     {
-        let count = self.count(Section::Dimensions)?;
-        self.each_dim(alloc, count)
+        let count = self.count(at, Section::Dimensions)?;
+        self.each_dim(alloc, at, count)
     }
 }

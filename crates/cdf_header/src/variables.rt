@@ -1,26 +1,23 @@
 // Variables.
-ghost use Rattle.std.specs.Prelude.{◌≡◌};
 ghost use Rattle.serial_spec.specs.HeaderFaults.{DimCount, VarType, Vsize, Begin};
 ghost use Rattle.cdf_header.specs.Reading.{Gives, field_at, unread_at, each_at, kind_at, id_at, ids_at, var_at, vars_at};
 
-use crate::cursor::Cursor;
+use crate::header_bytes::HeaderBytes;
 use crate::section::Section;
 use crate::stop::Stop;
 use crate::type_numbers::kind_of;
 use nc_base::{HeaderErr, IdList, MAX_VAR_DIMS, NcType, Var, VarList};
 use std::alloc::Global;
 
-impl<'a> Cursor<'a> {
+impl HeaderBytes<'_> {
     /// The place of a dimension. One that 32 bits can't hold is read as the greatest that they hold, which is that of no
     /// dimension either.
     #[tactic(auto, unfolding(crate::specs::Reading::id_at))]
-    pub(crate) fn id(&mut self) -> Result<u32, Stop>
-        ensures bytes { self.new.bytes ≡ self.old.bytes }
-        ensures version { self.new.version ≡ self.old.version }
-        ensures read { Gives (λ found. (found, self.new.at)) result (id_at self.old.version self.old.bytes.now self.old.at) }
+    pub(crate) fn id(&self, at: &mut usize) -> Result<u32, Stop>
+        ensures read { Gives (λ found. (found, at.new)) result (id_at self.now.version self.now.bytes.now at.old) }
     {
-        let start = self.at as u64;
-        let n = self.number()?;
+        let start = *at as u64;
+        let n = self.number(at)?;
         if self.is_negative(n) {
             return Err(Stop::Fault(HeaderErr::BadNumber(start)));
         }
@@ -28,13 +25,11 @@ impl<'a> Cursor<'a> {
     }
 
     /// How many dimensions a variable has.
-    pub(crate) fn dim_count(&mut self) -> Result<u64, Stop>
-        ensures bytes { self.new.bytes ≡ self.old.bytes }
-        ensures version { self.new.version ≡ self.old.version }
-        ensures read { Gives (λ found. (found, self.new.at)) result (field_at self.old.version self.old.bytes.now DimCount self.old.at) }
+    pub(crate) fn dim_count(&self, at: &mut usize) -> Result<u64, Stop>
+        ensures read { Gives (λ found. (found, at.new)) result (field_at self.now.version self.now.bytes.now DimCount at.old) }
     {
-        let start = self.at as u64;
-        let n = self.number()?;
+        let start = *at as u64;
+        let n = self.number(at)?;
         if self.is_negative(n) {
             return Err(Stop::Fault(HeaderErr::BadNumber(start)));
         }
@@ -45,14 +40,12 @@ impl<'a> Cursor<'a> {
     }
 
     /// So many places of dimensions.
-    pub(crate) fn each_id(&mut self, alloc: Global, count: u64) -> Result<IdList, Stop>
-        ensures bytes { self.new.bytes ≡ self.old.bytes }
-        ensures version { self.new.version ≡ self.old.version }
-        ensures read { Gives (λ found. (found, self.new.at)) result (each_at (id_at self.old.version self.old.bytes.now) count self.old.at) }
+    pub(crate) fn each_id(&self, alloc: Global, at: &mut usize, count: u64) -> Result<IdList, Stop>
+        ensures read { Gives (λ found. (found, at.new)) result (each_at (id_at self.now.version self.now.bytes.now) count at.old) }
     {
         let mut found = IdList::new(alloc);
         for _ in 0..count {
-            let id = self.id()?;
+            let id = self.id(at)?;
             found.push(id)?;
         }
         Ok(found)
@@ -60,24 +53,20 @@ impl<'a> Cursor<'a> {
 
     /// The places of a variable's dimensions.
     #[tactic(auto, unfolding(crate::specs::Reading::ids_at))]
-    pub(crate) fn ids(&mut self, alloc: Global) -> Result<IdList, Stop>
-        ensures bytes { self.new.bytes ≡ self.old.bytes }
-        ensures version { self.new.version ≡ self.old.version }
-        ensures read { Gives (λ found. (found, self.new.at)) result (ids_at self.old.version self.old.bytes.now self.old.at) }
+    pub(crate) fn ids(&self, alloc: Global, at: &mut usize) -> Result<IdList, Stop>
+        ensures read { Gives (λ found. (found, at.new)) result (ids_at self.now.version self.now.bytes.now at.old) }
     {
-        let count = self.dim_count()?;
-        self.each_id(alloc, count)
+        let count = self.dim_count(at)?;
+        self.each_id(alloc, at, count)
     }
 
     /// A variable's type.
     #[tactic(auto, unfolding(crate::specs::Reading::kind_at))]
-    pub(crate) fn var_type(&mut self) -> Result<NcType, Stop>
-        ensures bytes { self.new.bytes ≡ self.old.bytes }
-        ensures version { self.new.version ≡ self.old.version }
-        ensures read { Gives (λ found. (found, self.new.at)) result (kind_at self.old.version self.old.bytes.now VarType self.old.at) }
+    pub(crate) fn var_type(&self, at: &mut usize) -> Result<NcType, Stop>
+        ensures read { Gives (λ found. (found, at.new)) result (kind_at self.now.version self.now.bytes.now VarType at.old) }
     {
-        let start = self.at as u64;
-        let n = self.word()?;
+        let start = *at as u64;
+        let n = self.word(at)?;
         let last = if self.version == 5 { 11 } else { 6 };
         if n == 0 || last < n {
             return Err(Stop::Fault(HeaderErr::BadType(start)));
@@ -87,29 +76,25 @@ impl<'a> Cursor<'a> {
 
     /// The stored size of a variable, of which nothing is asked.
     #[tactic(auto, unfolding(crate::specs::Reading::unread_at))]
-    pub(crate) fn stored_size(&mut self) -> Result<u64, Stop>
-        ensures bytes { self.new.bytes ≡ self.old.bytes }
-        ensures version { self.new.version ≡ self.old.version }
-        ensures read { Gives (λ found. (found, self.new.at)) result (unread_at self.old.version self.old.bytes.now Vsize self.old.at) }
+    pub(crate) fn stored_size(&self, at: &mut usize) -> Result<u64, Stop>
+        ensures read { Gives (λ found. (found, at.new)) result (unread_at self.now.version self.now.bytes.now Vsize at.old) }
     {
-        self.number()
+        self.number(at)
     }
 
     /// The byte at which a variable begins.
-    pub(crate) fn begin(&mut self) -> Result<u64, Stop>
-        ensures bytes { self.new.bytes ≡ self.old.bytes }
-        ensures version { self.new.version ≡ self.old.version }
-        ensures read { Gives (λ found. (found, self.new.at)) result (field_at self.old.version self.old.bytes.now Begin self.old.at) }
+    pub(crate) fn begin(&self, at: &mut usize) -> Result<u64, Stop>
+        ensures read { Gives (λ found. (found, at.new)) result (field_at self.now.version self.now.bytes.now Begin at.old) }
     {
-        let start = self.at as u64;
+        let start = *at as u64;
         if self.version == 1 {
-            let n = self.word()?;
+            let n = self.word(at)?;
             if n >= 1 << 31 {
                 return Err(Stop::Fault(HeaderErr::BadNumber(start)));
             }
             return Ok(u64::from(n));
         }
-        let n = self.double_word()?;
+        let n = self.double_word(at)?;
         if n >= 1 << 63 {
             return Err(Stop::Fault(HeaderErr::BadNumber(start)));
         }
@@ -118,17 +103,15 @@ impl<'a> Cursor<'a> {
 
     /// A variable.
     #[tactic(auto, unfolding(crate::specs::Reading::var_at))]
-    pub(crate) fn var(&mut self, alloc: Global) -> Result<Var, Stop>
-        ensures bytes { self.new.bytes ≡ self.old.bytes }
-        ensures version { self.new.version ≡ self.old.version }
-        ensures read { Gives (λ found. (found, self.new.at)) result (var_at self.old.version self.old.bytes.now self.old.at) }
+    pub(crate) fn var(&self, alloc: Global, at: &mut usize) -> Result<Var, Stop>
+        ensures read { Gives (λ found. (found, at.new)) result (var_at self.now.version self.now.bytes.now at.old) }
     {
-        let name = self.name(alloc)?;
-        let dims = self.ids(alloc)?;
-        let attrs = self.attrs(alloc)?;
-        let kind = self.var_type()?;
-        self.stored_size()?;
-        let begin = self.begin()?;
+        let name = self.name(alloc, at)?;
+        let dims = self.ids(alloc, at)?;
+        let attrs = self.attrs(alloc, at)?;
+        let kind = self.var_type(at)?;
+        self.stored_size(at)?;
+        let begin = self.begin(at)?;
         Ok(Var {
             name,
             dims,
@@ -139,14 +122,17 @@ impl<'a> Cursor<'a> {
     }
 
     /// So many variables.
-    pub(crate) fn each_var(&mut self, alloc: Global, count: u64) -> Result<VarList, Stop>
-        ensures bytes { self.new.bytes ≡ self.old.bytes }
-        ensures version { self.new.version ≡ self.old.version }
-        ensures read { Gives (λ found. (found, self.new.at)) result (each_at (var_at self.old.version self.old.bytes.now) count self.old.at) }
+    pub(crate) fn each_var(
+        &self,
+        alloc: Global,
+        at: &mut usize,
+        count: u64,
+    ) -> Result<VarList, Stop>
+        ensures read { Gives (λ found. (found, at.new)) result (each_at (var_at self.now.version self.now.bytes.now) count at.old) }
     {
         let mut found = VarList::new(alloc);
         for _ in 0..count {
-            let var = self.var(alloc)?;
+            let var = self.var(alloc, at)?;
             found.push(var)?;
         }
         Ok(found)
@@ -154,12 +140,10 @@ impl<'a> Cursor<'a> {
 
     /// The list of variables.
     #[tactic(auto, unfolding(crate::specs::Reading::vars_at))]
-    pub(crate) fn vars(&mut self, alloc: Global) -> Result<VarList, Stop>
-        ensures bytes { self.new.bytes ≡ self.old.bytes }
-        ensures version { self.new.version ≡ self.old.version }
-        ensures read { Gives (λ found. (found, self.new.at)) result (vars_at self.old.version self.old.bytes.now self.old.at) }
+    pub(crate) fn vars(&self, alloc: Global, at: &mut usize) -> Result<VarList, Stop>
+        ensures read { Gives (λ found. (found, at.new)) result (vars_at self.now.version self.now.bytes.now at.old) }
     {
-        let count = self.count(Section::Variables)?;
-        self.each_var(alloc, count)
+        let count = self.count(at, Section::Variables)?;
+        self.each_var(alloc, at, count)
     }
 }
