@@ -13,7 +13,7 @@ use std::alloc::Global;
 impl HeaderBytes<'_> {
     /// The number of an attribute's type.
     pub(crate) fn attr_type(&self, at: &mut usize) -> Result<u32, Stop>
-        ensures read { Gives (λ found. (found, at.new)) result (field_at self.now.version self.now.bytes.now AttrType at.old) }
+        ensures { Gives (λ found. (found, at.new)) result (field_at self.now.version self.now.bytes.now AttrType at.old) }
     {
         let start = *at as u64;
         let n = self.word(at)?;
@@ -26,7 +26,7 @@ impl HeaderBytes<'_> {
 
     /// How many values an attribute has.
     pub(crate) fn value_count(&self, at: &mut usize, size: u64) -> Result<u64, Stop>
-        ensures read { Gives (λ found. (found, at.new)) result (field_at self.now.version self.now.bytes.now (AttrCount size) at.old) }
+        ensures { Gives (λ found. (found, at.new)) result (field_at self.now.version self.now.bytes.now (AttrCount size) at.old) }
     {
         let start = *at as u64;
         let n = self.number(at)?;
@@ -45,7 +45,7 @@ impl HeaderBytes<'_> {
         count: u64,
         size: u64,
     ) -> Result<Blob, Stop>
-        ensures read { Gives (λ found. (found, at.new)) result (block_at self.now.version self.now.bytes.now (count * size) at.old) }
+        ensures { Gives (λ found. (found, at.new)) result (block_at self.now.version self.now.bytes.now (count * size) at.old) }
     {
         match count.checked_mul(size) {
             Some(len) => self.block(alloc, at, len),
@@ -56,7 +56,7 @@ impl HeaderBytes<'_> {
     /// An attribute.
     #[tactic(auto, unfolding(crate::specs::Reading::attr_at))]
     pub(crate) fn attr(&self, alloc: Global, at: &mut usize) -> Result<Attr, Stop>
-        ensures read { Gives (λ found. (found, at.new)) result (attr_at self.now.version self.now.bytes.now at.old) }
+        ensures { Gives (λ found. (found, at.new)) result (attr_at self.now.version self.now.bytes.now at.old) }
     {
         let name = self.name(alloc, at)?;
         let number = self.attr_type(at)?;
@@ -79,7 +79,7 @@ impl HeaderBytes<'_> {
         at: &mut usize,
         count: u64,
     ) -> Result<AttrList, Stop>
-        ensures read { Gives (λ found. (found, at.new)) result (each_at (attr_at self.now.version self.now.bytes.now) count at.old) }
+        ensures { Gives (λ found. (found, at.new)) result (each_at (attr_at self.now.version self.now.bytes.now) count at.old) }
     {
         let mut found = AttrList::new(alloc);
         for _ in 0..count {
@@ -92,7 +92,7 @@ impl HeaderBytes<'_> {
     /// A list of attributes.
     #[tactic(auto, unfolding(crate::specs::Reading::attrs_at))]
     pub(crate) fn attrs(&self, alloc: Global, at: &mut usize) -> Result<AttrList, Stop>
-        ensures read { Gives (λ found. (found, at.new)) result (attrs_at self.now.version self.now.bytes.now at.old) }
+        ensures { Gives (λ found. (found, at.new)) result (attrs_at self.now.version self.now.bytes.now at.old) }
     {
         let count = self.count(at, Section::Attributes)?;
         self.each_attr(alloc, at, count)

@@ -13,7 +13,7 @@ impl HeaderBytes<'_> {
     /// The tag of a section: whether the section is absent.
     #[tactic(auto, unfolding(crate::specs::Reading::absent_at))]
     pub(crate) fn tag(&self, at: &mut usize, section: Section) -> Result<bool, Stop>
-        ensures read { Gives (λ found. (found, at.new)) result (absent_at self.now.version self.now.bytes.now (section_of section) at.old) }
+        ensures { Gives (λ found. (found, at.new)) result (absent_at self.now.version self.now.bytes.now (section_of section) at.old) }
     {
         let start = *at as u64;
         let n = self.word(at)?;
@@ -35,7 +35,7 @@ impl HeaderBytes<'_> {
         section: Section,
         absent: bool,
     ) -> Result<u64, Stop>
-        ensures read { Gives (λ found. (found, at.new)) result (field_at self.now.version self.now.bytes.now (Count (section_of section) absent) at.old) }
+        ensures { Gives (λ found. (found, at.new)) result (field_at self.now.version self.now.bytes.now (Count (section_of section) absent) at.old) }
     {
         let start = *at as u64;
         let n = self.number(at)?;
@@ -62,7 +62,7 @@ impl HeaderBytes<'_> {
     /// The tag and the count of a section.
     #[tactic(auto, unfolding(crate::specs::Reading::count_at))]
     pub(crate) fn count(&self, at: &mut usize, section: Section) -> Result<u64, Stop>
-        ensures read { Gives (λ found. (found, at.new)) result (count_at self.now.version self.now.bytes.now (section_of section) at.old) }
+        ensures { Gives (λ found. (found, at.new)) result (count_at self.now.version self.now.bytes.now (section_of section) at.old) }
     {
         let absent = self.tag(at, section)?;
         self.entry_count(at, section, absent)
@@ -70,7 +70,7 @@ impl HeaderBytes<'_> {
 
     /// The length of a dimension.
     pub(crate) fn dim_length(&self, at: &mut usize) -> Result<u64, Stop>
-        ensures read { Gives (λ found. (found, at.new)) result (field_at self.now.version self.now.bytes.now DimLength at.old) }
+        ensures { Gives (λ found. (found, at.new)) result (field_at self.now.version self.now.bytes.now DimLength at.old) }
     {
         let start = *at as u64;
         let n = self.number(at)?;
@@ -83,7 +83,7 @@ impl HeaderBytes<'_> {
     /// A dimension.
     #[tactic(auto, unfolding(crate::specs::Reading::dim_at))]
     pub(crate) fn dim(&self, alloc: Global, at: &mut usize) -> Result<Dim, Stop>
-        ensures read { Gives (λ found. (found, at.new)) result (dim_at self.now.version self.now.bytes.now at.old) }
+        ensures { Gives (λ found. (found, at.new)) result (dim_at self.now.version self.now.bytes.now at.old) }
     {
         let name = self.name(alloc, at)?;
         let len = self.dim_length(at)?;
@@ -97,7 +97,7 @@ impl HeaderBytes<'_> {
         at: &mut usize,
         count: u64,
     ) -> Result<DimList, Stop>
-        ensures read { Gives (λ found. (found, at.new)) result (each_at (dim_at self.now.version self.now.bytes.now) count at.old) }
+        ensures { Gives (λ found. (found, at.new)) result (each_at (dim_at self.now.version self.now.bytes.now) count at.old) }
     {
         let mut found = DimList::new(alloc);
         for _ in 0..count {
@@ -110,7 +110,7 @@ impl HeaderBytes<'_> {
     /// The list of dimensions.
     #[tactic(auto, unfolding(crate::specs::Reading::dims_at))]
     pub(crate) fn dims(&self, alloc: Global, at: &mut usize) -> Result<DimList, Stop>
-        ensures read { Gives (λ found. (found, at.new)) result (dims_at self.now.version self.now.bytes.now at.old) }
+        ensures { Gives (λ found. (found, at.new)) result (dims_at self.now.version self.now.bytes.now at.old) }
     {
         let count = self.count(at, Section::Dimensions)?;
         self.each_dim(alloc, at, count)

@@ -19,7 +19,7 @@ pub(crate) struct HeaderBytes<'a> {
 
 impl HeaderBytes<'_> {
     /// The fault of a field that passes the end.
-    fn past(&self, at: usize) -> Stop
+    pub(crate) fn past(&self, at: usize) -> Stop
         ensures { result ≡ Stop.Fault (past self.now.bytes.now at) }
     {
         if self.bytes.len() as u64 == MAX_HEADER_BYTES {
@@ -31,7 +31,7 @@ impl HeaderBytes<'_> {
 
     /// A number of four bytes.
     pub(crate) fn word(&self, at: &mut usize) -> Result<u32, Stop>
-        ensures read { Gives (λ found. (found, at.new)) result (number_at 4 self.now.bytes.now at.old) }
+        ensures { Gives (λ found. (found, at.new)) result (number_at 4 self.now.bytes.now at.old) }
     {
         if *at > self.bytes.len() || self.bytes.len() - *at < 4 {
             return Err(self.past(*at));
@@ -44,7 +44,7 @@ impl HeaderBytes<'_> {
 
     /// A number of eight bytes.
     pub(crate) fn double_word(&self, at: &mut usize) -> Result<u64, Stop>
-        ensures read { Gives (λ found. (found, at.new)) result (number_at 8 self.now.bytes.now at.old) }
+        ensures { Gives (λ found. (found, at.new)) result (number_at 8 self.now.bytes.now at.old) }
     {
         if *at > self.bytes.len() || self.bytes.len() - *at < 8 {
             return Err(self.past(*at));
@@ -59,7 +59,7 @@ impl HeaderBytes<'_> {
 
     /// A number of the version's width for counts.
     pub(crate) fn number(&self, at: &mut usize) -> Result<u64, Stop>
-        ensures read { Gives (λ found. (found, at.new)) result (number_at (byte_len (count_width self.now.version)) self.now.bytes.now at.old) }
+        ensures { Gives (λ found. (found, at.new)) result (number_at (byte_len (count_width self.now.version)) self.now.bytes.now at.old) }
     {
         if self.version == 5 {
             return self.double_word(at);
@@ -81,7 +81,7 @@ impl HeaderBytes<'_> {
 
     /// The length of a name.
     pub(crate) fn length(&self, at: &mut usize) -> Result<u64, Stop>
-        ensures read { Gives (λ found. (found, at.new)) result (field_at self.now.version self.now.bytes.now NameLength at.old) }
+        ensures { Gives (λ found. (found, at.new)) result (field_at self.now.version self.now.bytes.now NameLength at.old) }
     {
         let start = *at as u64;
         let n = self.number(at)?;
@@ -94,7 +94,7 @@ impl HeaderBytes<'_> {
     /// So many bytes and their padding, which is not looked at.
     #[tactic(auto, unfolding(crate::specs::Reading::block_at))]
     pub(crate) fn block(&self, alloc: Global, at: &mut usize, len: u64) -> Result<Blob, Stop>
-        ensures read { Gives (λ found. (found, at.new)) result (block_at self.now.version self.now.bytes.now len at.old) }
+        ensures { Gives (λ found. (found, at.new)) result (block_at self.now.version self.now.bytes.now len at.old) }
     {
         if len == 0 {
             return Ok(Blob::new(alloc));
@@ -120,7 +120,7 @@ impl HeaderBytes<'_> {
     /// A name: its length and its bytes.
     #[tactic(auto, unfolding(crate::specs::Reading::name_at))]
     pub(crate) fn name(&self, alloc: Global, at: &mut usize) -> Result<Blob, Stop>
-        ensures read { Gives (λ found. (found, at.new)) result (name_at self.now.version self.now.bytes.now at.old) }
+        ensures { Gives (λ found. (found, at.new)) result (name_at self.now.version self.now.bytes.now at.old) }
     {
         let len = self.length(at)?;
         self.block(alloc, at, len)

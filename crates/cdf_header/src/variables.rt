@@ -14,7 +14,7 @@ impl HeaderBytes<'_> {
     /// dimension either.
     #[tactic(auto, unfolding(crate::specs::Reading::id_at))]
     pub(crate) fn id(&self, at: &mut usize) -> Result<u32, Stop>
-        ensures read { Gives (λ found. (found, at.new)) result (id_at self.now.version self.now.bytes.now at.old) }
+        ensures { Gives (λ found. (found, at.new)) result (id_at self.now.version self.now.bytes.now at.old) }
     {
         let start = *at as u64;
         let n = self.number(at)?;
@@ -26,7 +26,7 @@ impl HeaderBytes<'_> {
 
     /// How many dimensions a variable has.
     pub(crate) fn dim_count(&self, at: &mut usize) -> Result<u64, Stop>
-        ensures read { Gives (λ found. (found, at.new)) result (field_at self.now.version self.now.bytes.now DimCount at.old) }
+        ensures { Gives (λ found. (found, at.new)) result (field_at self.now.version self.now.bytes.now DimCount at.old) }
     {
         let start = *at as u64;
         let n = self.number(at)?;
@@ -41,7 +41,7 @@ impl HeaderBytes<'_> {
 
     /// So many places of dimensions.
     pub(crate) fn each_id(&self, alloc: Global, at: &mut usize, count: u64) -> Result<IdList, Stop>
-        ensures read { Gives (λ found. (found, at.new)) result (each_at (id_at self.now.version self.now.bytes.now) count at.old) }
+        ensures { Gives (λ found. (found, at.new)) result (each_at (id_at self.now.version self.now.bytes.now) count at.old) }
     {
         let mut found = IdList::new(alloc);
         for _ in 0..count {
@@ -54,7 +54,7 @@ impl HeaderBytes<'_> {
     /// The places of a variable's dimensions.
     #[tactic(auto, unfolding(crate::specs::Reading::ids_at))]
     pub(crate) fn ids(&self, alloc: Global, at: &mut usize) -> Result<IdList, Stop>
-        ensures read { Gives (λ found. (found, at.new)) result (ids_at self.now.version self.now.bytes.now at.old) }
+        ensures { Gives (λ found. (found, at.new)) result (ids_at self.now.version self.now.bytes.now at.old) }
     {
         let count = self.dim_count(at)?;
         self.each_id(alloc, at, count)
@@ -63,7 +63,7 @@ impl HeaderBytes<'_> {
     /// A variable's type.
     #[tactic(auto, unfolding(crate::specs::Reading::kind_at))]
     pub(crate) fn var_type(&self, at: &mut usize) -> Result<NcType, Stop>
-        ensures read { Gives (λ found. (found, at.new)) result (kind_at self.now.version self.now.bytes.now VarType at.old) }
+        ensures { Gives (λ found. (found, at.new)) result (kind_at self.now.version self.now.bytes.now VarType at.old) }
     {
         let start = *at as u64;
         let n = self.word(at)?;
@@ -77,14 +77,14 @@ impl HeaderBytes<'_> {
     /// The stored size of a variable, of which nothing is asked.
     #[tactic(auto, unfolding(crate::specs::Reading::unread_at))]
     pub(crate) fn stored_size(&self, at: &mut usize) -> Result<u64, Stop>
-        ensures read { Gives (λ found. (found, at.new)) result (unread_at self.now.version self.now.bytes.now Vsize at.old) }
+        ensures { Gives (λ found. (found, at.new)) result (unread_at self.now.version self.now.bytes.now Vsize at.old) }
     {
         self.number(at)
     }
 
     /// The byte at which a variable begins.
     pub(crate) fn begin(&self, at: &mut usize) -> Result<u64, Stop>
-        ensures read { Gives (λ found. (found, at.new)) result (field_at self.now.version self.now.bytes.now Begin at.old) }
+        ensures { Gives (λ found. (found, at.new)) result (field_at self.now.version self.now.bytes.now Begin at.old) }
     {
         let start = *at as u64;
         if self.version == 1 {
@@ -104,7 +104,7 @@ impl HeaderBytes<'_> {
     /// A variable.
     #[tactic(auto, unfolding(crate::specs::Reading::var_at))]
     pub(crate) fn var(&self, alloc: Global, at: &mut usize) -> Result<Var, Stop>
-        ensures read { Gives (λ found. (found, at.new)) result (var_at self.now.version self.now.bytes.now at.old) }
+        ensures { Gives (λ found. (found, at.new)) result (var_at self.now.version self.now.bytes.now at.old) }
     {
         let name = self.name(alloc, at)?;
         let dims = self.ids(alloc, at)?;
@@ -128,7 +128,7 @@ impl HeaderBytes<'_> {
         at: &mut usize,
         count: u64,
     ) -> Result<VarList, Stop>
-        ensures read { Gives (λ found. (found, at.new)) result (each_at (var_at self.now.version self.now.bytes.now) count at.old) }
+        ensures { Gives (λ found. (found, at.new)) result (each_at (var_at self.now.version self.now.bytes.now) count at.old) }
     {
         let mut found = VarList::new(alloc);
         for _ in 0..count {
@@ -141,7 +141,7 @@ impl HeaderBytes<'_> {
     /// The list of variables.
     #[tactic(auto, unfolding(crate::specs::Reading::vars_at))]
     pub(crate) fn vars(&self, alloc: Global, at: &mut usize) -> Result<VarList, Stop>
-        ensures read { Gives (λ found. (found, at.new)) result (vars_at self.now.version self.now.bytes.now at.old) }
+        ensures { Gives (λ found. (found, at.new)) result (vars_at self.now.version self.now.bytes.now at.old) }
     {
         let count = self.count(at, Section::Variables)?;
         self.each_var(alloc, at, count)

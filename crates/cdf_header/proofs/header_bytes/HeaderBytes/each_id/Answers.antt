@@ -2,18 +2,18 @@ use Rattle.cdf_header.proofs.Words.{err_from_is_err_and, id_at, each_at}
 use Rattle.cdf_header.proofs.Loop.{goes_on, ends, is_done}
 use Rattle.cdf_header.proofs.header_bytes.HeaderBytes.each_id.Goals as goal
 
-pub returns-in_err-id-clause-read : goal.returns-in_err-id-clause-read
-returns-in_err-id-clause-read c =
+pub returns-in_err-id : goal.returns-in_err-id
+returns-in_err-id c =
     let p = err_from_is_err_and c.from_residual.result c.from_residual.ensures.1 in
     let entry = id_at c.args.self.now.version c.args.self.now.bytes.now in
-    rw (p.1, p.2) (ends c.in_err-id.field-0.0 entry c.loop.found c.args.count c.loop.counter c.loop.at (each_at entry c.args.count c.args.at.now) c.loop-test.true c.in_err-id.ensures.read c.loop.invariant)
+    rw (p.1, p.2) (ends c.in_err-id.field-0.0 entry c.loop.found c.args.count c.loop.counter c.loop.at (each_at entry c.args.count c.args.at.now) c.loop-test.true c.in_err-id.ensures c.loop.invariant)
 
 pub loop-preserved : goal.loop-preserved
 loop-preserved c =
     let entry = id_at c.args.self.now.version c.args.self.now.bytes.now in
-    rw c.in_ok-push.ensures.ok (goes_on entry c.loop.found c.args.count c.loop.counter c.loop.at c.in_ok-id.id c.id.new.at (each_at entry c.args.count c.args.at.now) c.loop-test.true c.in_ok-id.ensures.read c.loop.invariant)
+    rw c.in_ok-push.ensures.ok (goes_on entry c.loop.found c.args.count c.loop.counter c.loop.at c.in_ok-id.id c.id.new.at (each_at entry c.args.count c.args.at.now) c.loop-test.true c.in_ok-id.ensures c.loop.invariant)
 
-pub returns-clause-read : goal.returns-clause-read
-returns-clause-read c =
+pub returns : goal.returns
+returns c =
     let entry = id_at c.args.self.now.version c.args.self.now.bytes.now in
     is_done entry c.loop.found c.args.count c.loop.counter c.loop.at (each_at entry c.args.count c.args.at.now) c.loop-test.false c.loop.invariant

@@ -3,4 +3,4 @@ use Rattle.cdf_header.proofs.Loop.{with_front}
 use Rattle.cdf_header.proofs.header_bytes.HeaderBytes.each_var.Given as goal
 
 abbrev pub invariant-loop : goal.invariant-loop
-invariant-loop l = with_front l.found (each_at (var_at l.self.now.version l.self.now.bytes.now) (l.count - l.counter) l.at) ≡ each_at (var_at l.self.now.version l.self.now.bytes.now) l.count l.fn.at
+invariant-loop l = with_front l.found (each_at (var_at l.self.version l.self.bytes.now) (l.count - l.counter) l.at) ≡ each_at (var_at l.self.version l.self.bytes.now) l.count l.fn.at
