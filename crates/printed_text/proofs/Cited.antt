@@ -25,7 +25,7 @@ pub use Rattle.printed_text.specs.declared.words.TheConstants.{PAIRS}
 pub use Rattle.printed_text.specs.Digits.{FindsNames, FindsPosts, named_digits}
 pub use Rattle.printed_text.specs.Offsets.{head_lines, is_listed, title_line}
 pub use Rattle.printed_text.specs.Spaced.{spaced}
-pub use Rattle.script_spec.specs.Texts.{call_lines, call_word, code_word, digits_of, digits_of_name, digits_of_var, dim_length_line, dim_name, extent_of, hex, hex_digit, item_line, joined, line, mark_word, offsets_text, option_words, outcome, rank_lines, text_char, text_line, value_words, var_lines}
+pub use Rattle.script_spec.specs.Texts.{call_lines, call_word, code_word, digits_of, digits_of_name, digits_of_var, dim_length_line, dim_name, extent_of, hex, hex_digit, in_brackets, item_line, joined, line, mark_word, offsets_text, option_words, outcome, rank_lines, text_char, text_line, type_word, value_words, var_lines}
 pub use Rattle.serial_spec.proofs.RoomLaws.{slab_below}
 pub use Rattle.serial_spec.specs.HeaderBytes.{header_len}
 pub use Rattle.serial_spec.specs.Layout.{fixed_variables, record_variables, slab, vsize}

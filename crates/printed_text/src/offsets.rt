@@ -6,7 +6,7 @@ ghost use Rattle.script_spec.specs.Texts.{dim_length_line, dim_name, extent_of, 
 ghost use Rattle.printed_text.specs.Offsets.{head_lines, is_listed, length_words, title_line};
 
 use crate::dimensions::push_dim_names;
-use crate::words::{push_bytes, push_number_line, push_numbered, type_word};
+use crate::words::{push_bytes, push_number_line, push_numbered, push_word, type_word};
 use nc_base::{Blob, Dim, Header, Memory, Var};
 use std::alloc::Global;
 use var_layout::{header_len, is_record, slab_of};
@@ -153,10 +153,10 @@ fn push_title(out: &mut Vec<u8>, header: &Header, var: &Var) -> Result<(), Memor
 {
     push_bytes(out, b"  ")?;
     push_bytes(out, type_word(var.kind))?;
-    out.push(b' ')?;
-    push_bytes(out, var.name.as_slice())?;
+    push_word(out, var.name.as_slice())?;
     push_shape(out, header, var.dims.as_slice())?;
-    push_bytes(out, b":\n")
+    push_bytes(out, b":\n")?;
+    Ok(())
 }
 
 /// The names of the dimensions in brackets, or nothing of a scalar.
