@@ -2,14 +2,14 @@
 pub use lib.Ieee.Fits.{and_l, and_r}
 pub use Rattle.std.proofs.Common.{Bool, List, None, Option, Some, T, [], ap, arith, codes, cond, decimal, drop, eq-zero-or-pos, eqb, eqb→eq, false, fold, get_or, inl, inr, length, length-append, length-set, map, min, refl, set, subst, suc, sym, take, true, zero, ℕ, ◌%◌, ◌&&◌, ◌*◌, ◌++◌, ◌+◌, ◌-◌, ◌/◌, ◌<◌, ◌^◌, ◌∙◌, ◌∷◌, ◌≡◌, ◌≤◌, ◌⊎◌}
 pub use Rattle.std.proofs.lemmas.Bool.{ltb-false}
-pub use Rattle.std.proofs.lemmas.Grind.{common_steps, take-set_at}
+pub use Rattle.std.proofs.lemmas.Grind.{common_steps, get_or_default_zero, take-set_at}
 pub use Rattle.std.proofs.lemmas.Int.{to_z-of_z}
-pub use Rattle.std.proofs.lemmas.Iterator.{YieldsList-from_slice, YieldsList-from_zip}
-pub use Rattle.std.proofs.lemmas.Iterator.Consumers.{YieldsList-end, YieldsList-from_enumerate, YieldsList-turn}
-pub use Rattle.std.proofs.lemmas.List.{append-nil, append_assoc, drop-set, flat_map_more, length-take-le, length_push, map_more, take-append-drop, take-set-le, take_all, take_more}
+pub use Rattle.std.proofs.lemmas.List.{append-nil, append_assoc, drop-set, flat_map_more, length-take-le, map_more, take-append-drop, take-set-le, take_all, take_more}
 pub use Rattle.std.proofs.lemmas.List.Concat.{flat_map-append}
 pub use Rattle.std.proofs.lemmas.List.Elements.{filter_more}
 pub use Rattle.std.proofs.lemmas.List.Folds.{find_at}
+pub use Rattle.std.proofs.lemmas.List.FromFn.{get_or-enumerate_from, length-enumerate_from}
+pub use Rattle.std.proofs.lemmas.Slice.Zip.{get_or-zip, length-zip}
 pub use Rattle.std.proofs.lemmas.Option.{same_Some, slice_get-get_or, slice_get_cases, slice_get_past}
 pub use Rattle.std.proofs.Math.Seq.{take-append_seam}
 pub use Rattle.std.specs.Borrow.{Bor}
@@ -17,7 +17,6 @@ pub use Rattle.std.specs.Fmt.{signed_decimal}
 pub use Rattle.std.specs.List.{enumerate_from, filter, flat_map, position_or_len, zip}
 pub use Rattle.std.specs.Prelude.{bytes_eq, find, nat_lt, option_map, position, slice_get, unwrap_or}
 pub use Rattle.list_laws.proofs.Appends.{then_append}
-pub use Rattle.nc_base.specs.declared.answer.Answer.{Answer}
 pub use Rattle.nc_base.specs.declared.header.Header.{Header}
 pub use Rattle.nc_base.specs.declared.header.Var.{Var}
 pub use Rattle.nc_base.specs.declared.request.Call.{Call}

@@ -1,5 +1,5 @@
 -- Words on a line.
-use Rattle.printed_text.proofs.Cited.{◌≡◌, ℕ, zero, suc, ◌+◌, ◌-◌, ◌/◌, ◌%◌, ◌<◌, ◌≤◌, List, [], ◌∷◌, ◌++◌, length, map, take, get_or, sym, ap, ◌∙◌, inl, inr, ◌⊎◌, Some, None, arith, append-nil, append_assoc, flat_map_more, map_more, take_all, take_more, flat_map-append, slice_get_cases, same_Some, slice_get, flat_map, joined, hex, hex_digit, spaced}
+use Rattle.printed_text.proofs.Cited.{◌≡◌, ℕ, zero, suc, ◌+◌, ◌-◌, ◌/◌, ◌%◌, ◌<◌, ◌≤◌, List, [], ◌∷◌, ◌++◌, length, map, take, get_or, sym, ap, ◌∙◌, inl, inr, ◌⊎◌, Some, None, arith, append-nil, append_assoc, flat_map_more, map_more, take_all, take_more, flat_map-append, slice_get_cases, same_Some, slice_get, min, enumerate_from, flat_map, zip, get_or-enumerate_from, get_or-zip, length-enumerate_from, length-zip, joined, hex, hex_digit, spaced}
 
 -- the first word stands by itself, each other one behind a blank
 pub joined_spaced : (w : List ℕ) (ws : List (List ℕ)) → joined 32 (w ∷ ws) ≡ w ++ spaced ws
@@ -68,6 +68,33 @@ pub all_pushed : {A : Type 0} (f : A → List ℕ) (front now : List ℕ) (all :
 all_pushed {A} f front now all n whole so_far =
     let most : length all ≤ n = omega arith in
     so_far ∙ ap (λ (ys : List A). front ++ flat_map f ys) (take_all n all most)
+
+-- ---- over lists that are read side by side
+
+pub pair_at : {A B : Type 0} (xs : List A) (ys : List B) (n : ℕ) (x : A) (y : B) → n < length xs → n < length ys → x ≡ get_or xs n x → y ≡ get_or ys n y
+    → (x, y) ≡ get_or (zip xs ys) n (x, y)
+pair_at {A} {B} xs ys n x y in_xs in_ys first second =
+    sym (get_or-zip xs ys n (x, y) in_xs in_ys ∙ ap (λ (z : A). (z, get_or ys n y)) (sym first) ∙ ap (λ (z : B). (x, z)) (sym second))
+
+pub pair_pushed : {A B : Type 0} (f : ℕ × (A × B) → List ℕ) (front now next : List ℕ) (xs : List A) (ys : List B) (n m : ℕ) (x : A) (y : B)
+    → n < length xs → n < length ys → x ≡ get_or xs n x → y ≡ get_or ys n y → m ≡ n + 1
+    → now ≡ front ++ flat_map f (take n (enumerate_from 0 (zip xs ys))) → next ≡ now ++ f (n, (x, y)) → next ≡ front ++ flat_map f (take m (enumerate_from 0 (zip xs ys)))
+pair_pushed {A} {B} f front now next xs ys n m x y in_xs in_ys first second one so_far pushed =
+    let pairs : List (A × B) = zip xs ys in
+    let within : n < length pairs = omega (arith, length-zip xs ys) in
+    let long : n < length (enumerate_from 0 pairs) = omega (arith, length-enumerate_from 0 pairs, within) in
+    let here : 0 + n ≡ n = omega arith in
+    let item =
+    get_or-enumerate_from 0 pairs n (n, (x, y)) within
+    ∙ ap (λ (p : A × B). (0 + n, p)) (sym (pair_at xs ys n x y in_xs in_ys first second))
+    ∙ ap (λ (k : ℕ). (k, (x, y))) here in
+    next_pushed f front now next (enumerate_from 0 pairs) n m (n, (x, y)) long (sym item) one so_far pushed
+
+pub pairs_pushed : {A B : Type 0} (f : ℕ × (A × B) → List ℕ) (front now : List ℕ) (xs : List A) (ys : List B) (n : ℕ) → n ≡ min (length xs) (length ys)
+    → now ≡ front ++ flat_map f (take n (enumerate_from 0 (zip xs ys))) → now ≡ front ++ flat_map f (enumerate_from 0 (zip xs ys))
+pairs_pushed {A} {B} f front now xs ys n whole so_far =
+    let all : n ≡ length (enumerate_from 0 (zip xs ys)) = omega (arith, length-enumerate_from 0 (zip xs ys), length-zip xs ys, whole) in
+    all_pushed f front now (enumerate_from 0 (zip xs ys)) n all so_far
 
 regroup : (a b d e f g : List ℕ) → ((a ++ b ++ d) ++ (e ++ f)) ++ g ≡ a ++ (b ++ (d ++ (e ++ (f ++ (g ++ [])))))
 regroup a b d e f g = simp (append_assoc, append-nil)

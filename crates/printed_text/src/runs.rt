@@ -81,11 +81,12 @@ fn push_ranks(
 {
     let answers = end.answers.as_slice();
     let pending = end.pending.as_slice();
-    for (rank, ((calls, answers), pending)) in calls.iter().zip(answers).zip(pending).enumerate() {
+    let count = calls.len().min(answers.len()).min(pending.len());
+    for rank in 0..count {
         let run = RankRun {
-            calls,
-            answers,
-            pending: *pending,
+            calls: &calls[rank],
+            answers: &answers[rank],
+            pending: pending[rank],
         };
         push_rank(alloc, out, names, rank as u64, run)?;
     }
@@ -133,8 +134,15 @@ fn push_calls(
         ++ flat_map (call_lines names.now calls.now) (enumerate_from 0 (zip calls.now answers.now))) }
 {
     let digits = RankDigits::new(alloc, names, calls)?;
-    for (number, (call, answer)) in calls.iter().zip(answers).enumerate() {
-        push_call(out, &digits, number as u64, call, answer)?;
+    let count = calls.len().min(answers.len());
+    for number in 0..count {
+        push_call(
+            out,
+            &digits,
+            number as u64,
+            &calls[number],
+            &answers[number],
+        )?;
     }
     Ok(())
 }

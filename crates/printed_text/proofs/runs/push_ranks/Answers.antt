@@ -1,26 +1,24 @@
-use Rattle.printed_text.proofs.Cited.{ℕ, List, [], ◌∷◌, ◌++◌, length, enumerate_from, zip, length_push, YieldsList-from_slice, YieldsList-from_zip, YieldsList-from_enumerate, YieldsList-turn, YieldsList-end, Bor, Call, Answer, rank_lines}
-use Rattle.printed_text.proofs.WordLaws.{next_pushed, all_pushed}
+use Rattle.printed_text.proofs.Cited.{◌+◌, get_or, refl, sym, arith, zip, length-zip, get_or_default_zero, rank_lines}
+use Rattle.printed_text.proofs.WordLaws.{pair_at, pair_pushed, pairs_pushed}
 use Rattle.printed_text.proofs.runs.push_ranks.Goals as goal
 
 pub loop-rank-preserved : goal.loop-rank-preserved
 loop-rank-preserved c =
+    let n = c.loop-rank.rank in
     let calls = c.args.calls.now in
-    let answers = c.args.end.now.answers in
-    let pending = c.args.end.now.pending in
-    let item : ℕ × ((Bor (List Call) × Bor (List Answer)) × Bor ℕ) = (c.in-Some.rank, ((c.in-Some.calls, c.in-Some.answers), c.in-Some.pending)) in
-    let turn = YieldsList-turn {s = c.into_iter-rank-iterator.result}
-    (YieldsList-from_enumerate (YieldsList-from_zip (YieldsList-from_zip (YieldsList-from_slice calls cc) (YieldsList-from_slice answers cc)) (YieldsList-from_slice pending cc)) cc)
-    c.loop-rank.yielded _ c.loop-rank.yielded_by c.next.result c.next.new.self item c.in-Some.is c.next.ensures.steps in
-    next_pushed (rank_lines c.args.names.now) c.args.out.now.items c.loop-rank.out.items c.push_rank.new.out.items (enumerate_from 0 (zip (zip calls answers) pending))
-    (length c.loop-rank.yielded) (length (c.loop-rank.yielded ++ item ∷ [])) (c.in-Some.rank, ((c.in-Some.calls.now, c.in-Some.answers.now), c.in-Some.pending.now))
-    turn.0 turn.1 (length_push c.loop-rank.yielded item) c.loop-rank.invariant c.in_ok-push_rank.ensures
+    let answers = c.as_slice-answers.result.now in
+    let pending = c.as_slice-pending.result.now in
+    let own = c.index-calls-rank in
+    let answer = c.index-answers-rank in
+    let left = get_or pending n 0 in
+    pair_pushed (rank_lines c.args.names.now) c.args.out.now.items c.loop-rank.out.items c.push_rank.new.out.items (zip calls answers) pending n (n + 1) (own.result, answer.result) left
+    (omega (arith, length-zip calls answers)) (omega arith) (pair_at calls answers n own.result answer.result (omega arith) (omega arith) own.is answer.is)
+    (sym (get_or_default_zero pending n left (omega arith))) refl c.loop-rank.invariant c.in_ok-push_rank.ensures
 
 pub returns : goal.returns
 returns c =
     let calls = c.args.calls.now in
-    let answers = c.args.end.now.answers in
-    let pending = c.args.end.now.pending in
-    let end = YieldsList-end {s = c.into_iter-rank-iterator.result}
-    (YieldsList-from_enumerate (YieldsList-from_zip (YieldsList-from_zip (YieldsList-from_slice calls cc) (YieldsList-from_slice answers cc)) (YieldsList-from_slice pending cc)) cc)
-    c.loop-rank.yielded _ c.loop-rank.yielded_by c.next.result c.next.new.self c.in-None.is c.next.ensures.steps in
-    all_pushed (rank_lines c.args.names.now) c.args.out.now.items c.loop-rank.out.items (enumerate_from 0 (zip (zip calls answers) pending)) (length c.loop-rank.yielded) end.1 c.loop-rank.invariant
+    let answers = c.as_slice-answers.result.now in
+    let pending = c.as_slice-pending.result.now in
+    rw (c.as_slice-answers.ensures, c.as_slice-pending.ensures) at
+    (pairs_pushed (rank_lines c.args.names.now) c.args.out.now.items c.loop-rank.out.items (zip calls answers) pending c.loop-rank.rank (omega (arith, length-zip calls answers)) c.loop-rank.invariant)
