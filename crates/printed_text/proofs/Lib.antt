@@ -1,5 +1,6 @@
 mod Cited
 mod DigitLaws
 mod HexLaws
+pub mod IndexLaws
 mod OffsetLaws
 pub mod WordLaws

@@ -1,6 +1,8 @@
 // How many digits the bits of a get are printed with: 8 for a float variable, else 16.
-ghost use Rattle.std.specs.Prelude.{◌≡◌, IfOk};
+ghost use Rattle.std.specs.Prelude.{◌≡◌, ◌∷◌, List, IfOk, OnOk};
 ghost use Rattle.std.specs.HashMap.{get};
+ghost use Rattle.nc_base.specs.declared.header.Var.{Var};
+ghost use Rattle.nc_base.specs.declared.request.Call.{Call};
 ghost use Rattle.script_spec.specs.Texts.{digits_of};
 ghost use Rattle.printed_text.specs.Digits.{FindsNames, FindsPosts};
 
@@ -115,9 +117,17 @@ fn names_index<'h>(alloc: Global, vars: &'h [Var]) -> Result<HashMap<&'h [u8], u
 {
     let mut index = HashMap::new(alloc);
     for k in (0..vars.len()).rev() {
-        index.insert(vars[k].name.as_slice(), digits_of(vars[k].kind))?;
+        put_name(&mut index, &vars[k])?;
     }
     Ok(index)
+}
+
+/// Puts a variable before those that the index has.
+fn put_name<'h>(index: &mut HashMap<&'h [u8], u8>, var: &'h Var) -> Result<(), Memory>
+    ensures { OnOk result ((vars : List Var) → FindsNames vars index.old → FindsNames (var.now ∷ vars) index.new) }
+{
+    index.insert(var.name.as_slice(), digits_of(var.kind))?;
+    Ok(())
 }
 
 /// The digits of each id's first post.
@@ -130,11 +140,19 @@ fn posts_index(
 {
     let mut index = HashMap::new(alloc);
     for k in (0..calls.len()).rev() {
-        if let Call::Post { id, var, .. } = &calls[k] {
-            index.insert(*id, names.of_name(var.as_slice()))?;
-        }
+        put_post(&mut index, names, &calls[k])?;
     }
     Ok(index)
+}
+
+/// Puts a call before those that the index has.
+fn put_post(index: &mut HashMap<u32, u8>, names: &NameDigits, call: &Call) -> Result<(), Memory>
+    ensures { OnOk result ((calls : List Call) → FindsPosts names.now calls index.old → FindsPosts names.now (call.now ∷ calls) index.new) }
+{
+    if let Call::Post { id, var, .. } = call {
+        index.insert(*id, names.of_name(var.as_slice()))?;
+    }
+    Ok(())
 }
 
 fn digits_of(kind: NcType) -> u8
