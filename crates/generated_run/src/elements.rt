@@ -1,5 +1,6 @@
 // The elements of the puts and gets that were done.
-ghost use Rattle.std.specs.Prelude.{◌≡◌, ◌+◌, IfOk, map, sum, zip};
+ghost use Rattle.std.specs.Prelude.{◌≡◌, ◌+◌, ◌∷◌, List, IfOk, OnOk, map, sum, zip};
+ghost use Rattle.nc_base.specs.declared.request.Call.{Call};
 ghost use Rattle.serial_spec.specs.RegionCheck.{is_ok_code};
 ghost use Rattle.script_spec.specs.Generator.{call_got, call_put, elements_given, is_done, over_calls, posted_elements};
 ghost use Rattle.generated_run.specs.Counting.{FindsGiven, call_done, item_done, items_done};
@@ -57,11 +58,19 @@ fn posts_index(alloc: Global, calls: &[Call]) -> Result<HashMap<u32, &Given>, Me
 {
     let mut index = HashMap::new(alloc);
     for k in (0..calls.len()).rev() {
-        if let Call::Post { id, given, .. } = &calls[k] {
-            index.insert(*id, given)?;
-        }
+        put_post(&mut index, &calls[k])?;
     }
     Ok(index)
+}
+
+/// Puts a call before those that the index has.
+fn put_post<'c>(index: &mut HashMap<u32, &'c Given>, call: &'c Call) -> Result<(), Memory>
+    ensures { OnOk result ((calls : List Call) → FindsGiven calls index.old → FindsGiven (call.now ∷ calls) index.new) }
+{
+    if let Call::Post { id, given, .. } = call {
+        index.insert(*id, given)?;
+    }
+    Ok(())
 }
 
 /// The sum, where it is a number that can be told.
