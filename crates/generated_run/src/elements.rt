@@ -178,9 +178,11 @@ fn rank_elements(
     ensures { IfOk result (λ n. n ≡ sum (map (call_done direction calls.now) (zip calls.now answers.now))) }
 {
     let posts = Posts::new(alloc, calls)?;
+    let count = calls.len().min(answers.len());
     let mut total = 0;
-    for (call, answer) in calls.iter().zip(answers) {
-        total = added(total, call_elements(direction, &posts, call, answer)?)?;
+    for number in 0..count {
+        let own = call_elements(direction, &posts, &calls[number], &answers[number])?;
+        total = added(total, own)?;
     }
     Ok(total)
 }
@@ -194,9 +196,15 @@ pub(crate) fn elements_done(
 ) -> Result<u64, Memory>
     ensures { IfOk result (λ n. n ≡ over_calls (call_done direction) calls.now answers.now) }
 {
+    let count = calls.len().min(answers.len());
     let mut total = 0;
-    for (calls, answers) in calls.iter().zip(answers) {
-        let own = rank_elements(alloc, direction, calls.as_slice(), answers.as_slice())?;
+    for rank in 0..count {
+        let own = rank_elements(
+            alloc,
+            direction,
+            calls[rank].as_slice(),
+            answers[rank].as_slice(),
+        )?;
         total = added(total, own)?;
     }
     Ok(total)
