@@ -11,7 +11,7 @@ ghost use Rattle.ncmpi_cli.specs.Outside.{output_at};
 ghost use Rattle.dataset_start.specs.Readiness.{dataset_end, IsNotReady, IsReady};
 ghost use Rattle.dataset_start.specs.Stops.{IsOfDataset, line_of_status, status_of};
 
-use crate::report::{give, tell};
+use crate::report::{give, order_of, tell};
 use crate::top::Outcome;
 use dataset_start::{Ready, Stop, make_ready};
 use generated_run::{make_script, summary_text};
@@ -60,10 +60,18 @@ pub(crate) fn run_made<R: Threads + Wait + Sync, K: Sink, D: Disk, G: Gate>(
     match end.fault {
         None => {
             ready.header.records = records;
-            sum_up(alloc, out, seed, size, &ready, end)
+            let outcome = sum_up(alloc, out, seed, size, &ready, end);
+            drop(ready);
+            outcome
         }
-        Some(StepErr::Disk) => tell(alloc, out, Stop::Disk, end.order),
-        Some(StepErr::Memory) => tell(alloc, out, Stop::Memory, end.order),
+        Some(StepErr::Disk) => {
+            drop(ready);
+            tell(alloc, out, Stop::Disk, order_of(end))
+        }
+        Some(StepErr::Memory) => {
+            drop(ready);
+            tell(alloc, out, Stop::Memory, order_of(end))
+        }
     }
 }
 

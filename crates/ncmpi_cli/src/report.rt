@@ -65,6 +65,22 @@ fn whole_text(
     Ok(Blob::from_vec(text))
 }
 
+/// The steps that were finished in a run, in order.
+pub(crate) fn order_of(end: RunEnd) -> MarkList
+    ensures { result ≡ end.order }
+{
+    let RunEnd {
+        order,
+        answers,
+        pending,
+        fault: _,
+    } = end;
+    // Two calls, which hide from the check of this function how their items are let go.
+    drop(answers);
+    drop(pending);
+    order
+}
+
 /// Gives the whole text with which something ends well.
 pub(crate) fn give<K: Sink>(
     out: &mut K,

@@ -16,7 +16,7 @@ ghost use Rattle.ncmpi_cli.specs.Watched.{AreReadings};
 use crate::report::{finish, tell};
 use crate::top::Outcome;
 use crate::watched_run::{RunReadings, WatchedRun, watch_ranks};
-use dataset_start::{Ready, Stop, begin};
+use dataset_start::{Stop, begin};
 use nc_base::{Header, MarkList, ReadingTable, Script, SizeList, StepErr};
 use nc_outside::{Disk, Gate, Sink, Source};
 use piece_exchange::Tools;
@@ -56,20 +56,35 @@ pub(crate) fn run_script<R: Threads + Wait + Sync, S: Source, K: Sink, D: Disk, 
     ensures told { IfSome (line_of_status result.status) (λ line. GivesLine (K.faults out.old) (K.faults out.new) (K.given out.old) (K.given out.new) line) }
 {
     let alloc = tools.alloc;
-    let Ready { script, mut header } = match begin(alloc, dataset, script, disk) {
+    let mut ready = match begin(alloc, dataset, script, disk) {
         Ok(ready) => ready,
         Err(stop) => return tell(alloc, out, stop, MarkList::new(alloc)),
     };
-    let opening = header.records;
+    let opening = ready.header.records;
     let mut records = opening;
-    let run = run_beside(tools, disk, &header, &mut records, &script, watchers);
+    let run = run_beside(
+        tools,
+        disk,
+        &ready.header,
+        &mut records,
+        &ready.script,
+        watchers,
+    );
     match run.end.fault {
         None => {
-            header.records = records;
-            finish(alloc, out, &script, &header, opening, run)
+            ready.header.records = records;
+            let outcome = finish(alloc, out, &ready.script, &ready.header, opening, run);
+            drop(ready);
+            outcome
         }
-        Some(StepErr::Disk) => tell(alloc, out, Stop::Disk, run.end.order),
-        Some(StepErr::Memory) => tell(alloc, out, Stop::Memory, run.end.order),
+        Some(StepErr::Disk) => {
+            drop(ready);
+            tell(alloc, out, Stop::Disk, run.into_order())
+        }
+        Some(StepErr::Memory) => {
+            drop(ready);
+            tell(alloc, out, Stop::Memory, run.into_order())
+        }
     }
 }
 

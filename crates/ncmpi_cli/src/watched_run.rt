@@ -10,6 +10,7 @@ ghost use Rattle.turn_run.specs.Told.{HasTold};
 ghost use Rattle.ncmpi_cli.specs.Watched.{AreReadings, seen_counts};
 ghost use Rattle.ncmpi_cli.specs.BeforeRun.{IsMade};
 
+use crate::report::order_of;
 use crate::watcher::{Watched, numbers_of, read_beside};
 use nc_base::{Header, MarkList, Memory, ReadingTable, RunEnd, Script, SizeList, StepErr};
 use nc_outside::{Disk, Gate};
@@ -34,6 +35,17 @@ pub(crate) struct RunReadings {
 pub(crate) struct WatchedRun {
     pub end: RunEnd,
     pub seen: Option<RunReadings>,
+}
+
+impl WatchedRun {
+    /// The steps that were finished, in order.
+    pub(crate) fn into_order(self) -> MarkList
+        ensures { result ≡ self.end.order }
+    {
+        let WatchedRun { end, seen } = self;
+        drop(seen);
+        order_of(end)
+    }
 }
 
 /// The record count after each step that was told.

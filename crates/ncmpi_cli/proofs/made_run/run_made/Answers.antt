@@ -10,8 +10,8 @@ pub run_ranks-end-requires-clause-lawful : goal.run_ranks-end-requires-clause-la
 run_ranks-end-requires-clause-lawful g c =
     λ _ _. subst (λ (s : Script). is_lawful s ≡ true) (sym c.in-Ok.ensures.script) (made_kept c.args.seed c.args.size c.requires.few).lawful
 
-pub sum_up-requires-clause-counted : goal.sum_up-requires-clause-counted
-sum_up-requires-clause-counted g c = subst (λ (s : Script). has_counts s ≡ true) (sym c.in-Ok.ensures.script) (made_counts c.args.seed c.args.size)
+pub sum_up-outcome-requires-clause-counted : goal.sum_up-outcome-requires-clause-counted
+sum_up-outcome-requires-clause-counted g c = subst (λ (s : Script). has_counts s ≡ true) (sym c.in-Ok.ensures.script) (made_counts c.args.seed c.args.size)
 
 -- ---- where the ranks didn't begin
 
@@ -46,11 +46,11 @@ returns-in-None-clause-ends g c =
     let own = c.in-Ok.ensures in
     let end : RunEnd = c.run_ranks-end.result in
     let run = c.run_ranks-end.ensures.run in
-    let summed = c.sum_up.ensures in
-    let status : ℕ = c.sum_up.result.status in
+    let summed = c.sum_up-outcome.ensures in
+    let status : ℕ = c.sum_up-outcome.result.status in
     let before : Output = output_at g.D.Disk g.K.Sink c.args.disk.now c.args.out.now in
-    let now : Output = output_at g.D.Disk g.K.Sink c.run_ranks-end.new.disk c.sum_up.new.out in
-    let did = made_ran seed size c.in-Ok.ready.script c.in-Ok.ready.header before now mid calls _ _ c.run_ranks-end.new.records end c.sum_up.result.order own.script own.ready summed.order run c.in-None.is in
+    let now : Output = output_at g.D.Disk g.K.Sink c.run_ranks-end.new.disk c.sum_up-outcome.new.out in
+    let did = made_ran seed size c.in-Ok.ready.script c.in-Ok.ready.header before now mid calls _ _ c.run_ranks-end.new.records end c.sum_up-outcome.result.order own.script own.ready summed.order run c.in-None.is in
     record {
       statuses = made_end status summed.statuses;
       well = λ s. record { text = _; ran = did; given = summed.whole s };
@@ -77,7 +77,7 @@ returns-in-Some-Disk-clause-ends g c =
     let own = c.in-Ok.ensures in
     let end : RunEnd = c.run_ranks-end.result in
     let run = c.run_ranks-end.ensures.run in
-    let same = c.tell-in-Some-Disk.ensures.order in
+    let same = c.tell-in-Some-Disk.ensures.order ∙ c.order_of.ensures in
     let is : c.tell-in-Some-Disk.result.status ≡ 7 = c.tell-in-Some-Disk.ensures.fixed refl in
     let before : Output = output_at g.D.Disk g.K.Sink c.args.disk.now c.args.out.now in
     let now : Output = output_at g.D.Disk g.K.Sink c.run_ranks-end.new.disk c.tell-in-Some-Disk.new.out in
@@ -104,7 +104,7 @@ returns-clause-ends g c =
     let own = c.in-Ok.ensures in
     let end : RunEnd = c.run_ranks-end.result in
     let run = c.run_ranks-end.ensures.run in
-    let same = c.tell-in-Some-Memory.ensures.order in
+    let same = c.tell-in-Some-Memory.ensures.order ∙ c.order_of-in-Some-Memory.ensures in
     let is : c.tell-in-Some-Memory.result.status ≡ 8 = (c.tell-in-Some-Memory.ensures.unlined refl).0 in
     let before : Output = output_at g.D.Disk g.K.Sink c.args.disk.now c.args.out.now in
     let now : Output = output_at g.D.Disk g.K.Sink c.run_ranks-end.new.disk c.tell-in-Some-Memory.new.out in

@@ -59,19 +59,19 @@ returns-in-None-clause-ends g c =
     let opening : ℕ = c.in-Ok.ready.header.records in
     let pairs : List (List (ℕ × ℕ)) = pairs_of opening c.run_beside-run.result.seen in
     let readings : List (List ℕ) = readings_of c.run_beside-run.result.seen in
-    let finished = c.finish.ensures in
-    let status : ℕ = c.finish.result.status in
+    let finished = c.finish-outcome.ensures in
+    let status : ℕ = c.finish-outcome.result.status in
     record {
       well = λ s. record {
         text = _;
-        ran = ran script c.in-Ok.ready.header _ _ mid calls _ _ c.run_beside-run.new.records end c.finish.result.order c.finish.result.readings readings pairs
+        ran = ran script c.in-Ok.ready.header _ _ mid calls _ _ c.run_beside-run.new.records end c.finish-outcome.result.order c.finish-outcome.result.readings readings pairs
             own.asks own.ready own.taken run c.in-None.is finished.order (finished.readings (inl s)) c.run_beside-run.ensures.counted;
         given = finished.whole s;
       };
       cut = λ s. record {
         text = _;
         count = (finished.front s).0;
-        ran = ran script c.in-Ok.ready.header _ _ mid calls _ _ c.run_beside-run.new.records end c.finish.result.order c.finish.result.readings readings pairs
+        ran = ran script c.in-Ok.ready.header _ _ mid calls _ _ c.run_beside-run.new.records end c.finish-outcome.result.order c.finish-outcome.result.readings readings pairs
             own.asks own.ready own.taken run c.in-None.is finished.order (finished.readings (inr s)) c.run_beside-run.ensures.counted;
         given = (finished.front s).1;
       };
@@ -89,7 +89,7 @@ returns-in-None-clause-ends g c =
       torn = λ s. no_disk status finished.statuses s;
       wanting = λ _. inr (
         _,
-        ran script c.in-Ok.ready.header _ _ mid calls _ _ c.run_beside-run.new.records end c.finish.result.order [] [] []
+        ran script c.in-Ok.ready.header _ _ mid calls _ _ c.run_beside-run.new.records end c.finish-outcome.result.order [] [] []
             own.asks own.ready own.taken run c.in-None.is finished.order refl (nobody_read mid),
       );
     }
@@ -111,7 +111,7 @@ returns-in-Some-Disk-clause-ends g c =
     let script : Script = c.in-Ok.ready.script in
     let end : RunEnd = c.run_beside-run.result.end in
     let run = c.run_beside-run.ensures.run in
-    let same = c.tell-in-Some-Disk.ensures.order in
+    let same = c.tell-in-Some-Disk.ensures.order ∙ c.into_order.ensures in
     let is : c.tell-in-Some-Disk.result.status ≡ 7 = c.tell-in-Some-Disk.ensures.fixed refl in
     let failed : c.run_beside-run.result.end.fault ≡ Some fault.Disk = search rules in
     record {
@@ -145,7 +145,7 @@ returns-clause-ends g c =
     let script : Script = c.in-Ok.ready.script in
     let end : RunEnd = c.run_beside-run.result.end in
     let run = c.run_beside-run.ensures.run in
-    let same = c.tell-in-Some-Memory.ensures.order in
+    let same = c.tell-in-Some-Memory.ensures.order ∙ c.into_order-in-Some-Memory.ensures in
     let is : c.tell-in-Some-Memory.result.status ≡ 8 = (c.tell-in-Some-Memory.ensures.unlined refl).0 in
     let failed : c.run_beside-run.result.end.fault ≡ Some fault.Memory = search rules in
     record {
@@ -176,8 +176,8 @@ returns-in-Err-clause-readings g c =
 
 pub returns-in-None-clause-readings : goal.returns-in-None-clause-readings
 returns-in-None-clause-readings g c =
-    read c.args.watchers c.finish.result.status c.finish.result.order c.run_beside-run.result.end.order c.finish.result.readings c.run_beside-run.result.seen
-    c.finish.ensures.statuses c.finish.ensures.order c.finish.ensures.seen c.finish.ensures.readings c.finish.ensures.none c.run_beside-run.ensures.readings
+    read c.args.watchers c.finish-outcome.result.status c.finish-outcome.result.order c.run_beside-run.result.end.order c.finish-outcome.result.readings c.run_beside-run.result.seen
+    c.finish-outcome.ensures.statuses c.finish-outcome.ensures.order c.finish-outcome.ensures.seen c.finish-outcome.ensures.readings c.finish-outcome.ensures.none c.run_beside-run.ensures.readings
 
 pub returns-in-Some-Disk-clause-readings : goal.returns-in-Some-Disk-clause-readings
 returns-in-Some-Disk-clause-readings g c =
