@@ -9,10 +9,10 @@ pub use Rattle.std.specs.List.{enumerate_from, flat_map}
 pub use Rattle.std.specs.Prelude.{Err, IfErr, IfSome, IsErrAnd, IsSome, IsSomeAnd, Ok, Result, get_or, unwrap_or}
 pub use Rattle.dataset_start.proofs.NotReady.{not_laid}
 pub use Rattle.dataset_start.proofs.ReadyLaws.{file-kept, header-kept, laid-mislaid, of_bad_layout, same_script}
-pub use Rattle.dataset_start.specs.Dataset.{Asks, AsksFor, AsksForBadLayout, IsBadDataset, IsFaultyFile, IsFaultyText, IsKept, IsLaid, IsRight, IsSoundFile, IsWrong, TellsDataset, TellsHeader, TellsRedefinition, TellsScript, align_of, created_header, creation_fault, front}
+pub use Rattle.dataset_start.specs.Dataset.{Asks, AsksFor, AsksForBadLayout, IsBadDataset, IsBeforeStart, IsFaultyFile, IsFaultyText, IsKept, IsLaid, IsRight, IsSoundFile, IsWrong, TellsDataset, TellsHeader, TellsRedefinition, TellsScript, align_of, created_header, creation_fault, front}
 pub use Rattle.dataset_start.specs.Limits.{TakesAtMost, most_taken}
 pub use Rattle.dataset_start.specs.Readiness.{IsFaultless, IsNotReady, IsReady, IsUnready, first_calls}
-pub use Rattle.dataset_start.specs.Stops.{IsOfDataset, IsOfHeader, line_of, status_of}
+pub use Rattle.dataset_start.specs.Stops.{IsOfDataset, IsOfHeader, line_of, line_of_status, status_of}
 pub use Rattle.dataset_start.specs.declared.stop.Stop.{Stop}
 pub use Rattle.generated_run.proofs.LawfulLaws.{made_counted, made_lawful}
 pub use Rattle.generated_run.proofs.MadeLaws.{made_laid}
@@ -35,7 +35,7 @@ pub use Rattle.ncmpi_cli.specs.Ends.{EndsAs, HasReadings, watchers_of}
 pub use Rattle.ncmpi_cli.specs.Faults.{IsCutFile, IsMadeUnready, MadeCutOff, WasCutOff}
 pub use Rattle.ncmpi_cli.specs.Generated.{IsMadeStatus, RanMade, new_end, summed}
 unfoldable pub use Rattle.ncmpi_cli.specs.Generated.{script_made}
-pub use Rattle.ncmpi_cli.specs.Headline.{GivesText, HaveBegun, Ran, end_of_run, file_at_start, text_of, watched_text, with_counts}
+pub use Rattle.ncmpi_cli.specs.Headline.{GivesText, HaveBegun, IsBeforeRanks, IsSilent, IsStatus, Ran, end_of_run, file_at_start, text_of, watched_text, with_counts}
 pub use Rattle.ncmpi_cli.specs.OffsetList.{IsFaultyFront, IsOfReadHeader, IsSoundFront}
 pub use Rattle.ncmpi_cli.specs.Outside.{Output, Seen, output_at}
 pub use Rattle.ncmpi_cli.specs.Readings.{AreCounted, count_at, counted, pairs_of, readings_of, whole_text}

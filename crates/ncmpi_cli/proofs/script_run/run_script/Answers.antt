@@ -4,6 +4,7 @@ use Rattle.dataset_start.specs.declared.stop.Stop.TheVariants as stops
 use Rattle.ncmpi_cli.proofs.CutOff.{cut_off}
 use Rattle.ncmpi_cli.proofs.Ran.{have_begun, nobody_read, ran}
 use Rattle.ncmpi_cli.proofs.Reading.{read, told_by_no_text, untold}
+use Rattle.ncmpi_cli.proofs.Statuses.{before_start, ended_late, ended_line, ended_status, five_source, four_untouched, seven_disk, silent_end, silent_stop, stop_status, told_line, two_usage}
 use Rattle.ncmpi_cli.proofs.Telling.{dataset, faulty, mislaid, no_dataset, no_disk, no_script, not_mislaid, not_unread, not_wrong, refused, told_script, wants_memory, whole_or_memory, IsToldBy}
 use Rattle.ncmpi_cli.proofs.script_run.run_script.Goals as goal
 
@@ -43,6 +44,36 @@ returns-in-Err-clause-ends g c =
       torn = λ _. inl (none, own.torn);
       wanting = λ _. inl (inl (none, own.torn));
     }
+
+pub returns-in-Err-clause-statuses : goal.returns-in-Err-clause-statuses
+returns-in-Err-clause-statuses g c = stop_status c.in-Err.stop c.tell.result.status c.tell.ensures.status
+
+pub returns-in-Err-clause-formed : goal.returns-in-Err-clause-formed
+returns-in-Err-clause-formed g c = λ s. c.in-Err.ensures.formed (ap (λ (s : Stop). Err s) (two_usage c.in-Err.stop c.tell.result.status c.tell.ensures.status s))
+
+pub returns-in-Err-clause-source : goal.returns-in-Err-clause-source
+returns-in-Err-clause-source g c = λ s. c.in-Err.ensures.source (ap (λ (s : Stop). Err s) (five_source c.in-Err.stop c.tell.result.status c.tell.ensures.status s))
+
+pub returns-in-Err-clause-sink : goal.returns-in-Err-clause-sink
+returns-in-Err-clause-sink g c = λ s. absurd (told_by_no_text c.in-Err.stop c.tell.result.status c.tell.ensures.status (inr s))
+
+pub returns-in-Err-clause-disk : goal.returns-in-Err-clause-disk
+returns-in-Err-clause-disk g c = λ s. c.in-Err.ensures.disk (ap (λ (s : Stop). Err s) (seven_disk c.in-Err.stop c.tell.result.status c.tell.ensures.status s))
+
+pub returns-in-Err-clause-not_started : goal.returns-in-Err-clause-not_started
+returns-in-Err-clause-not_started g c = before_start c.in-Err.stop c.tell.result.status c.tell.ensures.status c.in-Err.ensures.not_started
+
+pub returns-in-Err-clause-unchanged : goal.returns-in-Err-clause-unchanged
+returns-in-Err-clause-unchanged g c = four_untouched c.in-Err.stop c.tell.result.status c.tell.ensures.status c.in-Err.ensures.unchanged
+
+pub returns-in-Err-clause-silent : goal.returns-in-Err-clause-silent
+returns-in-Err-clause-silent g c = silent_stop c.in-Err.stop c.tell.result.status c.tell.ensures.status c.tell.ensures.unlined c.tell.ensures.silent
+
+pub returns-in-Err-clause-no_step : goal.returns-in-Err-clause-no_step
+returns-in-Err-clause-no_step g c = λ _. c.tell.ensures.order ∙ c.new.ensures
+
+pub returns-in-Err-clause-told : goal.returns-in-Err-clause-told
+returns-in-Err-clause-told g c = told_line c.in-Err.stop c.tell.result.status c.tell.ensures.status c.tell.ensures.line
 
 -- ---- where their run ended without a fault
 
@@ -93,6 +124,33 @@ returns-in-None-clause-ends g c =
             own.asks own.ready own.taken run c.in-None.is finished.order refl (nobody_read mid),
       );
     }
+
+pub returns-in-None-clause-statuses : goal.returns-in-None-clause-statuses
+returns-in-None-clause-statuses g c = ended_status c.finish-outcome.result.status c.finish-outcome.ensures.statuses
+
+pub returns-in-None-clause-formed : goal.returns-in-None-clause-formed
+returns-in-None-clause-formed g c = λ s. ended_late c.finish-outcome.result.status c.finish-outcome.ensures.statuses (inl (inl s))
+
+pub returns-in-None-clause-source : goal.returns-in-None-clause-source
+returns-in-None-clause-source g c = λ s. ended_late c.finish-outcome.result.status c.finish-outcome.ensures.statuses (inl (inr (inr s)))
+
+pub returns-in-None-clause-disk : goal.returns-in-None-clause-disk
+returns-in-None-clause-disk g c = λ s. no_disk c.finish-outcome.result.status c.finish-outcome.ensures.statuses s
+
+pub returns-in-None-clause-not_started : goal.returns-in-None-clause-not_started
+returns-in-None-clause-not_started g c = λ s. ended_late c.finish-outcome.result.status c.finish-outcome.ensures.statuses (inl s)
+
+pub returns-in-None-clause-unchanged : goal.returns-in-None-clause-unchanged
+returns-in-None-clause-unchanged g c = λ s. ended_late c.finish-outcome.result.status c.finish-outcome.ensures.statuses (inr s)
+
+pub returns-in-None-clause-silent : goal.returns-in-None-clause-silent
+returns-in-None-clause-silent g c = silent_end c.finish-outcome.result.status c.finish-outcome.ensures.statuses c.finish-outcome.ensures.silent
+
+pub returns-in-None-clause-no_step : goal.returns-in-None-clause-no_step
+returns-in-None-clause-no_step g c = λ s. ended_late c.finish-outcome.result.status c.finish-outcome.ensures.statuses s
+
+pub returns-in-None-clause-told : goal.returns-in-None-clause-told
+returns-in-None-clause-told g c = ended_line c.finish-outcome.result.status c.finish-outcome.ensures.statuses
 
 -- ---- where the disk failed
 
