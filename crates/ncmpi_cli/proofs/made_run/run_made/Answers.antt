@@ -3,6 +3,7 @@ use Rattle.nc_base.specs.declared.step.StepErr.TheVariants as fault
 use Rattle.ncmpi_cli.proofs.CutOff.{made_cut}
 use Rattle.ncmpi_cli.proofs.Made.{made_begins, made_begins_none, made_counts, made_kept, made_ran, made_status, made_wants}
 use Rattle.ncmpi_cli.proofs.Reading.{told_by_no_text}
+use Rattle.ncmpi_cli.proofs.Statuses.{ended_line, seven_disk, told_line}
 use Rattle.ncmpi_cli.proofs.Telling.{made_end, no_disk, whole_or_memory}
 use Rattle.ncmpi_cli.proofs.made_run.run_made.Goals as goal
 
@@ -35,6 +36,15 @@ returns-in-Err-clause-ends g c =
       wanting = λ _. inl (inl (none, own.torn));
     }
 
+pub returns-in-Err-clause-sink : goal.returns-in-Err-clause-sink
+returns-in-Err-clause-sink g c = λ s. absurd (told_by_no_text c.in-Err.stop c.tell.result.status c.tell.ensures.status (inr s))
+
+pub returns-in-Err-clause-disk : goal.returns-in-Err-clause-disk
+returns-in-Err-clause-disk g c = λ s. c.in-Err.ensures.disk (ap (λ (s : Stop). Err s) (seven_disk c.in-Err.stop c.tell.result.status c.tell.ensures.status s))
+
+pub returns-in-Err-clause-told : goal.returns-in-Err-clause-told
+returns-in-Err-clause-told g c = told_line c.in-Err.stop c.tell.result.status c.tell.ensures.status c.tell.ensures.line
+
 -- ---- where their run ended without a fault
 
 pub returns-in-None-clause-ends : goal.returns-in-None-clause-ends
@@ -60,6 +70,15 @@ returns-in-None-clause-ends g c =
       torn = λ s. no_disk status summed.statuses s;
       wanting = λ _. inr (_, did);
     }
+
+pub returns-in-None-clause-statuses : goal.returns-in-None-clause-statuses
+returns-in-None-clause-statuses g c = made_end c.sum_up-outcome.result.status c.sum_up-outcome.ensures.statuses
+
+pub returns-in-None-clause-disk : goal.returns-in-None-clause-disk
+returns-in-None-clause-disk g c = λ s. no_disk c.sum_up-outcome.result.status c.sum_up-outcome.ensures.statuses s
+
+pub returns-in-None-clause-told : goal.returns-in-None-clause-told
+returns-in-None-clause-told g c = ended_line c.sum_up-outcome.result.status c.sum_up-outcome.ensures.statuses
 
 -- ---- where the disk failed
 
