@@ -120,7 +120,12 @@ fn sum_up<K: Sink>(
     ensures readings { result.readings ≡ [] }
 {
     match summary_text(alloc, seed, size, &ready.script, &ready.header, &end) {
-        Ok(text) => give(out, text.as_slice(), end.order, ReadingTable::new(alloc)),
-        Err(_) => tell(alloc, out, Stop::Memory, end.order),
+        Ok(text) => {
+            let none = ReadingTable::new(alloc);
+            let outcome = give(out, text.as_slice(), order_of(end), none);
+            drop(text);
+            outcome
+        }
+        Err(_) => tell(alloc, out, Stop::Memory, order_of(end)),
     }
 }
