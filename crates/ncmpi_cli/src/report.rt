@@ -39,11 +39,20 @@ pub(crate) fn finish<K: Sink>(
 {
     let WatchedRun { end, seen } = run;
     let Some(seen) = seen else {
-        return tell(alloc, out, Stop::Memory, end.order);
+        return tell(alloc, out, Stop::Memory, order_of(end));
     };
     match whole_text(alloc, script, header, &end, opening, &seen) {
-        Ok(text) => give(out, text.as_slice(), end.order, seen.readings),
-        Err(_) => tell(alloc, out, Stop::Memory, end.order),
+        Ok(text) => {
+            let RunReadings { readings, counts } = seen;
+            drop(counts);
+            let outcome = give(out, text.as_slice(), order_of(end), readings);
+            drop(text);
+            outcome
+        }
+        Err(_) => {
+            drop(seen);
+            tell(alloc, out, Stop::Memory, order_of(end))
+        }
     }
 }
 
