@@ -1,5 +1,5 @@
 -- How a list of offsets ends.
-use Rattle.ncmpi_cli.proofs.Words.{◌≡◌, ℕ, List, Option, Some, None, inl, inr, ◌⊎◌, refl, arith, IfSome, HeaderErr, HasFault, header_line, front, TellsHeader, IsFaultyFront, IsSoundFront, IsOfHeader, line_of, status_of, Stop}
+use Rattle.ncmpi_cli.proofs.Words.{◌≡◌, ℕ, List, Option, Some, None, inl, inr, ◌⊎◌, refl, arith, IfSome, HeaderErr, HasFault, header_line, front, TellsHeader, IsFaultyFront, IsSoundFront, IsListStatus, IsOfReadHeader, IsOfHeader, line_of, status_of, Stop}
 use Rattle.dataset_start.specs.declared.stop.Stop.TheVariants as stops
 
 module _ (held : Option (List ℕ)) where
@@ -54,3 +54,34 @@ module _ (held : Option (List ℕ)) where
 pub not_faulty : {Q : Type 0} (held : Option (List ℕ)) → IfSome held (λ file. (e : HeaderErr) → HasFault (front file) e → ⊥) → IsFaultyFront held → Q
 not_faulty None sound faulty = absurd faulty
 not_faulty (Some file) sound faulty = absurd (sound faulty.0 faulty.1)
+
+-- the status of a stop is one of a list's
+pub list_status : (stop : Stop) (status : ℕ) → (status ≡ status_of stop) ⊎ (status ≡ 8) → IsOfHeader stop → IsListStatus status
+list_status stop status (inr m) only = inr (inr (inr (inr m)))
+list_status (stops.Header e) status (inl own) only = inr (inl own)
+list_status stops.Disk status (inl own) only = inr (inr (inr (inl own)))
+list_status stops.Memory status (inl own) only = inr (inr (inr (inr own)))
+list_status stops.Usage status (inl own) only = absurd only
+list_status (stops.Script e) status (inl own) only = absurd only
+list_status (stops.Layout e) status (inl own) only = absurd only
+list_status (stops.Redefinition e) status (inl own) only = absurd only
+list_status stops.Source status (inl own) only = absurd only
+
+-- where a stop's status is one at which the header was read, it has a fault
+pub header_read : {Q : Type 0} (stop : Stop) (status : ℕ) → (status ≡ status_of stop) ⊎ (status ≡ 8) → IsOfHeader stop
+    → ((e : HeaderErr) → stop ≡ stops.Header e → Q) → IsOfReadHeader status → Q
+header_read stop status (inr m) only made (inl s) = absurd (omega (arith, m, s))
+header_read stop status (inr m) only made (inr (inl s)) = absurd (omega (arith, m, s))
+header_read stop status (inr m) only made (inr (inr s)) = absurd (omega (arith, m, s))
+header_read (stops.Header e) status (inl own) only made s = made e refl
+header_read stops.Disk status (inl own) only made (inl s) = absurd (omega (arith, own, s))
+header_read stops.Disk status (inl own) only made (inr (inl s)) = absurd (omega (arith, own, s))
+header_read stops.Disk status (inl own) only made (inr (inr s)) = absurd (omega (arith, own, s))
+header_read stops.Memory status (inl own) only made (inl s) = absurd (omega (arith, own, s))
+header_read stops.Memory status (inl own) only made (inr (inl s)) = absurd (omega (arith, own, s))
+header_read stops.Memory status (inl own) only made (inr (inr s)) = absurd (omega (arith, own, s))
+header_read stops.Usage status (inl own) only made s = absurd only
+header_read (stops.Script e) status (inl own) only made s = absurd only
+header_read (stops.Layout e) status (inl own) only made s = absurd only
+header_read (stops.Redefinition e) status (inl own) only made s = absurd only
+header_read stops.Source status (inl own) only made s = absurd only

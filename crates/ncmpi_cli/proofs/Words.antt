@@ -36,7 +36,7 @@ pub use Rattle.ncmpi_cli.specs.Faults.{IsCutFile, IsMadeUnready, MadeCutOff, Was
 pub use Rattle.ncmpi_cli.specs.Generated.{IsMadeStatus, RanMade, new_end, summed}
 unfoldable pub use Rattle.ncmpi_cli.specs.Generated.{script_made}
 pub use Rattle.ncmpi_cli.specs.Headline.{GivesText, HaveBegun, IsBeforeRanks, IsSilent, IsStatus, Ran, end_of_run, file_at_start, text_of, watched_text, with_counts}
-pub use Rattle.ncmpi_cli.specs.OffsetList.{IsFaultyFront, IsOfReadHeader, IsSoundFront}
+pub use Rattle.ncmpi_cli.specs.OffsetList.{IsFaultyFront, IsListStatus, IsOfReadHeader, IsSoundFront}
 pub use Rattle.ncmpi_cli.specs.Outside.{Output, Seen, output_at}
 pub use Rattle.ncmpi_cli.specs.Readings.{AreCounted, count_at, counted, pairs_of, readings_of, whole_text}
 pub use Rattle.ncmpi_cli.specs.Watched.{AreReadings, seen_counts}
