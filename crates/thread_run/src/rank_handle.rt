@@ -72,10 +72,22 @@ pub(crate) fn start<'s, E, G: Gate, R: Threads + Wait + Sync>(
     ensures handle { IfSome result (λ pair. IsRankHandle out.of out.number [] pair.0 pair.1) }
     ensures empty { IfSome result (λ pair. pair.1.items ≡ []) }
 {
-    let (go, word) = line::<Word>(lent.run.tools.alloc, 1).ok()?;
-    let (put, back) = line::<OwnerItem>(lent.run.tools.alloc, 1).ok()?;
-    let ends = Ends { word, out, back };
-    let child = spawn(scope, lent, ends)?;
+    let alloc = lent.run.tools.alloc;
+    let Ok((go, word)) = line::<Word>(alloc, 1) else {
+        drop(out);
+        return None;
+    };
+    let Ok((put, back)) = line::<OwnerItem>(alloc, 1) else {
+        drop(out);
+        drop(word);
+        drop(go);
+        return None;
+    };
+    let Some(child) = spawn(scope, lent, Ends { word, out, back }) else {
+        drop(put);
+        drop(go);
+        return None;
+    };
     Some((RankHandle { word: go, child }, put))
 }
 
