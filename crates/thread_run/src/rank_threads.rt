@@ -306,7 +306,8 @@ fn stop_all<R: Threads + Wait>(rt: &R, ones: Vec<RankHandle>) {
             child,
         } = one;
         go.put(rt, Word::Stop);
-        child.join(rt);
+        drop(child.join(rt));
+        drop(go);
     }
 }
 
