@@ -62,12 +62,12 @@ told_all script header old now ones told lines lines' ends lawful none senders a
         let own = of r a.0 a.1 in
         let line = put_on lines lines' r before.0 after.0 put before.1 after.1 in
         let items : after.0.items ≡ gained lines lines' r = ap (λ (z : End OwnerItem). z.items) line ∙ ap (λ (v : List OwnerItem). v ++ gained lines lines' r) (empty_at lines r before.0 empty before.1) in
-        let head : b.0.child.promise.header.value ≡ header = ap (λ z. z.promise.header.value) mine.child ∙ own.of_header in
-        let text : b.0.child.promise.script.value ≡ script = ap (λ z. z.promise.script.value) mine.child ∙ own.of_script in
+        let head : b.0.child.promise.header.value.now ≡ header = ap (λ z. z.promise.header.value.now) mine.child ∙ own.of_header in
+        let text : b.0.child.promise.script.value.now ≡ script = ap (λ z. z.promise.script.value.now) mine.child ∙ own.of_script in
         let number : b.0.child.promise.ends.value.out.number ≡ r = ap (λ z. z.promise.ends.value.out.number) mine.child ∙ (handles.each r a.0 before.0 a.1 before.1).number in
         let got : IsSettledOf b.0 (items_under r now.items) after.0.items end = settled.each r b.0 after.0 end b.1 after.1 e in
         subst (λ (h : Header). IsSettled h (calls_of script r) (own_items r (arrived old now)) (gained lines lines' r) end) head
-        (subst (λ (s : Script). IsSettled b.0.child.promise.header.value (calls_of s r) (own_items r (arrived old now)) (gained lines lines' r) end) text
-        (subst (λ (n : ℕ). IsSettled b.0.child.promise.header.value (calls_of b.0.child.promise.script.value n) (own_items r (arrived old now)) (gained lines lines' r) end) number
-        (subst (λ (v : List OwnerItem). IsSettled b.0.child.promise.header.value (calls_of b.0.child.promise.script.value b.0.child.promise.ends.value.out.number) (own_items r (arrived old now)) v end) items
+        (subst (λ (s : Script). IsSettled b.0.child.promise.header.value.now (calls_of s r) (own_items r (arrived old now)) (gained lines lines' r) end) text
+        (subst (λ (n : ℕ). IsSettled b.0.child.promise.header.value.now (calls_of b.0.child.promise.script.value.now n) (own_items r (arrived old now)) (gained lines lines' r) end) number
+        (subst (λ (v : List OwnerItem). IsSettled b.0.child.promise.header.value.now (calls_of b.0.child.promise.script.value.now b.0.child.promise.ends.value.out.number) (own_items r (arrived old now)) v end) items
         (subst (λ (v : List Arrival). IsSettledOf b.0 (items_under r v) after.0.items end) items_are got))))

@@ -47,8 +47,8 @@ pub record HasReturned (header : Header) (script : Script) (ends : Ends) (came :
 -- ---- the calling thread
 
 pub record IsOf (header : Header) (script : Script) (one : RankHandle) : Type 0 where
-  pub of_header : one.child.promise.header.value ≡ header
-  pub of_script : one.child.promise.script.value ≡ script
+  pub of_header : one.child.promise.header.value.now ≡ header
+  pub of_script : one.child.promise.script.value.now ≡ script
 
 pub record IsRankHandle (inbox : Line (ℕ × RankItem)) (r : ℕ) (words : List Word) (one : RankHandle) (line : End OwnerItem) : Type 0 where
   pub number : one.child.promise.ends.value.out.number ≡ r
@@ -81,7 +81,7 @@ pub record IsSettled (header : Header) (own : List Call) (arrived : List RankIte
 
 abbrev pub IsSettledOf : RankHandle → List RankItem → List OwnerItem → RankEnd → Type 0
 IsSettledOf one arrived given end =
-    IsSettled one.child.promise.header.value (calls_of one.child.promise.script.value one.child.promise.ends.value.out.number) arrived given end
+    IsSettled one.child.promise.header.value.now (calls_of one.child.promise.script.value.now one.child.promise.ends.value.out.number) arrived given end
 
 pub record AreSettled (arrivals : List Arrival) (ones : List RankHandle) (lines : List (End OwnerItem)) (ends : List RankEnd) : Type 0 where
   pub long : length ends ≡ length ones

@@ -42,21 +42,21 @@ pub(crate) struct Returned {
 
 /// A rank's thread attends by the ends that it was given, or leaves them as they are, and gives them back.
 #[derive(Drop)]
-pub(crate) struct Part {
-    header: Snapshot<Header>,
-    script: Snapshot<Script>,
+pub(crate) struct Part<'a> {
+    header: Snapshot<&'a Header>,
+    script: Snapshot<&'a Script>,
     ends: Snapshot<Ends>,
 }
 
-impl Promise<Returned> for Part {
-    ghost kept_by = { λ p r. HasReturned p.header.value p.script.value p.ends.value r };
+impl<'a> Promise<Returned> for Part<'a> {
+    ghost kept_by = { λ p r. HasReturned p.header.value.now p.script.value.now p.ends.value r };
 }
 
 /// What the calling thread has of a rank's thread.
 #[derive(Drop)]
-pub(crate) struct RankHandle {
+pub(crate) struct RankHandle<'a> {
     pub word: LinePut<Word>,
-    pub child: PromisedHandle<Returned, Part>,
+    pub child: PromisedHandle<Returned, Part<'a>>,
 }
 
 /// Starts a rank's thread, and makes the line of what goes back to it. None where it can't be started.
@@ -64,7 +64,7 @@ pub(crate) fn start<'s, E, G: Gate, R: Threads + Wait + Sync>(
     scope: &'s Scope<'s, E>,
     lent: &Lent<'s, R, G>,
     out: InPut<SentItem>,
-) -> Option<(RankHandle, LinePut<OwnerItem>)>
+) -> Option<(RankHandle<'s>, LinePut<OwnerItem>)>
     requires runnable { IsRunnable lent.now }
     requires number { out.number < lent.now.run.now.script.now.ranks }
     requires put { out.items ≡ [] }
@@ -96,12 +96,12 @@ fn spawn<'s, E, G: Gate, R: Threads + Wait + Sync>(
     scope: &'s Scope<'s, E>,
     lent: &Lent<'s, R, G>,
     ends: Ends,
-) -> Option<PromisedHandle<Returned, Part>>
+) -> Option<PromisedHandle<Returned, Part<'s>>>
     requires runnable { IsRunnable lent.now }
     requires number { ends.out.number < lent.now.run.now.script.now.ranks }
     requires fresh { IsFresh ends }
-    ensures header { IfSome result (λ child. child.promise.header.value ≡ lent.now.run.now.header.now) }
-    ensures script { IfSome result (λ child. child.promise.script.value ≡ lent.now.run.now.script.now) }
+    ensures header { IfSome result (λ child. child.promise.header.value.now ≡ lent.now.run.now.header.now) }
+    ensures script { IfSome result (λ child. child.promise.script.value.now ≡ lent.now.run.now.script.now) }
     ensures ends { IfSome result (λ child. child.promise.ends.value ≡ ends) }
 {
     let Lent { run, names } = *lent;
@@ -112,8 +112,8 @@ fn spawn<'s, E, G: Gate, R: Threads + Wait + Sync>(
     } = *run;
     let Tools { rt, alloc, gate } = *tools;
     let part = Part {
-        header: Snapshot::of(header),
-        script: Snapshot::of(script),
+        header: Snapshot::of(&header),
+        script: Snapshot::of(&script),
         ends: Snapshot::of(&ends),
     };
     let work = move || -> Returned

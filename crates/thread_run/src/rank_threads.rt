@@ -100,10 +100,10 @@ fn names_on_threads(alloc: Global, header: &Header, script: &Script) -> Option<N
 
 /// Lists that are made before any thread is started, and the ends of the inbox.
 #[derive(Drop)]
-pub(crate) struct Rooms {
+pub(crate) struct Rooms<'a> {
     pub senders: Vec<InPut<SentItem>>,
     pub inbox: InTake<SentItem>,
-    pub ones: Vec<RankHandle>,
+    pub ones: Vec<RankHandle<'a>>,
     pub lines: Vec<LinePut<OwnerItem>>,
     pub ends: Vec<RankEnd>,
 }
@@ -113,7 +113,7 @@ pub(crate) struct Rooms {
 pub(crate) struct StartedRanks<'a> {
     pub measures: &'a Measures,
     pub inbox: InTake<SentItem>,
-    pub ones: Vec<RankHandle>,
+    pub ones: Vec<RankHandle<'a>>,
     pub lines: Vec<LinePut<OwnerItem>>,
     pub ends: Vec<RankEnd>,
 }
@@ -174,7 +174,7 @@ fn take_back<T>(lent: &mut T)
 {}
 
 /// Lists for so many ranks, and an inbox with an end for each.
-fn make_rooms(alloc: Global, ranks: u32) -> Result<Rooms, Memory>
+fn make_rooms<'a>(alloc: Global, ranks: u32) -> Result<Rooms<'a>, Memory>
     requires low { 1 ≤ ranks }
     requires high { ranks ≤ 64 }
     ensures { IfOk result (HasRooms ranks) }
@@ -271,7 +271,7 @@ fn start_all<'s, E, R: Threads + Wait + Sync, G: Gate>(
     scope: &'s Scope<'s, E>,
     lent: &Lent<'s, R, G>,
     senders: Vec<InPut<SentItem>>,
-    ones: &mut Vec<RankHandle>,
+    ones: &mut Vec<RankHandle<'s>>,
     lines: &mut Vec<LinePut<OwnerItem>>,
 ) -> bool
     requires runnable { IsRunnable lent.now }
