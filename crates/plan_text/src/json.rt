@@ -1,5 +1,5 @@
 // The parts of a JSON document: RFC 8259.
-ghost use Rattle.std.specs.Prelude.{◌≡◌, ◌++◌, OnOk};
+ghost use Rattle.std.specs.Prelude.{◌≡◌, ◌++◌, List, ℕ, OnOk};
 ghost use Rattle.nc_base.specs.declared.step.DiskCall.TheVariants.{Grow};
 ghost use Rattle.plan_text.specs.Json.{array_of, comma, json_character, json_text, json_truth};
 ghost use Rattle.plan_text.specs.JsonSteps.{device_call, transfer};
@@ -51,17 +51,40 @@ pub(crate) fn push_truth(out: &mut Vec<u8>, words: &[u8], truth: bool) -> Result
     push_bytes(out, if truth { b"true" } else { b"false" })
 }
 
+/// What stands in arrays as a value of its own.
+pub(crate) trait ArrayItem {
+    ghost value: { Self → List ℕ };
+
+    fn push_item(&self, out: &mut Vec<u8>) -> Result<(), Memory>
+        ensures { OnOk result (out.new.items ≡ out.old.items ++ value self.now) };
+}
+
+/// An array of items.
+pub(crate) fn push_array<T: ArrayItem>(out: &mut Vec<u8>, items: &[T]) -> Result<(), Memory>
+    ensures { OnOk result (out.new.items ≡ out.old.items ++ array_of T.value items.now) }
+{
+    out.push(b'[')?;
+    for (number, item) in items.iter().enumerate() {
+        push_comma(out, number)?;
+        item.push_item(out)?;
+    }
+    out.push(b']')?;
+    Ok(())
+}
+
 /// A list of device calls.
 pub(crate) fn push_calls(out: &mut Vec<u8>, calls: &[DiskCall]) -> Result<(), Memory>
     ensures { OnOk result (out.new.items ≡ out.old.items ++ array_of device_call calls.now) }
 {
-    out.push(b'[')?;
-    for (number, call) in calls.iter().enumerate() {
-        push_comma(out, number)?;
-        push_call(out, *call)?;
+    push_array(out, calls)
+}
+
+impl ArrayItem for DiskCall {
+    ghost value = { device_call };
+
+    fn push_item(&self, out: &mut Vec<u8>) -> Result<(), Memory> {
+        push_call(out, *self)
     }
-    out.push(b']')?;
-    Ok(())
 }
 
 fn push_call(out: &mut Vec<u8>, call: DiskCall) -> Result<(), Memory>

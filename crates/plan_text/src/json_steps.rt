@@ -8,7 +8,7 @@ ghost use Rattle.plan_text.specs.Json.{array_of, json_number, json_text, on_line
 ghost use Rattle.plan_text.specs.JsonSteps.{asked_object, call_members, caller_object, device_call, domain_object, file_members, overlap_object, phase_object, piece_array, share_object, step_object, window_object};
 ghost use Rattle.plan_text.specs.PlanWords.{word_in};
 
-use crate::json::{push_calls, push_comma, push_text, push_truth};
+use crate::json::{ArrayItem, push_array, push_calls, push_comma, push_text, push_truth};
 use crate::json_head::push_mark_text;
 use crate::steps::{answer_of, push_word_of};
 use crate::words::end_of;
@@ -176,13 +176,15 @@ fn push_phase(out: &mut Vec<u8>, phase: &Phase) -> Result<(), Memory>
 fn push_all_asked(out: &mut Vec<u8>, list: &[Asked]) -> Result<(), Memory>
     ensures { OnOk result (out.new.items ≡ out.old.items ++ array_of asked_object list.now) }
 {
-    out.push(b'[')?;
-    for (number, asked) in list.iter().enumerate() {
-        push_comma(out, number)?;
-        push_asked(out, *asked)?;
+    push_array(out, list)
+}
+
+impl ArrayItem for Asked {
+    ghost value = { asked_object };
+
+    fn push_item(&self, out: &mut Vec<u8>) -> Result<(), Memory> {
+        push_asked(out, *self)
     }
-    out.push(b']')?;
-    Ok(())
 }
 
 fn push_asked(out: &mut Vec<u8>, asked: Asked) -> Result<(), Memory>
@@ -198,13 +200,15 @@ fn push_asked(out: &mut Vec<u8>, asked: Asked) -> Result<(), Memory>
 fn push_domains(out: &mut Vec<u8>, domains: &[DomainPlan]) -> Result<(), Memory>
     ensures { OnOk result (out.new.items ≡ out.old.items ++ array_of domain_object domains.now) }
 {
-    out.push(b'[')?;
-    for (number, domain) in domains.iter().enumerate() {
-        push_comma(out, number)?;
-        push_domain(out, domain)?;
+    push_array(out, domains)
+}
+
+impl ArrayItem for DomainPlan {
+    ghost value = { domain_object };
+
+    fn push_item(&self, out: &mut Vec<u8>) -> Result<(), Memory> {
+        push_domain(out, self)
     }
-    out.push(b']')?;
-    Ok(())
 }
 
 fn push_domain(out: &mut Vec<u8>, domain: &DomainPlan) -> Result<(), Memory>
@@ -233,13 +237,15 @@ fn push_aggregator(out: &mut Vec<u8>, aggregator: Option<u32>) -> Result<(), Mem
 fn push_windows(out: &mut Vec<u8>, windows: &[WindowPlan]) -> Result<(), Memory>
     ensures { OnOk result (out.new.items ≡ out.old.items ++ array_of window_object windows.now) }
 {
-    out.push(b'[')?;
-    for (number, window) in windows.iter().enumerate() {
-        push_comma(out, number)?;
-        push_window(out, window)?;
+    push_array(out, windows)
+}
+
+impl ArrayItem for WindowPlan {
+    ghost value = { window_object };
+
+    fn push_item(&self, out: &mut Vec<u8>) -> Result<(), Memory> {
+        push_window(out, self)
     }
-    out.push(b']')?;
-    Ok(())
 }
 
 fn push_window(out: &mut Vec<u8>, window: &WindowPlan) -> Result<(), Memory>
@@ -267,13 +273,15 @@ fn push_window_shares(out: &mut Vec<u8>, window: &WindowPlan) -> Result<(), Memo
 fn push_shares(out: &mut Vec<u8>, shares: &[Share]) -> Result<(), Memory>
     ensures { OnOk result (out.new.items ≡ out.old.items ++ array_of share_object shares.now) }
 {
-    out.push(b'[')?;
-    for (number, share) in shares.iter().enumerate() {
-        push_comma(out, number)?;
-        push_share(out, *share)?;
+    push_array(out, shares)
+}
+
+impl ArrayItem for Share {
+    ghost value = { share_object };
+
+    fn push_item(&self, out: &mut Vec<u8>) -> Result<(), Memory> {
+        push_share(out, *self)
     }
-    out.push(b']')?;
-    Ok(())
 }
 
 fn push_share(out: &mut Vec<u8>, share: Share) -> Result<(), Memory>
@@ -288,13 +296,15 @@ fn push_share(out: &mut Vec<u8>, share: Share) -> Result<(), Memory>
 fn push_owners(out: &mut Vec<u8>, owners: &[Owner]) -> Result<(), Memory>
     ensures { OnOk result (out.new.items ≡ out.old.items ++ array_of piece_array owners.now) }
 {
-    out.push(b'[')?;
-    for (number, owner) in owners.iter().enumerate() {
-        push_comma(out, number)?;
-        push_owner(out, *owner)?;
+    push_array(out, owners)
+}
+
+impl ArrayItem for Owner {
+    ghost value = { piece_array };
+
+    fn push_item(&self, out: &mut Vec<u8>) -> Result<(), Memory> {
+        push_owner(out, *self)
     }
-    out.push(b']')?;
-    Ok(())
 }
 
 fn push_owner(out: &mut Vec<u8>, owner: Owner) -> Result<(), Memory>

@@ -4,7 +4,7 @@ ghost use Rattle.script_spec.specs.Texts.{joined};
 ghost use Rattle.plan_text.specs.Json.{array_of};
 ghost use Rattle.plan_text.specs.JsonSums.{cell_object, moved_members, moved_object, naive_object, sums_object};
 
-use crate::json::push_comma;
+use crate::json::{ArrayItem, push_array};
 use nc_base::Memory;
 use plan_sums::{Cell, Naive, Sums, Tally};
 use printed_text::words::{push_bytes, push_numbered};
@@ -61,13 +61,15 @@ fn push_naive(out: &mut Vec<u8>, words: &[u8], naive: Naive) -> Result<(), Memor
 fn push_cells(out: &mut Vec<u8>, cells: &[Cell]) -> Result<(), Memory>
     ensures { OnOk result (out.new.items ≡ out.old.items ++ array_of cell_object cells.now) }
 {
-    out.push(b'[')?;
-    for (number, cell) in cells.iter().enumerate() {
-        push_comma(out, number)?;
-        push_cell(out, *cell)?;
+    push_array(out, cells)
+}
+
+impl ArrayItem for Cell {
+    ghost value = { cell_object };
+
+    fn push_item(&self, out: &mut Vec<u8>) -> Result<(), Memory> {
+        push_cell(out, *self)
     }
-    out.push(b']')?;
-    Ok(())
 }
 
 fn push_cell(out: &mut Vec<u8>, cell: Cell) -> Result<(), Memory>

@@ -1,5 +1,0 @@
-use Rattle.plan_text.proofs.Cited.{◌≡◌, ◌++◌, map, take, joined, window_object}
-use Rattle.plan_text.proofs.json_steps.push_windows.Given as goal
-
-abbrev pub invariant-loop-number : goal.invariant-loop-number
-invariant-loop-number l = l.out.items ≡ l.initial.out.items ++ joined 44 (map window_object (take l.number l.windows))
