@@ -1,7 +1,6 @@
 -- Arrays that are written item by item, and objects that are written in two parts.
-use Rattle.plan_text.proofs.Cited.{◌≡◌, ℕ, zero, suc, ◌+◌, ◌<◌, ◌≤◌, List, [], ◌∷◌, ◌++◌, length, map, take, get_or, refl, sym, ap, ◌∙◌, arith, map_more, common_steps, slice_get-get_or, slice_get, joined, closed, comma}
+use Rattle.plan_text.proofs.Cited.{◌≡◌, ℕ, zero, suc, ◌+◌, ◌<◌, ◌≤◌, List, [], ◌∷◌, ◌++◌, length, map, take, get_or, refl, sym, ap, ◌∙◌, arith, map_more, common_steps, joined, closed, comma}
 use Rattle.std.proofs.lemmas.List.{append_assoc}
-use Rattle.std.specs.Prelude.{Some}
 
 pub comma_first : (n : ℕ) → n ≤ 0 → comma n ≡ []
 comma_first zero h = refl
@@ -73,8 +72,3 @@ copy_pushed {A} f front now with_comma next xs i d within so_far separated pushe
     ∙ ap (λ (t : List ℕ). t ++ f (get_or xs i d)) separated
     ∙ ap (λ (t : List ℕ). (t ++ comma i) ++ f (get_or xs i d)) so_far
     ∙ sym (array_more f front xs i d within)
-
--- an item by its place, in a list that is lent
-pub item_at : {A : Type 0} (list lent : List A) (k : ℕ) (x : A) → lent ≡ list → k < length lent → x ≡ get_or lent k x → slice_get list k ≡ Some x
-item_at {A} list lent k x same within here =
-    sym (ap (λ (xs : List A). slice_get xs k) same) ∙ slice_get-get_or lent k x within ∙ ap (λ (y : A). Some y) (sym here)

@@ -18,7 +18,7 @@ pub(crate) fn push_comma(out: &mut Vec<u8>, number: usize) -> Result<(), Memory>
 }
 
 /// A text: each byte is one character, and one that is not printable ASCII is escaped.
-pub(crate) fn push_text(out: &mut Vec<u8>, text: &[u8]) -> Result<(), Memory>
+fn push_text(out: &mut Vec<u8>, text: &[u8]) -> Result<(), Memory>
     ensures { OnOk result (out.new.items ≡ out.old.items ++ json_text text.now) }
 {
     out.push(b'"')?;
@@ -26,6 +26,15 @@ pub(crate) fn push_text(out: &mut Vec<u8>, text: &[u8]) -> Result<(), Memory>
         push_character(out, *byte)?;
     }
     out.push(b'"')?;
+    Ok(())
+}
+
+/// Words, and a text after them.
+pub(crate) fn push_named(out: &mut Vec<u8>, words: &[u8], text: &[u8]) -> Result<(), Memory>
+    ensures { OnOk result (out.new.items ≡ out.old.items ++ (words.now ++ json_text text.now)) }
+{
+    push_bytes(out, words)?;
+    push_text(out, text)?;
     Ok(())
 }
 
@@ -108,8 +117,7 @@ fn push_growth(out: &mut Vec<u8>, size: u64) -> Result<(), Memory>
 fn push_transfer(out: &mut Vec<u8>, word: &[u8], at: u64, len: u64) -> Result<(), Memory>
     ensures { OnOk result (out.new.items ≡ out.old.items ++ transfer word.now at len) }
 {
-    push_bytes(out, b"{\"call\":")?;
-    push_text(out, word)?;
+    push_named(out, b"{\"call\":", word)?;
     push_numbered(out, b",\"place\":", at)?;
     push_numbered(out, b",\"length\":", len)?;
     out.push(b'}')?;

@@ -1,5 +1,6 @@
 // The JSON document of a plan.
-ghost use Rattle.std.specs.Prelude.{◌≡◌, ◌<◌, ◌++◌, ◌∷◌, IfOk, OnOk, Some, slice_get, true};
+ghost use Rattle.std.specs.Prelude.{◌≡◌, ◌<◌, ◌^◌, ◌++◌, ◌∷◌, IfOk, OnOk, true};
+ghost use Rattle.serial_spec.specs.Layout.{slab};
 ghost use Rattle.serial_spec.specs.SoundHeaders.{is_sound};
 ghost use Rattle.script_spec.specs.HintTable.{hint_table};
 ghost use Rattle.script_spec.specs.Texts.{joined, mark_word};
@@ -11,17 +12,17 @@ ghost use Rattle.plan_text.specs.JsonPlan.{head_members, plan_json_of, plan_memb
 ghost use Rattle.plan_text.specs.JsonSteps.{device_call};
 
 use crate::head::{Document, push_mark};
-use crate::json::{push_calls, push_comma, push_text, push_truth};
+use crate::json::{push_calls, push_comma, push_named, push_truth};
 use crate::json_steps::push_steps;
 use crate::json_sums::push_sums;
 use hint_table::{HINTS, HintForm, HintName};
 use nc_base::{Blob, DiskCall, Extent, Header, Mark, Memory, Script, Var};
 use plan_sums::Sums;
-use printed_text::words::{push_bytes, push_decimal, push_numbered, type_word};
+use printed_text::words::{push_bytes, push_numbered, type_word};
 use run_plan::RunPlan;
 use std::alloc::Global;
 use step_plan::StepPlan;
-use var_layout::{header_len, is_record, recsize, slab};
+use var_layout::{header_len, is_record, recsize, slab_of};
 
 /// The JSON document of a plan.
 pub fn plan_json(alloc: Global, document: &Document) -> Result<Blob, Memory>
@@ -128,24 +129,20 @@ fn push_variables(out: &mut Vec<u8>, header: &Header) -> Result<(), Memory>
     out.push(b'[')?;
     for (number, var) in vars.iter().enumerate() {
         push_comma(out, number)?;
-        push_variable(out, header, number, var)?;
+        push_variable(out, header, var)?;
     }
     out.push(b']')?;
     Ok(())
 }
 
-/// A variable of the header, by its place there.
-fn push_variable(out: &mut Vec<u8>, header: &Header, number: usize, var: &Var) -> Result<(), Memory>
-    requires sound { is_sound header.now ≡ true }
-    requires place { slice_get header.now.vars number ≡ Some var.now }
+fn push_variable(out: &mut Vec<u8>, header: &Header, var: &Var) -> Result<(), Memory>
+    requires { slab header.now var.now < 2 ^ 62 }
     ensures { OnOk result (out.new.items ≡ out.old.items ++ variable_object header.now var.now) }
 {
-    push_bytes(out, b"{\"name\":")?;
-    push_text(out, var.name.as_slice())?;
-    push_bytes(out, b",\"type\":")?;
-    push_text(out, type_word(var.kind))?;
+    push_named(out, b"{\"name\":", var.name.as_slice())?;
+    push_named(out, b",\"type\":", type_word(var.kind))?;
     push_numbered(out, b",\"begin\":", var.begin)?;
-    push_numbered(out, b",\"size\":", slab(header, number))?;
+    push_numbered(out, b",\"size\":", slab_of(header, var))?;
     push_truth(out, b",\"record\":", is_record(header, var))?;
     out.push(b'}')?;
     Ok(())
@@ -173,22 +170,29 @@ fn push_hints_named(out: &mut Vec<u8>, names: &[HintName], script: &Script) -> R
 fn push_hint(out: &mut Vec<u8>, name: HintName, script: &Script) -> Result<(), Memory>
     ensures { OnOk result (out.new.items ≡ out.old.items ++ hint_object script.now (row_of name)) }
 {
-    push_bytes(out, b"{\"name\":")?;
-    push_text(out, name.word())?;
-    push_bytes(out, b",\"value\":")?;
-    push_value(out, name.form(), name.get(&script.hints))?;
-    push_bytes(out, b",\"default\":")?;
-    push_value(out, name.form(), u64::from(name.default(script.ranks)))?;
+    push_named(out, b"{\"name\":", name.word())?;
+    push_value(out, b",\"value\":", name.form(), name.get(&script.hints))?;
+    push_value(
+        out,
+        b",\"default\":",
+        name.form(),
+        u64::from(name.default(script.ranks)),
+    )?;
     out.push(b'}')?;
     Ok(())
 }
 
-fn push_value(out: &mut Vec<u8>, form: HintForm, value: u64) -> Result<(), Memory>
-    ensures { OnOk result (out.new.items ≡ out.old.items ++ hint_value (form_of form) value) }
+/// Words, and the value of a hint of this form.
+fn push_value(out: &mut Vec<u8>, words: &[u8], form: HintForm, value: u64) -> Result<(), Memory>
+    ensures { OnOk result (out.new.items ≡ out.old.items ++ (words.now ++ hint_value (form_of form) value)) }
 {
     match form {
-        HintForm::Within { .. } => push_decimal(out, value),
-        HintForm::Either { zero, one } => push_text(out, if value == 1 { one } else { zero }),
+        HintForm::Within { .. } => push_numbered(out, words, value),
+        HintForm::Either { zero, one } => push_named(
+            out,
+            words,
+            if value == 1 { one } else { zero },
+        ),
     }
 }
 

@@ -8,7 +8,7 @@ ghost use Rattle.plan_text.specs.Json.{array_of, json_number, json_text, on_line
 ghost use Rattle.plan_text.specs.JsonSteps.{asked_object, call_members, caller_object, device_call, domain_object, file_members, overlap_object, phase_object, piece_array, share_object, step_object, window_object};
 ghost use Rattle.plan_text.specs.PlanWords.{word_in};
 
-use crate::json::{ArrayItem, push_array, push_calls, push_comma, push_text, push_truth};
+use crate::json::{ArrayItem, push_array, push_calls, push_comma, push_named, push_truth};
 use crate::json_head::push_mark_text;
 use crate::steps::{answer_of, push_word_of};
 use crate::words::end_of;
@@ -98,8 +98,7 @@ fn push_caller(
     push_numbered(out, b",\"call\":", u64::from(caller.call))?;
     push_bytes(out, b",\"name\":")?;
     push_word_text(out, script, caller)?;
-    push_bytes(out, b",\"answer\":")?;
-    push_text(out, answer_of(plan, caller))?;
+    push_named(out, b",\"answer\":", answer_of(plan, caller))?;
     out.push(b'}')?;
     Ok(())
 }

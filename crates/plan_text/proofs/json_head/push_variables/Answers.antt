@@ -1,13 +1,11 @@
 use Rattle.plan_text.proofs.Cited.{arith, variable_object}
-use Rattle.plan_text.proofs.ArrayLaws.{item_at, item_pushed}
+use Rattle.plan_text.proofs.ArrayLaws.{item_pushed}
+use Rattle.plan_text.proofs.VariableLaws.{size_at}
 use Rattle.plan_text.proofs.json_head.push_variables.Goals as goal
 
 pub push_variable-requires : goal.push_variable-requires
 push_variable-requires c =
-    record {
-      sound = c.requires;
-      place = item_at c.args.header.now.vars c.as_slice-vars.result.now c.loop-number.number c.index-vars-number.result c.as_slice-vars.ensures (omega arith) c.index-vars-number.is;
-    }
+    size_at c.args.header.now c.as_slice-vars.result.now c.loop-number.number c.index-vars-number.result c.requires c.as_slice-vars.ensures (omega arith) c.index-vars-number.is
 
 pub loop-number-preserved : goal.loop-number-preserved
 loop-number-preserved c =

@@ -7,5 +7,4 @@ returns c =
     then_append c.push_numbered.new.out.items _ _ _ _ (rw c.from-2.ensures at c.in_ok-push_numbered-2.ensures) (
     then_append c.push_numbered-2.new.out.items _ _ _ _ c.in_ok-push_bytes.ensures (
     then_append c.push_bytes.new.out.items _ _ _ _ c.in_ok-push_word_text.ensures (
-    then_append c.push_word_text.new.out.items _ _ _ _ c.in_ok-push_bytes-2.ensures (
-    then_append c.push_bytes-2.new.out.items _ _ _ _ (rw c.answer_of.ensures at c.in_ok-push_text.ensures) c.in_ok-push.ensures.items)))))
+    then_append c.push_word_text.new.out.items _ _ _ _ (rw c.answer_of.ensures at c.in_ok-push_named.ensures) c.in_ok-push.ensures.items))))
