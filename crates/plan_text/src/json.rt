@@ -68,8 +68,20 @@ pub(crate) trait ArrayItem {
         ensures { OnOk result (out.new.items ≡ out.old.items ++ value self.now) };
 }
 
-/// An array of items.
-pub(crate) fn push_array<T: ArrayItem>(out: &mut Vec<u8>, items: &[T]) -> Result<(), Memory>
+/// Words, and an array of items after them.
+pub(crate) fn push_array<T: ArrayItem>(
+    out: &mut Vec<u8>,
+    words: &[u8],
+    items: &[T],
+) -> Result<(), Memory>
+    ensures { OnOk result (out.new.items ≡ out.old.items ++ (words.now ++ array_of T.value items.now)) }
+{
+    push_bytes(out, words)?;
+    push_items(out, items)?;
+    Ok(())
+}
+
+fn push_items<T: ArrayItem>(out: &mut Vec<u8>, items: &[T]) -> Result<(), Memory>
     ensures { OnOk result (out.new.items ≡ out.old.items ++ array_of T.value items.now) }
 {
     out.push(b'[')?;
@@ -81,11 +93,11 @@ pub(crate) fn push_array<T: ArrayItem>(out: &mut Vec<u8>, items: &[T]) -> Result
     Ok(())
 }
 
-/// A list of device calls.
-pub(crate) fn push_calls(out: &mut Vec<u8>, calls: &[DiskCall]) -> Result<(), Memory>
-    ensures { OnOk result (out.new.items ≡ out.old.items ++ array_of device_call calls.now) }
+/// Words, and a list of device calls.
+pub(crate) fn push_calls(out: &mut Vec<u8>, words: &[u8], calls: &[DiskCall]) -> Result<(), Memory>
+    ensures { OnOk result (out.new.items ≡ out.old.items ++ (words.now ++ array_of device_call calls.now)) }
 {
-    push_array(out, calls)
+    push_array(out, words, calls)
 }
 
 impl ArrayItem for DiskCall {

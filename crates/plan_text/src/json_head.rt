@@ -73,12 +73,10 @@ fn push_plan(
 ) -> Result<(), Memory>
     ensures { OnOk result (out.new.items ≡ out.old.items ++ 44 ∷ joined 44 (plan_members script.now plan.now sums.now)) }
 {
-    push_bytes(out, b",\n\"opening\":")?;
-    push_calls(out, plan.opening.as_slice())?;
+    push_calls(out, b",\n\"opening\":", plan.opening.as_slice())?;
     push_bytes(out, b",\n\"steps\":")?;
     push_steps(alloc, out, script, plan)?;
-    push_bytes(out, b",\n\"close\":")?;
-    push_close(out, plan.close)?;
+    push_close(out, b",\n\"close\":", plan.close)?;
     push_bytes(out, b",\n\"sums\":")?;
     push_sums(out, sums)?;
     Ok(())
@@ -196,12 +194,12 @@ fn push_value(out: &mut Vec<u8>, words: &[u8], form: HintForm, value: u64) -> Re
     }
 }
 
-/// The device calls after the last step.
-fn push_close(out: &mut Vec<u8>, close: Option<Extent>) -> Result<(), Memory>
-    ensures { OnOk result (out.new.items ≡ out.old.items ++ array_of device_call (count_call close)) }
+/// Words, and the device calls after the last step.
+fn push_close(out: &mut Vec<u8>, words: &[u8], close: Option<Extent>) -> Result<(), Memory>
+    ensures { OnOk result (out.new.items ≡ out.old.items ++ (words.now ++ array_of device_call (count_call close))) }
 {
     match close {
-        None => push_calls(out, &[]),
-        Some(field) => push_calls(out, &[DiskCall::Store(field.at, field.len)]),
+        None => push_calls(out, words, &[]),
+        Some(field) => push_calls(out, words, &[DiskCall::Store(field.at, field.len)]),
     }
 }

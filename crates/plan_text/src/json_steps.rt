@@ -123,18 +123,22 @@ fn push_file(alloc: Global, out: &mut Vec<u8>, file: &FilePlan) -> Result<(), Me
     push_phase(out, &file.puts)?;
     push_bytes(out, b",\"get\":")?;
     push_phase(out, &file.gets)?;
-    push_bytes(out, b",\"device\":")?;
-    push_device(alloc, out, file)?;
+    push_device(alloc, out, b",\"device\":", file)?;
     Ok(())
 }
 
-/// The device calls of a step.
-fn push_device(alloc: Global, out: &mut Vec<u8>, file: &FilePlan) -> Result<(), Memory>
-    ensures { OnOk result (out.new.items ≡ out.old.items ++ array_of device_call (file_calls file.now)) }
+/// Words, and the device calls of a step.
+fn push_device(
+    alloc: Global,
+    out: &mut Vec<u8>,
+    words: &[u8],
+    file: &FilePlan,
+) -> Result<(), Memory>
+    ensures { OnOk result (out.new.items ≡ out.old.items ++ (words.now ++ array_of device_call (file_calls file.now))) }
 {
     let mut calls = Vec::new(alloc);
     device_calls(&mut calls, file)?;
-    push_calls(out, &calls)?;
+    push_calls(out, words, &calls)?;
     Ok(())
 }
 
@@ -164,18 +168,16 @@ fn push_pair(out: &mut Vec<u8>, pair: &Pair) -> Result<(), Memory>
 fn push_phase(out: &mut Vec<u8>, phase: &Phase) -> Result<(), Memory>
     ensures { OnOk result (out.new.items ≡ out.old.items ++ phase_object phase.now) }
 {
-    push_bytes(out, b"{\"asked\":")?;
-    push_all_asked(out, phase.asked.as_slice())?;
-    push_bytes(out, b",\"domains\":")?;
-    push_domains(out, phase.domains.as_slice())?;
+    push_all_asked(out, b"{\"asked\":", phase.asked.as_slice())?;
+    push_domains(out, b",\"domains\":", phase.domains.as_slice())?;
     out.push(b'}')?;
     Ok(())
 }
 
-fn push_all_asked(out: &mut Vec<u8>, list: &[Asked]) -> Result<(), Memory>
-    ensures { OnOk result (out.new.items ≡ out.old.items ++ array_of asked_object list.now) }
+fn push_all_asked(out: &mut Vec<u8>, words: &[u8], list: &[Asked]) -> Result<(), Memory>
+    ensures { OnOk result (out.new.items ≡ out.old.items ++ (words.now ++ array_of asked_object list.now)) }
 {
-    push_array(out, list)
+    push_array(out, words, list)
 }
 
 impl ArrayItem for Asked {
@@ -196,10 +198,10 @@ fn push_asked(out: &mut Vec<u8>, asked: Asked) -> Result<(), Memory>
     Ok(())
 }
 
-fn push_domains(out: &mut Vec<u8>, domains: &[DomainPlan]) -> Result<(), Memory>
-    ensures { OnOk result (out.new.items ≡ out.old.items ++ array_of domain_object domains.now) }
+fn push_domains(out: &mut Vec<u8>, words: &[u8], domains: &[DomainPlan]) -> Result<(), Memory>
+    ensures { OnOk result (out.new.items ≡ out.old.items ++ (words.now ++ array_of domain_object domains.now)) }
 {
-    push_array(out, domains)
+    push_array(out, words, domains)
 }
 
 impl ArrayItem for DomainPlan {
@@ -217,8 +219,7 @@ fn push_domain(out: &mut Vec<u8>, domain: &DomainPlan) -> Result<(), Memory>
     push_aggregator(out, domain.aggregator)?;
     push_numbered(out, b",\"from\":", domain.extent.at)?;
     push_numbered(out, b",\"to\":", end_of(domain.extent))?;
-    push_bytes(out, b",\"windows\":")?;
-    push_windows(out, domain.windows.as_slice())?;
+    push_windows(out, b",\"windows\":", domain.windows.as_slice())?;
     out.push(b'}')?;
     Ok(())
 }
@@ -233,10 +234,10 @@ fn push_aggregator(out: &mut Vec<u8>, aggregator: Option<u32>) -> Result<(), Mem
     }
 }
 
-fn push_windows(out: &mut Vec<u8>, windows: &[WindowPlan]) -> Result<(), Memory>
-    ensures { OnOk result (out.new.items ≡ out.old.items ++ array_of window_object windows.now) }
+fn push_windows(out: &mut Vec<u8>, words: &[u8], windows: &[WindowPlan]) -> Result<(), Memory>
+    ensures { OnOk result (out.new.items ≡ out.old.items ++ (words.now ++ array_of window_object windows.now)) }
 {
-    push_array(out, windows)
+    push_array(out, words, windows)
 }
 
 impl ArrayItem for WindowPlan {
@@ -253,26 +254,24 @@ fn push_window(out: &mut Vec<u8>, window: &WindowPlan) -> Result<(), Memory>
     push_numbered(out, b"{\"from\":", window.hull.at)?;
     push_numbered(out, b",\"to\":", end_of(window.hull))?;
     push_truth(out, b",\"hole\":", !window.full)?;
-    push_bytes(out, b",\"shares\":")?;
-    push_window_shares(out, window)?;
-    push_bytes(out, b",\"pieces\":")?;
-    push_owners(out, window.owners.as_slice())?;
+    push_window_shares(out, b",\"shares\":", window)?;
+    push_owners(out, b",\"pieces\":", window.owners.as_slice())?;
     out.push(b'}')?;
     Ok(())
 }
 
-/// How many bytes of a window each rank has.
-fn push_window_shares(out: &mut Vec<u8>, window: &WindowPlan) -> Result<(), Memory>
-    ensures { OnOk result (out.new.items ≡ out.old.items ++ array_of share_object (shares_in window.now.owners)) }
+/// Words, and how many bytes of a window each rank has.
+fn push_window_shares(out: &mut Vec<u8>, words: &[u8], window: &WindowPlan) -> Result<(), Memory>
+    ensures { OnOk result (out.new.items ≡ out.old.items ++ (words.now ++ array_of share_object (shares_in window.now.owners))) }
 {
     let shares = shares_of(*out.allocator(), window.owners.as_slice())?;
-    push_shares(out, shares.as_slice())
+    push_shares(out, words, shares.as_slice())
 }
 
-fn push_shares(out: &mut Vec<u8>, shares: &[Share]) -> Result<(), Memory>
-    ensures { OnOk result (out.new.items ≡ out.old.items ++ array_of share_object shares.now) }
+fn push_shares(out: &mut Vec<u8>, words: &[u8], shares: &[Share]) -> Result<(), Memory>
+    ensures { OnOk result (out.new.items ≡ out.old.items ++ (words.now ++ array_of share_object shares.now)) }
 {
-    push_array(out, shares)
+    push_array(out, words, shares)
 }
 
 impl ArrayItem for Share {
@@ -292,10 +291,10 @@ fn push_share(out: &mut Vec<u8>, share: Share) -> Result<(), Memory>
     Ok(())
 }
 
-fn push_owners(out: &mut Vec<u8>, owners: &[Owner]) -> Result<(), Memory>
-    ensures { OnOk result (out.new.items ≡ out.old.items ++ array_of piece_array owners.now) }
+fn push_owners(out: &mut Vec<u8>, words: &[u8], owners: &[Owner]) -> Result<(), Memory>
+    ensures { OnOk result (out.new.items ≡ out.old.items ++ (words.now ++ array_of piece_array owners.now)) }
 {
-    push_array(out, owners)
+    push_array(out, words, owners)
 }
 
 impl ArrayItem for Owner {

@@ -16,8 +16,7 @@ pub(crate) fn push_sums(out: &mut Vec<u8>, sums: &Sums) -> Result<(), Memory>
     push_moved(out, sums)?;
     push_numbered(out, b",\"read_beside\":", sums.read_over)?;
     push_numbered(out, b",\"written_beside\":", sums.written_over)?;
-    push_bytes(out, b",\"matrix\":")?;
-    push_cells(out, sums.matrix.as_slice())?;
+    push_cells(out, b",\"matrix\":", sums.matrix.as_slice())?;
     out.push(b'}')?;
     Ok(())
 }
@@ -58,10 +57,10 @@ fn push_naive(out: &mut Vec<u8>, words: &[u8], naive: Naive) -> Result<(), Memor
     Ok(())
 }
 
-fn push_cells(out: &mut Vec<u8>, cells: &[Cell]) -> Result<(), Memory>
-    ensures { OnOk result (out.new.items ≡ out.old.items ++ array_of cell_object cells.now) }
+fn push_cells(out: &mut Vec<u8>, words: &[u8], cells: &[Cell]) -> Result<(), Memory>
+    ensures { OnOk result (out.new.items ≡ out.old.items ++ (words.now ++ array_of cell_object cells.now)) }
 {
-    push_array(out, cells)
+    push_array(out, words, cells)
 }
 
 impl ArrayItem for Cell {

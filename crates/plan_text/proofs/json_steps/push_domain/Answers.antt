@@ -7,5 +7,4 @@ returns c =
     then_append c.push_bytes.new.out.items _ _ _ _ c.in_ok-push_aggregator.ensures (
     then_append c.push_aggregator.new.out.items _ _ _ _ c.in_ok-push_numbered.ensures (
     then_append c.push_numbered.new.out.items _ _ _ _ (rw c.end_of.ensures at c.in_ok-push_numbered-2.ensures) (
-    then_append c.push_numbered-2.new.out.items _ _ _ _ c.in_ok-push_bytes-2.ensures (
-    then_append c.push_bytes-2.new.out.items _ _ _ _ (rw c.as_slice.ensures at c.in_ok-push_windows.ensures) c.in_ok-push.ensures.items)))))
+    then_append c.push_numbered-2.new.out.items _ _ _ _ (rw c.as_slice.ensures at c.in_ok-push_windows.ensures) c.in_ok-push.ensures.items))))

@@ -8,5 +8,4 @@ returns c =
     then_append c.push_overlap.new.out.items _ _ _ _ c.in_ok-push_bytes-2.ensures (
     then_append c.push_bytes-2.new.out.items _ _ _ _ c.in_ok-push_phase.ensures (
     then_append c.push_phase.new.out.items _ _ _ _ c.in_ok-push_bytes-3.ensures (
-    then_append c.push_bytes-3.new.out.items _ _ _ _ c.in_ok-push_phase-2.ensures (
-    then_append c.push_phase-2.new.out.items _ _ _ _ c.in_ok-push_bytes-4.ensures c.in_ok-push_device.ensures))))))
+    then_append c.push_bytes-3.new.out.items _ _ _ _ c.in_ok-push_phase-2.ensures c.in_ok-push_device.ensures)))))

@@ -3,7 +3,5 @@ use Rattle.plan_text.proofs.json_steps.push_phase.Goals as goal
 
 pub returns : goal.returns
 returns c =
-    then_append c.args.out.now.items _ _ _ _ c.in_ok-push_bytes.ensures (
-    then_append c.push_bytes.new.out.items _ _ _ _ (rw c.as_slice.ensures at c.in_ok-push_all_asked.ensures) (
-    then_append c.push_all_asked.new.out.items _ _ _ _ c.in_ok-push_bytes-2.ensures (
-    then_append c.push_bytes-2.new.out.items _ _ _ _ (rw c.as_slice-2.ensures at c.in_ok-push_domains.ensures) c.in_ok-push.ensures.items)))
+    then_append c.args.out.now.items _ _ _ _ (rw c.as_slice.ensures at c.in_ok-push_all_asked.ensures) (
+    then_append c.push_all_asked.new.out.items _ _ _ _ (rw c.as_slice-2.ensures at c.in_ok-push_domains.ensures) c.in_ok-push.ensures.items)

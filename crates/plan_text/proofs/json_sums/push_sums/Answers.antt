@@ -8,6 +8,5 @@ returns c =
     then_append c.push_numbered.new.out.items _ _ _ _ c.in_ok-push_moved.ensures (
     then_append c.push_moved.new.out.items _ _ _ _ c.in_ok-push_numbered-2.ensures (
     then_append c.push_numbered-2.new.out.items _ _ _ _ c.in_ok-push_numbered-3.ensures (
-    then_append c.push_numbered-3.new.out.items _ _ _ _ c.in_ok-push_bytes.ensures (
-    then_append c.push_bytes.new.out.items _ _ _ _ (rw c.as_slice.ensures at c.in_ok-push_cells.ensures) c.in_ok-push.ensures.items))))
+    then_append c.push_numbered-3.new.out.items _ _ _ _ (rw c.as_slice.ensures at c.in_ok-push_cells.ensures) c.in_ok-push.ensures.items)))
     ∙ ap (λ (t : List ℕ). c.push_numbered.new.out.items ++ 44 ∷ t) (closed_more (moved_members c.args.sums.now) (beside_members c.args.sums.now) (omega arith) (omega arith)))
