@@ -1,5 +1,5 @@
 // The parts of a JSON document: RFC 8259.
-ghost use Rattle.std.specs.Prelude.{◌≡◌, ◌++◌, List, ℕ, OnOk};
+ghost use Rattle.std.specs.Prelude.{◌≡◌, ◌++◌, flat_map, List, ℕ, OnOk};
 ghost use Rattle.nc_base.specs.declared.step.DiskCall.TheVariants.{Grow};
 ghost use Rattle.plan_text.specs.Json.{array_of, comma, json_character, json_text, json_truth};
 ghost use Rattle.plan_text.specs.JsonSteps.{device_call, transfer};
@@ -22,10 +22,17 @@ fn push_text(out: &mut Vec<u8>, text: &[u8]) -> Result<(), Memory>
     ensures { OnOk result (out.new.items ≡ out.old.items ++ json_text text.now) }
 {
     out.push(b'"')?;
+    push_characters(out, text)?;
+    out.push(b'"')?;
+    Ok(())
+}
+
+fn push_characters(out: &mut Vec<u8>, text: &[u8]) -> Result<(), Memory>
+    ensures { OnOk result (out.new.items ≡ out.old.items ++ flat_map json_character text.now) }
+{
     for byte in text {
         push_character(out, *byte)?;
     }
-    out.push(b'"')?;
     Ok(())
 }
 
