@@ -22,10 +22,10 @@ pub use Rattle.nc_base.specs.declared.step.Mark.{Mark}
 pub use Rattle.nc_base.specs.declared.step.Mark.TheVariants.{Meet, Solo}
 pub use Rattle.plan_text.specs.Json.{closed, comma, json_character, json_text, on_line}
 pub use Rattle.plan_text.specs.JsonHead.{hint_object, variable_object}
-pub use Rattle.plan_text.specs.JsonPlan.{head_members, plan_members}
+pub use Rattle.plan_text.specs.JsonPlan.{head_members, plan_json_of, plan_members}
 pub use Rattle.plan_text.specs.JsonSteps.{caller_object, file_members, step_object}
 pub use Rattle.plan_text.specs.JsonSums.{beside_members, moved_members}
-pub use Rattle.plan_text.specs.PlanTexts.{beside_line, cell_line, dataset_line, head_lines, hint_line, moved_lines, sum_lines, variable_line}
+pub use Rattle.plan_text.specs.PlanTexts.{beside_line, cell_line, dataset_line, head_lines, hint_line, moved_lines, plan_text_of, sum_lines, variable_line}
 pub use Rattle.plan_text.specs.PlanWords.{word_in, word_of_some}
 pub use Rattle.plan_text.specs.StepTexts.{asked_line, caller_line, counted, device_lines, domain_lines, file_lines, in_bytes, overlap_line, share_words, step_lines, window_lines}
 pub use Rattle.printed_text.proofs.WordLaws.{joined_spaced, next_pushed}

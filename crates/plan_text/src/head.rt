@@ -39,12 +39,21 @@ pub fn plan_text(alloc: Global, document: &Document) -> Result<Blob, Memory>
     ensures { IfOk result (λ text. text ≡ plan_text_of document.now.script.now document.now.header.now document.now.length document.now.plan.now document.now.sums.now) }
 {
     let mut out = Vec::new(alloc);
-    push_head(&mut out, document)?;
-    push_opening(&mut out, document.plan.opening.as_slice())?;
-    push_steps(&mut out, document.script, document.plan)?;
-    push_close(&mut out, document.plan)?;
-    push_sums(&mut out, document.sums)?;
+    push_document(&mut out, document)?;
     Ok(Blob::from_vec(out))
+}
+
+fn push_document(out: &mut Vec<u8>, document: &Document) -> Result<(), Memory>
+    requires { is_sound document.now.header.now ≡ true }
+    ensures { OnOk result (out.new.items ≡ out.old.items
+        ++ plan_text_of document.now.script.now document.now.header.now document.now.length document.now.plan.now document.now.sums.now) }
+{
+    push_head(out, document)?;
+    push_opening(out, document.plan.opening.as_slice())?;
+    push_steps(out, document.script, document.plan)?;
+    push_close(out, document.plan)?;
+    push_sums(out, document.sums)?;
+    Ok(())
 }
 
 fn push_head(out: &mut Vec<u8>, document: &Document) -> Result<(), Memory>

@@ -31,16 +31,19 @@ pub fn plan_json(alloc: Global, document: &Document) -> Result<Blob, Memory>
         ≡ plan_json_of document.now.script.now document.now.header.now document.now.length document.now.plan.now document.now.sums.now) }
 {
     let mut out = Vec::new(alloc);
-    push_head(&mut out, document)?;
-    push_plan(
-        alloc,
-        &mut out,
-        document.script,
-        document.plan,
-        document.sums,
-    )?;
-    push_bytes(&mut out, b"}\n")?;
+    push_document(alloc, &mut out, document)?;
     Ok(Blob::from_vec(out))
+}
+
+fn push_document(alloc: Global, out: &mut Vec<u8>, document: &Document) -> Result<(), Memory>
+    requires { is_sound document.now.header.now ≡ true }
+    ensures { OnOk result (out.new.items ≡ out.old.items
+        ++ plan_json_of document.now.script.now document.now.header.now document.now.length document.now.plan.now document.now.sums.now) }
+{
+    push_head(out, document)?;
+    push_plan(alloc, out, document.script, document.plan, document.sums)?;
+    push_bytes(out, b"}\n")?;
+    Ok(())
 }
 
 /// What stands before what is done.

@@ -1,20 +1,8 @@
-use Rattle.plan_text.proofs.Cited.{List, ℕ, ◌++◌, codes, ap, ◌∙◌, flat_map, then_append, text_line, count_call, head_lines, sum_lines, device_lines, step_lines}
-use Rattle.plan_text.proofs.LineLaws.{then_words}
+use Rattle.plan_text.proofs.Cited.{ℕ, List, ◌++◌, ap, ◌∙◌, plan_text_of}
 use Rattle.plan_text.proofs.head.plan_text.Goals as goal
 
 pub returns : goal.returns
 returns c =
-    let document = c.args.document.now in
-    let script = document.script.now in
-    let plan = document.plan.now in
-    let o : List ℕ = c.new-out.result.items in
-    let head : List ℕ = head_lines script document.header.now document.length plan.steps in
-    let opening : List ℕ = head ++ text_line (codes "opening") ++ device_lines (codes "  ") plan.opening in
-    let steps : List ℕ = opening ++ flat_map (step_lines script.calls plan.answers) plan.steps in
-    let close : List ℕ = steps ++ text_line (codes "close") ++ device_lines (codes "  ") (count_call plan.close) in
-    let sums : List ℕ = sum_lines document.sums.now in
-    let second = rw c.as_slice.ensures at c.in_ok-push_opening.ensures in
-    let opened = then_words o _ _ head (text_line (codes "opening")) (device_lines (codes "  ") plan.opening) c.in_ok-push_head.ensures second in
-    let stepped = then_append o _ _ opening (flat_map (step_lines script.calls plan.answers) plan.steps) opened c.in_ok-push_steps.ensures in
-    let closed = then_words o _ _ steps (text_line (codes "close")) (device_lines (codes "  ") (count_call plan.close)) stepped c.in_ok-push_close.ensures in
-    c.from_vec.ensures ∙ then_append o _ _ close sums closed c.in_ok-push_sums.ensures ∙ ap (λ (t : List ℕ). t ++ (close ++ sums)) c.new-out.ensures.items
+    let d = c.args.document.now in
+    let text : List ℕ = plan_text_of d.script.now d.header.now d.length d.plan.now d.sums.now in
+    c.from_vec.ensures ∙ c.in_ok-push_document.ensures ∙ ap (λ (t : List ℕ). t ++ text) c.new-out.ensures.items
