@@ -5,7 +5,11 @@ use crate::tests::files::{
 use crate::tests::{Want, has_called, is_wanted, left};
 use nc_base::DiskCall;
 use nc_outside::OpenGate;
-use run_fixtures::{PLAIN, Run};
+use run_fixtures::{Ended, PLAIN, Run};
+use std::alloc::Global;
+use std::process::Abort;
+use std::sync::Wait;
+use std::thread::Threads;
 
 /// Two ranks put the halves of a vector.
 pub(crate) const CREATED: Run<'static> = Run {
@@ -96,13 +100,24 @@ const FORMS: [(Run<'static>, Want, &[DiskCall]); 3] = [
     (LISTED, IS_LISTED, LISTING),
 ];
 
+// The run ends as it is to, and makes these calls.
+fn ends_by<R: Abort + Threads + Wait + Sync>(
+    rt: &R,
+    alloc: Global,
+    run: &Run<'_>,
+    want: &Want,
+    calls: &[DiskCall],
+) {
+    let end = left(rt, alloc, run, &OpenGate);
+    is_wanted(rt, alloc, &end, want);
+    has_called(rt, &end, calls);
+    drop(end);
+}
+
 #[test]
 fn a_run_of_each_form_ends_well(rt: HostRuntime) {
     for (run, want, calls) in &FORMS {
-        let end = left(&rt, rt.alloc(), run, &OpenGate);
-        is_wanted(&rt, rt.alloc(), &end, want);
-        has_called(&rt, &end, calls);
-        drop(end);
+        ends_by(&rt, rt.alloc(), run, want, calls);
     }
 }
 
@@ -116,12 +131,16 @@ const SUMMARY: &[u8] = b"\
     generated 0 1\nranks 8\ncalls 56\ncollectives 3\nput 129600\ngot 2880\nrefused 0\n\
     sum 1534141468080\nrecords 1\nfile 388960\n";
 
-#[test]
-fn a_made_script_is_summed_up(rt: HostRuntime) {
-    let end = left(&rt, rt.alloc(), &MADE, &OpenGate);
+fn is_summed_up(rt: &impl Abort, end: &Ended) {
     assert_eq!(rt; end.status, 0);
     assert_eq!(rt; end.given.as_slice(), SUMMARY);
     assert_eq!(rt; end.held.len(), 388960);
+}
+
+#[test]
+fn a_made_script_is_summed_up(rt: HostRuntime) {
+    let end = left(&rt, rt.alloc(), &MADE, &OpenGate);
+    is_summed_up(&rt, &end);
     drop(end);
 }
 
@@ -145,11 +164,18 @@ const WORDS: [(&[&str], u8); 10] = [
     (&["--watch", "1", "--generate", "0", "d.nc"], NONE),
 ];
 
+// A run of these words ends with this status.
+fn has_status<R: Abort + Threads + Wait + Sync>(rt: &R, alloc: Global, words: &[&str], status: u8) {
+    let run = Run { words, ..PLAIN };
+    let end = left(rt, alloc, &run, &OpenGate);
+    let found = end.status;
+    drop(end);
+    assert_eq!(rt; found, status);
+}
+
 #[test]
 fn words_are_of_a_form_or_of_none(rt: HostRuntime) {
     for (words, status) in &WORDS {
-        let run = Run { words, ..PLAIN };
-        let end = left(&rt, rt.alloc(), &run, &OpenGate);
-        assert_eq!(rt; end.status, *status);
+        has_status(&rt, rt.alloc(), words, *status);
     }
 }

@@ -2,10 +2,14 @@
 use crate::tests::files::{
     A, A_FRONT, AT_80, B, HALVES, MAGIC, NO_RECORDS, ONE_TWO, THREE_FOUR, TWO_RANKS, VECTOR,
 };
-use crate::tests::{Want, has_finished, is_wanted, left};
+use crate::tests::{Want, ends_so, has_finished, is_wanted, left};
 use nc_base::Mark;
 use nc_outside::{Fail, FailOp, OpenGate};
 use run_fixtures::{OLD, PLAIN, Run};
+use std::alloc::Global;
+use std::process::Abort;
+use std::sync::Wait;
+use std::thread::Threads;
 
 const HALVES_SCRIPT: &[&[u8]] = &[TWO_RANKS, VECTOR, HALVES];
 
@@ -70,9 +74,7 @@ const STATUSES: [(Run<'static>, Want); 5] = [
 #[test]
 fn each_other_status_has_its_line(rt: HostRuntime) {
     for (run, want) in &STATUSES {
-        let end = left(&rt, rt.alloc(), run, &OpenGate);
-        is_wanted(&rt, rt.alloc(), &end, want);
-        drop(end);
+        ends_so(&rt, rt.alloc(), run, want);
     }
 }
 
@@ -150,7 +152,16 @@ const FAULT: &[&[u8]] = &[b"ncrun: disk fault\n"];
 // A script, what the dataset holds before, the call that is refused, the steps that were finished, and what is left. A growth leaves what there was, and a write what stands before its place;
 // of two aggregators one goes on where the other is refused. The write of a new header holds the record count, so that the later write of the count
 // is refused in a dataset that is opened.
-const REFUSED: [(&[&[u8]], &[&[u8]], FailOp, u64, &[Mark], &[&[u8]]); 27] = [
+type Refused = (
+    &'static [&'static [u8]],
+    &'static [&'static [u8]],
+    FailOp,
+    u64,
+    &'static [Mark],
+    &'static [&'static [u8]],
+);
+
+const REFUSED: [Refused; 27] = [
     (HALVES_SCRIPT, OLD, FailOp::Start, 0, &[], OLD),
     (HALVES_SCRIPT, OLD, FailOp::Grow, 95, &[], &[]),
     (HALVES_SCRIPT, OLD, FailOp::Store, 0, &[], &[&[0; 96]]),
@@ -180,24 +191,40 @@ const REFUSED: [(&[&[u8]], &[&[u8]], FailOp, u64, &[Mark], &[&[u8]]); 27] = [
     (ALONE, NEW_B, FailOp::Store, 87, FIRST_ALONE, UNCOUNTED),
 ];
 
+// The run ends at the refused call, with what is left then.
+fn ends_there<R: Abort + Threads + Wait + Sync>(
+    rt: &R,
+    alloc: Global,
+    run: &Run<'_>,
+    order: &[Mark],
+    bytes: &'static [&'static [u8]],
+) {
+    let want = Want {
+        status: 7,
+        given: FAULT,
+        held: bytes,
+    };
+    let end = left(rt, alloc, run, &OpenGate);
+    is_wanted(rt, alloc, &end, &want);
+    has_finished(rt, &end, order);
+    drop(end);
+}
+
+fn is_refused<R: Abort + Threads + Wait + Sync>(rt: &R, alloc: Global, refused: &Refused) {
+    let (script, held, op, at, order, bytes) = refused;
+    let fault = Fail { op: *op, at: *at };
+    let run = Run {
+        script,
+        held,
+        plan: &[fault],
+        ..PLAIN
+    };
+    ends_there(rt, alloc, &run, order, bytes);
+}
+
 #[test]
 fn a_refused_call_ends_the_run(rt: HostRuntime) {
-    for (script, held, op, at, order, bytes) in &REFUSED {
-        let fault = Fail { op: *op, at: *at };
-        let run = Run {
-            script,
-            held,
-            plan: &[fault],
-            ..PLAIN
-        };
-        let want = Want {
-            status: 7,
-            given: FAULT,
-            held: bytes,
-        };
-        let end = left(&rt, rt.alloc(), &run, &OpenGate);
-        is_wanted(&rt, rt.alloc(), &end, &want);
-        has_finished(&rt, &end, order);
-        drop(end);
+    for refused in &REFUSED {
+        is_refused(&rt, rt.alloc(), refused);
     }
 }

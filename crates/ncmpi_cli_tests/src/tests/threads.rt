@@ -24,7 +24,9 @@ fn left_by<R: Abort + Threads + Wait + Sync>(
 ) -> Ended {
     let gate = MeetGate::new(first, second, TURNS);
     let end = left(rt, alloc, run, &gate);
-    assert!(rt; gate.met());
+    let has_met = gate.met();
+    drop(gate);
+    assert!(rt; has_met);
     end
 }
 
@@ -32,6 +34,7 @@ fn left_by<R: Abort + Threads + Wait + Sync>(
 fn meet<R: Abort + Threads + Wait + Sync>(rt: &R, alloc: Global, first: Point, second: Point) {
     let end = left_by(rt, alloc, &CREATED, first, second);
     is_wanted(rt, alloc, &end, &IS_CREATED);
+    drop(end);
 }
 
 #[test]
@@ -86,6 +89,7 @@ fn the_third_aggregator_begins_while_the_first_waits(rt: HostRuntime) {
     let first = Point::Window(0, 0);
     let end = left_by(&rt, alloc, &BY_THREE, first, Point::Window(2, 0));
     is_wanted(&rt, alloc, &end, &IS_CREATED);
+    drop(end);
 }
 
 // Each of two ranks alone puts every other element between two meetings, which has holes that are read.
@@ -133,17 +137,28 @@ const ORDERS: [(Point, Point, &[&[u8]], &[DiskCall]); 2] = [
     ),
 ];
 
+fn come_so<R: Abort + Threads + Wait + Sync>(
+    rt: &R,
+    alloc: Global,
+    [first, second]: [Point; 2],
+    given: &'static [&'static [u8]],
+    calls: &[DiskCall],
+) {
+    let end = left_by(rt, alloc, &ALONE, first, second);
+    let want = Want {
+        status: 0,
+        given,
+        held: A,
+    };
+    is_wanted(rt, alloc, &end, &want);
+    has_called(rt, &end, calls);
+    drop(end);
+}
+
 #[test]
 fn calls_of_single_ranks_come_in_either_order(rt: HostRuntime) {
     for (first, second, given, calls) in &ORDERS {
-        let end = left_by(&rt, rt.alloc(), &ALONE, *first, *second);
-        let want = Want {
-            status: 0,
-            given,
-            held: A,
-        };
-        is_wanted(&rt, rt.alloc(), &end, &want);
-        has_called(&rt, &end, calls);
+        come_so(&rt, rt.alloc(), [*first, *second], given, calls);
     }
 }
 
@@ -154,12 +169,27 @@ const WATCHED: Run<'static> = Run {
 };
 
 // What was printed behind this text.
-fn readings_of(rt: &impl Abort, alloc: Global, end: &Ended, text: &[&[u8]]) -> Blob {
+fn behind(rt: &impl Abort, alloc: Global, given: &[u8], text: &[&[u8]]) -> Blob {
     let text = blob(rt, alloc, text);
-    let given = end.given.as_slice();
-    assert!(rt; given.starts_with(text.as_slice()));
-    let (_, readings) = given.split_at_checked(text.len()).expect(rt, "readings");
+    let (front, readings) = given.split_at_checked(text.len()).expect(rt, "readings");
+    let is_front = front == text.as_slice();
+    drop(text);
+    assert!(rt; is_front);
     blob(rt, alloc, &[readings])
+}
+
+// The readings of a run in which whoever passes the first point waits for the second: what was printed behind this text.
+fn readings_of<R: Abort + Threads + Wait + Sync>(
+    rt: &R,
+    alloc: Global,
+    run: &Run<'_>,
+    [first, second]: [Point; 2],
+    text: &[&[u8]],
+) -> Blob {
+    let end = left_by(rt, alloc, run, first, second);
+    let readings = behind(rt, alloc, end.given.as_slice(), text);
+    drop(end);
+    readings
 }
 
 // What stands in front of the readings, each of which is a line of four bytes.
@@ -171,13 +201,10 @@ const WATCHED_TEXT: &[&[u8]] = &[
 
 #[test]
 fn a_watcher_reads_before_the_first_step(rt: HostRuntime) {
-    let alloc = rt.alloc();
-    let first = Point::RankStep(0, 0);
-    let end = left_by(&rt, alloc, &WATCHED, first, Point::Reading(0, 1));
-    let readings = readings_of(&rt, alloc, &end, WATCHED_TEXT);
+    let points = [Point::RankStep(0, 0), Point::Reading(0, 1)];
+    let readings = readings_of(&rt, rt.alloc(), &WATCHED, points, WATCHED_TEXT);
     assert!(rt; readings.as_slice().starts_with(b"0 0\n"));
     drop(readings);
-    drop(end);
 }
 
 const WATCHED_BY_TWO: Run<'static> = Run {
@@ -188,14 +215,11 @@ const WATCHED_BY_TWO: Run<'static> = Run {
 // It stands behind the 17 readings of the first one.
 #[test]
 fn the_second_watcher_reads_before_the_first_step(rt: HostRuntime) {
-    let alloc = rt.alloc();
-    let first = Point::RankStep(0, 0);
-    let end = left_by(&rt, alloc, &WATCHED_BY_TWO, first, Point::Reading(1, 1));
-    let readings = readings_of(&rt, alloc, &end, WATCHED_TEXT);
+    let points = [Point::RankStep(0, 0), Point::Reading(1, 1)];
+    let readings = readings_of(&rt, rt.alloc(), &WATCHED_BY_TWO, points, WATCHED_TEXT);
     let second = readings.as_slice().get(68..82);
     assert!(rt; second == Some(b"watcher 1\n0 0\n".as_slice()));
     drop(readings);
-    drop(end);
 }
 
 // Each rank puts its half twice.
@@ -219,14 +243,11 @@ const WATCHED_TWICE_TEXT: &[&[u8]] = &[
 // The ninth reading comes behind the first step, and sees it.
 #[test]
 fn a_watcher_reads_a_step_before_the_run_ends(rt: HostRuntime) {
-    let alloc = rt.alloc();
-    let first = Point::Reading(0, 8);
-    let end = left_by(&rt, alloc, &WATCHED_TWICE, first, Point::RankStep(0, 1));
-    let readings = readings_of(&rt, alloc, &end, WATCHED_TWICE_TEXT);
+    let points = [Point::Reading(0, 8), Point::RankStep(0, 1)];
+    let readings = readings_of(&rt, rt.alloc(), &WATCHED_TWICE, points, WATCHED_TWICE_TEXT);
     let ninth = readings.as_slice().get(32..36);
     assert!(rt; ninth == Some(b"1 0\n".as_slice()) || ninth == Some(b"2 0\n".as_slice()));
     drop(readings);
-    drop(end);
 }
 
 const PUT_AND_GET: &[u8] = b"0 put_var_all v 1 2 3 4\n0 get_var_all v\nend\n";
@@ -265,13 +286,24 @@ fn are_the_same(rt: &impl Abort, one: &Ended, other: &Ended) {
     assert!(rt; one.calls == other.calls);
 }
 
+fn goes_each_way<R: Abort + Threads + Wait + Sync>(
+    rt: &R,
+    alloc: Global,
+    head: &[u8],
+    calls: &[u8],
+) {
+    let plain = run(rt, alloc, &[head, ON, VECTOR, calls]);
+    for way in &WAYS {
+        let other = run(rt, alloc, &[head, way, VECTOR, calls]);
+        are_the_same(rt, &other, &plain);
+        drop(other);
+    }
+    drop(plain);
+}
+
 #[test]
 fn no_way_changes_a_byte_or_a_call(rt: HostRuntime) {
     for [head, calls] in &SCRIPTS {
-        let plain = run(&rt, rt.alloc(), &[head, ON, VECTOR, calls]);
-        for way in &WAYS {
-            let other = run(&rt, rt.alloc(), &[head, way, VECTOR, calls]);
-            are_the_same(&rt, &other, &plain);
-        }
+        goes_each_way(&rt, rt.alloc(), head, calls);
     }
 }
