@@ -61,7 +61,9 @@ fn serial(
 ) -> SerialEnd
     requires { is_lawful script.now ≡ true }
 {
-    let header = header_of(rt, alloc, begun);
     assert!(rt; legal(script, order));
-    serial_run(alloc, script, &header, begun, order).expect(rt, NO_MEMORY)
+    let header = header_of(rt, alloc, begun);
+    let end = serial_run(alloc, script, &header, begun, order).expect(rt, NO_MEMORY);
+    drop(header);
+    end
 }

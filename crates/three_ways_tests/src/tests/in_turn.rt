@@ -1,8 +1,8 @@
 // Runs of which the real program's answers, bytes and device calls are worked out in `.ci/rows`. Here the ranks go in turn, and the serial run along the same
 // order must end the same.
-use crate::tests::worked::{MAGIC, NEW_V, NO_RECORDS, S, V, again, are_same};
+use crate::tests::worked::{MAGIC, NEW_V, NO_RECORDS, S, V, is_serial};
 use crate::tests::{joined, program};
-use run_fixtures::{Ended, PLAIN, Run};
+use run_fixtures::{PLAIN, Run};
 use std::alloc::Global;
 use std::process::Abort;
 use std::sync::Wait;
@@ -226,16 +226,11 @@ fn agrees<R: Abort + Threads + Wait + Sync>(rt: &R, alloc: Global, serial: &Seri
         held: serial.begun,
         ..PLAIN
     };
-    let Ended {
-        held,
-        given,
-        order,
-        ..
-    } = program(rt, alloc, &run);
+    let end = program(rt, alloc, &run);
     let text = joined(rt, alloc, serial.script);
-    let (bytes, printed) = again(rt, alloc, text.as_slice(), serial.begun, order);
-    are_same(rt, bytes.as_slice(), held.as_slice());
-    are_same(rt, printed.as_slice(), given.as_slice());
+    is_serial(rt, alloc, text.as_slice(), serial.begun, &end);
+    drop(text);
+    drop(end);
 }
 
 #[test]

@@ -29,13 +29,15 @@ fn again(rt: &impl Abort, alloc: Global, end: &Ended) -> Blob {
     let script = made(rt, alloc, 1);
     let rest = end.held.as_slice().get(8..160).expect(rt, "header");
     let begun = joined(rt, alloc, &[b"CDF\x01\x00\x00\x00\x00", rest]);
-    let SerialEnd { bytes, .. } = serial(
-        rt,
-        alloc,
-        &script,
-        begun.as_slice(),
-        end.order.as_slice(),
-    );
+    let SerialEnd {
+        bytes,
+        records: _,
+        answers,
+        pending,
+    } = serial(rt, alloc, &script, begun.as_slice(), end.order.as_slice());
+    drop(answers);
+    drop(pending);
+    drop(begun);
     drop(script);
     bytes
 }
@@ -51,4 +53,6 @@ fn one_made_record_agrees(rt: HostRuntime) {
     let end = program(&rt, rt.alloc(), &ONE_RECORD);
     let bytes = again(&rt, rt.alloc(), &end);
     assert!(rt; bytes == end.held);
+    drop(bytes);
+    drop(end);
 }

@@ -1,6 +1,6 @@
 // Runs of which dataset and text were worked out by hand, too. Datasets are as the netCDF classic format specification spells them.
 use crate::tests::{header_of, joined, program, script_of, serial};
-use nc_base::{Blob, MarkList, RunEnd};
+use nc_base::{Blob, Mark, MarkList, RunEnd};
 use printed_text::run_text;
 use reference::SerialEnd;
 use run_fixtures::{Ended, NO_MEMORY, PLAIN, Run};
@@ -21,12 +21,12 @@ struct Row {
 }
 
 // What the serial run along the order leaves, and what is printed of it.
-pub(super) fn again(
+fn again(
     rt: &impl Abort,
     alloc: Global,
     text: &[u8],
     begun: &[&[u8]],
-    order: MarkList,
+    order: &[Mark],
 ) -> (Blob, Blob) {
     let script = script_of(rt, alloc, text);
     let begun = joined(rt, alloc, begun);
@@ -35,9 +35,10 @@ pub(super) fn again(
         records: _,
         answers,
         pending,
-    } = serial(rt, alloc, &script, begun.as_slice(), order.as_slice());
+    } = serial(rt, alloc, &script, begun.as_slice(), order);
+    drop(begun);
     let end = RunEnd {
-        order,
+        order: MarkList::from_slice(alloc, order).expect(rt, NO_MEMORY),
         answers,
         pending,
         fault: None,
@@ -50,8 +51,28 @@ pub(super) fn again(
     (bytes, text)
 }
 
-pub(super) fn are_same(rt: &impl Abort, one: &[u8], other: &[u8]) {
+fn are_same(rt: &impl Abort, one: &[u8], other: &[u8]) {
     assert_eq!(rt; one, other);
+}
+
+// The serial run leaves the bytes that the program left, and gives the same text.
+pub(super) fn is_serial(rt: &impl Abort, alloc: Global, text: &[u8], begun: &[&[u8]], end: &Ended) {
+    let (bytes, printed) = again(rt, alloc, text, begun, end.order.as_slice());
+    are_same(rt, bytes.as_slice(), end.held.as_slice());
+    drop(bytes);
+    are_same(rt, printed.as_slice(), end.given.as_slice());
+    drop(printed);
+}
+
+// The program left and told what was worked out.
+fn is_worked(rt: &impl Abort, alloc: Global, row: &Row, end: &Ended) {
+    let left = joined(rt, alloc, row.left);
+    are_same(rt, left.as_slice(), end.held.as_slice());
+    drop(left);
+    let told = joined(rt, alloc, row.told);
+    let is_told = end.given.as_slice().ends_with(told.as_slice());
+    drop(told);
+    assert!(rt; is_told);
 }
 
 // The program, the serial run and what was worked out agree.
@@ -64,18 +85,10 @@ fn agrees<R: Abort + Threads + Wait + Sync>(rt: &R, alloc: Global, row: &Row) {
         script: &[row.script],
         ..begun
     };
-    let Ended {
-        held,
-        given,
-        order,
-        ..
-    } = program(rt, alloc, &run);
-    let (bytes, text) = again(rt, alloc, row.script, row.begun, order);
-    are_same(rt, bytes.as_slice(), held.as_slice());
-    are_same(rt, text.as_slice(), given.as_slice());
-    are_same(rt, joined(rt, alloc, row.left).as_slice(), held.as_slice());
-    let told = joined(rt, alloc, row.told);
-    assert!(rt; given.as_slice().ends_with(told.as_slice()));
+    let end = program(rt, alloc, &run);
+    is_serial(rt, alloc, row.script, row.begun, &end);
+    is_worked(rt, alloc, row, &end);
+    drop(end);
 }
 
 // CDF-1, and a record count of 0.
