@@ -20,6 +20,11 @@ fn fault(alloc: Global, text: &[u8]) -> Option<(u32, ScriptKind)> {
     }
 }
 
+// The text is the wanted one.
+fn is_text(rt: &impl Abort, text: &[u8], wanted: &[u8]) {
+    assert_eq!(rt; text, wanted);
+}
+
 // The fault of a text is this one, or it has none.
 fn found<R: Abort>(
     rt: &R,

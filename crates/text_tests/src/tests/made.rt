@@ -1,11 +1,13 @@
 // Made scripts, the text of one, and the summary of a run.
 ghost use Rattle.std.specs.Prelude.{◌≡◌, true};
 ghost use Rattle.script_spec.specs.Generator.{has_counts};
+ghost use Rattle.serial_spec.specs.SoundHeaders.{is_sound};
 ghost use Rattle.var_layout.specs.Unplaced.{is_unplaced};
 
 use super::ends::{Answered, Got, PLAIN, end_of};
+use super::is_text;
 use generated_run::{made_law, make_script, summary_text};
-use nc_base::{Call, Code, Mark, Script, Values};
+use nc_base::{Call, Code, Header, Mark, Script, Values};
 use ncmpi_script::read_script;
 use script_text::made_text;
 use std::alloc::Global;
@@ -75,15 +77,14 @@ const COLUMN: &[u64] = &[0, 0, 315];
 
 const OF_EACH_RECORD: &[u64] = &[2, 180, 1];
 
-#[test]
-fn a_second_record_is_made(rt: HostRuntime) {
-    let script = make_script(rt.alloc(), SEED, 2).expect(&rt, NO_MEMORY);
+/// The last rank's last put.
+fn has_last_put(rt: &impl Abort, script: &Script) {
     let Call::Post {
         id,
         given,
         values,
         ..
-    } = call_of(&rt, &script, 7, 5)
+    } = call_of(rt, script, 7, 5)
     else {
         panic!(rt; "a post")
     };
@@ -96,11 +97,22 @@ fn a_second_record_is_made(rt: HostRuntime) {
         (numbers.get(8277), numbers.get(8278), numbers.get(8279)),
         (Some(10_000), Some(-10_000), Some(-9_999))
     );
-    let Call::Get { given, .. } = call_of(&rt, &script, 7, 8) else {
+}
+
+/// The last rank's get of its column.
+fn has_last_get(rt: &impl Abort, script: &Script) {
+    let Call::Get { given, .. } = call_of(rt, script, 7, 8) else {
         panic!(rt; "a get")
     };
     assert!(rt; given.start.as_slice() == COLUMN);
     assert!(rt; given.count.as_slice() == OF_EACH_RECORD);
+}
+
+#[test]
+fn a_second_record_is_made(rt: HostRuntime) {
+    let script = make_script(rt.alloc(), SEED, 2).expect(&rt, NO_MEMORY);
+    has_last_put(&rt, &script);
+    has_last_get(&rt, &script);
     drop(script);
 }
 
@@ -111,6 +123,15 @@ fn made(rt: &impl Abort, alloc: Global, seed: u64) -> Script
 {
     made_law();
     make_script(alloc, seed, 1).expect(rt, NO_MEMORY)
+}
+
+/// The header of the script with its begins.
+fn placed(rt: &impl Abort, alloc: Global, script: &Script) -> Header
+    requires { is_unplaced script.now.header ≡ true }
+    ensures { is_sound result ≡ true }
+{
+    let header = script.header.clone(alloc).expect(rt, NO_MEMORY);
+    laid_out(header).expect(rt, NO_LAYOUT)
 }
 
 /// Two meetings, and a call of a rank alone.
@@ -153,10 +174,11 @@ file 160
 fn what_a_rank_did_is_summed_up(rt: HostRuntime) {
     let alloc = rt.alloc();
     let script = made(&rt, alloc, 7);
-    let header = laid_out(made(&rt, alloc, 7).header).expect(&rt, NO_LAYOUT);
+    let header = placed(&rt, alloc, &script);
     let end = end_of(&rt, alloc, ORDER, &[OF_ONE_RANK], &[]);
     let text = summary_text(alloc, 7, 1, &script, &header, &end).expect(&rt, NO_MEMORY);
-    assert_eq!(rt; text.as_slice(), SUMMARY);
+    is_text(&rt, text.as_slice(), SUMMARY);
+    drop(text);
     drop(end);
     drop(header);
     drop(script);

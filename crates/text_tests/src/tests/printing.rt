@@ -3,6 +3,7 @@ ghost use Rattle.std.specs.Prelude.{◌≡◌, true};
 ghost use Rattle.serial_spec.specs.SoundHeaders.{is_sound};
 
 use super::ends::{Answered, Got, PLAIN, end_of};
+use super::is_text;
 use nc_base::{
     Blob, Code, Header, HeaderErr, LayoutErr, LimitName, Mark, NcType, Pair, RedefErr, Script,
     ScriptErr, ScriptKind, Values,
@@ -161,7 +162,8 @@ fn two_ranks_are_told(rt: HostRuntime) {
     let script = script_of(&rt, alloc, TWO_RANKS);
     let end = end_of(&rt, alloc, ORDER, &[OF_FIRST, OF_SECOND], &[3, 0]);
     let text = run_text(alloc, &script, &header, &end).expect(&rt, NO_MEMORY);
-    assert_eq!(rt; text.as_slice(), TWO_RANKS_TEXT);
+    is_text(&rt, text.as_slice(), TWO_RANKS_TEXT);
+    drop(text);
     drop(end);
     drop(script);
     drop(header);
@@ -185,7 +187,9 @@ record variables:
 fn a_record_variable_is_told(rt: HostRuntime) {
     let header = one_record(&rt, rt.alloc());
     let text = offsets_text(rt.alloc(), &header).expect(&rt, NO_MEMORY);
-    assert_eq!(rt; text.as_slice(), ONE_RECORD_TEXT);
+    is_text(&rt, text.as_slice(), ONE_RECORD_TEXT);
+    drop(text);
+    drop(header);
 }
 
 const ESCAPED: &[u8] = b" \"a b~\\\"\\\\\\n\\t\\x00\\x7F\\xE9\"";
@@ -208,8 +212,9 @@ const TOO_MANY_PARTS: ScriptErr = ScriptErr {
     kind: ScriptKind::Limit(LimitName::Parts),
 };
 
-fn is_line(rt: &impl Abort, line: &[u8], told: &str) {
-    assert_eq!(rt; line, told.as_bytes());
+fn is_line(rt: &impl Abort, line: Blob, told: &str) {
+    is_text(rt, line.as_slice(), told.as_bytes());
+    drop(line);
 }
 
 #[test]
@@ -217,15 +222,11 @@ fn faults_of_scripts_are_told(rt: HostRuntime) {
     let differ = script_line(rt.alloc(), &A_MISMATCH).expect(&rt, NO_MEMORY);
     is_line(
         &rt,
-        differ.as_slice(),
+        differ,
         "ncrun: script line 8: ranks 0 and 1 differ at collective call 0\n",
     );
     let many = script_line(rt.alloc(), &TOO_MANY_PARTS).expect(&rt, NO_MEMORY);
-    is_line(
-        &rt,
-        many.as_slice(),
-        "ncrun: script line 5: limit of parts\n",
-    )
+    is_line(&rt, many, "ncrun: script line 5: limit of parts\n")
 }
 
 #[test]
@@ -233,17 +234,17 @@ fn other_faults_are_told(rt: HostRuntime) {
     let shared = header_line(rt.alloc(), &HeaderErr::Shared(0, 1)).expect(&rt, NO_MEMORY);
     is_line(
         &rt,
-        shared.as_slice(),
+        shared,
         "ncrun: header has shared bytes of variables 0 and 1\n",
     );
     let large = layout_line(rt.alloc(), &LayoutErr::VarSize(2)).expect(&rt, NO_MEMORY);
-    is_line(&rt, large.as_slice(), "ncrun: variable 2 is too large\n");
+    is_line(&rt, large, "ncrun: variable 2 is too large\n");
     let taken = redef_line(rt.alloc(), &RedefErr::Taken(3)).expect(&rt, NO_MEMORY);
-    is_line(&rt, taken.as_slice(), "ncrun: redefinition 3: name taken\n");
-    is_line(&rt, disk_line(), "ncrun: disk fault\n");
-    is_line(
+    is_line(&rt, taken, "ncrun: redefinition 3: name taken\n");
+    is_text(&rt, disk_line(), b"ncrun: disk fault\n");
+    is_text(
         &rt,
         usage_line(),
-        "ncrun: usage: ncrun [--offsets] [--generate SEED [--size N]] [--watch N] DATASET\n",
+        b"ncrun: usage: ncrun [--offsets] [--generate SEED [--size N]] [--watch N] DATASET\n",
     )
 }
