@@ -5,6 +5,7 @@ use nc_base::DiskCall::{Grow, Load, Store};
 use run_plan::RunPlan;
 use std::alloc::Global;
 use std::process::Abort;
+use std::sync::Wait;
 use step_plan::device_calls;
 
 /// Two ranks put the halves of four ints.
@@ -85,12 +86,19 @@ fn calls_of(rt: &impl Abort, alloc: Global, plan: &RunPlan) -> Vec<DiskCall> {
     calls
 }
 
+/// The plan of the script makes these calls.
+fn makes<R: Abort + Wait>(rt: &R, alloc: Global, text: &[u8], calls: &[DiskCall]) {
+    let plan = planned(rt, alloc, text);
+    let made = calls_of(rt, alloc, &plan);
+    drop(plan);
+    let are_these = made.as_slice() == calls;
+    drop(made);
+    assert!(rt; are_these);
+}
+
 #[test]
 fn the_planned_calls_are_those_of_worked_runs(rt: HostRuntime) {
-    let alloc = rt.alloc();
     for (text, calls) in &RUNS {
-        let plan = planned(&rt, alloc, text);
-        assert!(rt; calls_of(&rt, alloc, &plan).as_slice() == *calls);
-        drop(plan);
+        makes(&rt, rt.alloc(), text, calls);
     }
 }

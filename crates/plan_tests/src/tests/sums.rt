@@ -1,6 +1,7 @@
 // The sums of a plan.
 use crate::tests::fixtures::{NO_MEMORY, planned};
-use plan_sums::{Cell, Naive, Tally, sum_up};
+use plan_sums::{Cell, Naive, Sums, Tally, sum_up};
+use std::process::Abort;
 
 /// Four ranks put columns of a field, four each and the last one two: four aggregators have domains that begin at multiples of 64.
 const COLUMNS: &[u8] =
@@ -32,11 +33,7 @@ const LAST: Cell = Cell {
     got: 0,
 };
 
-#[test]
-fn columns_are_summed_up(rt: HostRuntime) {
-    let alloc = rt.alloc();
-    let plan = planned(&rt, alloc, COLUMNS);
-    let sums = sum_up(alloc, &plan, 64, 4, 4).expect(&rt, NO_MEMORY);
+fn are_of_columns(rt: &impl Abort, sums: &Sums) {
     assert!(rt; sums.grows == 1 && sums.reads == READS && sums.writes == WRITES);
     assert!(rt;
         sums.naive_writes
@@ -47,6 +44,14 @@ fn columns_are_summed_up(rt: HostRuntime) {
     );
     assert!(rt; sums.read_over == 216 && sums.written_over == 20);
     assert!(rt; sums.matrix.len() == 12 && sums.matrix.as_slice().contains(&LAST));
+}
+
+#[test]
+fn columns_are_summed_up(rt: HostRuntime) {
+    let alloc = rt.alloc();
+    let plan = planned(&rt, alloc, COLUMNS);
+    let sums = sum_up(alloc, &plan, 64, 4, 4).expect(&rt, NO_MEMORY);
+    are_of_columns(&rt, &sums);
     drop(sums);
     drop(plan);
 }
