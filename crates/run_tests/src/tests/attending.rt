@@ -33,7 +33,9 @@ fn attends<R: Abort + Wait>(
     let names = Names::new(alloc, header).expect(rt, NO_MEMORY);
     let number = out.number();
     assert!(rt; number < 2);
-    attend(rt, alloc, header, &names, script, out, back, &OpenGate)
+    let end = attend(rt, alloc, header, &names, script, out, back, &OpenGate);
+    drop(names);
+    end
 }
 
 /// A reply without blobs, as to a step without a pair or records.
@@ -62,14 +64,12 @@ fn attended<R: Abort + Wait>(rt: &R, alloc: Global, out: &mut InPut<SentItem>) -
     end
 }
 
-/// The rank answered each of its three calls well, and left no request.
-fn is_done(rt: &impl Abort, end: &RankEnd) {
-    assert!(rt; end.end == RankStop::Done);
-    assert!(rt; end.answers.len() == 3);
+/// The rank ended so, and answered so many calls well.
+fn is_ended(rt: &impl Abort, end: &RankEnd, stop: RankStop, answers: usize) {
+    assert!(rt; end.end == stop && end.answers.len() == answers);
     for answer in end.answers.as_slice() {
         assert!(rt; answer.code == Code::Ok);
     }
-    assert!(rt; end.pending == 0);
 }
 
 /// What one of the two ranks puts: three offers, and its end.
@@ -77,7 +77,12 @@ pub(crate) fn items_of<R: Abort + Wait>(rt: &R, alloc: Global, number: usize) ->
     let (ends, taken) = inbox::<SentItem>(alloc, 8, 2).expect(rt, NO_MEMORY);
     let mut ends = ends.into_vec();
     let out = ends.get_mut(number).expect(rt, "rank");
-    is_done(rt, &attended(rt, alloc, out));
+    let end = attended(rt, alloc, out);
+    drop(ends);
+    is_ended(rt, &end, RankStop::Done, 3);
+    let pending = end.pending;
+    drop(end);
+    assert!(rt; pending == 0);
     taken
 }
 
@@ -94,7 +99,8 @@ fn is_offer<R: Abort + Wait>(rt: &R, items: &mut InTake<SentItem>, call: u32) {
 /// The next item is the last of a rank that had memory.
 fn is_end<R: Abort + Wait>(rt: &R, items: &mut InTake<SentItem>) {
     let last = items.take(rt).1.into_item();
-    assert!(rt; last == RankItem::Ended { memory: false });
+    assert!(rt; matches!(&last, RankItem::Ended { memory: false }));
+    drop(last);
 }
 
 /// What the rank of this number puts that hears this item when it makes its one call, and how it ends.
@@ -129,7 +135,10 @@ pub(crate) fn strange_items_of<R: Abort + Wait>(
     number: usize,
 ) -> InTake<SentItem> {
     let header = header_of_five(rt, alloc);
-    told(rt, alloc, number, &header, BEGIN, reply(alloc)).0
+    let (taken, end) = told(rt, alloc, number, &header, BEGIN, reply(alloc));
+    drop(end);
+    drop(header);
+    taken
 }
 
 /// Hearing this item, the first rank ends so, with so many answers. It puts its offer and its end.
@@ -143,10 +152,7 @@ fn ends_so<R: Abort + Wait>(
     let header = placed(rt, alloc, 4, NcType::Int);
     let (mut items, end) = told(rt, alloc, 0, &header, HALVES, item);
     drop(header);
-    assert!(rt; end.end == stop && end.answers.len() == answers);
-    for answer in end.answers.as_slice() {
-        assert!(rt; answer.code == Code::Ok);
-    }
+    is_ended(rt, &end, stop, answers);
     drop(end);
     is_offer(rt, &mut items, 0);
     is_end(rt, &mut items);
@@ -178,4 +184,5 @@ fn a_rank_makes_its_call(rt: HostRuntime) {
         is_offer(&rt, &mut items, call);
     }
     is_end(&rt, &mut items);
+    drop(items);
 }

@@ -106,17 +106,28 @@ fn has_answers(rt: &impl Abort, end: &RunEnd, count: usize) {
     assert!(rt; wanted == 0);
 }
 
+/// The disk refused a call behind these steps, and no request is left.
+fn is_stopped(rt: &impl Abort, end: &RunEnd, refused: &Refused) {
+    assert!(rt; end.order.as_slice() == refused.order);
+    assert!(rt; end.fault == Some(StepErr::Disk) && end.pending.is_empty());
+    has_answers(rt, end, refused.answers);
+}
+
+/// Zeros stand where the header is to be, and the tail behind them.
+fn has_tail(rt: &impl Abort, file: &[u8], tail: &[u8]) {
+    assert!(rt; file.get(0..80) == Some([0u8; 80].as_slice()));
+    assert!(rt; file.get(80..) == Some(tail));
+}
+
 fn is_left<R: Abort + Threads + Wait + Sync>(rt: &R, alloc: Global, refused: &Refused) {
     let mut disk = disk_of(rt, alloc, refused.size, refused.fault);
     let end = ran(rt, alloc, refused, &mut disk);
-    assert!(rt; end.order.as_slice() == refused.order);
-    assert!(rt; end.fault == Some(StepErr::Disk) && end.pending.is_empty());
-    has_answers(rt, &end, refused.answers);
+    is_stopped(rt, &end, refused);
     drop(end);
     let file = disk.bytes(alloc).expect(rt, NO_MEMORY);
     drop(disk);
-    assert!(rt; file.as_slice().get(0..80) == Some([0u8; 80].as_slice()));
-    assert!(rt; file.as_slice().get(80..) == Some(refused.tail));
+    has_tail(rt, file.as_slice(), refused.tail);
+    drop(file);
 }
 
 #[test]

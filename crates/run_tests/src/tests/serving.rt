@@ -126,7 +126,21 @@ fn has_replies<R: Abort + Wait>(rt: &R, line: &mut LineTake<OwnerItem>) {
     for _ in 0..3 {
         let item = line.take(rt);
         assert!(rt; matches!(&item, OwnerItem::Reply(_)));
+        drop(item);
     }
+}
+
+/// The next item in the line is the stop.
+fn is_stopped<R: Abort + Wait>(rt: &R, line: &mut LineTake<OwnerItem>) {
+    let item = line.take(rt);
+    assert!(rt; matches!(&item, OwnerItem::Stop));
+    drop(item);
+}
+
+/// These steps were done, none was refused, and this arrival was a stranger.
+fn is_served(rt: &impl Abort, end: &ServeEnd, order: &[Mark], stranger: Option<u32>) {
+    assert!(rt; end.order.as_slice() == order);
+    assert!(rt; end.fault.is_none() && end.stranger == stranger);
 }
 
 /// The first rank asks to begin and knows of records that no rank needed; then both ranks end.
@@ -171,11 +185,9 @@ fn a_strange_arrival_is_stopped(rt: HostRuntime) {
     let mut disk = disk_of_zeros(&rt, alloc);
     strange_arrive(&rt, alloc, senders);
     let end = served(&rt, alloc, &mut disk, &mut taken, &mut lines);
-    assert!(rt; end.order.is_empty() && end.fault.is_none() && end.stranger == Some(0));
+    is_served(&rt, &end, &[], Some(0));
     drop(end);
-    let item = to_first.take(&rt);
-    assert!(rt; matches!(&item, OwnerItem::Stop));
-    drop(item);
+    is_stopped(&rt, &mut to_first);
     let mut lines = lines.into_vec();
     is_empty(&rt, alloc, lines.get_mut(0), &mut to_first);
     is_empty(&rt, alloc, lines.get_mut(1), &mut to_second);
@@ -207,13 +219,11 @@ fn calls_are_done_as_they_arrive(rt: HostRuntime) {
     let mut disk = disk_of_zeros(&rt, alloc);
     arrive(&rt, alloc, senders);
     let end = served(&rt, alloc, &mut disk, &mut taken, &mut lines);
-    assert!(rt; end.order.as_slice() == ARRIVED.as_slice());
-    assert!(rt; end.fault.is_none());
-    assert!(rt; end.stranger.is_none());
+    is_served(&rt, &end, &ARRIVED, None);
+    drop(end);
     has_replies(&rt, &mut to_first);
     has_replies(&rt, &mut to_second);
     is_counted(&rt, alloc, &disk);
-    drop(end);
     drop(disk);
     drop(to_second);
     drop(to_first);
