@@ -152,16 +152,7 @@ const FAULT: &[&[u8]] = &[b"ncrun: disk fault\n"];
 // A script, what the dataset holds before, the call that is refused, the steps that were finished, and what is left. A growth leaves what there was, and a write what stands before its place;
 // of two aggregators one goes on where the other is refused. The write of a new header holds the record count, so that the later write of the count
 // is refused in a dataset that is opened.
-type Refused = (
-    &'static [&'static [u8]],
-    &'static [&'static [u8]],
-    FailOp,
-    u64,
-    &'static [Mark],
-    &'static [&'static [u8]],
-);
-
-const REFUSED: [Refused; 27] = [
+const REFUSED: [(&[&[u8]], &[&[u8]], FailOp, u64, &[Mark], &[&[u8]]); 27] = [
     (HALVES_SCRIPT, OLD, FailOp::Start, 0, &[], OLD),
     (HALVES_SCRIPT, OLD, FailOp::Grow, 95, &[], &[]),
     (HALVES_SCRIPT, OLD, FailOp::Store, 0, &[], &[&[0; 96]]),
@@ -210,21 +201,16 @@ fn ends_there<R: Abort + Threads + Wait + Sync>(
     drop(end);
 }
 
-fn is_refused<R: Abort + Threads + Wait + Sync>(rt: &R, alloc: Global, refused: &Refused) {
-    let (script, held, op, at, order, bytes) = refused;
-    let fault = Fail { op: *op, at: *at };
-    let run = Run {
-        script,
-        held,
-        plan: &[fault],
-        ..PLAIN
-    };
-    ends_there(rt, alloc, &run, order, bytes);
-}
-
 #[test]
 fn a_refused_call_ends_the_run(rt: HostRuntime) {
-    for refused in &REFUSED {
-        is_refused(&rt, rt.alloc(), refused);
+    for (script, held, op, at, order, bytes) in &REFUSED {
+        let fault = Fail { op: *op, at: *at };
+        let run = Run {
+            script,
+            held,
+            plan: &[fault],
+            ..PLAIN
+        };
+        ends_there(&rt, rt.alloc(), &run, order, bytes);
     }
 }
