@@ -3,13 +3,9 @@ use Rattle.dataset_start.proofs.Words.{◌≡◌, ℕ, List, Option, inl, inr, s
 use Rattle.nc_base.specs.declared.step.StepErr.TheVariants as step
 use Rattle.dataset_start.specs.declared.stop.Stop.TheVariants as stops
 
-not_four : (err : StepErr) → status_of (stop_of_disk err) ≡ 4 → ⊥
-not_four err s = grind (arith, nat_tests)
-
 -- a fault of the disk is none of the dataset
-pub disk-untold : {T : Type 0} (Q : Stop → Type 0) (result : Result T Stop) (err : StepErr) → IsErrAnd result (λ stop. stop ≡ stop_of_disk err)
-    → IfErr result (λ stop. status_of stop ≡ 4 → Q stop)
-disk-untold xs result err e = grind (arith, nat_tests, not_four)
+pub disk-untold : (err : StepErr) → status_of (stop_of_disk err) ≡ 4 → ⊥
+disk-untold err s = grind (arith, nat_tests)
 
 -- what a refused redefinition leaves is left where the dataset is at fault
 pub redefinition-leaves : {T Q : Type 0} (result : Result T Stop) → ((e : RedefErr) → result ≡ Err (stops.Redefinition e) → Q) → IfErr result IsOfRedefinition

@@ -42,10 +42,17 @@ pub(crate) fn open<D: Disk>(
 {
     let old = read_header(alloc, disk, name)?;
     if script.extra.is_empty() {
-        lengthen(alloc, disk, &old)?;
-        Ok(old)
+        match lengthen(alloc, disk, &old) {
+            Ok(()) => Ok(old),
+            Err(fault) => {
+                drop(old);
+                Err(Stop::from(fault))
+            }
+        }
     } else {
-        redefine(alloc, disk, &old, script)
+        let new = redefine(alloc, disk, &old, script);
+        drop(old);
+        new
     }
 }
 
