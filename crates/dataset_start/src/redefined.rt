@@ -41,6 +41,11 @@ pub(crate) fn redefine<D: Disk>(
     ensures only { IfErr result IsOfRedefinition }
 {
     let new = apply(alloc, old, &script.extra)?;
-    relocate(alloc, disk, old, &new, script.hints.wr_buffer)?;
-    Ok(new)
+    match relocate(alloc, disk, old, &new, script.hints.wr_buffer) {
+        Ok(()) => Ok(new),
+        Err(fault) => {
+            drop(new);
+            Err(Stop::from(fault))
+        }
+    }
 }

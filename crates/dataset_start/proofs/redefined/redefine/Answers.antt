@@ -15,8 +15,7 @@ relocate-requires-clause-size g c = λ _ _. kept_wr_buffer c.args.script.now c.r
 pub returns-in_err-new-clause-torn : goal.returns-in_err-new-clause-torn
 returns-in_err-new-clause-torn g c = on_err c.from_residual.result (not_redefined c.args.old.now c.args.script.now.extra (g.D.Disk.held c.args.disk.now))
 
-pub returns-in_err-relocate-clause-torn : goal.returns-in_err-relocate-clause-torn
-returns-in_err-relocate-clause-torn g c =
-    on_err c.from_residual-in_err-relocate.result
-    (relocate_refused c.args.old.now c.in_ok-new.new c.args.script.now.extra (g.D.Disk.held c.args.disk.now) (g.D.Disk.held c.relocate.new.disk) c.in_ok-new.ensures.applied
-    c.in_err-relocate.ensures.refused c.in_err-relocate.ensures.stays)
+pub returns-in-Err-clause-torn : goal.returns-in-Err-clause-torn
+returns-in-Err-clause-torn g c =
+    relocate_refused c.args.old.now c.in_ok-new.new c.args.script.now.extra (g.D.Disk.held c.args.disk.now) (g.D.Disk.held c.relocate.new.disk) c.in_ok-new.ensures.applied
+    c.in-Err.ensures.refused c.in-Err.ensures.stays
