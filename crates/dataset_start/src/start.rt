@@ -104,6 +104,11 @@ pub fn laid_out(alloc: Global, script: &Script) -> Result<Header, Stop>
         header: script.hints.header_align,
         var: script.hints.var_align,
     };
-    lay_out(&mut header, &align)?;
-    Ok(header)
+    match lay_out(&mut header, &align) {
+        Ok(()) => Ok(header),
+        Err(fault) => {
+            drop(header);
+            Err(Stop::from(fault))
+        }
+    }
 }

@@ -9,6 +9,6 @@ lay_out-requires c = record {
   var_align = let own = kept_var_align c.args.script.now c.requires.kept in (omega (arith, own.0), omega (arith, own.1));
 }
 
-pub returns-clause-writable : goal.returns-clause-writable
-returns-clause-writable c =
-    c.in_ok-lay_out.ensures.writable (subst (λ (h : Header). has_writable_parts h ≡ true) (sym c.in_ok-header.ensures) (c.requires.kept.writable c.requires.fresh))
+pub returns-in-Ok-clause-writable : goal.returns-in-Ok-clause-writable
+returns-in-Ok-clause-writable c =
+    c.in-Ok.ensures.writable (subst (λ (h : Header). has_writable_parts h ≡ true) (sym c.in_ok-header.ensures) (c.requires.kept.writable c.requires.fresh))
