@@ -13,7 +13,7 @@ ghost use Rattle.nc_base.specs.declared.script.Script.{Script};
 ghost use Rattle.script_spec.specs.ScriptGrammar.{script_fault};
 
 use crate::existing::open;
-use crate::fresh::{create, fill};
+use crate::fresh::create_filled;
 use crate::script::take_script;
 use crate::stop::Stop;
 use nc_base::{Align, Header, Script};
@@ -81,9 +81,13 @@ pub fn make_ready<D: Disk>(
 {
     if script.fresh {
         let header = laid_out(alloc, script)?;
-        create(alloc, disk, name, &header)?;
-        fill(alloc, disk, script, &header)?;
-        Ok(header)
+        match create_filled(alloc, disk, name, script, &header) {
+            Ok(()) => Ok(header),
+            Err(fault) => {
+                drop(header);
+                Err(Stop::from(fault))
+            }
+        }
     } else {
         open(alloc, disk, name, script)
     }
