@@ -267,11 +267,3 @@ untouched script held line t h f = let told = t.created f in h (record { created
 pub bad-dataset : {Untouched : Type 0} (left held : Option (List ℕ)) (script : script_type.Script) (told : Option (List ℕ)) → Asks left script
     → (IsMislaid script → Untouched) → IfSome told (TellsDataset script held) → IfSome told (IsBadDataset left held Untouched)
 bad-dataset left held script told a h t = grind (arith, nat_tests, untouched)
-
-pub bad-asked : {T : Type 0} (Untouched : Type 0) (left held : Option (List ℕ)) (script : script_type.Script) (result : Result T Stop) (err : Stop)
-    → IsErrAnd result (λ stop. stop ≡ err) → Asks left script → (IsMislaid script → Untouched)
-    → (status_of err ≡ 4 → IfSome (line_of err) (TellsDataset script held))
-    → IfErr result (λ stop. status_of stop ≡ 4 → IfSome (line_of stop) (IsBadDataset left held Untouched))
-bad-asked Untouched left held script (Ok x) err e a h t = tt
-bad-asked Untouched left held script (Err stop) err e a h t = λ s.
-    subst (λ (o : Stop). IfSome (line_of o) (IsBadDataset left held Untouched)) (sym e) (bad-dataset left held script (line_of err) a h (t (ap status_of (sym e) ∙ s)))

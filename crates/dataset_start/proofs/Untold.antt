@@ -1,5 +1,5 @@
 -- What a fault of the disk, and one of a redefinition, leave, and what ends early after the script was read.
-use Rattle.dataset_start.proofs.Words.{◌≡◌, ℕ, List, Option, inl, inr, sym, ap, ◌∙◌, arith, Result, Ok, Err, IfErr, IsErrAnd, RedefErr, StepErr, Script, Asks, IsBeforeStart, IsLaid, IsOfDataset, IsOfRedefinition, status_of, stop_of_disk, Stop, nat_tests}
+use Rattle.dataset_start.proofs.Words.{◌≡◌, inl, inr, arith, Result, Err, IfErr, RedefErr, StepErr, IsBeforeStart, IsOfDataset, IsOfRedefinition, status_of, stop_of_disk, Stop, nat_tests}
 use Rattle.nc_base.specs.declared.step.StepErr.TheVariants as step
 use Rattle.dataset_start.specs.declared.stop.Stop.TheVariants as stops
 
@@ -15,7 +15,7 @@ redefinition-leaves result left only = grind (arith, nat_tests)
 -- ---- the script was read
 
 -- a dataset whose making ends early was started, or could have been
-late : (stop : Stop) → IsOfDataset stop → IsBeforeStart (status_of stop) → ⊥
+pub late : (stop : Stop) → IsOfDataset stop → IsBeforeStart (status_of stop) → ⊥
 late (stops.Header e) only (inl s) = omega (arith, s)
 late (stops.Header e) only (inr (inl s)) = omega (arith, s)
 late (stops.Header e) only (inr (inr s)) = omega (arith, s)
@@ -34,13 +34,3 @@ late stops.Memory only (inr (inr s)) = omega (arith, s)
 late stops.Usage only s = only
 late (stops.Script e) only s = only
 late stops.Source only s = only
-
-pub not-before : {T : Type 0} (Q : Type 0) (result : Result T Stop) (err : Stop) → IsErrAnd result (λ stop. stop ≡ err) → IsOfDataset err
-    → IfErr result (λ stop. IsBeforeStart (status_of stop) → Q)
-not-before xs result err e only = grind (arith, nat_tests, late)
-
--- where the disk failed, the script is laid out
-pub laid-asked : {T : Type 0} (left : Option (List ℕ)) (script : Script) (result : Result T Stop) (err : Stop) → IsErrAnd result (λ stop. stop ≡ err) → Asks left script
-    → (status_of err ≡ 7 → IsLaid script) → IfErr result (λ stop. status_of stop ≡ 7 → (s : Script) × (Asks left s × IsLaid s))
-laid-asked left script (Ok x) err e a l = tt
-laid-asked left script (Err stop) err e a l = λ s. (script, (a, l (ap status_of (sym e) ∙ s)))

@@ -55,8 +55,13 @@ pub fn begin<S: Source, D: Disk>(
     ensures not_started { IfErr result (λ stop. IsBeforeStart (status_of stop) → disk.new ≡ disk.old) }
 {
     let script = take_script(alloc, source)?;
-    let header = make_ready(alloc, disk, dataset, &script)?;
-    Ok(Ready { script, header })
+    match make_ready(alloc, disk, dataset, &script) {
+        Ok(header) => Ok(Ready { script, header }),
+        Err(stop) => {
+            drop(script);
+            Err(stop)
+        }
+    }
 }
 
 /// Makes the dataset of the script ready for the ranks.

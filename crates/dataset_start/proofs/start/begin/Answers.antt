@@ -1,8 +1,8 @@
 use Rattle.dataset_start.proofs.Keeping.{read_kept}
-use Rattle.dataset_start.proofs.Words.{inl, refl, on_err}
+use Rattle.dataset_start.proofs.Words.{inl, refl, line_of, on_err}
 use Rattle.dataset_start.proofs.NotReady.{left_unready}
-use Rattle.dataset_start.proofs.ReadyLaws.{bad-asked, laid-mislaid, of_bad_layout}
-use Rattle.dataset_start.proofs.Untold.{laid-asked, not-before}
+use Rattle.dataset_start.proofs.ReadyLaws.{bad-dataset, laid-mislaid, of_bad_layout}
+use Rattle.dataset_start.proofs.Untold.{late}
 use Rattle.dataset_start.proofs.start.begin.Goals as goal
 
 pub make_ready-requires-clause-kept : goal.make_ready-requires-clause-kept
@@ -10,36 +10,32 @@ make_ready-requires-clause-kept g c = λ _ _. read_kept c.in_ok-script.ensures.r
 
 -- ---- where the dataset was not made ready
 
-pub returns-in_err-header-clause-bad : goal.returns-in_err-header-clause-bad
-returns-in_err-header-clause-bad g c =
-    bad-asked _ (g.S.Source.left c.args.source.now) (g.D.Disk.held c.args.disk.now) c.in_ok-script.script c.from_residual-in_err-header.result c.in_err-header.field-0.0
-    c.from_residual-in_err-header.ensures.1 c.in_ok-script.ensures.asks c.in_err-header.ensures.unlaid c.in_err-header.ensures.bad
+pub returns-in-Err-clause-bad : goal.returns-in-Err-clause-bad
+returns-in-Err-clause-bad g c = λ s.
+    bad-dataset (g.S.Source.left c.args.source.now) (g.D.Disk.held c.args.disk.now) c.in_ok-script.script (line_of c.in-Err.stop) c.in_ok-script.ensures.asks
+    c.in-Err.ensures.unlaid (c.in-Err.ensures.bad s)
 
-pub returns-in_err-header-clause-unlaid : goal.returns-in_err-header-clause-unlaid
-returns-in_err-header-clause-unlaid g c =
-    of_bad_layout (g.S.Source.left c.args.source.now) c.in_ok-script.script c.in_ok-script.ensures.asks c.in_err-header.ensures.unlaid
+pub returns-in-Err-clause-unlaid : goal.returns-in-Err-clause-unlaid
+returns-in-Err-clause-unlaid g c =
+    of_bad_layout (g.S.Source.left c.args.source.now) c.in_ok-script.script c.in_ok-script.ensures.asks c.in-Err.ensures.unlaid
 
 pub returns-in_err-script-clause-torn : goal.returns-in_err-script-clause-torn
 returns-in_err-script-clause-torn g c = on_err c.from_residual.result (inl refl)
 
-pub returns-in_err-header-clause-torn : goal.returns-in_err-header-clause-torn
-returns-in_err-header-clause-torn g c =
-    on_err c.from_residual-in_err-header.result
-    (left_unready (g.S.Source.left c.args.source.now) (g.D.Disk.held c.args.disk.now) (g.D.Disk.held c.make_ready.new.disk) c.in_ok-script.script c.in_ok-script.ensures.asks
-    c.in_err-header.ensures.refused)
+pub returns-in-Err-clause-torn : goal.returns-in-Err-clause-torn
+returns-in-Err-clause-torn g c =
+    left_unready (g.S.Source.left c.args.source.now) (g.D.Disk.held c.args.disk.now) (g.D.Disk.held c.make_ready.new.disk) c.in_ok-script.script c.in_ok-script.ensures.asks
+    c.in-Err.ensures.refused
 
-pub returns-in_err-header-clause-asked : goal.returns-in_err-header-clause-asked
-returns-in_err-header-clause-asked g c =
-    laid-asked (g.S.Source.left c.args.source.now) c.in_ok-script.script c.from_residual-in_err-header.result c.in_err-header.field-0.0
-    c.from_residual-in_err-header.ensures.1 c.in_ok-script.ensures.asks c.in_err-header.ensures.laid
+pub returns-in-Err-clause-asked : goal.returns-in-Err-clause-asked
+returns-in-Err-clause-asked g c = λ s. (c.in_ok-script.script, (c.in_ok-script.ensures.asks, c.in-Err.ensures.laid s))
 
-pub returns-in_err-header-clause-not_started : goal.returns-in_err-header-clause-not_started
-returns-in_err-header-clause-not_started g c =
-    not-before _ c.from_residual-in_err-header.result c.in_err-header.field-0.0 c.from_residual-in_err-header.ensures.1 c.in_err-header.ensures.only
+pub returns-in-Err-clause-not_started : goal.returns-in-Err-clause-not_started
+returns-in-Err-clause-not_started g c = λ s. absurd (late c.in-Err.stop c.in-Err.ensures.only s)
 
 -- ---- where it was
 
-pub returns-clause-unlaid : goal.returns-clause-unlaid
-returns-clause-unlaid g c =
+pub returns-in-Ok-clause-unlaid : goal.returns-in-Ok-clause-unlaid
+returns-in-Ok-clause-unlaid g c =
     of_bad_layout (g.S.Source.left c.args.source.now) c.in_ok-script.script c.in_ok-script.ensures.asks
-    (laid-mislaid c.in_ok-script.script c.in_ok-header.ensures.ready.faultless.created)
+    (laid-mislaid c.in_ok-script.script c.in-Ok.ensures.ready.faultless.created)
