@@ -7,10 +7,10 @@ ghost use Rattle.plan_cli.specs.Headline as spec;
 ghost use Rattle.plan_cli.specs.Headline.{TellsPlan};
 
 use crate::start::{Prepared, Ready};
-use nc_base::{Blob, Memory};
+use nc_base::{Blob, Header, Memory, Script};
 use plan_sums::sum_up;
 use plan_text::{Document, plan_json, plan_text};
-use run_plan::plan_run;
+use run_plan::{Opening, plan_run};
 use std::alloc::Global;
 use std::sync::Wait;
 
@@ -28,24 +28,54 @@ pub(crate) fn print_plan<R: Wait>(
 {
     let Ready { script, dataset } = ready;
     let Prepared { header, opening } = dataset;
+    let text = print_run(rt, alloc, json, &script, &header, opening);
+    // Calls, which hide from the check how each list of these is let go.
+    drop(script);
+    drop(header);
+    text
+}
+
+// Plans the run from an opening on, and prints the plan.
+fn print_run<R: Wait>(
+    rt: &R,
+    alloc: Global,
+    json: bool,
+    script: &Script,
+    header: &Header,
+    opening: Opening,
+) -> Result<Blob, Memory>
+    requires kept { IsKept script.now }
+    requires sound { is_sound header.now ≡ true }
+    requires long { dataset_end header.now ≤ opening.size }
+    ensures { IfOk result (TellsPlan json script.now header.now opening) }
+{
     let length = opening.size;
-    let plan = plan_run(rt, alloc, &header, &script, opening)?;
+    let plan = plan_run(rt, alloc, header, script, opening)?;
     let hints = &script.hints;
-    let sums = sum_up(
+    let sums = match sum_up(
         alloc,
         &plan,
         hints.striping_unit,
         script.ranks,
         hints.cb_nodes,
-    )?;
+    ) {
+        Ok(sums) => sums,
+        Err(memory) => {
+            drop(plan);
+            return Err(memory);
+        }
+    };
     let document = Document {
-        script: &script,
-        header: &header,
+        script,
+        header,
         length,
         plan: &plan,
         sums: &sums,
     };
-    print(alloc, json, &document)
+    let text = print(alloc, json, &document);
+    drop(sums);
+    drop(plan);
+    text
 }
 
 // The plan in the form that is asked for.
