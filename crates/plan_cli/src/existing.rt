@@ -53,7 +53,9 @@ pub(crate) fn open<D: DatasetFront>(
     if script.extra.is_empty() {
         keep(alloc, script, old)
     } else {
-        redefine(alloc, script, old)
+        let prepared = redefine(alloc, script, &old);
+        drop(old);
+        prepared
     }
 }
 
@@ -88,25 +90,35 @@ fn keep(alloc: Global, script: &Script, old: Looked) -> Result<Prepared, Stop>
     ensures only { IfErr result (λ stop. stop ≡ Stop.Memory) }
 {
     let Looked { header, size } = old;
-    let opening = open_existing(alloc, script, &header, &header, size)?;
-    Ok(Prepared { header, opening })
+    match open_existing(alloc, script, &header, &header, size) {
+        Ok(opening) => Ok(Prepared { header, opening }),
+        Err(memory) => {
+            drop(header);
+            Err(Stop::from(memory))
+        }
+    }
 }
 
 // What the script adds is added to the dataset.
-fn redefine(alloc: Global, script: &Script, old: Looked) -> Result<Prepared, Stop>
+fn redefine(alloc: Global, script: &Script, old: &Looked) -> Result<Prepared, Stop>
     requires kept { IsKept script.now }
     requires opened { script.now.fresh ≡ false }
     requires some { (length script.now.extra == 0) ≡ false }
-    requires sound { is_sound old.header ≡ true }
-    requires redefinable { is_redefinable old.header ≡ true }
-    ensures applied { IfOk result (λ prepared. IsApplied old.header script.now.extra prepared.header) }
-    ensures opening { IfOk result (λ prepared. IsOpeningOf script.now old.header prepared.header old.size prepared.opening) }
+    requires sound { is_sound old.now.header ≡ true }
+    requires redefinable { is_redefinable old.now.header ≡ true }
+    ensures applied { IfOk result (λ prepared. IsApplied old.now.header script.now.extra prepared.header) }
+    ensures opening { IfOk result (λ prepared. IsOpeningOf script.now old.now.header prepared.header old.now.size prepared.opening) }
     ensures long { IfOk result (λ prepared. dataset_end prepared.header ≤ prepared.opening.size) }
-    ensures refused { (e : RedefErr) → result ≡ Err (Stop.Redefinition e) → redefined_fault old.header script.now.extra ≡ Some e }
+    ensures refused { (e : RedefErr) → result ≡ Err (Stop.Redefinition e) → redefined_fault old.now.header script.now.extra ≡ Some e }
     ensures only { IfErr result IsOfRedefinition }
     ensures unread { ¬ (IsErrOf result Stop.Disk) }
 {
     let header = apply(alloc, &old.header, &script.extra)?;
-    let opening = open_existing(alloc, script, &old.header, &header, old.size)?;
-    Ok(Prepared { header, opening })
+    match open_existing(alloc, script, &old.header, &header, old.size) {
+        Ok(opening) => Ok(Prepared { header, opening }),
+        Err(memory) => {
+            drop(header);
+            Err(Stop::from(memory))
+        }
+    }
 }

@@ -6,8 +6,8 @@ use Rattle.plan_cli.proofs.existing.open.Goals as goal
 pub keep-requires-clause-none : goal.keep-requires-clause-none
 keep-requires-clause-none g c = no_extras c.args.script.now (c.is_empty.ensures.0 c.if-is_empty.true)
 
-pub redefine-requires-clause-some : goal.redefine-requires-clause-some
-redefine-requires-clause-some g c = some_extras c.args.script.now (λ none. both_ways _ c.if-is_empty.false (c.is_empty.ensures.1 none))
+pub redefine-prepared-requires-clause-some : goal.redefine-prepared-requires-clause-some
+redefine-prepared-requires-clause-some g c = some_extras c.args.script.now (λ none. both_ways _ c.if-is_empty.false (c.is_empty.ensures.1 none))
 
 pub returns-then-is_empty-clause-opening : goal.returns-then-is_empty-clause-opening
 returns-then-is_empty-clause-opening g c =
@@ -22,17 +22,17 @@ pub returns-else-is_empty-clause-opening : goal.returns-else-is_empty-clause-ope
 returns-else-is_empty-clause-opening g c =
     let named : c.args.name ≡ Some c.in-Some.name = search rules in
     let told = ap (λ (o : Option (Bor (List ℕ))). held_of g.D.DatasetFront (name_of o) c.args.dataset.now) named in
-    subst (λ (h : Option (List ℕ)). IfOk c.redefine.result (λ p. IsOpening c.args.script.now h p.header p.opening)) (sym told)
-    (added c.args.script.now c.in_ok-old.old.header c.in_ok-old.old.size (g.D.DatasetFront.held c.args.dataset.now c.in-Some.name.now) c.redefine.result c.requires.opened
+    subst (λ (h : Option (List ℕ)). IfOk c.redefine-prepared.result (λ p. IsOpening c.args.script.now h p.header p.opening)) (sym told)
+    (added c.args.script.now c.in_ok-old.old.header c.in_ok-old.old.size (g.D.DatasetFront.held c.args.dataset.now c.in-Some.name.now) c.redefine-prepared.result c.requires.opened
     (some_extras c.args.script.now (λ none. both_ways _ c.if-is_empty.false (c.is_empty.ensures.1 none))) c.in_ok-old.ensures.opened c.in_ok-old.ensures.faultless
-    c.redefine.ensures.applied c.redefine.ensures.opening)
+    c.redefine-prepared.ensures.applied c.redefine-prepared.ensures.opening)
 
 pub returns-else-is_empty-clause-stopped : goal.returns-else-is_empty-clause-stopped
 returns-else-is_empty-clause-stopped g c =
     let named : c.args.name ≡ Some c.in-Some.name = search rules in
     let told = ap (λ (o : Option (Bor (List ℕ))). held_of g.D.DatasetFront (name_of o) c.args.dataset.now) named in
-    subst (λ (h : Option (List ℕ)). IfErr c.redefine.result (IsUnprepared c.args.script.now h (name_of c.args.name) (Rose (g.D.DatasetFront.faults c.args.dataset.now) (g.D.DatasetFront.faults c.look.new.dataset)))) (sym told)
-    (unadded c.args.script.now (g.D.DatasetFront.held c.args.dataset.now c.in-Some.name.now) (name_of c.args.name) _ c.redefine.result c.requires.opened
+    subst (λ (h : Option (List ℕ)). IfErr c.redefine-prepared.result (IsUnprepared c.args.script.now h (name_of c.args.name) (Rose (g.D.DatasetFront.faults c.args.dataset.now) (g.D.DatasetFront.faults c.look.new.dataset)))) (sym told)
+    (unadded c.args.script.now (g.D.DatasetFront.held c.args.dataset.now c.in-Some.name.now) (name_of c.args.name) _ c.redefine-prepared.result c.requires.opened
     (λ e r. refuses c.args.script.now c.in_ok-old.old.header (g.D.DatasetFront.held c.args.dataset.now c.in-Some.name.now) c.in_ok-old.old.size e
-    (some_extras c.args.script.now (λ none. both_ways _ c.if-is_empty.false (c.is_empty.ensures.1 none))) c.in_ok-old.ensures.opened (c.redefine.ensures.refused e r))
-    c.redefine.ensures.unread c.redefine.ensures.only)
+    (some_extras c.args.script.now (λ none. both_ways _ c.if-is_empty.false (c.is_empty.ensures.1 none))) c.in_ok-old.ensures.opened (c.redefine-prepared.ensures.refused e r))
+    c.redefine-prepared.ensures.unread c.redefine-prepared.ensures.only)
