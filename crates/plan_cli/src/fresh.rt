@@ -22,6 +22,11 @@ pub(crate) fn create(alloc: Global, script: &Script) -> Result<Prepared, Stop>
     ensures only { IfErr result IsOfLayout }
 {
     let header = laid_out(alloc, script)?;
-    let opening = open_fresh(alloc, script, &header)?;
-    Ok(Prepared { header, opening })
+    match open_fresh(alloc, script, &header) {
+        Ok(opening) => Ok(Prepared { header, opening }),
+        Err(memory) => {
+            drop(header);
+            Err(Stop::from(memory))
+        }
+    }
 }
