@@ -51,11 +51,16 @@ pub(crate) fn begin<S: Source, D: DatasetFront>(
     ensures kept { D.held dataset.new ≡ D.held dataset.old }
 {
     let script = take_script(alloc, source)?;
-    let prepared = prepare(alloc, &script, name, dataset)?;
-    Ok(Ready {
-        script,
-        dataset: prepared,
-    })
+    match prepare(alloc, &script, name, dataset) {
+        Ok(prepared) => Ok(Ready {
+            script,
+            dataset: prepared,
+        }),
+        Err(stop) => {
+            drop(script);
+            Err(stop)
+        }
+    }
 }
 
 // What is known of the dataset of a script when the ranks begin.
