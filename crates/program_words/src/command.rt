@@ -67,9 +67,19 @@ fn parsed<'a>(alloc: Global, words: &'a [&'a str]) -> Result<Option<Options<'a>>
     ensures { IfOk result (λ options. option_map options_of options ≡ spec.options (texts words.entry.now)) }
 {
     match command(alloc)?.try_get_matches_from(words) {
-        Ok(matches) => Ok(Some(options_in(&matches))),
-        Err(e) if e.kind() == ErrorKind::OutOfMemory => Err(Memory),
-        Err(_) => Ok(None),
+        Ok(matches) => {
+            let options = options_in(&matches);
+            drop(matches);
+            Ok(Some(options))
+        }
+        Err(e) if e.kind() == ErrorKind::OutOfMemory => {
+            drop(e);
+            Err(Memory)
+        }
+        Err(e) => {
+            drop(e);
+            Ok(None)
+        }
     }
 }
 
