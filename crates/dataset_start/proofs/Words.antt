@@ -14,7 +14,7 @@ pub use Rattle.cdf_header.specs.Decoded.{BeginsWith}
 pub use Rattle.dataset_start.specs.Dataset.{AreHeadersOf, Asks, AsksForBadLayout, HasRedefinitionFault, IsBadDataset, IsBeforeStart, IsKept, IsLaid, IsMislaid, IsSoundFile, TellsDataset, created_header, creation_fault, front, header_of_run, redefinition_fault}
 pub use Rattle.dataset_start.specs.Limits.{max_text}
 pub use Rattle.dataset_start.specs.Readiness.{IsCutRedefinition, IsFaultless, IsLeftUnready, IsNotReady, IsOpened, IsPartlyOpened, IsPartlyRedefined, IsReady, IsUnready, blank_file, dataset_end, empty_end, fill_calls_if, filled_if, first_calls, opened_calls}
-pub use Rattle.dataset_start.specs.Stops.{IsOfDataset, IsOfHeader, IsOfRedefinition, line_of, status_of, stop_of_disk, stop_of_header}
+pub use Rattle.dataset_start.specs.Stops.{IsOfDataset, IsOfHeader, IsOfLayout, IsOfOpening, IsOfRedefinition, line_of, status_of, stop_of_disk, stop_of_header}
 pub use Rattle.dataset_start.specs.declared.stop.Stop.{Stop}
 pub use Rattle.dataset_start.specs.declared.stop.Stop.TheVariants.{Memory}
 pub use Rattle.fill_records.proofs.TornLaws.{filled_long}

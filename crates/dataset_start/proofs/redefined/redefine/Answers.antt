@@ -1,7 +1,8 @@
 use Rattle.dataset_start.proofs.Keeping.{kept_extras, kept_whole_extras, kept_wr_buffer}
 use Rattle.dataset_start.proofs.NotReady.{not_redefined, relocate_refused}
+use Rattle.dataset_start.proofs.Untold.{of_redefinition}
 use Rattle.dataset_start.proofs.redefined.redefine.Goals as goal
-use Rattle.dataset_start.proofs.Words.{on_err}
+use Rattle.dataset_start.proofs.Words.{subst, sym, IsOfRedefinition, on_err}
 
 pub apply-requires-clause-lawful : goal.apply-requires-clause-lawful
 apply-requires-clause-lawful g c = kept_extras c.args.script.now c.requires.kept
@@ -19,3 +20,6 @@ pub returns-in-Err-clause-torn : goal.returns-in-Err-clause-torn
 returns-in-Err-clause-torn g c =
     relocate_refused c.args.old.now c.in_ok-new.new c.args.script.now.extra (g.D.Disk.held c.args.disk.now) (g.D.Disk.held c.relocate.new.disk) c.in_ok-new.ensures.applied
     c.in-Err.ensures.refused c.in-Err.ensures.stays
+
+pub returns-in-Err-clause-only : goal.returns-in-Err-clause-only
+returns-in-Err-clause-only g c = subst IsOfRedefinition (sym c.from.ensures) (of_redefinition c.in-Err.fault)

@@ -1,4 +1,4 @@
-use Rattle.dataset_start.proofs.Words.{◌≡◌, true, sym, subst, arith, Header, has_writable_parts, is_unplaced}
+use Rattle.dataset_start.proofs.Words.{◌≡◌, true, sym, subst, arith, Header, IsOfLayout, has_writable_parts, is_unplaced}
 use Rattle.dataset_start.proofs.Keeping.{kept_header_align, kept_var_align}
 use Rattle.dataset_start.proofs.start.laid_out.Goals as goal
 
@@ -12,3 +12,6 @@ lay_out-requires c = record {
 pub returns-in-Ok-clause-writable : goal.returns-in-Ok-clause-writable
 returns-in-Ok-clause-writable c =
     c.in-Ok.ensures.writable (subst (λ (h : Header). has_writable_parts h ≡ true) (sym c.in_ok-header.ensures) (c.requires.kept.writable c.requires.fresh))
+
+pub returns-in-Err-clause-only : goal.returns-in-Err-clause-only
+returns-in-Err-clause-only c = subst IsOfLayout (sym c.from.ensures) tt
