@@ -1,4 +1,4 @@
-use Rattle.dataset_start.proofs.Words.{◌≡◌, ℕ, List, ◌++◌, take, Option, Some, None, sym, ap, ◌∙◌, append_assoc, arith, length-take, with_front}
+use Rattle.dataset_start.proofs.Words.{◌≡◌, ℕ, List, ◌++◌, take, Option, Some, None, sym, ap, subst, ◌∙◌, append_assoc, arith, length-take, with_front}
 use Rattle.std.proofs.Common.{length-append}
 use Rattle.dataset_start.proofs.streams.take_all.Goals as goal
 
@@ -17,4 +17,17 @@ returns-in_err-extend_from_slice-clause-few g c =
       few = omega (arith, length-append text piece, length-take c.in_ok-count.count c.take.new.into, c.in_ok-count.ensures.count);
       taken = one_more (g.S.Source.left c.args.source.now) (g.S.Source.left c.loop-turn.source) (g.S.Source.left c.take.new.self) text piece
           c.loop-turn.invariant.taken c.in_ok-count.ensures.bytes;
+    }
+
+pub loop-turn-preserved : goal.loop-turn-preserved
+loop-turn-preserved g c =
+    let text : List ℕ = c.loop-turn.text.items in
+    let piece : List ℕ = take c.in_ok-count.count c.take.new.into in
+    record {
+      long = omega (arith, c.loop-turn.invariant.long, c.if-count-eq0.false, c.in_ok-count.ensures.count, c.in_ok-extend_from_slice.ensures.len, length-take c.in_ok-count.count c.take.new.into);
+      short = omega (arith, c.len.ensures, c.if-len-gt-MAX_SCRIPT_BYTES.false);
+      taken = subst (λ (t : List ℕ). g.S.Source.left c.args.source.now ≡ with_front t (g.S.Source.left c.take.new.self)) (sym c.in_ok-extend_from_slice.ensures.items)
+          (one_more (g.S.Source.left c.args.source.now) (g.S.Source.left c.loop-turn.source) (g.S.Source.left c.take.new.self) text piece
+          c.loop-turn.invariant.taken c.in_ok-count.ensures.bytes);
+      later = omega (arith, c.loop-turn.invariant.later, c.take.ensures.cause.later);
     }
