@@ -1,9 +1,9 @@
 // Requests that nobody waited for.
-use memchr::memmem::{find, find_iter};
+use memchr::memmem::find;
 use std::alloc::AllocError;
 
 /// The requests of a run that nobody waited for or cancelled.
-#[derive(Clone, Copy, Debug, PartialEq, Eq)]
+#[derive(Clone, Copy)]
 pub struct Pending {
     pub requests: u64,
     /// How many ranks have some.
@@ -20,17 +20,18 @@ const LAYOUT: &[u8] = b"\n// file format";
 
 /// The requests that the text of a run tells, where there are some.
 pub(crate) fn pending_in(text: &[u8]) -> Option<Pending> {
-    let answers = match find(text, LAYOUT) {
-        Some(end) => text.get(..end)?,
-        None => text,
-    };
+    let mut rest = answers_in(text);
     let mut pending = Pending {
         requests: 0,
         ranks: 0,
         first: 0,
     };
-    for (rank, at) in (0u32..64).zip(find_iter(answers, PENDING)) {
-        pending = pending.with(rank, requests_at(answers, at));
+    for rank in 0u32..64 {
+        let Some(at) = find(rest, PENDING) else {
+            break;
+        };
+        rest = rest.get(at.saturating_add(PENDING.len())..).unwrap_or(&[]);
+        pending = pending.with(rank, leading_number(rest));
     }
     if pending.requests > 0 {
         Some(pending)
@@ -39,15 +40,18 @@ pub(crate) fn pending_in(text: &[u8]) -> Option<Pending> {
     }
 }
 
-// How many requests are told at this place.
-fn requests_at(answers: &[u8], at: usize) -> u64 {
-    let behind = at.saturating_add(PENDING.len());
-    leading_number(answers.get(behind..).unwrap_or(&[]))
+// What stands before the layout.
+fn answers_in(text: &[u8]) -> &[u8] {
+    let end = find(text, LAYOUT).unwrap_or(text.len());
+    text.get(..end).unwrap_or(text)
 }
 
 fn leading_number(text: &[u8]) -> u64 {
     let mut number = 0u64;
-    for digit in text.iter().take_while(|c| c.is_ascii_digit()) {
+    for digit in text {
+        if !digit.is_ascii_digit() {
+            break;
+        }
         number = number
             .saturating_mul(10)
             .saturating_add(u64::from(digit.wrapping_sub(b'0')));
