@@ -17,7 +17,7 @@ pub(crate) struct Access {
 }
 
 // What a call does, by the first bytes of its word.
-#[derive(Clone, Copy, PartialEq, Eq)]
+#[derive(Clone, Copy)]
 enum Kind {
     Put,
     Get,

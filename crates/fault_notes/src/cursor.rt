@@ -1,4 +1,5 @@
 // The words of a line, from the front, as they stand. Texts come last in a line, so the words before them are cut at blanks.
+use memchr::memchr3;
 
 /// The words that are left of a line.
 #[derive(Clone, Copy)]
@@ -17,10 +18,14 @@ impl<'a> Cursor<'a> {
 
     /// What is left, without the blanks in front.
     pub(crate) fn left(&self) -> &'a [u8] {
-        match self.rest.iter().position(|c| !is_blank(*c)) {
-            Some(start) => self.rest.get(start..).unwrap_or(&[]),
-            None => &[],
+        let mut left = self.rest;
+        for byte in self.rest {
+            if !is_blank(*byte) {
+                break;
+            }
+            left = left.get(1..).unwrap_or(&[]);
         }
+        left
     }
 
     /// The next word.
@@ -29,7 +34,7 @@ impl<'a> Cursor<'a> {
         if rest.is_empty() {
             return None;
         }
-        let end = rest.iter().position(|c| is_blank(*c)).unwrap_or(rest.len());
+        let end = memchr3(b' ', b'\t', b'\r', rest).unwrap_or(rest.len());
         self.rest = rest.get(end..).unwrap_or(&[]);
         rest.get(..end)
     }

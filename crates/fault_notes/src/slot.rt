@@ -2,6 +2,7 @@
 use crate::cursor::word_at;
 use crate::table::beside;
 use hint_table::{HINTS, HintForm, HintName};
+use memchr::memchr3;
 use std::alloc::AllocError;
 
 /// What a word is for.
@@ -229,7 +230,7 @@ impl Slot {
     /// Whether this number is given in decimals where bits are wanted.
     pub(crate) fn takes_bits(self, decimal: &[u8]) -> bool {
         match self.sort() {
-            Sort::Value => decimal.iter().any(|c| matches!(*c, b'.' | b'e' | b'E')),
+            Sort::Value => memchr3(b'.', b'e', b'E', decimal).is_some(),
             Sort::Bits => true,
             _ => false,
         }

@@ -1,4 +1,5 @@
 // What a line of the text tells of a fault.
+use memchr::memrchr;
 use script_words::numbers::size_of_text;
 
 /// The number behind such words at the front of a line, and what stands behind it and the words that follow it.
@@ -13,13 +14,17 @@ pub(crate) fn numbered<'a>(
 
 // The digits at the front of a text, and the rest, of which there is some.
 fn split_digits(text: &[u8]) -> Option<(&[u8], &[u8])> {
-    let end = text.iter().position(|c| !c.is_ascii_digit())?;
-    text.split_at_checked(end)
+    for (end, byte) in text.iter().enumerate() {
+        if !byte.is_ascii_digit() {
+            return text.split_at_checked(end);
+        }
+    }
+    None
 }
 
 /// The words of a line up to its last number, and that number.
 pub(crate) fn last_number(told: &[u8]) -> Option<(&[u8], u64)> {
-    let blank = told.iter().rposition(|c| *c == b' ')?;
+    let blank = memrchr(b' ', told)?;
     let (words, number) = told.split_at_checked(blank)?;
     Some((words, size_of_text(number.strip_prefix(b" ".as_slice())?)?))
 }
