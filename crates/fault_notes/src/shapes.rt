@@ -44,18 +44,12 @@ pub(crate) struct Shapes<'a> {
 }
 
 impl<'a> Shapes<'a> {
-    /// Those of the dataset's header, where it was opened, and of the script's lines.
-    pub(crate) fn new(
-        alloc: Global,
-        header: Option<&'a Header>,
-        lines: &[Line<'a>],
-    ) -> Result<Self, AllocError> {
-        let mut shapes = Shapes {
+    /// None of them.
+    pub(crate) fn new(alloc: Global) -> Self {
+        Shapes {
             dims: Counts::new(alloc),
             vars: Counts::new(alloc),
-        };
-        shapes.add_all(header, lines)?;
-        Ok(shapes)
+        }
     }
 
     /// How many elements a variable has, where that is always the same.
@@ -63,7 +57,8 @@ impl<'a> Shapes<'a> {
         self.vars.of(var)
     }
 
-    fn add_all(
+    /// Adds those of the dataset's header, where it was opened, and of the script's lines.
+    pub(crate) fn add_all(
         &mut self,
         header: Option<&'a Header>,
         lines: &[Line<'a>],

@@ -15,8 +15,7 @@ pub(crate) fn push_surplus<'a>(
     script: &'a [u8],
     header: Option<&'a Header>,
 ) -> Result<(), AllocError> {
-    let lines = lines_of(alloc, script)?;
-    match surplus_in(alloc, header, lines.as_slice())? {
+    match surplus_in(alloc, header, script)? {
         Some(surplus) => push_found(out, surplus),
         None => Ok(()),
     }
@@ -49,16 +48,37 @@ fn push_found(out: &mut String, surplus: Surplus) -> Result<(), AllocError> {
     Ok(())
 }
 
-// The first such call among these lines, and how many follow.
+// The first such call of a script, and how many follow.
 fn surplus_in<'a>(
+    alloc: Global,
+    header: Option<&'a Header>,
+    script: &'a [u8],
+) -> Result<Option<Surplus>, AllocError> {
+    let lines = lines_of(alloc, script)?;
+    surplus_among(alloc, header, lines.as_slice())
+}
+
+// The same among these lines.
+fn surplus_among<'a>(
     alloc: Global,
     header: Option<&'a Header>,
     lines: &[Line<'a>],
 ) -> Result<Option<Surplus>, AllocError> {
-    let shapes = Shapes::new(alloc, header, lines)?;
-    let surplus = first_surplus(&shapes, lines);
+    let mut shapes = Shapes::new(alloc);
+    let surplus = surplus_by(&mut shapes, header, lines);
+    // A call, which hides from the check of this function how each of its lists is let go.
     drop(shapes);
-    Ok(surplus)
+    surplus
+}
+
+// The same by shapes that are yet to be added.
+fn surplus_by<'a>(
+    shapes: &mut Shapes<'a>,
+    header: Option<&'a Header>,
+    lines: &[Line<'a>],
+) -> Result<Option<Surplus>, AllocError> {
+    shapes.add_all(header, lines)?;
+    Ok(first_surplus(shapes, lines))
 }
 
 // The same by the shapes of the variables.
@@ -110,7 +130,12 @@ fn counts<'a>(shapes: &Shapes<'a>, line: &'a [u8]) -> Option<(u64, u64)> {
 
 // A put, by the word of its call.
 fn put_of(call: &[u8]) -> Option<Access> {
-    Access::of_word(call).filter(|access| access.has_values)
+    let access = Access::of_word(call)?;
+    if access.has_values {
+        Some(access)
+    } else {
+        None
+    }
 }
 
 // How many values are asked for of this variable, by the words that follow.
@@ -122,12 +147,18 @@ fn asked<'a>(
 ) -> Option<u64> {
     match form {
         Form::Var => shapes.count(var),
-        Form::Var1 => words.take().map(|_| 1),
+        Form::Var1 => one(words),
         Form::Vara => product(words.take_behind(1)?),
         Form::Vars => strided(words),
         Form::Varm => mapped(words),
         Form::Varn => parts(words),
     }
+}
+
+// The one element of START.
+fn one(words: &mut Cursor<'_>) -> Option<u64> {
+    words.take()?;
+    Some(1)
 }
 
 // The elements of START, COUNT and STRIDE.
