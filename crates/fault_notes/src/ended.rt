@@ -132,8 +132,19 @@ fn push_passed_over(
     run: &Run<'_>,
 ) -> Result<(), AllocError> {
     let header = header_of(alloc, run.front);
-    push_missing_bytes(notes, alloc, dataset, run, header.as_ref())?;
-    push_values(notes, alloc, run, header.as_ref())?;
+    push_by_header(notes, alloc, dataset, run, header.as_ref())
+}
+
+// The same by the header of a dataset that was opened.
+fn push_by_header(
+    notes: &mut String,
+    alloc: Global,
+    dataset: &str,
+    run: &Run<'_>,
+    header: Option<&Header>,
+) -> Result<(), AllocError> {
+    push_missing_bytes(notes, alloc, dataset, run, header)?;
+    push_values(notes, alloc, run, header)?;
     push_requests(notes, alloc, run)
 }
 

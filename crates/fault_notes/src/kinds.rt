@@ -19,9 +19,6 @@ pub(crate) fn push_script_note(
     told: &[u8],
 ) -> Result<(), AllocError> {
     let lines = lines_of(alloc, script)?;
-    if lines.is_empty() && told.ends_with(b": no head\n") {
-        return out.push_str("the script is empty");
-    }
     push_first_refused(out, alloc, lines.as_slice(), told)
 }
 
@@ -31,6 +28,9 @@ fn push_first_refused(
     lines: &[Line<'_>],
     told: &[u8],
 ) -> Result<(), AllocError> {
+    if lines.is_empty() && told.ends_with(b": no head\n") {
+        return out.push_str("the script is empty");
+    }
     let Some(refused) = first_refused(alloc, lines)? else {
         return Ok(());
     };

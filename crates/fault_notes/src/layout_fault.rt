@@ -16,11 +16,21 @@ pub(crate) fn push_layout_fault(
     told: &[u8],
 ) -> Result<(), AllocError> {
     let lines = lines_of(alloc, script)?;
+    push_among(out, lines.as_slice(), header, told)
+}
+
+// The same by the lines of the script.
+fn push_among(
+    out: &mut String,
+    lines: &[Line<'_>],
+    header: Option<&Header>,
+    told: &[u8],
+) -> Result<(), AllocError> {
     let Some((number, cause)) = numbered(told, b"ncrun: variable ", b" ") else {
         return out.push_str("its dimensions, variables and attributes take more than 2^20 bytes");
     };
-    push_var(out, lines.as_slice(), header, number)?;
-    out.push_str(fault_of(cause, header, lines.as_slice()))
+    push_var(out, lines, header, number)?;
+    out.push_str(fault_of(cause, header, lines))
 }
 
 // Why it gets no place.

@@ -20,12 +20,21 @@ pub(crate) fn push_redefinition(
     let Some((number, cause)) = numbered(told, b"ncrun: redefinition ", b": ") else {
         return Ok(());
     };
-    let place = usize::try_from(number).unwrap_or(usize::MAX);
-    let lines = lines_of(alloc, script)?;
-    match nth_defining(lines.as_slice(), &ADDED, place) {
+    match line_adding(alloc, script, number)? {
         Some(line) => push_cause(out, line, cause),
         None => Ok(()),
     }
+}
+
+// The line of this number, from 0, among those that add to a dataset.
+fn line_adding<'a>(
+    alloc: Global,
+    script: &'a [u8],
+    number: u64,
+) -> Result<Option<Line<'a>>, AllocError> {
+    let lines = lines_of(alloc, script)?;
+    let place = usize::try_from(number).unwrap_or(usize::MAX);
+    Ok(nth_defining(lines.as_slice(), &ADDED, place))
 }
 
 /// Why it is refused.
