@@ -104,16 +104,15 @@ const HDF5: &[u8] = b"\x89HDF";
 
 fn push_other_format(out: &mut String, front: &[u8]) -> Result<(), AllocError> {
     let first = Shown(front.get(..4).unwrap_or(front));
+    let other = if front.starts_with(HDF5) {
+        "; this is HDF5, and `nccopy -k cdf5` makes a classic dataset of one of netCDF-4"
+    } else {
+        ""
+    };
     write!(
         out,
-        "it begins with {first}, and a classic dataset with `CDF`"
-    )?;
-    if front.starts_with(HDF5) {
-        out.push_str(
-            "; this is HDF5, and `nccopy -k cdf5` makes a classic dataset of one of netCDF-4",
-        )?;
-    }
-    Ok(())
+        "it begins with {first}, and a classic dataset with `CDF`{other}"
+    )
 }
 
 fn push_version(out: &mut String, front: &[u8]) -> Result<(), AllocError> {

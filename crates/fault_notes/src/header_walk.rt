@@ -81,6 +81,17 @@ pub(crate) enum Owner<'a> {
     Var(Named<'a>),
 }
 
+impl fmt::Display for Owner<'_> {
+    fn fmt<W: fmt::Write>(&self, f: &mut fmt::Formatter<W>) -> fmt::Result {
+        match *self {
+            Owner::Header => Ok(()),
+            Owner::Dataset => f.write_str(" of the dataset"),
+            Owner::Dim(dim) => write!(f, " of dimension {dim}"),
+            Owner::Var(var) => write!(f, " of variable {var}"),
+        }
+    }
+}
+
 /// Where a walk ends, if not before.
 #[derive(Clone, Copy)]
 pub(crate) enum Goal {
@@ -133,15 +144,11 @@ fn size_of(kind: u64) -> u64 {
 
 impl fmt::Display for Walk<'_> {
     fn fmt<W: fmt::Write>(&self, f: &mut fmt::Formatter<W>) -> fmt::Result {
-        f.write_str(self.field.name())?;
-        if let Some(attr) = self.attr {
-            write!(f, " of attribute {attr}")?;
-        }
-        match self.owner {
-            Owner::Header => Ok(()),
-            Owner::Dataset => f.write_str(" of the dataset"),
-            Owner::Dim(dim) => write!(f, " of dimension {dim}"),
-            Owner::Var(var) => write!(f, " of variable {var}"),
+        let field = self.field.name();
+        let owner = self.owner;
+        match self.attr {
+            Some(attr) => write!(f, "{field} of attribute {attr}{owner}"),
+            None => write!(f, "{field}{owner}"),
         }
     }
 }

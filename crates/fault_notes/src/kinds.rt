@@ -152,29 +152,25 @@ const BYTE_ORDER_MARK: &[u8] = b"\xEF\xBB\xBF";
 
 fn push_head(out: &mut String, line: Line<'_>) -> Result<(), AllocError> {
     let number = line.number;
+    let marked = if line.text.starts_with(BYTE_ORDER_MARK) {
+        ", and not with a byte-order mark"
+    } else {
+        ""
+    };
     write!(
         out,
-        "line {number}: a script begins with `create 1`, `create 2`, `create 5` or `open`"
-    )?;
-    if line.text.starts_with(BYTE_ORDER_MARK) {
-        out.push_str(", and not with a byte-order mark")?;
-    }
-    Ok(())
+        "line {number}: a script begins with `create 1`, `create 2`, `create 5` or `open`{marked}"
+    )
 }
 
 fn push_end(out: &mut String, line: Line<'_>) -> Result<(), AllocError> {
     let number = line.number;
-    if line.part == Part::Calls || begins(line.text, b"data") {
-        write!(
-            out,
-            "line {number} is the last one; `end` is wanted behind it"
-        )
+    let wanted = if line.part == Part::Calls || begins(line.text, b"data") {
+        "`end` is wanted"
     } else {
-        write!(
-            out,
-            "line {number} is the last one; `data` and `end` are wanted behind it"
-        )
-    }
+        "`data` and `end` are wanted"
+    };
+    write!(out, "line {number} is the last one; {wanted} behind it")
 }
 
 fn push_after_end(out: &mut String, lines: &[Line<'_>], line: Line<'_>) -> Result<(), AllocError> {

@@ -80,18 +80,17 @@ pub(crate) fn push_pending(out: &mut String, pending: Pending) -> Result<(), All
         ranks,
         first,
     } = pending;
-    match (requests, ranks) {
-        (1, _) => write!(
+    let undone = if requests == 1 {
+        "request, so it was not done"
+    } else {
+        "requests, so they were not done"
+    };
+    if ranks == 1 {
+        write!(out, "rank {first} never waited for {requests} {undone}")
+    } else {
+        write!(
             out,
-            "rank {first} never waited for 1 request, so it was not done"
-        ),
-        (_, 1) => write!(
-            out,
-            "rank {first} never waited for {requests} requests, so they were not done"
-        ),
-        _ => write!(
-            out,
-            "{ranks} ranks, the first of them rank {first}, never waited for {requests} requests, so they were not done"
-        ),
+            "{ranks} ranks, the first of them rank {first}, never waited for {requests} {undone}"
+        )
     }
 }

@@ -19,7 +19,7 @@ pub(crate) fn place_of(line: Line<'_>, kind: ScriptKind, taken: usize) -> usize 
         return taken;
     };
     let slot = slot_of(line, taken);
-    let behind = if slot.sort() == Sort::Choice {
+    let behind = if matches!(slot.sort(), Sort::Choice) {
         behind_all(kind, next)
     } else if slot.is_value() && is_read(slot_of(line, taken.saturating_sub(1)), last) {
         ahead(kind, next, words)
@@ -40,7 +40,7 @@ fn behind_all(kind: ScriptKind, first: &[u8]) -> usize {
 
 // Whether the last word before values was no fault.
 fn is_read(slot: Slot, last: &[u8]) -> bool {
-    if slot.sort() == Sort::List {
+    if matches!(slot.sort(), Sort::List) {
         product(last).is_some()
     } else {
         !slot.is_value()

@@ -77,11 +77,12 @@ fn is_dim(line: &[u8]) -> bool {
 
 fn push_taken(out: &mut String, line: &[u8]) -> Result<(), AllocError> {
     let name = added(line);
-    match Definition::of_text(line) {
-        Some(Definition::Dim) => write!(out, "the dataset has a dimension {name} already"),
-        Some(Definition::Var) => write!(out, "the dataset has a variable {name} already"),
-        _ => push_taken_attribute(out, word_at(line, 1), name),
-    }
+    let kind = match Definition::of_text(line) {
+        Some(Definition::Dim) => "dimension",
+        Some(Definition::Var) => "variable",
+        _ => return push_taken_attribute(out, word_at(line, 1), name),
+    };
+    write!(out, "the dataset has a {kind} {name} already")
 }
 
 fn push_taken_attribute(out: &mut String, owner: &[u8], name: Shown<'_>) -> Result<(), AllocError> {
@@ -93,12 +94,13 @@ fn push_taken_attribute(out: &mut String, owner: &[u8], name: Shown<'_>) -> Resu
 }
 
 fn push_unknown(out: &mut String, line: &[u8]) -> Result<(), AllocError> {
-    if begins(line, b"att") {
-        let owner = Shown(word_at(line, 1));
-        return write!(out, "the dataset has no variable {owner}");
-    }
-    let dims = Shown(word_at(line, 3));
-    write!(out, "the dataset lacks a dimension of {dims}")
+    let (lacks, place) = if begins(line, b"att") {
+        ("has no variable", 1)
+    } else {
+        ("lacks a dimension of", 3)
+    };
+    let word = Shown(word_at(line, place));
+    write!(out, "the dataset {lacks} {word}")
 }
 
 fn push_shape(out: &mut String, line: &[u8]) -> Result<(), AllocError> {

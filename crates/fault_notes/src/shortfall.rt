@@ -30,13 +30,13 @@ pub(crate) fn push_shortfall(
         return Ok(());
     }
     let dataset = Shown(dataset.as_bytes());
-    write!(
-        out,
-        "{dataset} had {there} bytes, and its header says {wanted}; "
-    )?;
-    out.push_str(if run.script.is_empty() {
+    let missing = if run.script.is_empty() {
         "what is missing reads as zeros"
     } else {
         "it was made so long, and what was missing reads as zeros"
-    })
+    };
+    write!(
+        out,
+        "{dataset} had {there} bytes, and its header says {wanted}; {missing}"
+    )
 }

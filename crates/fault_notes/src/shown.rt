@@ -11,14 +11,20 @@ pub(crate) struct Shown<'a>(pub &'a [u8]);
 impl fmt::Display for Shown<'_> {
     fn fmt<W: fmt::Write>(&self, f: &mut fmt::Formatter<W>) -> fmt::Result {
         f.write_str("`")?;
-        for byte in self.0.iter().take(MOST_SHOWN) {
-            write_byte(f, *byte)?;
-        }
-        if self.0.len() > MOST_SHOWN {
-            f.write_str("..")?;
-        }
-        f.write_str("`")
+        write_bytes(f, self.0.get(..MOST_SHOWN).unwrap_or(self.0))?;
+        f.write_str(if self.0.len() > MOST_SHOWN {
+            "..`"
+        } else {
+            "`"
+        })
     }
+}
+
+fn write_bytes<W: fmt::Write>(f: &mut fmt::Formatter<W>, bytes: &[u8]) -> fmt::Result {
+    for byte in bytes {
+        write_byte(f, *byte)?;
+    }
+    Ok(())
 }
 
 fn write_byte<W: fmt::Write>(f: &mut fmt::Formatter<W>, byte: u8) -> fmt::Result {

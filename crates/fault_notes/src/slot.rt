@@ -48,7 +48,7 @@ pub(crate) enum Slot {
 }
 
 /// What the place of a refused word goes by.
-#[derive(Clone, Copy, PartialEq, Eq)]
+#[derive(Clone, Copy)]
 pub(crate) enum Sort {
     Word,
     /// A list of a region.
