@@ -21,7 +21,7 @@ pub(crate) fn join_all<R: Threads>(
     requires handles { AreRankHandles inbox.of (word.Go ∷ []) ones.items lines.items }
     requires none { ends.old.items ≡ [] }
     requires room { length ones.items ≤ vec_capacity ends.old }
-    ensures { AreSettled inbox.items ones.items lines.items ends.new.items }
+    ensures { AreSettled inbox.items ones.entry.items lines.items ends.new.items }
 {
     let mut inbox = inbox;
     for (one, line) in ones.into_iter().zip(lines) {
@@ -39,7 +39,7 @@ fn join_one<R: Threads>(
     inbox: InTake<SentItem>,
 ) -> (RankEnd, InTake<SentItem>)
     requires { IsRankHandle inbox.of one.child.promise.ends.value.out.number (word.Go ∷ []) one line }
-    ensures settled { IsSettledOf one (items_under one.child.promise.ends.value.out.number inbox.items) line.items result.0 }
+    ensures settled { IsSettledOf one.entry (items_under one.entry.child.promise.ends.value.out.number inbox.items) line.items result.0 }
     ensures inbox { result.1 ≡ inbox }
 {
     let RankHandle { word: go, child } = one;
