@@ -65,17 +65,17 @@ silent_stop stop status told unlined memory (inl s) = (unlined (ap (λ (x : Stop
 silent_stop stop status told unlined memory (inr s) = memory s
 
 -- the line of a stop is that of its status
-pub told_line : {Gives : List ℕ → Type 0} (stop : Stop) (status : ℕ) → (status ≡ status_of stop) ⊎ (status ≡ 8) → (status ≡ status_of stop → IfSome (line_of stop) Gives)
+pub told_line : (Gives : List ℕ → Type 0) (stop : Stop) (status : ℕ) → (status ≡ status_of stop) ⊎ (status ≡ 8) → (status ≡ status_of stop → IfSome (line_of stop) Gives)
     → IfSome (line_of_status status) Gives
-told_line {Gives} stop status (inr m) gives = subst (λ (n : ℕ). IfSome (line_of_status n) Gives) (sym m) tt
-told_line {Gives} stops.Usage status (inl own) gives = subst (λ (n : ℕ). IfSome (line_of_status n) Gives) (sym own) (gives own)
-told_line {Gives} (stops.Script e) status (inl own) gives = subst (λ (n : ℕ). IfSome (line_of_status n) Gives) (sym own) tt
-told_line {Gives} (stops.Header e) status (inl own) gives = subst (λ (n : ℕ). IfSome (line_of_status n) Gives) (sym own) tt
-told_line {Gives} (stops.Layout e) status (inl own) gives = subst (λ (n : ℕ). IfSome (line_of_status n) Gives) (sym own) tt
-told_line {Gives} (stops.Redefinition e) status (inl own) gives = subst (λ (n : ℕ). IfSome (line_of_status n) Gives) (sym own) tt
-told_line {Gives} stops.Source status (inl own) gives = subst (λ (n : ℕ). IfSome (line_of_status n) Gives) (sym own) tt
-told_line {Gives} stops.Disk status (inl own) gives = subst (λ (n : ℕ). IfSome (line_of_status n) Gives) (sym own) (gives own)
-told_line {Gives} stops.Memory status (inl own) gives = subst (λ (n : ℕ). IfSome (line_of_status n) Gives) (sym own) tt
+told_line Gives stop status (inr m) gives = subst (λ (n : ℕ). IfSome (line_of_status n) Gives) (sym m) tt
+told_line Gives stops.Usage status (inl own) gives = subst (λ (n : ℕ). IfSome (line_of_status n) Gives) (sym own) (gives own)
+told_line Gives (stops.Script e) status (inl own) gives = subst (λ (n : ℕ). IfSome (line_of_status n) Gives) (sym own) tt
+told_line Gives (stops.Header e) status (inl own) gives = subst (λ (n : ℕ). IfSome (line_of_status n) Gives) (sym own) tt
+told_line Gives (stops.Layout e) status (inl own) gives = subst (λ (n : ℕ). IfSome (line_of_status n) Gives) (sym own) tt
+told_line Gives (stops.Redefinition e) status (inl own) gives = subst (λ (n : ℕ). IfSome (line_of_status n) Gives) (sym own) tt
+told_line Gives stops.Source status (inl own) gives = subst (λ (n : ℕ). IfSome (line_of_status n) Gives) (sym own) tt
+told_line Gives stops.Disk status (inl own) gives = subst (λ (n : ℕ). IfSome (line_of_status n) Gives) (sym own) (gives own)
+told_line Gives stops.Memory status (inl own) gives = subst (λ (n : ℕ). IfSome (line_of_status n) Gives) (sym own) tt
 
 -- ---- a run whose text is given, or wants memory
 
@@ -84,10 +84,10 @@ ended_status status (inl e) = inl e
 ended_status status (inr (inl e)) = inr (inr (inr (inr (inr (inl e)))))
 ended_status status (inr (inr e)) = inr (inr (inr (inr (inr (inr (inr e))))))
 
-pub ended_line : {Gives : List ℕ → Type 0} (status : ℕ) → (status ≡ 0) ⊎ ((status ≡ 6) ⊎ (status ≡ 8)) → IfSome (line_of_status status) Gives
-ended_line {Gives} status (inl e) = subst (λ (n : ℕ). IfSome (line_of_status n) Gives) (sym e) tt
-ended_line {Gives} status (inr (inl e)) = subst (λ (n : ℕ). IfSome (line_of_status n) Gives) (sym e) tt
-ended_line {Gives} status (inr (inr e)) = subst (λ (n : ℕ). IfSome (line_of_status n) Gives) (sym e) tt
+pub ended_line : (Gives : List ℕ → Type 0) (status : ℕ) → (status ≡ 0) ⊎ ((status ≡ 6) ⊎ (status ≡ 8)) → IfSome (line_of_status status) Gives
+ended_line Gives status (inl e) = subst (λ (n : ℕ). IfSome (line_of_status n) Gives) (sym e) tt
+ended_line Gives status (inr (inl e)) = subst (λ (n : ℕ). IfSome (line_of_status n) Gives) (sym e) tt
+ended_line Gives status (inr (inr e)) = subst (λ (n : ℕ). IfSome (line_of_status n) Gives) (sym e) tt
 
 -- it has none of the statuses before the ranks begin
 pub ended_late : {Q : Type 0} (status : ℕ) → (status ≡ 0) ⊎ ((status ≡ 6) ⊎ (status ≡ 8)) → IsBeforeRanks status → Q

@@ -43,7 +43,7 @@ pub returns-in-Err-clause-disk : goal.returns-in-Err-clause-disk
 returns-in-Err-clause-disk g c = λ s. c.in-Err.ensures.disk (ap (λ (s : Stop). Err s) (seven_disk c.in-Err.stop c.tell.result.status c.tell.ensures.status s))
 
 pub returns-in-Err-clause-told : goal.returns-in-Err-clause-told
-returns-in-Err-clause-told g c = told_line c.in-Err.stop c.tell.result.status c.tell.ensures.status c.tell.ensures.line
+returns-in-Err-clause-told g c = told_line _ c.in-Err.stop c.tell.result.status c.tell.ensures.status c.tell.ensures.line
 
 -- ---- where their run ended without a fault
 
@@ -78,7 +78,7 @@ pub returns-in-None-clause-disk : goal.returns-in-None-clause-disk
 returns-in-None-clause-disk g c = λ s. no_disk c.sum_up-outcome.result.status c.sum_up-outcome.ensures.statuses s
 
 pub returns-in-None-clause-told : goal.returns-in-None-clause-told
-returns-in-None-clause-told g c = ended_line c.sum_up-outcome.result.status c.sum_up-outcome.ensures.statuses
+returns-in-None-clause-told g c = ended_line _ c.sum_up-outcome.result.status c.sum_up-outcome.ensures.statuses
 
 -- ---- where the disk failed
 
@@ -114,8 +114,8 @@ returns-in-Some-Disk-clause-ends g c =
 
 -- ---- where memory was wanting
 
-pub returns-clause-ends : goal.returns-clause-ends
-returns-clause-ends g c =
+pub returns-in-Some-Memory-clause-ends : goal.returns-in-Some-Memory-clause-ends
+returns-in-Some-Memory-clause-ends g c =
     let seed : ℕ = c.args.seed in
     let size : ℕ = c.args.size in
     let mid = g.D.Disk.held c.begin_made.new.disk in

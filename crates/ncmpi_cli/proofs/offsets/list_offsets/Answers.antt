@@ -40,4 +40,4 @@ pub returns-in-Err-clause-calls : goal.returns-in-Err-clause-calls
 returns-in-Err-clause-calls g c = λ s. header_read c.in-Err.stop c.tell.result.status c.tell.ensures.status c.in-Err.ensures.only (λ e x. c.in-Err.ensures.refused e (ap (λ (s : Stop). Err s) x)) s
 
 pub returns-in-Err-clause-told : goal.returns-in-Err-clause-told
-returns-in-Err-clause-told g c = told_line c.in-Err.stop c.tell.result.status c.tell.ensures.status c.tell.ensures.line
+returns-in-Err-clause-told g c = told_line _ c.in-Err.stop c.tell.result.status c.tell.ensures.status c.tell.ensures.line

@@ -73,7 +73,7 @@ pub returns-in-Err-clause-no_step : goal.returns-in-Err-clause-no_step
 returns-in-Err-clause-no_step g c = λ _. c.tell.ensures.order ∙ c.new.ensures
 
 pub returns-in-Err-clause-told : goal.returns-in-Err-clause-told
-returns-in-Err-clause-told g c = told_line c.in-Err.stop c.tell.result.status c.tell.ensures.status c.tell.ensures.line
+returns-in-Err-clause-told g c = told_line _ c.in-Err.stop c.tell.result.status c.tell.ensures.status c.tell.ensures.line
 
 -- ---- where their run ended without a fault
 
@@ -150,7 +150,7 @@ pub returns-in-None-clause-no_step : goal.returns-in-None-clause-no_step
 returns-in-None-clause-no_step g c = λ s. ended_late c.finish-outcome.result.status c.finish-outcome.ensures.statuses s
 
 pub returns-in-None-clause-told : goal.returns-in-None-clause-told
-returns-in-None-clause-told g c = ended_line c.finish-outcome.result.status c.finish-outcome.ensures.statuses
+returns-in-None-clause-told g c = ended_line _ c.finish-outcome.result.status c.finish-outcome.ensures.statuses
 
 -- ---- where the disk failed
 
@@ -193,8 +193,8 @@ returns-in-Some-Disk-clause-ends g c =
 
 -- ---- where memory was wanting
 
-pub returns-clause-ends : goal.returns-clause-ends
-returns-clause-ends g c =
+pub returns-in-Some-Memory-clause-ends : goal.returns-in-Some-Memory-clause-ends
+returns-in-Some-Memory-clause-ends g c =
     let left = g.S.Source.left c.args.script.now in
     let held = g.D.Disk.held c.args.disk.now in
     let mid = g.D.Disk.held c.begin.new.disk in
@@ -242,7 +242,7 @@ returns-in-Some-Disk-clause-readings g c =
     untold c.args.watchers c.tell-in-Some-Disk.result.status (length c.tell-in-Some-Disk.result.order) c.tell-in-Some-Disk.result.readings
     (told_by_no_text stops.Disk c.tell-in-Some-Disk.result.status c.tell-in-Some-Disk.ensures.status) c.tell-in-Some-Disk.ensures.readings
 
-pub returns-clause-readings : goal.returns-clause-readings
-returns-clause-readings g c =
+pub returns-in-Some-Memory-clause-readings : goal.returns-in-Some-Memory-clause-readings
+returns-in-Some-Memory-clause-readings g c =
     untold c.args.watchers c.tell-in-Some-Memory.result.status (length c.tell-in-Some-Memory.result.order) c.tell-in-Some-Memory.result.readings
     (told_by_no_text stops.Memory c.tell-in-Some-Memory.result.status c.tell-in-Some-Memory.ensures.status) c.tell-in-Some-Memory.ensures.readings
