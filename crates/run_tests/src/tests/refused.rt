@@ -113,12 +113,6 @@ fn is_stopped(rt: &impl Abort, end: &RunEnd, refused: &Refused) {
     has_answers(rt, end, refused.answers);
 }
 
-/// Zeros stand where the header is to be, and the tail behind them.
-fn has_tail(rt: &impl Abort, file: &[u8], tail: &[u8]) {
-    assert!(rt; file.get(0..80) == Some([0u8; 80].as_slice()));
-    assert!(rt; file.get(80..) == Some(tail));
-}
-
 fn is_left<R: Abort + Threads + Wait + Sync>(rt: &R, alloc: Global, refused: &Refused) {
     let mut disk = disk_of(rt, alloc, refused.size, refused.fault);
     let end = ran(rt, alloc, refused, &mut disk);
@@ -126,8 +120,8 @@ fn is_left<R: Abort + Threads + Wait + Sync>(rt: &R, alloc: Global, refused: &Re
     drop(end);
     let file = disk.bytes(alloc).expect(rt, NO_MEMORY);
     drop(disk);
-    has_tail(rt, file.as_slice(), refused.tail);
-    drop(file);
+    assert!(rt; file.as_slice().get(0..80) == Some([0u8; 80].as_slice()));
+    assert!(rt; file.as_slice().get(80..) == Some(refused.tail));
 }
 
 #[test]
