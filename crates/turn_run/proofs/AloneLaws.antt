@@ -82,17 +82,15 @@ gone_same hints s r order held calls from to e = record {
   alike = λ records ranks g stand w. subst (λ (others : List Arrived). IsLike stand records others) (sym (set_own ranks r to (g ∙ ap (λ (a : Arrived). Some a) e))) w;
 }
 
-pub gone_then : (hints : Hints) (s : Setting) (r : ℕ) (before now later : List Mark) (held left last : Option (List ℕ)) (calls made done : Option (List DiskCall)) (from mid to : Arrived)
-    → HasGone hints s r (rank_stage before held calls from) (rank_stage now left made mid) → HasGone hints s r (rank_stage now left made mid) (rank_stage later last done to) → HasGone hints s r (rank_stage before held calls from) (rank_stage later last done to)
-gone_then hints s r before now later held left last calls made done from mid to first second = record {
+pub gone_then : (now : List Mark) {hints : Hints} {s : Setting} {r : ℕ} {before later : List Mark} {held left last : Option (List ℕ)} {calls made done : Option (List DiskCall)} {from mid to : Arrived}
+    → HasGone hints s r (rank_stage before held calls from) (rank_stage now left made mid) → HasGone hints s r (rank_stage now left made mid) (rank_stage later last done to)
+    → HasGone hints s r (rank_stage before held calls from) (rank_stage later last done to)
+gone_then now {hints} {s} {r} {before} {held} {left} {last} {calls} {made} {done} {from} {mid} {to} first second = record {
   more = first.more ++ second.more;
   grown = second.grown ∙ ap (λ (ms : List Mark). ms ++ second.more) first.grown ∙ append_assoc before first.more second.more;
   own = all_joined (is_solo_of r) first.more second.more first.own second.own;
-  led = λ records ranks g.
-      let one = first.led records ranks g in
-      let two = second.led records (set ranks r mid) (entry_set ranks r from mid g) in
-      led_then hints s first.more second.more (stage held calls records ranks) (stage left made records (set ranks r mid)) (stage last done records (set ranks r to)) one
-      (subst (λ (others : List Arrived). Leads hints s second.more (stage left made records (set ranks r mid)) (stage last done records others)) (set-set ranks r mid to) two);
+  led = λ records ranks g. led_then hints s first.more second.more (stage held calls records ranks) (stage left made records (set ranks r mid)) (stage last done records (set ranks r to)) (first.led records ranks g)
+      (subst (λ (others : List Arrived). Leads hints s second.more (stage left made records (set ranks r mid)) (stage last done records others)) (set-set ranks r mid to) (second.led records (set ranks r mid) (entry_set ranks r from mid g)));
   alike = λ records ranks g. subst (λ (others : List Arrived). LeadsAlike s (first.more ++ second.more) records ranks records others) (set-set ranks r mid to)
       (alike_then s first.more second.more records records records ranks (set ranks r mid) (set (set ranks r mid) r to) (first.alike records ranks g)
       (second.alike records (set ranks r mid) (entry_set ranks r from mid g)));
@@ -136,12 +134,6 @@ pub went_runner : (script : Script) (header : Header) (order : List Mark) (r : �
     → IsPlaced script header order r (going_of own new) new.held → IfSome new.held (IsAsked header new.rank.state.known) → IsRunner script header order r new
 went_runner script header order r own new e h p a =
     record { of_header = h; placed = subst (λ (o : List Call). IsPlaced script header order r (going_of o new) new.held) e p; asked = a }
-
-pub went_gone : (hints : Hints) (s : Setting) (r : ℕ) (order : List Mark) (held : Option (List ℕ)) (calls : Option (List DiskCall)) (header : Header) (own all : List Call) (old new : Runner)
-    → own ≡ all → old.held ≡ None → advance header (between own old) ≡ (going_of own new, new.held) → (new.held ≡ None → drop (length new.answers) own ≡ [])
-    → HasGone hints s r (rank_stage order held calls (arrived header all old)) (rank_stage order held calls (arrived header all new))
-went_gone hints s r order held calls header own all old new e free gone ended = gone_same hints s r order held calls (arrived header all old) (arrived header all new)
-    (subst (λ (o : List Call). arrived header o old ≡ arrived header o new) e (arrived_gone header own old new free gone ended))
 
 pub taken_asks : (header : Header) (own : List Call) (a b : Runner) (o : Offer) → a.held ≡ Some o → b.rank ≡ a.rank → b.answers ≡ a.answers → (asking own b, Some o) ≡ arrived header own a
 taken_asks header own a b o e f h =

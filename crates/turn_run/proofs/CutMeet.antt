@@ -1,11 +1,12 @@
 -- A meeting that was cut off.
-use Rattle.turn_run.proofs.Words.{◌≡◌, ℕ, ◌+◌, ◌<◌, ◌≤◌, refl, sym, ◌∙◌, ap, subst, inl, inr, ◌⊎◌, List, [], ◌∷◌, ◌++◌, length, max, Bool, true, false, cond, Option, Some, None, arith, append-nil, flat_map, nat_lt, ◌==◌, IfSome, if◌then◌else◌, enumerate_from, list_any, byte_len, Batch, Call, Mark, Meet, Offer, StepErr, Memory, after, BothTold, needed_now, at, Setting, Counted, after_puts, puts_of, raised, told, count, count_width, with_records, Puts, covered, IsTorn, IsLeft, at-written_before, after_keeps, after_round, counted, puts_in, counted_past, torn_by, torn_sides, round_grows, told_as, Header, Script, is_lawful, meetings, completed_by, point, AreRunners, HaveArrived, HaveMet, StopsAt, HasStopped, IsNext, bytes_at, in_step, step_to, arrived_all, held_offers, met, Runner, after_grows, raised_grows, ext_get_or, may_change}
+use Rattle.turn_run.proofs.Words.{◌≡◌, ℕ, ◌+◌, ◌<◌, ◌≤◌, refl, sym, ◌∙◌, ap, subst, inl, inr, ◌⊎◌, List, [], ◌∷◌, ◌++◌, length, max, Bool, true, false, cond, Option, Some, None, arith, append-nil, flat_map, nat_lt, ◌==◌, if◌then◌else◌, enumerate_from, list_any, byte_len, Batch, Call, Mark, Meet, Offer, StepErr, Memory, after, BothTold, needed_now, at, Setting, Counted, after_puts, puts_of, raised, told, count, count_width, with_records, Puts, covered, IsTorn, IsLeft, at-written_before, after_keeps, after_round, counted, puts_in, counted_past, torn_by, torn_sides, round_grows, told_as, Header, Script, is_lawful, meetings, completed_by, point, AreRunners, HaveArrived, HaveMet, HasStopped, IsNext, bytes_at, in_step, step_to, arrived_all, held_offers, met, Runner, after_grows, raised_grows, ext_get_or, may_change}
 use Rattle.turn_run.proofs.MeetDone.{begun_after}
 use Rattle.turn_run.specs.Cuts.StopsAt.{between}
 use Rattle.turn_run.proofs.HalfLaws.{needed_of_none}
 use Rattle.turn_run.proofs.MeetFile.{raised_none, twice_raised}
 use Rattle.turn_run.proofs.MeetStep.{meet_at, offers_are, puts_same, IsTaken}
 pub use Rattle.turn_run.proofs.MeetStep.{met_count}
+use Rattle.turn_run.proofs.StageLaws.{some_each}
 
 abbrev field_of : Setting → ℕ
 field_of s = byte_len (count_width s.header.version)
@@ -132,39 +133,35 @@ pub stopped_meet : {F : Mark → Type 0} {s : Setting} {fault : StepErr} (k : �
     {known r n : ℕ} → IsTaken calls runners batches known → F (Meet k) → now ≡ before → BothTold (MetTorn s batches r known) held left
     → (n ≡ r) ⊎ (n ≡ max r (max (needed_now s (puts_in batches)) known)) → HasStopped F s fault (point before held r) (arrived_all s.header calls runners) (point now left n)
 stopped_meet {F} {s} {fault} k {before} {now} {held} {left} {calls} {runners} {batches} {known} {r} {n} t f same torn count =
-    record { more = []; grown = same ∙ sym (append-nil before); stops = by_held held torn }
-  where
-    by_count : (file : List ℕ) → (n ≡ r) ⊎ (n ≡ max r (max (needed_now s (puts_in batches)) known)) → (n ≡ r) ⊎ (n ≡ (met s batches known (counted file r)).records)
-    by_count file (inl q) = inl q
-    by_count file (inr q) = inr (q ∙ sym (met_count s batches known file r))
-
-    by_held : (m : Option (List ℕ)) → BothTold (MetTorn s batches r known) m left
-        → IfSome m (λ file. (bytes : List ℕ) × (left ≡ Some bytes) × StopsAt F s fault (counted file r, arrived_all s.header calls runners) bytes n)
-    by_held None b = tt
-    by_held (Some file) b = (
-      b.0,
-      b.1,
-      in_step (Meet k) f
-          (subst (λ (own : List ℕ). IsLeft s.header own (counted file r) (step_to s (counted file r, arrived_all s.header calls runners) (Meet k)).0 b.0 n) (bytes_meet s k t)
-          (subst (λ (new : Counted). IsLeft s.header (covered s.header (puts_in batches)) (counted file r) new b.0 n) (meet_at s k (counted file r) t) (b.2, by_count file count))),
-    )
+    record {
+      more = [];
+      grown = same ∙ sym (append-nil before);
+      stops = some_each held (λ file there.
+          let b = rw there at torn in (
+            b.0,
+            b.1,
+            in_step (Meet k) f
+                (subst (λ (own : List ℕ). IsLeft s.header own (counted file r) (step_to s (counted file r, arrived_all s.header calls runners) (Meet k)).0 b.0 n) (bytes_meet s k t)
+                (subst (λ (new : Counted). IsLeft s.header (covered s.header (puts_in batches)) (counted file r) new b.0 n) (meet_at s k (counted file r) t)
+                (b.2, subst (λ (m : ℕ). (n ≡ r) ⊎ (n ≡ m)) (sym (met_count s batches known file r)) count))),
+          ));
+    }
 
 -- the meeting was done, and some ranks did not hear
 pub stopped_deaf : {F : Mark → Type 0} {s : Setting} {fault : StepErr} (k : ℕ) {before now : List Mark} {held left : Option (List ℕ)} {calls : List (List Call)} {runners : List Runner} {batches : List Batch}
     {known r n : ℕ} → IsTaken calls runners batches known → fault ≡ Memory → now ≡ before ++ Meet k ∷ [] → left ≡ after (λ file. (met s batches known (counted file r)).file) held
     → n ≡ max r (max (needed_now s (puts_in batches)) known) → HasStopped F s fault (point before held r) (arrived_all s.header calls runners) (point now left n)
 stopped_deaf {F} {s} {fault} k {before} {now} {held} {left} {calls} {runners} {batches} {known} {r} {n} t memory grown bytes count =
-    record { more = Meet k ∷ []; grown = grown; stops = by_held held bytes }
-  where
-    by_held : (m : Option (List ℕ)) → left ≡ after (λ file. (met s batches known (counted file r)).file) m
-        → IfSome m (λ file. (bytes : List ℕ) × (left ≡ Some bytes) × StopsAt F s fault (step_to s (counted file r, arrived_all s.header calls runners) (Meet k)) bytes n)
-    by_held None q = tt
-    by_held (Some file) q =
-        let same = meet_at s k (counted file r) t in (
-          (met s batches known (counted file r)).file,
-          q,
-          between memory (ap (λ (c : Counted). c.file) same) (count ∙ sym (met_count s batches known file r) ∙ ap (λ (c : Counted). c.records) same),
-        )
+    record {
+      more = Meet k ∷ [];
+      grown = grown;
+      stops = some_each held (λ file there.
+          let same = meet_at s k (counted file r) t in (
+            (met s batches known (counted file r)).file,
+            rw there at bytes,
+            between memory (ap (λ (c : Counted). c.file) same) (count ∙ sym (met_count s batches known file r) ∙ ap (λ (c : Counted). c.records) same),
+          ));
+    }
 
 -- the count that is left where that of the ranks was not written
 pub count_left : (s : Setting) (puts : Puts) (r n m known : ℕ) → n ≡ max r (needed_now s puts) → m ≡ n → (known ≡ 0) ⊎ (puts ≡ []) → (m ≡ r) ⊎ (m ≡ max r (max (needed_now s puts) known))

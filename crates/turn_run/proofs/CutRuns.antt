@@ -1,5 +1,5 @@
 -- A run in turn that was cut off, from its first stage on.
-use Rattle.turn_run.proofs.Words.{IfSome_then, ◌≡◌, ℕ, refl, sym, ◌∙◌, ap, subst, inl, inr, ◌⊎◌, List, [], ◌++◌, length, map, Bool, true, false, cond, Option, Some, None, arith, replicate, slice_get, fold, nat_lt, IfSome, length-replicate, byte_len, Answer, Header, Script, DiskCall, Mark, Meet, Solo, Offer, StepErr, after, BothTold, Setting, Counted, puts_of, raised, count_width, IsLegal, is_lawful, greatest, with_records, Going, advance, after_mark, closed, first_going, first_state, setting_of, state_after, close_by, covered, IsTorn, IsLeft, StoodAt, IsCutRun, HasAnswers, HasAnswersOfEach, bytes_of_mark, as_setting, counted, torn_by, ranks_lawful, completed, point, HasBegun, StopsAt, HasStopped, IsNext, bytes_at, in_step, Arrived, Stand, step_to, HasLed, IsLed, Leads, arrived_all, stage, all_between, HaveAnswers, first_runner, Runner, entry_map, map_map, entry_map_none, mapped_entry, raised_grows, gone_up, arrival_step, arrival_steps}
+use Rattle.turn_run.proofs.Words.{IfSome_then, ◌≡◌, ℕ, refl, sym, ◌∙◌, ap, subst, inl, inr, ◌⊎◌, List, [], ◌++◌, length, map, Bool, true, false, cond, Option, Some, None, arith, replicate, slice_get, fold, nat_lt, IfSome, length-replicate, byte_len, Answer, Header, Script, DiskCall, Mark, Meet, Solo, Offer, StepErr, after, BothTold, Setting, Counted, puts_of, raised, count_width, IsLegal, is_lawful, greatest, with_records, Going, advance, after_mark, closed, first_going, first_state, setting_of, state_after, close_by, covered, IsTorn, IsLeft, StoodAt, IsCutRun, HasAnswers, HasAnswersOfEach, bytes_of_mark, as_setting, counted, torn_by, completed, point, HasBegun, StopsAt, HasStopped, IsNext, bytes_at, in_step, Arrived, Stand, step_to, HasLed, IsLed, Leads, arrived_all, stage, all_between, HaveAnswers, first_runner, Runner, entry_map, map_map, entry_map_none, mapped_entry, raised_grows, gone_up, arrival_step, arrival_steps}
 use Rattle.nc_base.specs.declared.step.StepErr.TheVariants as fault
 use Rattle.serial_spec.specs.RankMachine as machine
 use Rattle.serial_spec.specs.Torn.StoodAt.{in_step as stood_step, in_close as stood_close, between as stood_between}
@@ -190,8 +190,7 @@ cut_answers script header e x records first last before order file answers lawfu
     all_marks = sym (h.grown ∙ ap (λ (ms : List Mark). ms ++ h.more) none)
 
     goings : all_between script.calls first ≡ map (first_going header) script.calls
-    goings = ap (λ (ss : List Runner). all_between script.calls ss) all
-        ∙ ap (λ (n : ℕ). all_between script.calls (replicate n (first_runner header records))) (sym (ranks_lawful script lawful).one_each) ∙ first_goings header records script.calls count
+    goings = first_goings script header records first lawful count all
 
     state : fold (after_mark s) (counted file records, all_between script.calls first) h.more ≡ state_after script header file order
     state = ap (λ (ms : List Mark). fold (after_mark s) (counted file records, all_between script.calls first) ms) all_marks

@@ -1,9 +1,9 @@
 -- The answers of ranks that a fault cut off.
-use Rattle.turn_run.proofs.Words.{IfSome_then, ◌≡◌, ℕ, zero, suc, ◌<◌, ◌≤◌, ◌≢◌, refl, sym, ◌∙◌, ap, subst, List, [], ◌∷◌, ◌++◌, length, map, set, Bool, true, false, cond, Option, Some, None, length-append, append_assoc, arith, nat_tests, fold-append, append-nil, append_cancel_left, filter-append, same_Some, slice_get_within, slice_get, fold, filter, nat_lt, ◌==◌, IfSome, Answer, Header, Call, Hints, Script, DiskCall, Mark, Meet, Solo, Offer, Reply, StepErr, Disk, Memory, Setting, Counted, solo, concerns, hear, Going, advance, after_mark, hears, solo_of, Begins, HasAnswers, counted, Arrived, Stand, step_to, point, HasSaid, SaysAt, AllSay, HasReached, AreAnswers, HaveAnswers, all_between, between, calls_of, AreFree, HasArrived, Stage, Leads, IsLed, HasGone, HasLed, IsGrownBy, arrived, arrived_all, stage, rank_stage, Runner, if_some_at, entry_set, entry_set_other, entry_map, stand_at, state_at, gone_up, arrival_steps}
+use Rattle.turn_run.proofs.Words.{IfSome_then, ◌≡◌, ℕ, zero, suc, ◌<◌, ◌≤◌, ◌≢◌, refl, sym, ◌∙◌, ap, subst, List, [], ◌∷◌, ◌++◌, length, map, set, Bool, true, false, cond, Option, Some, None, length-append, append_assoc, arith, nat_tests, fold-append, append-nil, append_cancel_left, filter-append, same_Some, slice_get_within, slice_get, fold, filter, nat_lt, ◌==◌, IfSome, Answer, Header, Call, Hints, Script, DiskCall, Mark, Meet, Solo, Offer, Reply, StepErr, Disk, Memory, Setting, Counted, solo, concerns, hear, Going, advance, after_mark, hears, solo_of, Begins, HasAnswers, counted, Arrived, Stand, step_to, point, HasSaid, SaysAt, AllSay, HasReached, AreAnswers, HaveAnswers, all_between, between, calls_of, AreFree, HasArrived, Stage, IsLed, HasGone, HasLed, IsGrownBy, arrived, arrived_all, stage, rank_stage, Runner, if_some_at, entry_set, entry_set_other, entry_map, stand_at, state_at, gone_up, arrival_steps}
 use Rattle.run_laws.proofs.WayLaws.{others_filter as solos_beside}
 use Rattle.turn_run.proofs.AloneLaws.{arrived_free, arrived_held, step_at}
 use Rattle.turn_run.proofs.RunnerLaws.{advance_ended, answers_begin}
-use Rattle.turn_run.proofs.StageLaws.{some_all}
+use Rattle.turn_run.proofs.StageLaws.{some_each, gone_beside}
 use Rattle.turn_run.proofs.TurnSteps.{calls_there, get_arrived, own_or_other}
 
 -- ---- one rank
@@ -65,36 +65,29 @@ part_arrived header own all old answers e free (rest, h) = (
 
 pub reached_here : (P : Stand → Type 0) (s : Setting) (before now : List Mark) (held : Option (List ℕ)) (records : ℕ) (ranks : List Arrived) → now ≡ before → ((c : Counted) → P (c, ranks))
     → HasReached P s (point before held records) ranks now
-reached_here P s before now held records ranks e h = record { more = []; grown = e ∙ sym (append-nil before); ends = some_all held (λ file. h (counted file records)) }
+reached_here P s before now held records ranks e h = record { more = []; grown = e ∙ sym (append-nil before); ends = some_each held (λ file there. h (counted file records)) }
 
-pub reached_then : (P : Stand → Type 0) (hints : Hints) (s : Setting) (before mid now more : List Mark) (a b : Stage)
-    → Leads hints s more a b → mid ≡ before ++ more → HasReached P s (point mid b.held b.records) b.ranks now → HasReached P s (point before a.held a.records) a.ranks now
-reached_then P hints s before mid now more a b led grown h = record {
-  more = more ++ h.more;
-  grown = h.grown ∙ ap (λ (ms : List Mark). ms ++ h.more) grown ∙ append_assoc before more h.more;
-  ends = IfSome_then a.held led (λ file l.
-      subst P (ap (λ (stand : Stand). fold (step_to s) stand h.more) (sym l.state) ∙ sym (fold-append (step_to s) (counted file a.records, a.ranks) more h.more)) (at l.left l.told));
+pub reached_then : (P : Stand → Type 0) (mid : List Mark) {hints : Hints} {s : Setting} {before now : List Mark} {a b : Stage}
+    → HasLed hints s before mid a b → HasReached P s (point mid b.held b.records) b.ranks now → HasReached P s (point before a.held a.records) a.ranks now
+reached_then P mid {hints} {s} {before} {now} {a} {b} led h = record {
+  more = led.more ++ h.more;
+  grown = h.grown ∙ ap (λ (ms : List Mark). ms ++ h.more) led.grown ∙ append_assoc before led.more h.more;
+  ends = IfSome_then a.held led.led (λ file l.
+      subst P (ap (λ (stand : Stand). fold (step_to s) stand h.more) (sym l.state) ∙ sym (fold-append (step_to s) (counted file a.records, a.ranks) led.more h.more))
+      (if_some_at (λ (f : List ℕ). P (fold (step_to s) (counted f b.records, b.ranks) h.more)) b.held l.left l.told h.ends));
 }
-  where
-    Ends : Option (List ℕ) → ℕ → List Arrived → List Mark → Type 0
-    Ends held records ranks ms = IfSome held (λ file. P (fold (step_to s) (counted file records, ranks) ms))
 
-    at : (file : List ℕ) → b.held ≡ Some file → P (fold (step_to s) (counted file b.records, b.ranks) h.more)
-    at file e = subst (λ (m : Option (List ℕ)). Ends m b.records b.ranks h.more) e h.ends
-
-pub gone_reached : (P : Stand → Type 0) (hints : Hints) (s : Setting) (r : ℕ) (before mid now : List Mark) (held left : Option (List ℕ)) (calls made : Option (List DiskCall)) (from to : Arrived)
+pub gone_reached : (P : Stand → Type 0) (mid : List Mark) {hints : Hints} {s : Setting} {r : ℕ} {before now : List Mark} {held left : Option (List ℕ)} {calls made : Option (List DiskCall)} {from to : Arrived}
     → HasGone hints s r (rank_stage before held calls from) (rank_stage mid left made to)
     → ((records : ℕ) (ranks : List Arrived) → slice_get ranks r ≡ Some to → HasReached P s (point mid left records) ranks now)
     → (records : ℕ) (ranks : List Arrived) → slice_get ranks r ≡ Some from → HasReached P s (point before held records) ranks now
-gone_reached P hints s r before mid now held left calls made from to g next records ranks e =
-    reached_then P hints s before mid now g.more (stage held calls records ranks) (stage left made records (set ranks r to)) (g.led records ranks e) g.grown
-    (next records (set ranks r to) (entry_set ranks r from to e))
+gone_reached P mid {r} {from} {to} g next records ranks e = reached_then P mid (gone_beside g records ranks e) (next records (set ranks r to) (entry_set ranks r from to e))
 
 -- a solo step was done, and its reply was not heard
 pub reached_unheard : (s : Setting) (fault : StepErr) (r n : ℕ) (before now : List Mark) (held : Option (List ℕ)) (t : Going) (o : Offer) (answers : List Answer) → fault ≡ Memory
     → now ≡ before ++ Solo r n ∷ [] → answers ≡ t.answers
     → (records : ℕ) (ranks : List Arrived) → slice_get ranks r ≡ Some (t, Some o) → HasReached (SaysAt r fault answers) s (point before held records) ranks now
-reached_unheard s fault r n before now held t o answers memory grown e records ranks there = record { more = Solo r n ∷ []; grown = grown; ends = some_all held (λ file. at (counted file records)) }
+reached_unheard s fault r n before now held t o answers memory grown e records ranks there = record { more = Solo r n ∷ []; grown = grown; ends = some_each held (λ file there. at (counted file records)) }
   where
     at : (c : Counted) → SaysAt r fault answers (step_to s (c, ranks) (Solo r n))
     at c =
@@ -112,16 +105,20 @@ solo_beside s q r c ranks (Some a) n = entry_set_other ranks q r (advance s.head
 not_equal : (q r : ℕ) → (q == r) ≡ false → q ≢ r
 not_equal q r h e = grind (arith, nat_tests)
 
-pub marks_beside : (s : Setting) (r : ℕ) (more : List Mark) (stand : Stand) → filter (concerns r) more ≡ [] → slice_get (fold (step_to s) stand more).1 r ≡ slice_get stand.1 r
-marks_beside s r [] stand e = refl
-marks_beside s r (Meet k ∷ more) stand e = absurd cc
-marks_beside s r (Solo q n ∷ more) stand e = by_test (q == r) refl e (λ next h. marks_beside s r more next h)
+-- of steps that leave what is seen of rank r, where they are of another one
+beside : {X G : Type 0} (step : X → Mark → X) (see : X → G) (r : ℕ) (more : List Mark) (x : X) → ((x : X) (q n : ℕ) → q ≢ r → see (step x (Solo q n)) ≡ see x) → filter (concerns r) more ≡ []
+    → see (fold step x more) ≡ see x
+beside step see r [] x one e = refl
+beside step see r (Meet k ∷ more) x one e = absurd cc
+beside {X} step see r (Solo q n ∷ more) x one e = by_test (q == r) refl e (λ next h. beside step see r more next one h)
   where
     by_test : (t : Bool) → (q == r) ≡ t → cond t (Solo q n ∷ filter (concerns r) more) (filter (concerns r) more) ≡ []
-        → ((next : Stand) → filter (concerns r) more ≡ [] → slice_get (fold (step_to s) next more).1 r ≡ slice_get next.1 r)
-        → slice_get (fold (step_to s) (step_to s stand (Solo q n)) more).1 r ≡ slice_get stand.1 r
+        → ((next : X) → filter (concerns r) more ≡ [] → see (fold step next more) ≡ see next) → see (fold step (step x (Solo q n)) more) ≡ see x
     by_test true t h again = absurd cc
-    by_test false t h again = again (step_to s stand (Solo q n)) h ∙ solo_beside s q r stand.0 stand.1 (slice_get stand.1 q) (not_equal q r t)
+    by_test false t h again = again (step x (Solo q n)) h ∙ one x q n (not_equal q r t)
+
+pub marks_beside : (s : Setting) (r : ℕ) (more : List Mark) (stand : Stand) → filter (concerns r) more ≡ [] → slice_get (fold (step_to s) stand more).1 r ≡ slice_get stand.1 r
+marks_beside s r more stand e = beside (step_to s) (λ (x : Stand). slice_get x.1 r) r more stand (λ x q n ne. solo_beside s q r x.0 x.1 (slice_get x.1 q) ne) e
 
 going_beside : (s : Setting) (q r : ℕ) (c : Counted) (goings : List Going) (m : Option Going) → q ≢ r → slice_get (state_at s q c goings m).1 r ≡ slice_get goings r
 going_beside s q r c goings None n = refl
@@ -129,15 +126,8 @@ going_beside s q r c goings (Some g) n = entry_set_other goings q r (solo_of s q
 
 pub goings_beside : (s : Setting) (r : ℕ) (more : List Mark) (state : Counted × List Going) → filter (concerns r) more ≡ []
     → slice_get (fold (after_mark s) state more).1 r ≡ slice_get state.1 r
-goings_beside s r [] state e = refl
-goings_beside s r (Meet k ∷ more) state e = absurd cc
-goings_beside s r (Solo q n ∷ more) state e = by_test (q == r) refl e (λ next h. goings_beside s r more next h)
-  where
-    by_test : (t : Bool) → (q == r) ≡ t → cond t (Solo q n ∷ filter (concerns r) more) (filter (concerns r) more) ≡ []
-        → ((next : Counted × List Going) → filter (concerns r) more ≡ [] → slice_get (fold (after_mark s) next more).1 r ≡ slice_get next.1 r)
-        → slice_get (fold (after_mark s) (after_mark s state (Solo q n)) more).1 r ≡ slice_get state.1 r
-    by_test true t h again = absurd cc
-    by_test false t h again = again (after_mark s state (Solo q n)) h ∙ going_beside s q r state.0 state.1 (slice_get state.1 q) (not_equal q r t)
+goings_beside s r more state e =
+    beside (after_mark s) (λ (x : Counted × List Going). slice_get x.1 r) r more state (λ x q n ne. going_beside s q r x.0 x.1 (slice_get x.1 q) ne) e
 
 none_added : (r : ℕ) (before now more : List Mark) → now ≡ before ++ more → filter (concerns r) now ≡ filter (concerns r) before → filter (concerns r) more ≡ []
 none_added r before now more e f = append_cancel_left (filter (concerns r) before) (filter (concerns r) more) []

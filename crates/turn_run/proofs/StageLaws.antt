@@ -1,5 +1,5 @@
 -- Stages: what ranks that have gone up to their next offers have of the serial run, and steps one after another.
-use Rattle.turn_run.proofs.Words.{IfSome_then, ◌≡◌, ℕ, refl, sym, ◌∙◌, ap, subst, List, [], ◌∷◌, ◌++◌, length, map, replicate, Option, Some, None, append_assoc, append-nil, fold-append, fold, IfSome, Header, Call, Hints, Script, Mark, DiskCall, with_end, Setting, run_calls, setting_of, first_going, first_state, advance, serial_from, calls_over, step_calls, step_to, Arrived, Stand, all_calls_over, ended_from, IsLike, arrived, arrived_all, stage, stand_of, HasLed, IsLed, Leads, LeadsAlike, Stage, first_runner, with_end-with_end, with_end-nil, gone_up, first_up, serial_of_arrivals, calls_of_arrivals}
+use Rattle.turn_run.proofs.Words.{IfSome_then, ◌≡◌, ℕ, refl, sym, ◌∙◌, ap, subst, List, [], ◌∷◌, ◌++◌, Option, Some, None, append_assoc, append-nil, fold-append, fold, IfSome, Header, Hints, Script, Mark, DiskCall, with_end, Setting, run_calls, setting_of, first_state, serial_from, calls_over, step_calls, step_to, Arrived, Stand, all_calls_over, ended_from, IsLike, stage, stand_of, HasLed, IsLed, Leads, LeadsAlike, Stage, with_end-with_end, with_end-nil, gone_up, first_up, serial_of_arrivals, calls_of_arrivals, if_some_at, HasGone, rank_stage, set, slice_get}
 
 -- ---- the serial run's ranks, gone up to their next offers
 
@@ -16,16 +16,6 @@ calls_are script header file order =
     let s = setting_of script header in
     calls_of_arrivals script header file order ∙ ap (λ (stand : Stand). all_calls_over script.hints s stand order) (first_up header s file script.calls refl)
 
--- ---- the first stage
-
-pub first_ranks : (header : Header) (records : ℕ) (calls : List (List Call)) → records ≡ header.records
-    → arrived_all header calls (replicate (length calls) (first_runner header records)) ≡ map (advance header) (map (first_going header) calls)
-first_ranks header records [] e = refl
-first_ranks header records (own ∷ calls) e =
-    let first : arrived header own (first_runner header records) ≡ advance header (first_going header own) = ap (λ (n : ℕ). arrived header own (first_runner header n)) e in
-    let others = first_ranks header records calls e in
-    λ i. first i ∷ others i
-
 -- ---- steps one after another
 
 calls_split : (hints : Hints) (s : Setting) (stand : Stand) (marks more : List Mark)
@@ -34,36 +24,25 @@ calls_split hints s stand [] more = refl
 calls_split hints s stand (m ∷ marks) more = ap (λ (cs : List DiskCall). step_calls hints s stand m ++ cs) (calls_split hints s (step_to s stand m) marks more)
     ∙ sym (append_assoc (step_calls hints s stand m) (calls_over hints s (step_to s stand m) marks) (calls_over hints s (fold (step_to s) (step_to s stand m) marks) more))
 
-pub some_all : {X : Type 0} (m : Option X) {P : X → Type 0} → ((x : X) → P x) → IfSome m P
-some_all None f = tt
-some_all (Some x) f = f x
+pub some_each : {X : Type 0} (m : Option X) {P : X → Type 0} → ((x : X) → m ≡ Some x → P x) → IfSome m P
+some_each None f = tt
+some_each (Some x) f = f x refl
 
 pub led_none : (hints : Hints) (s : Setting) (a : Stage) → Leads hints s [] a a
-led_none hints s a = by_held a.held refl
-  where
-    by_held : (m : Option (List ℕ)) → a.held ≡ m → IfSome m (λ file. IsLed hints s [] file a a)
-    by_held None e = tt
-    by_held (Some file) e = record { left = file; told = e; state = refl; calls = sym (with_end-nil a.calls) }
+led_none hints s a = some_each a.held (λ file there. record { left = file; told = there; state = refl; calls = sym (with_end-nil a.calls) })
 
 pub led_then : (hints : Hints) (s : Setting) (marks more : List Mark) (a b c : Stage) → Leads hints s marks a b → Leads hints s more b c → Leads hints s (marks ++ more) a c
-led_then hints s marks more a b c first second = IfSome_then a.held first by_led
-  where
-    on_left : (left : List ℕ) (m : Option (List ℕ)) → m ≡ Some left → IfSome m (λ file. IsLed hints s more file b c) → IsLed hints s more left b c
-    on_left left None e h = absurd cc
-    on_left left (Some file) e h = let f : file ≡ left = cc in subst (λ (x : List ℕ). IsLed hints s more x b c) f h
-
-    by_led : (file : List ℕ) → IsLed hints s marks file a b → IsLed hints s (marks ++ more) file a c
-    by_led file h =
-        let next = on_left h.left b.held h.told second in
-        record {
-          left = next.left;
-          told = next.told;
-          state = fold-append (step_to s) (stand_of file a) marks more ∙ ap (λ (stand : Stand). fold (step_to s) stand more) h.state ∙ next.state;
-          calls = next.calls ∙ ap (λ (told : Option (List DiskCall)). with_end told (calls_over hints s (stand_of h.left b) more)) h.calls
-              ∙ with_end-with_end a.calls (calls_over hints s (stand_of file a) marks) (calls_over hints s (stand_of h.left b) more)
-              ∙ ap (λ (stand : Stand). with_end a.calls (calls_over hints s (stand_of file a) marks ++ calls_over hints s stand more)) (sym h.state)
-              ∙ ap (λ (cs : List DiskCall). with_end a.calls cs) (sym (calls_split hints s (stand_of file a) marks more));
-        }
+led_then hints s marks more a b c first second = IfSome_then a.held first (λ file h.
+    let next = if_some_at (λ (x : List ℕ). IsLed hints s more x b c) b.held h.left h.told second in
+    record {
+      left = next.left;
+      told = next.told;
+      state = fold-append (step_to s) (stand_of file a) marks more ∙ ap (λ (stand : Stand). fold (step_to s) stand more) h.state ∙ next.state;
+      calls = next.calls ∙ ap (λ (told : Option (List DiskCall)). with_end told (calls_over hints s (stand_of h.left b) more)) h.calls
+          ∙ with_end-with_end a.calls (calls_over hints s (stand_of file a) marks) (calls_over hints s (stand_of h.left b) more)
+          ∙ ap (λ (stand : Stand). with_end a.calls (calls_over hints s (stand_of file a) marks ++ calls_over hints s stand more)) (sym h.state)
+          ∙ ap (λ (cs : List DiskCall). with_end a.calls cs) (sym (calls_split hints s (stand_of file a) marks more));
+    })
 
 pub alike_then : (s : Setting) (marks more : List Mark) (n m k : ℕ) (from mid to : List Arrived) → LeadsAlike s marks n from m mid → LeadsAlike s more m mid k to
     → LeadsAlike s (marks ++ more) n from k to
@@ -84,3 +63,9 @@ has_led_then hints s before now later a b c first second = record {
   led = led_then hints s first.more second.more a b c first.led second.led;
   alike = alike_then s first.more second.more a.records b.records c.records a.ranks b.ranks c.ranks first.alike second.alike;
 }
+
+-- those of one rank, whatever ranks stand beside it
+pub gone_beside : {hints : Hints} {s : Setting} {r : ℕ} {before now : List Mark} {held left : Option (List ℕ)} {calls made : Option (List DiskCall)} {from to : Arrived}
+    → HasGone hints s r (rank_stage before held calls from) (rank_stage now left made to) → (records : ℕ) (ranks : List Arrived) → slice_get ranks r ≡ Some from
+    → HasLed hints s before now (stage held calls records ranks) (stage left made records (set ranks r to))
+gone_beside g records ranks e = record { more = g.more; grown = g.grown; led = g.led records ranks e; alike = g.alike records ranks e }

@@ -1,7 +1,7 @@
 -- What is told of steps, one after another, and of a whole run.
-use Rattle.turn_run.proofs.Words.{IfSome_then, ◌≡◌, ◌+◌, ℕ, suc, refl, sym, ◌∙◌, ap, subst, List, [], ◌∷◌, ◌++◌, length, map, max, replicate, set, take, true, Option, Some, None, append_assoc, length-append, arith, append-nil, append_cancel_left, map-append, fold-append, slice_get, fold, IfSome, enumerate_from, Header, Batch, Call, Hints, Script, DiskCall, Mark, Meet, Solo, Offer, with_end, needed_now, Counted, Setting, is_lawful, told_of, Going, after_mark, first_state, setting_of, counted, puts_in, step_to, Arrived, Stand, point, arrived_all, stage, stand_of, HasGone, HasLed, IsLed, Stage, rank_stage, first_runner, counts_along, told_marks, told_over, HasTold, HasToldMore, Runner, entry_set, with_end-with_end, with_end-nil, gone_up, arrival_step}
+use Rattle.turn_run.proofs.Words.{IfSome_then, ◌≡◌, ◌+◌, ℕ, suc, refl, sym, ◌∙◌, ap, subst, List, [], ◌∷◌, ◌++◌, length, map, max, replicate, set, take, true, Option, Some, None, append_assoc, length-append, arith, append-nil, append_cancel_left, map-append, fold-append, slice_get, fold, enumerate_from, Header, Batch, Call, Hints, Script, DiskCall, Mark, Meet, Solo, Offer, with_end, needed_now, Counted, Setting, is_lawful, told_of, Going, after_mark, first_state, setting_of, counted, puts_in, step_to, Arrived, Stand, point, arrived_all, stand_of, HasGone, HasLed, IsLed, Stage, rank_stage, first_runner, counts_along, told_marks, told_over, HasTold, HasToldMore, Runner, entry_set, with_end-with_end, with_end-nil, gone_up, arrival_step, if_some_at}
 use Rattle.turn_run.proofs.CutLaws.{solo_at}
-use Rattle.turn_run.proofs.StageLaws.{some_all}
+use Rattle.turn_run.proofs.StageLaws.{some_each, gone_beside}
 use Rattle.turn_run.proofs.MeetStep.{meet_at, met_count, IsTaken}
 use Rattle.turn_run.proofs.TurnRuns.{first_stage}
 
@@ -17,7 +17,7 @@ told_none s held records ranks before now told heard e f = record {
   more = [];
   grown = e ∙ sym (append-nil before);
   marks = ap told_marks f ∙ sym (with_end-nil (told_marks told));
-  counts = some_all held (λ file. f ∙ sym (with_end-nil told));
+  counts = some_each held (λ file there. f ∙ sym (with_end-nil told));
 }
 
 pub marks_ended : (told : Option (List (Mark × ℕ))) (more : List (Mark × ℕ)) → told_marks (with_end told more) ≡ with_end (told_marks told) (map (λ t. t.0) more)
@@ -31,7 +31,7 @@ told_one s m count held records ranks before now told heard e f after = record {
   more = m ∷ [];
   grown = e;
   marks = ap told_marks f ∙ marks_ended told ((m, count) ∷ []);
-  counts = some_all held (λ file. f ∙ ap (λ (n : ℕ). with_end told ((m, n) ∷ [])) (sym (after file)));
+  counts = some_each held (λ file there. f ∙ ap (λ (n : ℕ). with_end told ((m, n) ∷ [])) (sym (after file)));
 }
 
 -- a solo step, which leaves the count of the file
@@ -61,35 +61,26 @@ told_then hints s before now later a b told heard last first led second = record
   more = first.more ++ second.more;
   grown = second.grown ∙ ap (λ (ms : List Mark). ms ++ second.more) first.grown ∙ append_assoc before first.more second.more;
   marks = second.marks ∙ ap (λ (ms : Option (List Mark)). with_end ms second.more) first.marks ∙ with_end-with_end (told_marks told) first.more second.more;
-  counts = by_held a.held first.counts led.led;
+  counts = some_each a.held (λ file there.
+      let l = if_some_at (λ (f : List ℕ). IsLed hints s led.more f a b) a.held file there led.led in
+      let front = told_over s (stand_of file a) first.more in
+      let state : fold (step_to s) (stand_of file a) first.more ≡ stand_of l.left b =
+      subst (λ (ms : List Mark). fold (step_to s) (stand_of file a) ms ≡ stand_of l.left b) (append_cancel_left before led.more first.more (sym led.grown ∙ first.grown)) l.state in
+      if_some_at (λ (f : List ℕ). last ≡ with_end heard (told_over s (stand_of f b) second.more)) b.held l.left l.told second.counts
+      ∙ ap (λ (h : Option (List (Mark × ℕ))). with_end h (told_over s (stand_of l.left b) second.more)) (if_some_at (λ (f : List ℕ). heard ≡ with_end told (told_over s (stand_of f a) first.more)) a.held file there first.counts)
+      ∙ with_end-with_end told front (told_over s (stand_of l.left b) second.more)
+      ∙ ap (λ (stand : Stand). with_end told (front ++ told_over s stand second.more)) (sym state)
+      ∙ ap (λ (ts : List (Mark × ℕ)). with_end told ts) (sym (told_split s (stand_of file a) first.more second.more)));
 }
-  where
-    same : led.more ≡ first.more
-    same = append_cancel_left before led.more first.more (sym led.grown ∙ first.grown)
-
-    by_held : (m : Option (List ℕ)) → IfSome m (λ file. heard ≡ with_end told (told_over s (stand_of file a) first.more)) → IfSome m (λ file. IsLed hints s led.more file a b)
-        → IfSome m (λ file. last ≡ with_end told (told_over s (stand_of file a) (first.more ++ second.more)))
-    by_held None f l = tt
-    by_held (Some file) f l =
-        let front = told_over s (stand_of file a) first.more in
-        let state : fold (step_to s) (stand_of file a) first.more ≡ stand_of l.left b = subst (λ (ms : List Mark). fold (step_to s) (stand_of file a) ms ≡ stand_of l.left b) same l.state in
-        let on : last ≡ with_end heard (told_over s (stand_of l.left b) second.more) =
-        subst (λ (m : Option (List ℕ)). IfSome m (λ bytes. last ≡ with_end heard (told_over s (stand_of bytes b) second.more))) l.told second.counts in
-        on ∙ ap (λ (h : Option (List (Mark × ℕ))). with_end h (told_over s (stand_of l.left b) second.more)) f
-        ∙ with_end-with_end told front (told_over s (stand_of l.left b) second.more)
-        ∙ ap (λ (stand : Stand). with_end told (front ++ told_over s stand second.more)) (sym state)
-        ∙ ap (λ (ts : List (Mark × ℕ)). with_end told ts) (sym (told_split s (stand_of file a) first.more second.more))
 
 -- one rank's steps, and then others of it
-pub told_gone : (hints : Hints) (s : Setting) (r records : ℕ) (before now later : List Mark) (held left : Option (List ℕ)) (calls made : Option (List DiskCall)) (from to asks : Arrived)
-    (told heard last : Option (List (Mark × ℕ))) → HasGone hints s r (rank_stage before held calls from) (rank_stage now left made to)
+pub told_gone : (now : List Mark) {hints : Hints} {s : Setting} {r records : ℕ} {before later : List Mark} {held left : Option (List ℕ)} {calls made : Option (List DiskCall)} {from to asks : Arrived}
+    {told heard last : Option (List (Mark × ℕ))} → HasGone hints s r (rank_stage before held calls from) (rank_stage now left made to)
     → ((ranks : List Arrived) → slice_get ranks r ≡ Some from → HasToldMore s (point before held records) ranks now told heard) → asks ≡ to
     → ((ranks : List Arrived) → slice_get ranks r ≡ Some asks → HasToldMore s (point now left records) ranks later heard last)
     → (ranks : List Arrived) → slice_get ranks r ≡ Some from → HasToldMore s (point before held records) ranks later told last
-told_gone hints s r records before now later held left calls made from to asks told heard last gone first e second ranks at =
-    told_then hints s before now later (stage held calls records ranks) (stage left made records (set ranks r to)) told heard last (first ranks at)
-    (record { more = gone.more; grown = gone.grown; led = gone.led records ranks at; alike = gone.alike records ranks at })
-    (second (set ranks r to) (entry_set ranks r from to at ∙ ap (λ (a : Arrived). Some a) (sym e)))
+told_gone now {r} {records} {from} {to} gone first e second ranks at =
+    told_then _ _ _ now _ _ _ _ _ _ (first ranks at) (gone_beside gone records ranks at) (second (set ranks r to) (entry_set ranks r from to at ∙ ap (λ (a : Arrived). Some a) (sym e)))
 
 -- ---- a whole run
 
@@ -138,7 +129,7 @@ told_from_first script header file records runners order lawful e first =
 pub told_nothing : (script : Script) (header : Header) (held : Option (List ℕ)) (told : Option (List (Mark × ℕ))) (order : List Mark) → order ≡ [] → HasTold script header held told told order
 told_nothing script header held told order e = subst (λ (ms : List Mark). HasTold script header held told told ms) (sym e) (record {
   marks = sym (with_end-nil (told_marks told));
-  counts = some_all held (λ file. sym (with_end-nil told));
+  counts = some_each held (λ file there. sym (with_end-nil told));
 })
 
 pub told_whole : (script : Script) (header : Header) (held : Option (List ℕ)) (records : ℕ) (runners : List Runner) (none made order : List Mark) (told heard : Option (List (Mark × ℕ)))

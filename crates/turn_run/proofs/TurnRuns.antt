@@ -1,10 +1,11 @@
 -- The first and the last stage of a run.
 use Rattle.turn_run.proofs.Words.{IfSome_then, ◌≡◌, ℕ, ◌<◌, ◌≤◌, refl, sym, ◌∙◌, ap, subst, List, [], ◌∷◌, ◌++◌, length, map, replicate, max, true, Option, Some, None, arith, length-replicate, slice_get, nat_lt, fold, IfSome, Answer, Header, Call, Hints, Script, DiskCall, Mark, after, with_end, run_calls, store_records, Setting, raised, header_len, is_sound, marks, is_lawful, end_of, greatest, End, advance, first_going, first_state, serial_from, setting_of, close_by, counted, blank, AreAlikeEnds, IsLike, close_alike, IsOnWay, ranks_lawful, way_begins, contents_of, HasBegun, IsCount, all_between, between, calls_of, AreFree, AreRunners, HaveArrived, IsRunner, calls_over, step_to, Arrived, Stand, all_calls_over, ended_from, arrived_all, stage, HasLed, IsLed, Leads, HasClosed, first_runner, Runner, slice_get_within, raised_records, with_end-with_end, entry_replicate, gone_up}
 use Rattle.serial_spec.specs.RankMachine as machine
-use Rattle.turn_run.proofs.StageLaws.{calls_are, first_ranks, serial_is}
+use Rattle.turn_run.proofs.StageLaws.{calls_are, serial_is}
 use Rattle.turn_run.proofs.TurnKnown.{most_known}
 use Rattle.turn_run.proofs.TurnEnds.{are_over, map_ended, AreOver}
 use Rattle.turn_run.proofs.TurnSteps.{calls_there}
+use Rattle.turn_run.proofs.SaidLaws.{between_up}
 
 -- ---- before the first step
 
@@ -50,22 +51,25 @@ first_free header ranks records runners s r runner f =
     let same : runner ≡ first_runner header records = entry_replicate ranks r (first_runner header records) runner (ap (λ (ss : List Runner). slice_get ss r) (sym s) ∙ f) in
     ap (λ (x : Runner). x.held) same
 
-pub first_goings : (header : Header) (records : ℕ) (calls : List (List Call)) → records ≡ header.records
+goings_first : (header : Header) (records : ℕ) (calls : List (List Call)) → records ≡ header.records
     → all_between calls (replicate (length calls) (first_runner header records)) ≡ map (first_going header) calls
-first_goings header records [] e = refl
-first_goings header records (own ∷ calls) e =
+goings_first header records [] e = refl
+goings_first header records (own ∷ calls) e =
     let first : between own (first_runner header records) ≡ first_going header own = ap (λ (n : ℕ). between own (first_runner header n)) e in
-    let others = first_goings header records calls e in
+    let others = goings_first header records calls e in
     λ i. first i ∷ others i
+
+pub first_goings : (script : Script) (header : Header) (records : ℕ) (runners : List Runner) → is_lawful script ≡ true → records ≡ header.records
+    → runners ≡ replicate script.ranks (first_runner header records) → all_between script.calls runners ≡ map (first_going header) script.calls
+first_goings script header records runners lawful e s = ap (λ (ss : List Runner). all_between script.calls ss) s
+    ∙ ap (λ (n : ℕ). all_between script.calls (replicate n (first_runner header records))) (sym (ranks_lawful script lawful).one_each) ∙ goings_first header records script.calls e
 
 pub first_stage : (script : Script) (header : Header) (file : List ℕ) (records : ℕ) (runners : List Runner) → is_lawful script ≡ true → records ≡ header.records
     → runners ≡ replicate script.ranks (first_runner header records)
     → (counted file records, arrived_all header script.calls runners) ≡ gone_up (setting_of script header) (first_state header file script.calls)
 first_stage script header file records runners lawful e s =
-    let one : script.ranks ≡ length script.calls = sym (ranks_lawful script lawful).one_each in
     let ranks : arrived_all header script.calls runners ≡ map (advance header) (map (first_going header) script.calls) =
-    ap (λ (ss : List Runner). arrived_all header script.calls ss) s ∙ ap (λ (n : ℕ). arrived_all header script.calls (replicate n (first_runner header records))) one
-    ∙ first_ranks header records script.calls e in
+    sym (between_up header script.calls runners (first_free header script.ranks records runners s)) ∙ ap (map (advance header)) (first_goings script header records runners lawful e s) in
     λ i. (counted file (e i), ranks i)
 
 -- the run is that of the script

@@ -1,8 +1,9 @@
 -- One rank goes on while the others stand.
-use Rattle.turn_run.proofs.Words.{◌≡◌, ℕ, zero, suc, ◌+◌, ◌<◌, ◌≤◌, ◌≢◌, refl, sym, ◌∙◌, ap, subst, inl, inr, ◌⊎◌, List, [], ◌∷◌, ◌++◌, length, set, true, false, cond, Option, Some, None, arith, sum_by-append, list_all-append, eqb_tells, nat_tests, slice_get, slice_index_or, nat_lt, ◌==◌, list_all, and_from, eqb-true, same_Some, slice_get_within, and_first, and_second, Header, Call, Script, DiskCall, Mark, Meet, Solo, Offer, OfferKind, is_of_rank_below, is_meeting, is_lawful, Going, setting_of, is_solo_of, meetings, ranks_lawful, way_others, others_meetings, HasBegun, IsCount, calls_of, going_of, AreRunners, IsPlaced, IsPlacedWith, IsRunner, Arrived, arrived, arrived_all, stage, HasGone, HasLed, IsGrownBy, Leads, LeadsAlike, rank_stage, Runner, entry_below, entry_set, entry_set_other, length-set}
+use Rattle.turn_run.proofs.Words.{◌≡◌, ℕ, zero, suc, ◌+◌, ◌<◌, ◌≤◌, ◌≢◌, refl, sym, ◌∙◌, ap, subst, inl, inr, ◌⊎◌, List, [], ◌∷◌, ◌++◌, length, set, true, false, cond, Option, Some, None, arith, sum_by-append, list_all-append, eqb_tells, nat_tests, slice_get, slice_index_or, nat_lt, ◌==◌, list_all, and_from, eqb-true, same_Some, slice_get_within, and_first, and_second, Header, Call, Script, DiskCall, Mark, Meet, Solo, Offer, OfferKind, is_of_rank_below, is_meeting, is_lawful, Going, setting_of, is_solo_of, meetings, ranks_lawful, way_others, others_meetings, HasBegun, IsCount, calls_of, going_of, AreRunners, IsPlaced, IsPlacedWith, IsRunner, Arrived, arrived, arrived_all, stage, HasGone, HasLed, IsGrownBy, rank_stage, Runner, entry_below, entry_set, entry_set_other, length-set}
 use Rattle.nc_base.specs.declared.step.OfferKind.TheVariants as offer
 use Rattle.turn_run.proofs.CountLaws.{count_longer}
 use Rattle.turn_run.proofs.RunnerLaws.{placed_rest, HasRest}
+use Rattle.turn_run.proofs.StageLaws.{gone_beside}
 
 -- ---- solo steps that are added to an order
 
@@ -143,17 +144,8 @@ pub gone_led : (script : Script) (header : Header) (runners : List Runner) (n : 
     → (records : ℕ) → HasLed script.hints (setting_of script header) before now
     (stage held calls records (arrived_all header script.calls runners)) (stage left made records (arrived_all header script.calls (set runners n runner)))
 gone_led script header runners n was runner before now held left calls made lawful l e g records =
-    let there = calls_there script n (below (length script.calls) (ranks_lawful script lawful).one_each) in
-    record {
-      more = g.more;
-      grown = g.grown;
-      led = subst (λ (ranks : List Arrived). Leads script.hints (setting_of script header) g.more (stage held calls records (arrived_all header script.calls runners))
-          (stage left made records ranks)) (sym (set_arrived header script.calls runners n (calls_of script n) runner there))
-          (g.led records (arrived_all header script.calls runners) (get_arrived header script.calls runners n (calls_of script n) was there e));
-      alike = subst (λ (ranks : List Arrived). LeadsAlike (setting_of script header) g.more records (arrived_all header script.calls runners) records ranks)
-          (sym (set_arrived header script.calls runners n (calls_of script n) runner there))
-          (g.alike records (arrived_all header script.calls runners) (get_arrived header script.calls runners n (calls_of script n) was there e));
-    }
-  where
-    below : (k : ℕ) → k ≡ script.ranks → n < k
-    below k e = omega arith
+    let one = (ranks_lawful script lawful).one_each in
+    let there = calls_there script n (omega arith) in
+    subst (λ (ranks : List Arrived). HasLed script.hints (setting_of script header) before now (stage held calls records (arrived_all header script.calls runners)) (stage left made records ranks))
+    (sym (set_arrived header script.calls runners n (calls_of script n) runner there))
+    (gone_beside g records (arrived_all header script.calls runners) (get_arrived header script.calls runners n (calls_of script n) was there e))

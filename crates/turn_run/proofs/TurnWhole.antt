@@ -78,8 +78,7 @@ module _ (script : Script) (header : Header) (len : ℕ) (before : List Mark) (s
       → HaveAnswers (setting_of script header) e (point before held records) (all_between script.calls first) served.order last
   all_said e t = have_reached (setting_of script header) e before served.order held records (all_between script.calls first) (arrived_all header script.calls first) last
       (between_up header script.calls first (first_free header script.ranks records first all))
-      (reached_then (AllSay e last) script.hints (setting_of script header) before served.order served.order t.led.more (stage held calls records (arrived_all header script.calls first))
-      (stage left made count (arrived_all header script.calls last)) t.led.led t.led.grown
+      (reached_then (AllSay e last) served.order t.led
       (reached_here (AllSay e last) (setting_of script header) served.order served.order left count (arrived_all header script.calls last) refl
       (λ n. all_say_here script header e last last n ((ranks_lawful script lawful).one_each ∙ sym t.runners.all) refl t.arrived (keep_own last))))
 

@@ -13,7 +13,7 @@ pub use Rattle.std.proofs.lemmas.Result.{err_from_is_err_and, on_err_weaker}
 pub use Rattle.std.specs.Int.{byte_len}
 pub use Rattle.std.specs.List.{AllByRecursion, enumerate_from, list_all, list_any}
 pub use Rattle.std.specs.Option.{option_to_list}
-pub use Rattle.std.specs.Prelude.{IfSome, OnErr, OnOk, filter, flat_map, fold, if◌then◌else◌, is_some, nat_lt, slice_get, slice_index, slice_index_or, zip, ◌&&◌, ◌==◌}
+pub use Rattle.std.specs.Prelude.{IfSome, IsErrAnd, OnErr, OnOk, filter, flat_map, fold, if◌then◌else◌, is_some, nat_lt, slice_get, slice_index, slice_index_or, zip, ◌&&◌, ◌==◌}
 pub use Rattle.std.specs.Result.{result_err}
 pub use Rattle.collective_round.proofs.CountedLaws.{counted_sound, put_needed}
 pub use Rattle.collective_round.proofs.PutLaws.{no_calls, none_windows}

@@ -1,5 +1,5 @@
 -- One rank more has arrived.
-use Rattle.turn_run.proofs.Words.{◌≡◌, ◌<◌, ◌≤◌, ◌+◌, ℕ, refl, sym, ◌∙◌, subst, Some, None, arith, slice_get, slice_index_or, Runner, calls_of, HasArrived, err_from_is_err_and, setting_of, ranks_lawful, IsCount, IsNext, MayFollow, arrived_all, stage, slice_get_within, left_more}
+use Rattle.turn_run.proofs.Words.{◌≡◌, ◌<◌, ◌≤◌, ◌+◌, ℕ, refl, sym, ◌∙◌, subst, Some, None, arith, slice_get, slice_index_or, Runner, calls_of, HasArrived, setting_of, ranks_lawful, IsCount, IsNext, MayFollow, arrived_all, slice_get_within, left_more}
 use Rattle.turn_run.proofs.CountLaws.{count_longer}
 use Rattle.turn_run.proofs.StageLaws.{has_led_at, has_led_none, has_led_then}
 use Rattle.turn_run.proofs.TurnSteps.{below_other, get_at, gone_led, grown_meetings, runners_begun, runners_step, set_each, step_begun}
@@ -88,22 +88,17 @@ returns-clause-begun g c = runners_begun c.args.lent.now.setup.script.now c.args
 
 pub returns-in_err-arrive-clause-cut : goal.returns-in_err-arrive-clause-cut
 returns-in_err-arrive-clause-cut g c e is =
-    let records = c.args.progress.now.records in let script = c.args.lent.now.setup.script.now in
-    let header = c.args.lent.now.setup.header.now in let s = setting_of script header in
-    let n = c.loop-number.number in let runners = c.loop-number.runners in
+    let script = c.args.lent.now.setup.script.now in let header = c.args.lent.now.setup.header.now in
+    let n = c.loop-number.number in let runners = c.loop-number.runners in let order = c.arrive.new.progress.order in
+    let records = c.args.progress.now.records in let ranks = arrived_all header script.calls runners in
     let was = slice_index_or runners n c.index-runners-number.result in
     let there : slice_get runners n ≡ Some was = get_at runners n c.index-runners-number.result (omega arith) in
-    let led = c.loop-number.invariant.led records in let long = (ranks_lawful script c.requires.lawful).one_each in
-    let p = err_from_is_err_and c.from_residual.result c.from_residual.ensures.1 in
+    let long = (ranks_lawful script c.requires.lawful).one_each in
     stopped_at _ _ _ _ _ _ _ _ _ _ _ (sym (c.arrive.ensures.records ∙ c.loop-number.invariant.count))
-    (stopped_then (IsNext script c.arrive.new.progress.order) script.hints s e c.args.progress.now.order c.loop-number.progress.order c.arrive.new.progress.order led.more
-    (stage (g.D.Disk.held c.args.disk.now) (g.D.Disk.calls c.args.disk.now) records (arrived_all header script.calls c.args.runners.now))
-    (stage (g.D.Disk.held c.loop-number.disk) (g.D.Disk.calls c.loop-number.disk) records (arrived_all header script.calls runners)) (g.D.Disk.held c.arrive.new.disk) records
-    led.led led.grown
-    (stopped_as (MayFollow script n c.arrive.new.progress.order) (IsNext script c.arrive.new.progress.order) s e c.loop-number.progress.order c.arrive.new.progress.order (g.D.Disk.held c.loop-number.disk) records
-    (arrived_all header script.calls runners) (g.D.Disk.held c.arrive.new.disk) records
-    (follows_next script header _ c.loop-number.progress.order c.arrive.new.progress.order runners n c.requires.lawful c.loop-number.invariant.runners (omega arith) c.arrive.ensures.grown)
-    (c.in_err-arrive.ensures.cut e (same_err c.from_residual.result e _ p.0 is p.1 p.2) records (arrived_all header script.calls runners)
+    (stopped_then (IsNext script order) c.loop-number.progress.order (c.loop-number.invariant.led records)
+    (stopped_as (MayFollow script n order) (IsNext script order) (setting_of script header) e c.loop-number.progress.order order (g.D.Disk.held c.loop-number.disk) records ranks (g.D.Disk.held c.arrive.new.disk) records
+    (follows_next script header _ c.loop-number.progress.order order runners n c.requires.lawful c.loop-number.invariant.runners (omega arith) c.arrive.ensures.grown)
+    (c.in_err-arrive.ensures.cut e (same_err c.from_residual.result e c.from_residual.ensures.1 is) records ranks
     (get_arrived header script.calls runners n (calls_of script n) was (calls_there script n (omega arith)) there))))
 
 pub returns-in_err-arrive-clause-answered : goal.returns-in_err-arrive-clause-answered
@@ -114,10 +109,9 @@ returns-in_err-arrive-clause-answered g c e is =
     let before = c.loop-number.invariant in let was = slice_index_or runners n c.index-runners-number.result in
     let there : slice_get runners n ≡ Some was = get_at runners n c.index-runners-number.result (omega arith) in
     let long = (ranks_lawful script c.requires.lawful).one_each in
-    let p = err_from_is_err_and c.from_residual.result c.from_residual.ensures.1 in
     answers_cut script e n c.args.progress.now.order c.loop-number.progress.order c.arrive.new.progress.order c.args.runners.now runners was c.arrive.new.self s (g.D.Disk.held c.args.disk.now) (g.D.Disk.held c.loop-number.disk)
     (g.D.Disk.calls c.args.disk.now) (g.D.Disk.calls c.loop-number.disk) records (long ∙ sym before.runners.all) c.requires.free there (before.led records) c.arrive.ensures.grown before.others before.arrived
-    before.same (c.in_err-arrive.ensures.answered e (same_err c.from_residual.result e _ p.0 is p.1 p.2) records (arrived_all header script.calls runners)
+    before.same (c.in_err-arrive.ensures.answered e (same_err c.from_residual.result e c.from_residual.ensures.1 is) records (arrived_all header script.calls runners)
     (get_arrived header script.calls runners n (calls_of script n) was (calls_there script n (omega arith)) there))
 
 pub returns-in_err-arrive-clause-told : goal.returns-in_err-arrive-clause-told

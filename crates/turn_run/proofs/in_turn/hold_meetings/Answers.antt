@@ -89,18 +89,12 @@ returns-then-not-all_hold-clause-cause g c = let k = c.meetings.invariant.faults
 
 pub returns-in_err-arrive_all-clause-cut : goal.returns-in_err-arrive_all-clause-cut
 returns-in_err-arrive_all-clause-cut g c e is =
-    let script = c.args.lent.now.setup.script.now in let header = c.args.lent.now.setup.header.now in
-    let led = c.meetings.invariant.led in
-    let p = err_from_is_err_and c.from_residual.result c.from_residual.ensures.1 in
-    stopped_then (IsNext script c.arrive_all.new.progress.order) script.hints (setting_of script header) e c.args.progress.now.order c.meetings.progress.order c.arrive_all.new.progress.order led.more
-    (stage (g.D.Disk.held c.args.disk.now) (g.D.Disk.calls c.args.disk.now) c.args.progress.now.records (arrived_all header script.calls c.args.runners.now))
-    (stage (g.D.Disk.held c.meetings.disk) (g.D.Disk.calls c.meetings.disk) c.meetings.progress.records (arrived_all header script.calls c.meetings.runners)) (g.D.Disk.held c.arrive_all.new.disk) c.arrive_all.new.progress.records
-    led.led led.grown (c.in_err-arrive_all.ensures.cut e (same_err c.from_residual.result e _ p.0 is p.1 p.2))
+    stopped_then (IsNext c.args.lent.now.setup.script.now c.arrive_all.new.progress.order) c.meetings.progress.order c.meetings.invariant.led
+    (c.in_err-arrive_all.ensures.cut e (same_err c.from_residual.result e c.from_residual.ensures.1 is))
 
 pub returns-in_err-arrive_all-clause-answered : goal.returns-in_err-arrive_all-clause-answered
 returns-in_err-arrive_all-clause-answered g c e is =
-    let p = err_from_is_err_and c.from_residual.result c.from_residual.ensures.1 in
-    c.meetings.invariant.answered e _ _ (c.in_err-arrive_all.ensures.answered e (same_err c.from_residual.result e _ p.0 is p.1 p.2))
+    c.meetings.invariant.answered e _ _ (c.in_err-arrive_all.ensures.answered e (same_err c.from_residual.result e c.from_residual.ensures.1 is))
 
 pub returns-in_err-arrive_all-clause-told : goal.returns-in_err-arrive_all-clause-told
 returns-in_err-arrive_all-clause-told g c = told_then _ _ _ c.meetings.progress.order _ _ _ _ _ _ c.meetings.invariant.told c.meetings.invariant.led c.arrive_all.ensures.told
@@ -114,26 +108,17 @@ returns-in_err-arrive_all-clause-cause g c =
 
 pub returns-in_err-meet-clause-cut : goal.returns-in_err-meet-clause-cut
 returns-in_err-meet-clause-cut g c e is =
-    let script = c.args.lent.now.setup.script.now in let header = c.args.lent.now.setup.header.now in
-    let led = has_led_then _ _ _ c.meetings.progress.order _ _ _ _ c.meetings.invariant.led c.in_ok-arrive_all.ensures.led in
-    let p = err_from_is_err_and c.from_residual-in_err-meet.result c.from_residual-in_err-meet.ensures.1 in
-    stopped_then (IsNext script c.meet.new.progress.order) script.hints (setting_of script header) e c.args.progress.now.order c.arrive_all.new.progress.order c.meet.new.progress.order led.more
-    (stage (g.D.Disk.held c.args.disk.now) (g.D.Disk.calls c.args.disk.now) c.args.progress.now.records (arrived_all header script.calls c.args.runners.now))
-    (stage (g.D.Disk.held c.arrive_all.new.disk) (g.D.Disk.calls c.arrive_all.new.disk) c.arrive_all.new.progress.records (arrived_all header script.calls c.arrive_all.new.runners)) (g.D.Disk.held c.meet.new.disk) c.meet.new.progress.records
-    led.led led.grown (c.in_err-meet.ensures.cut e (same_err c.from_residual-in_err-meet.result e _ p.0 is p.1 p.2))
+    stopped_then (IsNext c.args.lent.now.setup.script.now c.meet.new.progress.order) c.arrive_all.new.progress.order
+    (has_led_then _ _ _ c.meetings.progress.order _ _ _ _ c.meetings.invariant.led c.in_ok-arrive_all.ensures.led)
+    (c.in_err-meet.ensures.cut e (same_err c.from_residual-in_err-meet.result e c.from_residual-in_err-meet.ensures.1 is))
 
 pub returns-in_err-meet-clause-answered : goal.returns-in_err-meet-clause-answered
 returns-in_err-meet-clause-answered g c e is =
-    let script = c.args.lent.now.setup.script.now in let header = c.args.lent.now.setup.header.now in
-    let s = setting_of script header in let first = c.args.runners.now in
-    let led = has_led_then _ _ _ c.meetings.progress.order _ _ _ _ c.meetings.invariant.led c.in_ok-arrive_all.ensures.led in
-    let p = err_from_is_err_and c.from_residual-in_err-meet.result c.from_residual-in_err-meet.ensures.1 in
-    have_reached s e c.args.progress.now.order c.meet.new.progress.order (g.D.Disk.held c.args.disk.now) c.args.progress.now.records (all_between script.calls first) (arrived_all header script.calls first) c.meet.new.runners
+    let script = c.args.lent.now.setup.script.now in let header = c.args.lent.now.setup.header.now in let first = c.args.runners.now in
+    have_reached (setting_of script header) e c.args.progress.now.order c.meet.new.progress.order (g.D.Disk.held c.args.disk.now) c.args.progress.now.records (all_between script.calls first) (arrived_all header script.calls first) c.meet.new.runners
     (between_up header script.calls first c.requires.free)
-    (reached_then (AllSay e c.meet.new.runners) script.hints s c.args.progress.now.order c.arrive_all.new.progress.order c.meet.new.progress.order led.more
-    (stage (g.D.Disk.held c.args.disk.now) (g.D.Disk.calls c.args.disk.now) c.args.progress.now.records (arrived_all header script.calls first))
-    (stage (g.D.Disk.held c.arrive_all.new.disk) (g.D.Disk.calls c.arrive_all.new.disk) c.arrive_all.new.progress.records (arrived_all header script.calls c.arrive_all.new.runners))
-    led.led led.grown (c.in_err-meet.ensures.answered e (same_err c.from_residual-in_err-meet.result e _ p.0 is p.1 p.2)))
+    (reached_then (AllSay e c.meet.new.runners) c.arrive_all.new.progress.order (has_led_then _ _ _ c.meetings.progress.order _ _ _ _ c.meetings.invariant.led c.in_ok-arrive_all.ensures.led)
+    (c.in_err-meet.ensures.answered e (same_err c.from_residual-in_err-meet.result e c.from_residual-in_err-meet.ensures.1 is)))
 
 pub returns-in_err-meet-clause-told : goal.returns-in_err-meet-clause-told
 returns-in_err-meet-clause-told g c =

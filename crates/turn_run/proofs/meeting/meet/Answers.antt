@@ -1,5 +1,5 @@
 -- A meeting of all ranks.
-use Rattle.turn_run.proofs.Words.{sym, ◌∙◌, refl, inr, err_from_is_err_and, setting_of, meetings, IsNext, arrived_all, lawful_hints}
+use Rattle.turn_run.proofs.Words.{sym, ◌∙◌, refl, inr, setting_of, meetings, lawful_hints}
 use Rattle.turn_run.proofs.MeetDone.{begun_after, begun_still, free_after, have_done, runners_after, table_long, taken_by, to_hear}
 use Rattle.turn_run.proofs.MeetOffers.{meets_job, meets_once, meets_rise}
 use Rattle.turn_run.proofs.MeetStep.{meeting_led}
@@ -70,11 +70,7 @@ pub returns-in_err-job-clause-begun : goal.returns-in_err-job-clause-begun
 returns-in_err-job-clause-begun g c = begun_still c.requires.runners refl
 
 pub returns-in_err-job-clause-cut : goal.returns-in_err-job-clause-cut
-returns-in_err-job-clause-cut g c e is =
-    let script = c.args.lent.now.setup.script.now in
-    let p = err_from_is_err_and c.from_residual.result c.from_residual.ensures.1 in
-    stopped_between (IsNext script c.args.progress.now.order) (setting_of script c.args.lent.now.setup.header.now) e c.args.progress.now.order c.args.progress.now.order (g.D.Disk.held c.args.disk.now) (g.D.Disk.held c.args.disk.now)
-    c.args.progress.now.records c.args.progress.now.records (arrived_all c.args.lent.now.setup.header.now script.calls c.args.runners.now) (memory_of c.from_residual.result e p.0 is p.1 p.2) refl refl refl
+returns-in_err-job-clause-cut g c e is = stopped_between (memory_of c.from_residual.result e c.from_residual.ensures.1 is) refl refl refl
 
 pub returns-in_err-job-clause-answered : goal.returns-in_err-job-clause-answered
 returns-in_err-job-clause-answered g c e is =
@@ -128,16 +124,14 @@ returns-in_err-hear_all-clause-begun g c = begun_after c.requires.runners c.requ
 
 pub returns-in_err-hear_all-clause-cut : goal.returns-in_err-hear_all-clause-cut
 returns-in_err-hear_all-clause-cut g c e is =
-    let p = err_from_is_err_and c.from_residual-in_err-hear_all.result c.from_residual-in_err-hear_all.ensures.1 in
     stopped_deaf c.args.number (taken_by c.requires.lawful c.requires.runners c.requires.met c.in_ok-job.ensures.batches c.in_ok-job.ensures.known)
-    (memory_of c.from_residual-in_err-hear_all.result e p.0 is p.1 p.2) c.in_ok-note_step.ensures.order c.in_ok-pair.ensures.bytes c.in_ok-pair.ensures.records
+    (memory_of c.from_residual-in_err-hear_all.result e c.from_residual-in_err-hear_all.ensures.1 is) c.in_ok-note_step.ensures.order c.in_ok-pair.ensures.bytes c.in_ok-pair.ensures.records
 
 pub returns-in_err-hear_all-clause-answered : goal.returns-in_err-hear_all-clause-answered
 returns-in_err-hear_all-clause-answered g c e is =
-    let p = err_from_is_err_and c.from_residual-in_err-hear_all.result c.from_residual-in_err-hear_all.ensures.1 in
     let wide = table_long c.args.lent.now.setup.header.now c.args.runners.now c.in_ok-job.job.batches c.in_ok-pair.table c.requires.met c.in_ok-job.ensures.batches c.in_ok-pair.ensures.fits in
     let mid = c.in_ok-job.ensures.freed in let met = c.in_ok-pair.ensures in
-    reached_deaf c.hear_all.new.runners c.args.number refl (memory_of c.from_residual-in_err-hear_all.result e p.0 is p.1 p.2) c.in_ok-note_step.ensures.order (c.hear_all.auto.runners ∙ mid.long) wide c.requires.runners
+    reached_deaf c.hear_all.new.runners c.args.number refl (memory_of c.from_residual-in_err-hear_all.result e c.from_residual-in_err-hear_all.ensures.1 is) c.in_ok-note_step.ensures.order (c.hear_all.auto.runners ∙ mid.long) wide c.requires.runners
     c.requires.arrived (taken_by c.requires.lawful c.requires.runners c.requires.met c.in_ok-job.ensures.batches c.in_ok-job.ensures.known)
     (record { shared = met.told; count = met.records; bytes = met.bytes; got = met.got })
     (part_of_freed c.in_ok-pair.pair c.meet_on_file.new.records c.in_ok-pair.table c.args.runners.now c.take_shared_job.new.runners c.hear_all.new.runners mid.long mid c.in_err-hear_all.ensures.part)

@@ -1,5 +1,5 @@
 -- The rank goes on from one solo offer to the next.
-use Rattle.turn_run.proofs.Words.{◌≡◌, ℕ, refl, sym, ◌∙◌, ap, subst, length, drop, List, [], None, Some, arith, Call, setting_of, IsOnWay, ranks_lawful, IsCount, asking, between, calls_of, Arrived, arrived, HasArrived, HasGone, IsRunner, rank_stage, Answer, call_number, Runner, err_from_is_err_and, MayFollow, SaysAt, on_err}
+use Rattle.turn_run.proofs.Words.{◌≡◌, ℕ, refl, sym, ◌∙◌, ap, subst, length, drop, List, [], None, Some, arith, Call, setting_of, IsOnWay, ranks_lawful, IsCount, between, calls_of, Arrived, arrived, HasArrived, HasGone, IsRunner, rank_stage, Answer, call_number, Runner, MayFollow, SaysAt, on_err}
 use Rattle.turn_run.proofs.RunnerLaws.{way_rest}
 use Rattle.turn_run.proofs.AloneLaws.{arrived_gone, asks_on, gone_grown, gone_same, gone_then, grown_then, taken_alone, way_free, went_runner}
 use Rattle.turn_run.proofs.CutLaws.{gone_stopped, stopped_between, memory_of, same_err}
@@ -41,15 +41,8 @@ pub returns-in_err-go_on-clause-begun : goal.returns-in_err-go_on-clause-begun
 returns-in_err-go_on-clause-begun g c = on_err _ (way_rest c.args.lent.now.setup.script.now c.alone.progress.order c.args.number _ None c.alone.invariant.way)
 
 pub returns-in_err-go_on-clause-cut : goal.returns-in_err-go_on-clause-cut
-returns-in_err-go_on-clause-cut g c e is records ranks at =
-    let script = c.args.lent.now.setup.script.now in let header = c.args.lent.now.setup.header.now in
-    let r = c.args.number in let s = setting_of script header in let all = calls_of script r in
-    let p = err_from_is_err_and c.from_residual.result c.from_residual.ensures.1 in
-    gone_stopped (MayFollow script r c.alone.progress.order) script.hints s r e c.args.progress.now.order c.alone.progress.order c.alone.progress.order
-    (g.D.Disk.held c.args.disk.now) (g.D.Disk.held c.alone.disk) (g.D.Disk.held c.alone.disk) (g.D.Disk.calls c.args.disk.now) (g.D.Disk.calls c.alone.disk)
-    (arrived header all c.args.self.now) (arrived header all c.alone.self) c.alone.invariant.gone
-    (λ n others there. stopped_between (MayFollow script r c.alone.progress.order) s e c.alone.progress.order c.alone.progress.order (g.D.Disk.held c.alone.disk) (g.D.Disk.held c.alone.disk)
-    n n others (memory_of c.from_residual.result e p.0 is p.1 p.2) refl refl refl) records ranks at
+returns-in_err-go_on-clause-cut g c e is records ranks at = gone_stopped (MayFollow c.args.lent.now.setup.script.now c.args.number c.alone.progress.order) c.alone.progress.order c.alone.invariant.gone
+    (λ n others there. stopped_between (memory_of c.from_residual.result e c.from_residual.ensures.1 is) refl refl refl) records ranks at
 
 pub returns-in_err-go_on-clause-answered : goal.returns-in_err-go_on-clause-answered
 returns-in_err-go_on-clause-answered g c e is records ranks at =
@@ -57,15 +50,10 @@ returns-in_err-go_on-clause-answered g c e is records ranks at =
     let r = c.args.number in let s = setting_of script header in
     let all = calls_of script r in let answers = c.go_on.new.self.answers in
     let from = arrived header all c.alone.self in
-    let p = err_from_is_err_and c.from_residual.result c.from_residual.ensures.1 in
-    let memory = memory_of c.from_residual.result e p.0 is p.1 p.2 in
-    gone_reached (SaysAt r e answers) script.hints s r c.args.progress.now.order c.alone.progress.order c.alone.progress.order
-    (g.D.Disk.held c.args.disk.now) (g.D.Disk.held c.alone.disk) (g.D.Disk.calls c.args.disk.now) (g.D.Disk.calls c.alone.disk)
-    (arrived header all c.args.self.now) from c.alone.invariant.gone
+    gone_reached (SaysAt r e answers) c.alone.progress.order c.alone.invariant.gone
     (λ n others there. reached_here (SaysAt r e answers) s c.alone.progress.order c.alone.progress.order (g.D.Disk.held c.alone.disk) n others refl
-    (λ m. says_here r e answers from m others there
-    (said_part e from answers memory (part_arrived header c.own_calls-calls.result.now all c.alone.self answers c.own_calls-calls.ensures c.alone.invariant.free c.in_err-go_on.ensures.some))))
-    records ranks at
+    (λ m. says_here r e answers from m others there (said_part e from answers (memory_of c.from_residual.result e c.from_residual.ensures.1 is)
+    (part_arrived header c.own_calls-calls.result.now all c.alone.self answers c.own_calls-calls.ensures c.alone.invariant.free c.in_err-go_on.ensures.some)))) records ranks at
 
 pub returns-in_err-go_on-clause-told : goal.returns-in_err-go_on-clause-told
 returns-in_err-go_on-clause-told g c = c.alone.invariant.told
@@ -144,16 +132,11 @@ alone-preserved g c =
       free = c.do_alone.ensures.free;
       way = c.in_ok-do_alone-in-Some.ensures.way;
       known = c.in_ok-do_alone-in-Some.ensures.known;
-      gone = gone_then hints s r c.args.progress.now.order c.alone.progress.order order (g.D.Disk.held c.args.disk.now) (g.D.Disk.held c.alone.disk) (g.D.Disk.held c.do_alone.new.disk)
-          (g.D.Disk.calls c.args.disk.now) (g.D.Disk.calls c.alone.disk) (g.D.Disk.calls c.do_alone.new.disk)
-          (arrived header all c.args.self.now) (arrived header all c.alone.self) (arrived header all c.do_alone.new.self) k.gone
+      gone = gone_then c.alone.progress.order k.gone
           (subst (λ (a : Arrived). HasGone hints s r (rank_stage c.alone.progress.order (g.D.Disk.held c.alone.disk) (g.D.Disk.calls c.alone.disk) a) (rank_stage order (g.D.Disk.held c.do_alone.new.disk) (g.D.Disk.calls c.do_alone.new.disk) (arrived header all c.do_alone.new.self)))
           asks c.in_ok-do_alone-in-Some.ensures.gone);
       count = c.do_alone.ensures.records ∙ k.count;
-      told = told_gone hints s r c.args.progress.now.records c.args.progress.now.order c.alone.progress.order c.do_alone.new.progress.order (g.D.Disk.held c.args.disk.now) (g.D.Disk.held c.alone.disk)
-          (g.D.Disk.calls c.args.disk.now) (g.D.Disk.calls c.alone.disk) (arrived header all c.args.self.now) (arrived header all c.alone.self) (asking all c.take_alone.new.self, Some c.in-Some.offer)
-          (g.T.Told.heard c.args.told.now) (g.T.Told.heard c.alone.told) (g.T.Told.heard c.do_alone.new.told) c.alone.invariant.gone c.alone.invariant.told asks
-          (λ others there. told_at _ _ _ _ _ _ _ _ _ c.alone.invariant.count (c.do_alone.ensures.told others there));
+      told = told_gone c.alone.progress.order k.gone k.told asks (λ others there. told_at _ _ _ _ _ _ _ _ _ k.count (c.do_alone.ensures.told others there));
     }
 
 -- ---- it was cut off there
@@ -163,37 +146,25 @@ returns-in_err-do_alone-in-Some-clause-grown g c = grown_then _ _ _ _ (gone_grow
 
 pub returns-in_err-do_alone-in-Some-clause-cut : goal.returns-in_err-do_alone-in-Some-clause-cut
 returns-in_err-do_alone-in-Some-clause-cut g c e is records ranks at =
-    let script = c.args.lent.now.setup.script.now in let header = c.args.lent.now.setup.header.now in
-    let r = c.args.number in let hints = script.hints in let s = setting_of script header in let all = calls_of script r in
-    let asks = asks_on header c.own_calls-calls.result.now all c.alone.self c.go_on.new.self c.take_alone.new.self c.in-Some.offer c.own_calls-calls.ensures c.alone.invariant.free
+    let script = c.args.lent.now.setup.script.now in let r = c.args.number in
+    let asks = asks_on c.args.lent.now.setup.header.now c.own_calls-calls.result.now (calls_of script r) c.alone.self c.go_on.new.self c.take_alone.new.self c.in-Some.offer c.own_calls-calls.ensures c.alone.invariant.free
     c.in_ok-go_on.ensures.advanced c.in_ok-go_on.ensures.ended c.in-Some.ensures.taken.0 c.take_alone.ensures.rank c.take_alone.ensures.answers in
-    let p = err_from_is_err_and c.from_residual-in_err-do_alone-in-Some.result c.from_residual-in_err-do_alone-in-Some.ensures.1 in
-    gone_stopped (MayFollow script r c.do_alone.new.progress.order) hints s r e c.args.progress.now.order c.alone.progress.order c.do_alone.new.progress.order
-    (g.D.Disk.held c.args.disk.now) (g.D.Disk.held c.alone.disk) (g.D.Disk.held c.do_alone.new.disk) (g.D.Disk.calls c.args.disk.now) (g.D.Disk.calls c.alone.disk)
-    (arrived header all c.args.self.now) (arrived header all c.alone.self) c.alone.invariant.gone
-    (λ n others there. c.in_err-do_alone-in-Some.ensures.cut e (same_err c.from_residual-in_err-do_alone-in-Some.result e _ p.0 is p.1 p.2) n others (there ∙ ap (λ (a : Arrived). Some a) (sym asks)))
-    records ranks at
+    let same = same_err c.from_residual-in_err-do_alone-in-Some.result e c.from_residual-in_err-do_alone-in-Some.ensures.1 is in
+    gone_stopped (MayFollow script r c.do_alone.new.progress.order) c.alone.progress.order c.alone.invariant.gone
+    (λ n others there. c.in_err-do_alone-in-Some.ensures.cut e same n others (there ∙ ap (λ (a : Arrived). Some a) (sym asks))) records ranks at
 
 pub returns-in_err-do_alone-in-Some-clause-answered : goal.returns-in_err-do_alone-in-Some-clause-answered
 returns-in_err-do_alone-in-Some-clause-answered g c e is records ranks at =
-    let script = c.args.lent.now.setup.script.now in let header = c.args.lent.now.setup.header.now in
-    let r = c.args.number in let hints = script.hints in let s = setting_of script header in let all = calls_of script r in
-    let asks = asks_on header c.own_calls-calls.result.now all c.alone.self c.go_on.new.self c.take_alone.new.self c.in-Some.offer c.own_calls-calls.ensures c.alone.invariant.free
+    let script = c.args.lent.now.setup.script.now in let r = c.args.number in
+    let asks = asks_on c.args.lent.now.setup.header.now c.own_calls-calls.result.now (calls_of script r) c.alone.self c.go_on.new.self c.take_alone.new.self c.in-Some.offer c.own_calls-calls.ensures c.alone.invariant.free
     c.in_ok-go_on.ensures.advanced c.in_ok-go_on.ensures.ended c.in-Some.ensures.taken.0 c.take_alone.ensures.rank c.take_alone.ensures.answers in
-    let p = err_from_is_err_and c.from_residual-in_err-do_alone-in-Some.result c.from_residual-in_err-do_alone-in-Some.ensures.1 in
-    gone_reached (SaysAt r e c.do_alone.new.self.answers) hints s r c.args.progress.now.order c.alone.progress.order c.do_alone.new.progress.order
-    (g.D.Disk.held c.args.disk.now) (g.D.Disk.held c.alone.disk) (g.D.Disk.calls c.args.disk.now) (g.D.Disk.calls c.alone.disk)
-    (arrived header all c.args.self.now) (arrived header all c.alone.self) c.alone.invariant.gone
-    (λ n others there. c.in_err-do_alone-in-Some.ensures.answered e (same_err c.from_residual-in_err-do_alone-in-Some.result e _ p.0 is p.1 p.2) n others (there ∙ ap (λ (a : Arrived). Some a) (sym asks)))
-    records ranks at
+    let same = same_err c.from_residual-in_err-do_alone-in-Some.result e c.from_residual-in_err-do_alone-in-Some.ensures.1 is in
+    gone_reached (SaysAt r e c.do_alone.new.self.answers) c.alone.progress.order c.alone.invariant.gone
+    (λ n others there. c.in_err-do_alone-in-Some.ensures.answered e same n others (there ∙ ap (λ (a : Arrived). Some a) (sym asks))) records ranks at
 
 pub returns-in_err-do_alone-in-Some-clause-told : goal.returns-in_err-do_alone-in-Some-clause-told
 returns-in_err-do_alone-in-Some-clause-told g c =
-    let script = c.args.lent.now.setup.script.now in let header = c.args.lent.now.setup.header.now in
-    let r = c.args.number in let hints = script.hints in let s = setting_of script header in let all = calls_of script r in
-    let asks = asks_on header c.own_calls-calls.result.now all c.alone.self c.go_on.new.self c.take_alone.new.self c.in-Some.offer c.own_calls-calls.ensures c.alone.invariant.free
+    let all = calls_of c.args.lent.now.setup.script.now c.args.number in
+    let asks = asks_on c.args.lent.now.setup.header.now c.own_calls-calls.result.now all c.alone.self c.go_on.new.self c.take_alone.new.self c.in-Some.offer c.own_calls-calls.ensures c.alone.invariant.free
     c.in_ok-go_on.ensures.advanced c.in_ok-go_on.ensures.ended c.in-Some.ensures.taken.0 c.take_alone.ensures.rank c.take_alone.ensures.answers in
-    told_gone hints s r c.args.progress.now.records c.args.progress.now.order c.alone.progress.order c.do_alone.new.progress.order (g.D.Disk.held c.args.disk.now) (g.D.Disk.held c.alone.disk)
-    (g.D.Disk.calls c.args.disk.now) (g.D.Disk.calls c.alone.disk) (arrived header all c.args.self.now) (arrived header all c.alone.self) (asking all c.take_alone.new.self, Some c.in-Some.offer)
-    (g.T.Told.heard c.args.told.now) (g.T.Told.heard c.alone.told) (g.T.Told.heard c.do_alone.new.told) c.alone.invariant.gone c.alone.invariant.told asks
-    (λ others there. told_at _ _ _ _ _ _ _ _ _ c.alone.invariant.count (c.do_alone.ensures.told others there))
+    told_gone c.alone.progress.order c.alone.invariant.gone c.alone.invariant.told asks (λ others there. told_at _ _ _ _ _ _ _ _ _ c.alone.invariant.count (c.do_alone.ensures.told others there))

@@ -1,10 +1,10 @@
 -- The step is done, and the rank has heard its reply.
-use Rattle.turn_run.proofs.Words.{◌≡◌, refl, sym, ◌∙◌, ap, subst, List, Some, inr, Mark, advance, setting_of, IsOnWay, IsCount, asking, between, calls_of, arrived, MayFollow, length, [], ◌∷◌, ◌++◌, err_from_is_err_and, Solo, Reply, puts_of, told, done_torn, SaysAt, None, ℕ, on_err, lawful_hints}
+use Rattle.turn_run.proofs.Words.{◌≡◌, refl, sym, ◌∙◌, ap, subst, List, Some, inr, Mark, advance, setting_of, IsOnWay, IsCount, asking, between, calls_of, arrived, MayFollow, length, [], ◌∷◌, ◌++◌, Solo, Reply, puts_of, told, done_torn, SaysAt, None, ℕ, on_err, lawful_hints, equal_itself}
 use Rattle.turn_run.proofs.CountLaws.{count_longer, count_max}
 use Rattle.turn_run.proofs.MeetOffers.{asked_fit}
 use Rattle.turn_run.proofs.RunnerLaws.{alone_done, alone_heard, alone_rest, heard_runner, HasRest}
 use Rattle.turn_run.proofs.AloneLaws.{alone_alike, alone_led, alone_waits, arrived_free, fits_open, gone_alone, grown_one, heard_known, order_is}
-use Rattle.turn_run.proofs.CutLaws.{stopped_solo, stopped_unheard, memory_of, own_is}
+use Rattle.turn_run.proofs.CutLaws.{stopped_solo, stopped_unheard, memory_of}
 use Rattle.turn_run.proofs.SaidLaws.{reached_here, reached_unheard, said_here, says_here}
 use Rattle.turn_run.proofs.TellLaws.{told_alone, told_none}
 use Rattle.turn_run.proofs.runners.Runner.do_alone.Goals as goal
@@ -78,32 +78,24 @@ some_reply = record { pair = None; records = 0; got = [] }
 
 pub returns-in_err-reply-clause-cut : goal.returns-in_err-reply-clause-cut
 returns-in_err-reply-clause-cut g c e is records ranks at =
-    let script = c.args.lent.now.setup.script.now in let own = calls_of script c.args.ask.number in
-    stopped_solo (MayFollow script c.args.ask.number c.args.progress.now.order) (setting_of script c.args.lent.now.setup.header.now) e c.args.ask.number (length c.args.self.now.answers) c.args.progress.now.order c.args.progress.now.order
-    (g.D.Disk.held c.args.disk.now) (g.D.Disk.held c.solo_reply.new.disk) (asking own c.args.self.now) c.args.ask.offer
-    (own_is c.args.ask.number (length c.args.self.now.answers), alone_done script c.args.lent.now.setup.header.now c.args.progress.now.order c.args.ask.number _ c.args.ask.offer some_reply c.requires.asks)
-    refl c.in_err-reply.ensures.refused records ranks at
+    let script = c.args.lent.now.setup.script.now in let r = c.args.ask.number in
+    stopped_solo (MayFollow script r c.args.progress.now.order) r (length c.args.self.now.answers) (asking (calls_of script r) c.args.self.now) c.args.ask.offer
+    (equal_itself r, alone_done script c.args.lent.now.setup.header.now c.args.progress.now.order r _ c.args.ask.offer some_reply c.requires.asks) refl c.in_err-reply.ensures.refused records ranks at
 
 pub returns-in_err-note_step-clause-cut : goal.returns-in_err-note_step-clause-cut
 returns-in_err-note_step-clause-cut g c e is records ranks at =
-    let script = c.args.lent.now.setup.script.now in let own = calls_of script c.args.ask.number in
+    let script = c.args.lent.now.setup.script.now in let r = c.args.ask.number in
+    let n = length c.args.self.now.answers in let puts = puts_of (r, c.args.ask.offer) in
     let s = setting_of script c.args.lent.now.setup.header.now in
-    stopped_solo (MayFollow script c.args.ask.number c.note_step.new.order) s e c.args.ask.number (length c.args.self.now.answers) c.args.progress.now.order c.note_step.new.order
-    (g.D.Disk.held c.args.disk.now) (g.D.Disk.held c.solo_reply.new.disk) (asking own c.args.self.now) c.args.ask.offer (
-      own_is c.args.ask.number (length c.args.self.now.answers),
-      subst (λ (ms : List Mark). HasRest script (ms ++ Solo c.args.ask.number (length c.args.self.now.answers) ∷ []) c.args.ask.number) (sym c.in_err-note_step.ensures.kept)
-          (alone_done script c.args.lent.now.setup.header.now c.args.progress.now.order c.args.ask.number _ c.args.ask.offer some_reply c.requires.asks),
-    ) c.in_err-note_step.ensures.kept
-    (done_torn s (puts_of (c.args.ask.number, c.args.ask.offer)) (told s (puts_of (c.args.ask.number, c.args.ask.offer))) (g.D.Disk.held c.args.disk.now) (g.D.Disk.held c.solo_reply.new.disk)
-    c.in_ok-reply.ensures.bytes) records ranks at
+    let rest = subst (λ (ms : List Mark). HasRest script (ms ++ Solo r n ∷ []) r) (sym c.in_err-note_step.ensures.kept)
+    (alone_done script c.args.lent.now.setup.header.now c.args.progress.now.order r _ c.args.ask.offer some_reply c.requires.asks) in
+    stopped_solo (MayFollow script r c.note_step.new.order) r n (asking (calls_of script r) c.args.self.now) c.args.ask.offer (equal_itself r, rest) c.in_err-note_step.ensures.kept
+    (done_torn s puts (told s puts) (g.D.Disk.held c.args.disk.now) (g.D.Disk.held c.solo_reply.new.disk) c.in_ok-reply.ensures.bytes) records ranks at
 
 pub returns-in_err-hear-clause-cut : goal.returns-in_err-hear-clause-cut
 returns-in_err-hear-clause-cut g c e is records ranks at =
-    let script = c.args.lent.now.setup.script.now in let own = calls_of script c.args.ask.number in
-    let p = err_from_is_err_and c.from_residual-in_err-hear.result c.from_residual-in_err-hear.ensures.1 in
-    stopped_unheard (MayFollow script c.args.ask.number c.note_step.new.order) (setting_of script c.args.lent.now.setup.header.now) e c.args.ask.number (length c.args.self.now.answers) c.args.progress.now.order c.note_step.new.order
-    (g.D.Disk.held c.args.disk.now) (g.D.Disk.held c.solo_reply.new.disk) (asking own c.args.self.now) c.args.ask.offer
-    (memory_of c.from_residual-in_err-hear.result e p.0 is p.1 p.2)
+    stopped_unheard c.args.ask.number (length c.args.self.now.answers) (asking (calls_of c.args.lent.now.setup.script.now c.args.ask.number) c.args.self.now) c.args.ask.offer
+    (memory_of c.from_residual-in_err-hear.result e c.from_residual-in_err-hear.ensures.1 is)
     (order_is _ _ c.args.self.now.answers c.args.progress.now.order c.note_step.new.order c.in_ok-note_step.ensures.order c.len.ensures)
     c.in_ok-reply.ensures.bytes records ranks at
 
@@ -122,9 +114,8 @@ returns-in_err-note_step-clause-answered g c e is records ranks at =
 pub returns-in_err-hear-clause-answered : goal.returns-in_err-hear-clause-answered
 returns-in_err-hear-clause-answered g c e is records ranks at =
     let script = c.args.lent.now.setup.script.now in let own = calls_of script c.args.ask.number in
-    let p = err_from_is_err_and c.from_residual-in_err-hear.result c.from_residual-in_err-hear.ensures.1 in
     reached_unheard (setting_of script c.args.lent.now.setup.header.now) e c.args.ask.number (length c.args.self.now.answers) c.args.progress.now.order c.note_step.new.order
-    (g.D.Disk.held c.args.disk.now) (asking own c.args.self.now) c.args.ask.offer c.hear.new.self.answers (memory_of c.from_residual-in_err-hear.result e p.0 is p.1 p.2)
+    (g.D.Disk.held c.args.disk.now) (asking own c.args.self.now) c.args.ask.offer c.hear.new.self.answers (memory_of c.from_residual-in_err-hear.result e c.from_residual-in_err-hear.ensures.1 is)
     (order_is _ _ c.args.self.now.answers c.args.progress.now.order c.note_step.new.order c.in_ok-note_step.ensures.order c.len.ensures)
     c.in_err-hear.ensures.kept records ranks at
 
