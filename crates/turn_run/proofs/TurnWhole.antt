@@ -1,10 +1,10 @@
 -- A run in turn as a whole: its meetings, and then the end by the ends of its ranks.
-use Rattle.turn_run.proofs.Words.{IfSome_then, ◌≡◌, ℕ, ◌≤◌, refl, sym, ◌∙◌, ap, subst, inl, inr, ◌⊎◌, List, [], length, map, max, replicate, true, Option, Some, None, Result, Ok, Err, length-map, fold, IfSome, OnOk, result_err, byte_len, map_map, Header, RankEnd, RankStop, RunEnd, ServeEnd, Script, DiskCall, Mark, StepErr, Rose, with_end, BothTold, rose_before, run_calls, raised, count_width, IsLegal, is_lawful, is_sound, End, serial_from, setting_of, IsCutRun, IsTorn, raised_records, as_setting, counted, all_calls_over, ended_from, step_to, ranks_lawful, point, contents_of, seen, HasBegun, IsCount, HasStopped, IsNext, most_known_of, runner_end, EndedAt, HasClosed, IsRun, AreFree, AreRunners, HaveArrived, all_between, AllSay, HaveAnswers, arrived_all, stage, HasLed, first_runner, Runner, blank, AreAlikeEnds, same_beside, le_two}
+use Rattle.turn_run.proofs.Words.{IfSome_then, ◌≡◌, ℕ, ◌≤◌, refl, sym, ◌∙◌, ap, subst, inl, inr, ◌⊎◌, List, [], length, map, max, replicate, true, Option, Some, None, Result, Ok, Err, length-map, IfSome, OnOk, result_err, byte_len, map_map, Header, RankEnd, RankStop, RunEnd, ServeEnd, Script, DiskCall, Mark, StepErr, Rose, with_end, BothTold, rose_before, run_calls, raised, count_width, IsLegal, is_lawful, is_sound, End, serial_from, setting_of, IsCutRun, IsTorn, as_setting, counted, all_calls_over, ended_from, ranks_lawful, point, contents_of, seen, HasBegun, IsCount, HasStopped, IsNext, most_known_of, runner_end, EndedAt, HasClosed, IsRun, AreFree, AreRunners, HaveArrived, all_between, AllSay, HaveAnswers, arrived_all, stage, HasLed, first_runner, Runner, blank, AreAlikeEnds, same_beside, le_two}
 use Rattle.nc_base.specs.declared.step.StepErr.TheVariants as fault
 use Rattle.serial_spec.specs.RankMachine as machine
 use Rattle.turn_run.specs.RankEnds.EndedAt.{as_left, in_close as in_closing}
 use Rattle.turn_run.proofs.CutEnds.{same_cause, unbegun_run}
-use Rattle.turn_run.proofs.CutRuns.{cut_answers, cut_rows, cut_run, ends_as, ends_before, ends_between, ends_closing, ends_same, ends_stood, no_answers, no_rows, stood_first, EndsAt}
+use Rattle.turn_run.proofs.CutRuns.{cut_answers, cut_rows, cut_run, no_answers, no_rows, stood_first, stood_as, stood_before, stood_closing, stood_led, Stood}
 use Rattle.turn_run.proofs.EndedLaws.{Closing, EndOfCut}
 use Rattle.turn_run.proofs.SaidLaws.{between_up, have_reached, reached_here, reached_then}
 use Rattle.turn_run.proofs.SaidMeet.{all_say_here, keep_own}
@@ -94,29 +94,20 @@ module _ (script : Script) (header : Header) (len : ℕ) (before : List Mark) (s
       by_fault None f = (e, (inl refl, all_said e (h.through f)))
       by_fault (Some x) f = (x, (inr memory, h.answered x f))
 
-  ends_at : (e : StepErr) (now : Option (List ℕ)) (total : ℕ) → EndedAt header ends served.fault e (contents_of left count) (contents_of now total)
-      → IfSome held (λ file. (bytes : List ℕ) × (now ≡ Some bytes) × EndsAt script (setting_of script header) e (fold (step_to (setting_of script header)) (counted file records, arrived_all header script.calls first) served.order) served.order bytes total)
-  ends_at e now total (in_closing no_fault whole torn which) =
+  stood_of : (e : StepErr) (now : Option (List ℕ)) (total : ℕ) → EndedAt header ends served.fault e (contents_of left count) (contents_of now total) → Stood script header e served.order held now total
+  stood_of e now total (in_closing no_fault whole torn which) =
       let t = h.through no_fault in
-      ends_closing script header e before served.order calls made held left now count records total last (arrived_all header script.calls first) none
-      ((ranks_lawful script lawful).one_each ∙ sym t.runners.all) (are_over script last t.free t.arrived) (ended_legal script header len served.order last lawful t.runners t.free t.arrived) t.led
-      (subst (λ (n : ℕ). BothTold (λ old bytes. IsTorn [] (byte_len (count_width header.version)) old (raised (as_setting header) (counted old count) n).file bytes) left now) known_is torn) (by_count which)
+      stood_closing script header e records first before served.order held lawful same_count all none h.begun ((ranks_lawful script lawful).one_each ∙ sym t.runners.all) (are_over script last t.free t.arrived)
+      (ended_legal script header len served.order last lawful t.runners t.free t.arrived) t.led
+      (subst (λ (n : ℕ). BothTold (λ old bytes. IsTorn [] (byte_len (count_width header.version)) old (raised (as_setting header) (counted old count) n).file bytes) left now) known_is torn)
+      (subst (λ (n : ℕ). (total ≡ count) ⊎ (total ≡ max count n)) known_is which)
+  stood_of e now total (as_left (inl some) l k) = rw (l, k) (stood_before script header e records first before served.order held lawful same_count all none h.begun (h.cut e some))
+  stood_of e now total (as_left (inr memory) l k) = rw (l, k) (by_fault served.fault refl)
     where
-      by_count : (total ≡ count) ⊎ (total ≡ max count (most_known_of ends)) → (total ≡ count) ⊎ (total ≡ (raised (as_setting header) (counted [] count) (most_known last)).records)
-      by_count (inl q) = inl q
-      by_count (inr q) = inr (q ∙ ap (λ (n : ℕ). max count n) known_is ∙ sym (raised_records (as_setting header) (counted [] count) (most_known last)))
-  ends_at e now total (as_left (inl some) l k) =
-      ends_same script (setting_of script header) e held records (arrived_all header script.calls first) served.order left now count total l k
-      (ends_before script (setting_of script header) e before served.order held records (arrived_all header script.calls first) left count none (h.cut e some))
-  ends_at e now total (as_left (inr memory) l k) =
-      ends_same script (setting_of script header) e held records (arrived_all header script.calls first) served.order left now count total l k (by_fault served.fault refl)
-    where
-      by_fault : (m : Option StepErr) → served.fault ≡ m → IfSome held (λ file. (bytes : List ℕ) × (left ≡ Some bytes) × EndsAt script (setting_of script header) e
-          (fold (step_to (setting_of script header)) (counted file records, arrived_all header script.calls first) served.order) served.order bytes count)
-      by_fault None f = ends_between script header e before served.order calls made held left count records last (arrived_all header script.calls first) none memory (h.through f).led
+      by_fault : (m : Option StepErr) → served.fault ≡ m → Stood script header e served.order held left count
+      by_fault None f = stood_led script header e records first before served.order held lawful same_count all none h.begun memory (h.through f).led
       by_fault (Some x) f =
-          ends_as script (setting_of script header) x e held records (arrived_all header script.calls first) served.order served.order left count (inr memory) refl
-          (ends_before script (setting_of script header) x before served.order held records (arrived_all header script.calls first) left count none (h.cut x f))
+          IfSome_then held (stood_before script header x records first before served.order held lawful same_count all none h.begun (h.cut x f)) (λ file k. (k.0, k.1, stood_as (inr memory) k.2))
 
   cut_in_turn : (e : StepErr) (now : Option (List ℕ)) (total : ℕ) (end : RunEnd) → EndOfCut header ends served e left count now total end
       → IfSome held (λ file. (bytes : List ℕ) × (now ≡ Some bytes) × IsCutRun script header file e end.order bytes total end.answers)
@@ -125,7 +116,7 @@ module _ (script : Script) (header : Header) (len : ℕ) (before : List Mark) (s
       (cut_run script header e served.order held now total end.answers (cut_rows script e (map (λ runner. runner.answers) last) end.answers (length-map last (λ (runner : Runner). runner.answers) ∙ h.long) (λ disk. c.kept disk ∙ answers_are) rows)
       (λ file there. cut_answers script header e said.0 records first last before served.order file end.answers lawful same_count all none said.1.0
       (subst (λ (m : Option (List ℕ)). HaveAnswers (setting_of script header) said.0 (point before m records) (all_between script.calls first) served.order last) there said.1.1) rows)
-      (ends_stood script header e records first served.order held now total lawful same_count all h.begun (ends_at e now total c.at)))
+      (stood_of e now total c.at))
     where
       said : (x : StepErr) × (((e ≡ x) ⊎ (e ≡ fault.Memory)) × HaveAnswers (setting_of script header) x (point before held records) (all_between script.calls first) served.order last)
       said = said_at e now total c.at
