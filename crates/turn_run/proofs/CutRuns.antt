@@ -94,8 +94,8 @@ module _ (script : Script) (header : Header) (e : StepErr) (records : ℕ) (firs
   pub stood_led : {calls made : Option (List DiskCall)} {left : Option (List ℕ)} {count : ℕ} {last : List Runner} → e ≡ fault.Memory
       → HasLed script.hints s before order (stage held calls records (arrived_all header script.calls first)) (stage left made count (arrived_all header script.calls last))
       → Stood script header e order held left count
-  stood_led memory h = IfSome_then held h.led (λ file l.
-      let at : counted l.left _ ≡ (state_after script header file order).0 = ap (λ (stand : Stand). stand.0) (sym l.state ∙ up file h.more h.grown) in
+  stood_led {count} memory h = IfSome_then held h.led (λ file l.
+      let at : counted l.left count ≡ (state_after script header file order).0 = ap (λ (stand : Stand). stand.0) (sym l.state ∙ up file h.more h.grown) in
       (l.left, l.told, stood_between may_follow.0 may_follow.1 memory (ap (λ (c : Counted). c.file) at) (ap (λ (c : Counted). c.records) at)))
 
   -- in the close

@@ -126,56 +126,48 @@ led_closed script header order calls made later left held count records from run
           ∙ (λ i. with_end calls (calls_over script.hints s stand order ++ store_records s (nat_lt (before i) (records_are i))));
     }
 
--- where the bytes were told when the run began
-pub run_closed : (script : Script) (header : Header) (before order : List Mark) (calls made later : Option (List DiskCall)) (told left held : Option (List ℕ))
-    (count records from : ℕ) (runners : List Runner) (ranks : List Arrived) → before ≡ [] → length script.calls ≡ length runners → AreOver script.calls runners
-    → HasLed script.hints (setting_of script header) before order (stage told calls from ranks) (stage left made count (arrived_all header script.calls runners))
-    → HasClosed header (most_known runners) (contents_of left count) (contents_of held records) made later
-    → IfSome told (λ file. IsClosed script.hints (setting_of script header) (counted file from, ranks) order calls held later records runners)
-run_closed script header before order calls made later told left held count records from runners ranks none long over h r =
-    let all : h.more ≡ order = sym (h.grown ∙ ap (λ (ms : List Mark). ms ++ h.more) none) in
-    let s = setting_of script header in let a = stage told calls from ranks in
-    let b = stage left made count (arrived_all header script.calls runners) in
-    IfSome_then told (subst (λ (ms : List Mark). Leads script.hints s ms a b) all h.led)
-    (λ file led. led_closed script header order calls made later left held count records from runners ranks file told long over r led)
-
 -- what the runners of a run that was closed have, for an end over any file
 abbrev pub told_end : ℕ → List Runner → End
 told_end count runners =
     record { bytes = []; records = count; answers = map (λ runner. runner.answers) runners; pending = map (λ runner. machine.pending runner.rank.state) runners }
 
-pub alike_ended : (script : Script) (header : Header) (len : ℕ) (before order : List Mark) (calls made later : Option (List DiskCall)) (told left held : Option (List ℕ))
-    (count records from : ℕ) (runners : List Runner) (ranks : List Arrived) → is_lawful script ≡ true → before ≡ [] → AreRunners script header len order runners
-    → AreFree runners → HaveArrived script runners
-    → HasLed script.hints (setting_of script header) before order (stage told calls from ranks) (stage left made count (arrived_all header script.calls runners))
-    → HasClosed header (most_known runners) (contents_of left count) (contents_of held records) made later
-    → (stand : Stand) → IsLike stand from ranks → AreAlikeEnds (told_end records runners) (ended_from (setting_of script header) stand order)
-alike_ended script header len before order calls made later told left held count records from runners ranks lawful none a f h led r stand like =
-    let s = setting_of script header in let long = (ranks_lawful script lawful).one_each ∙ sym a.all in
-    let over = are_over script runners f h in
-    let all : led.more ≡ order = sym (led.grown ∙ ap (λ (ms : List Mark). ms ++ led.more) none) in
-    let ends = map (λ (x : Arrived). x.0) (arrived_all header script.calls runners) in
-    let last = fold (step_to s) stand order in
-    let near : IsLike last count (arrived_all header script.calls runners) =
-    subst (λ (ms : List Mark). IsLike (fold (step_to s) stand ms) count (arrived_all header script.calls runners)) all (led.alike stand like) in
-    let alike = close_alike s last (counted [] count) (arrived_all header script.calls runners) near in
-    let known : greatest (map (λ g. g.rank.known) ends) ≡ most_known runners =
-    ap greatest (map_ended (λ (rank : machine.Rank) (answers : List Answer). rank.known) header script.calls runners long over) in
-    let count_is : (close_by s (counted [] count) ends).records ≡ max count (most_known runners) =
-    ap (λ (n : ℕ). (raised s (counted [] count) n).records) known ∙ raised_records s (counted [] count) (most_known runners) in
-    record {
-      records = r.count ∙ sym count_is ∙ sym alike.records;
-      answers = ap (map (map blank)) (sym (map_ended (λ (rank : machine.Rank) (answers : List Answer). answers) header script.calls runners long over)) ∙ sym alike.answers;
-      pending = sym (map_ended (λ (rank : machine.Rank) (answers : List Answer). machine.pending rank) header script.calls runners long over) ∙ sym alike.pending;
-    }
+-- all ranks have made their calls
+pub record IsThrough (script : Script) (header : Header) (len : ℕ) (before order : List Mark) (held : Option (List ℕ)) (calls : Option (List DiskCall)) (records : ℕ) (first : List Runner)
+    (left : Option (List ℕ)) (made : Option (List DiskCall)) (count : ℕ) (last : List Runner) : Type 0 where
+  pub runners : AreRunners script header len order last
+  pub free : AreFree last
+  pub arrived : HaveArrived script last
+  pub led : HasLed script.hints (setting_of script header) before order (stage held calls records (arrived_all header script.calls first)) (stage left made count (arrived_all header script.calls last))
 
--- all ranks have ended, and the file was closed
-pub run_ended : (script : Script) (header : Header) (len : ℕ) (before order : List Mark) (calls made later : Option (List DiskCall)) (told left held : Option (List ℕ))
-    (count records from : ℕ) (runners : List Runner) (ranks : List Arrived) → is_lawful script ≡ true → before ≡ [] → AreRunners script header len order runners
-    → AreFree runners → HaveArrived script runners
-    → HasLed script.hints (setting_of script header) before order (stage told calls from ranks) (stage left made count (arrived_all header script.calls runners))
-    → HasClosed header (most_known runners) (contents_of left count) (contents_of held records) made later
-    → IfSome told (λ file. IsClosed script.hints (setting_of script header) (counted file from, ranks) order calls held later records runners)
-run_ended script header len before order calls made later told left held count records from runners ranks lawful none a f h led r =
-    run_closed script header before order calls made later told left held count records from runners ranks none ((ranks_lawful script lawful).one_each ∙ sym a.all)
-    (are_over script runners f h) led r
+module _ {script : Script} {header : Header} {len : ℕ} {before order : List Mark} {held : Option (List ℕ)} {calls : Option (List DiskCall)} {records : ℕ} {first : List Runner} {left : Option (List ℕ)}
+    {made : Option (List DiskCall)} {count : ℕ} {last : List Runner} {now : Option (List ℕ)} {later : Option (List DiskCall)} {total : ℕ} (lawful : is_lawful script ≡ true) (none : before ≡ [])
+    (t : IsThrough script header len before order held calls records first left made count last) (r : HasClosed header (most_known last) (contents_of left count) (contents_of now total) made later) where
+  long : length script.calls ≡ length last
+  long = (ranks_lawful script lawful).one_each ∙ sym t.runners.all
+
+  all : t.led.more ≡ order
+  all = sym (t.led.grown ∙ ap (λ (ms : List Mark). ms ++ t.led.more) none)
+
+  -- and the file was closed
+  pub run_ended : IfSome held (λ file. IsClosed script.hints (setting_of script header) (counted file records, arrived_all header script.calls first) order calls now later total last)
+  run_ended =
+      let a = stage held calls records (arrived_all header script.calls first) in let b = stage left made count (arrived_all header script.calls last) in
+      IfSome_then held (subst (λ (ms : List Mark). Leads script.hints (setting_of script header) ms a b) all t.led.led)
+      (λ file led. led_closed script header order calls made later left now count total records last (arrived_all header script.calls first) file held long (are_over script last t.free t.arrived) r led)
+
+  pub alike_ended : (stand : Stand) → IsLike stand records (arrived_all header script.calls first) → AreAlikeEnds (told_end total last) (ended_from (setting_of script header) stand order)
+  alike_ended stand like =
+      let s = setting_of script header in let over = are_over script last t.free t.arrived in
+      let ends = map (λ (x : Arrived). x.0) (arrived_all header script.calls last) in
+      let near : IsLike (fold (step_to s) stand order) count (arrived_all header script.calls last) =
+      subst (λ (ms : List Mark). IsLike (fold (step_to s) stand ms) count (arrived_all header script.calls last)) all (t.led.alike stand like) in
+      let alike = close_alike s (fold (step_to s) stand order) (counted [] count) (arrived_all header script.calls last) near in
+      let known : greatest (map (λ g. g.rank.known) ends) ≡ most_known last =
+      ap greatest (map_ended (λ (rank : machine.Rank) (answers : List Answer). rank.known) header script.calls last long over) in
+      let count_is : (close_by s (counted [] count) ends).records ≡ max count (most_known last) =
+      ap (λ (n : ℕ). (raised s (counted [] count) n).records) known ∙ raised_records s (counted [] count) (most_known last) in
+      record {
+        records = r.count ∙ sym count_is ∙ sym alike.records;
+        answers = ap (map (map blank)) (sym (map_ended (λ (rank : machine.Rank) (answers : List Answer). answers) header script.calls last long over)) ∙ sym alike.answers;
+        pending = sym (map_ended (λ (rank : machine.Rank) (answers : List Answer). machine.pending rank) header script.calls last long over) ∙ sym alike.pending;
+      }

@@ -1,5 +1,5 @@
 -- A run in turn as a whole: its meetings, and then the end by the ends of its ranks.
-use Rattle.turn_run.proofs.Words.{IfSome_then, ◌≡◌, ℕ, ◌≤◌, refl, sym, ◌∙◌, ap, subst, inl, inr, ◌⊎◌, List, [], length, map, max, replicate, true, Option, Some, None, Result, Ok, Err, length-map, IfSome, OnOk, result_err, byte_len, map_map, Header, RankEnd, RankStop, RunEnd, ServeEnd, Script, DiskCall, Mark, StepErr, Rose, with_end, BothTold, rose_before, run_calls, raised, count_width, IsLegal, is_lawful, is_sound, End, serial_from, setting_of, IsCutRun, IsTorn, as_setting, counted, all_calls_over, ended_from, ranks_lawful, point, contents_of, seen, HasBegun, IsCount, HasStopped, IsNext, most_known_of, runner_end, EndedAt, HasClosed, IsRun, AreFree, AreRunners, HaveArrived, all_between, AllSay, HaveAnswers, arrived_all, stage, HasLed, first_runner, Runner, blank, AreAlikeEnds, same_beside, le_two}
+use Rattle.turn_run.proofs.Words.{IfSome_then, ◌≡◌, ℕ, ◌≤◌, refl, sym, ◌∙◌, ap, subst, inl, inr, ◌⊎◌, List, [], length, map, max, replicate, true, Option, Some, None, Result, Ok, Err, length-map, IfSome, OnOk, result_err, byte_len, map_map, Header, RankEnd, RankStop, RunEnd, ServeEnd, Script, DiskCall, Mark, StepErr, Rose, with_end, BothTold, rose_before, run_calls, raised, count_width, IsLegal, is_lawful, is_sound, End, serial_from, setting_of, IsCutRun, IsTorn, as_setting, counted, all_calls_over, ended_from, ranks_lawful, point, contents_of, seen, HasBegun, IsCount, HasStopped, IsNext, most_known_of, runner_end, EndedAt, HasClosed, IsRun, AreRunners, all_between, AllSay, HaveAnswers, arrived_all, first_runner, Runner, blank, AreAlikeEnds, same_beside, le_two}
 use Rattle.nc_base.specs.declared.step.StepErr.TheVariants as fault
 use Rattle.serial_spec.specs.RankMachine as machine
 use Rattle.turn_run.specs.RankEnds.EndedAt.{as_left, in_close as in_closing}
@@ -11,7 +11,7 @@ use Rattle.turn_run.proofs.SaidMeet.{all_say_here, keep_own}
 use Rattle.turn_run.proofs.TurnCauses.{rose_later}
 use Rattle.turn_run.proofs.TurnEnds.{are_over, ended_legal}
 use Rattle.turn_run.proofs.TurnKnown.{ends_known, most_known, most_rise, rise_sound}
-use Rattle.turn_run.proofs.TurnRuns.{alike_ended, calls_from_first, first_free, none_begun, run_ended, serial_from_first, told_end, IsClosed}
+use Rattle.turn_run.proofs.TurnRuns.{alike_ended, calls_from_first, first_free, none_begun, run_ended, serial_from_first, told_end, IsClosed, IsThrough}
 
 -- ---- how it went
 
@@ -31,14 +31,6 @@ stopped_first script header held done faults records end lawful count none memor
     let wanted = sym (same_cause fault.Memory e (sym memory ∙ is)) in
     cut_run script header e end.order held held records end.answers (no_rows script e end.answers wanted empty) (λ file there. no_answers script header e end.order file end.answers empty)
     (stood_first script header e end.order held held records records lawful wanted none refl refl count)) none_pending
-
--- all ranks have made their calls
-pub record IsThrough (script : Script) (header : Header) (len : ℕ) (before order : List Mark) (held : Option (List ℕ)) (calls : Option (List DiskCall)) (records : ℕ) (first : List Runner)
-    (left : Option (List ℕ)) (made : Option (List DiskCall)) (count : ℕ) (last : List Runner) : Type 0 where
-  pub runners : AreRunners script header len order last
-  pub free : AreFree last
-  pub arrived : HaveArrived script last
-  pub led : HasLed script.hints (setting_of script header) before order (stage held calls records (arrived_all header script.calls first)) (stage left made count (arrived_all header script.calls last))
 
 -- what is told of the meetings
 pub record HasMet (script : Script) (header : Header) (len : ℕ) (before : List Mark) (served : ServeEnd) (held : Option (List ℕ)) (calls : Option (List DiskCall)) (faults records : ℕ) (first : List Runner)
@@ -154,20 +146,18 @@ module _ (script : Script) (header : Header) (len : ℕ) (before : List Mark) (s
       device : (file : List ℕ) → all_calls_over script.hints (setting_of script header) (counted file records, arrived_all header script.calls first) served.order ≡ run_calls script header file end.order
       device file = calls_from_first script header file records first served.order lawful same_count all ∙ ap (λ (ms : List Mark). run_calls script header file ms) (sym c.order)
 
+      closing : end.fault ≡ None → HasClosed header (most_known last) (contents_of left count) (contents_of now total) made later
+      closing good = subst (λ (n : ℕ). HasClosed header n (contents_of left count) (contents_of now total) made later) known_is (c.closed good)
+
       closed_so : end.fault ≡ None
           → IfSome held (λ file. IsClosed script.hints (setting_of script header) (counted file records, arrived_all header script.calls first) served.order calls now later total last)
-      closed_so good =
-          let t = h.through (c.went good).0 in
-          run_ended script header len before served.order calls made later held left now count total records last (arrived_all header script.calls first) lawful none t.runners t.free t.arrived t.led
-          (subst (λ (n : ℕ). HasClosed header n (contents_of left count) (contents_of now total) made later) known_is (c.closed good))
+      closed_so good = run_ended lawful none (h.through (c.went good).0) (closing good)
 
       alike_so : end.fault ≡ None → (file : List ℕ) → AreAlikeEnds (told_end total last) (serial_from script header file end.order)
       alike_so good file =
-          let t = h.through (c.went good).0 in let ranks = arrived_all header script.calls first in
+          let ranks = arrived_all header script.calls first in
           subst (λ (x : End). AreAlikeEnds (told_end total last) x) (serial file)
-          (alike_ended script header len before served.order calls made later held left now count total records last ranks lawful none t.runners t.free t.arrived t.led
-          (subst (λ (n : ℕ). HasClosed header n (contents_of left count) (contents_of now total) made later) known_is (c.closed good))
-          (counted file records, ranks) (record { records = refl; beside = same_beside ranks }))
+          (alike_ended lawful none (h.through (c.went good).0) (closing good) (counted file records, ranks) (record { records = refl; beside = same_beside ranks }))
 
       by_fault : end.fault ≡ Some fault.Disk → (m : Option StepErr) → served.fault ≡ m → Rose faults risen
       by_fault disk None f = rose_before faults failed risen h.later (c.cause f disk)
