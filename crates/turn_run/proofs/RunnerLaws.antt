@@ -1,5 +1,5 @@
 -- How the rank of a runner goes on.
-use Rattle.turn_run.proofs.Words.{◌≡◌, ℕ, suc, ◌+◌, ◌^◌, ◌<◌, ◌≤◌, refl, sym, ◌∙◌, ap, subst, List, [], ◌∷◌, ◌++◌, length, drop, get_or, true, false, Option, Some, None, length-append, append_assoc, arith, append-nil, slice_get, filter, Header, Call, Answer, Script, Mark, Offer, OfferKind, Reply, Want, concerns, marks, most_parts, step, hear, Going, go, advance, hears, posts_held, answered, IsOnWay, AsksAlone, posts_offered, IsSoundOffer, IsSoundWant, meets_keeps, says_at, solo_keeps, comes_on, comes_to_meeting, comes_to_solo, way_answers, way_meets, way_solo, raises, IsAsked, asking, between, HasHeard, IsPlaced, IsPlacedWith, Runner, meets_quiet, drop_at, entry_read}
+use Rattle.turn_run.proofs.Words.{◌≡◌, ℕ, suc, ◌+◌, ◌^◌, ◌<◌, ◌≤◌, refl, sym, ◌∙◌, ap, subst, List, [], ◌∷◌, ◌++◌, length, drop, get_or, true, false, Option, Some, None, length-append, append_assoc, arith, append-nil, slice_get, filter, Header, Call, Answer, Script, Mark, Offer, OfferKind, Reply, Want, concerns, marks, most_parts, step, hear, Going, go, advance, hears, posts_held, answered, IsOnWay, AsksAlone, posts_offered, IsSoundWant, meets_keeps, says_at, solo_keeps, comes_on, comes_to_meeting, comes_to_solo, way_answers, way_meets, way_solo, raises, IsAsked, asking, between, HasHeard, IsPlaced, IsPlacedWith, Runner, meets_quiet, drop_at, entry_read, said_at, inl, inr, ◌⊎◌}
 use Rattle.nc_base.specs.declared.step.Mark.TheVariants as mark
 use Rattle.nc_base.specs.declared.step.OfferKind.TheVariants as offer
 use Rattle.nc_base.specs.declared.step.Want.TheVariants as want
@@ -53,43 +53,6 @@ answers_on_way header from own rank answers now e f =
 pub next_call : (own : List Call) (answers : List Answer) (n : ℕ) (c : Call) → n ≡ length answers → n < length own → c ≡ get_or own n c → slice_get own (length answers) ≡ Some c
 next_call own answers n c e l g = subst (λ (k : ℕ). slice_get own k ≡ Some c) e (entry_read own n c l g)
 
--- ---- at an offer
-
-pub placed_with : (script : Script) (header : Header) (order : List Mark) (r : ℕ) (s : Going) (o : Offer) (k : OfferKind) → k ≡ o.kind
-    → IsPlacedWith script header order r (s, o) k → IsPlaced script header order r s (Some o)
-placed_with script header order r s o k e h = subst (λ (j : OfferKind). IsPlacedWith script header order r (s, o) j) e h
-
-pub placed_meeting : (script : Script) (order : List Mark) (r : ℕ) (header : Header) (own : List Call) (rank next : machine.Rank) (answers : List Answer) (o : Offer) (c : Call)
-    → IsOnWay script order r (at own rank answers) None → slice_get own (length answers) ≡ Some c → (next, want.Meet o) ≡ step header rank c
-    → posts_held next ≤ posts_held rank + most_parts → IsPlaced script header order r (at_call own next answers) (Some o)
-placed_meeting script order r header own rank next answers o c w g e p =
-    let says = says_at header rank c (next, want.Meet o) e in
-    placed_with script header order r (at_call own next answers) o (offer.Meet says.of_kind) (sym says.meets)
-    (way_meets script order r header (at own rank answers) next o c (drop (suc (length answers)) own) w (drop_at own (length answers) c g) e p)
-
-pub placed_alone : (script : Script) (order : List Mark) (r : ℕ) (header : Header) (own : List Call) (rank next : machine.Rank) (answers : List Answer) (o : Offer) (c : Call)
-    → IsOnWay script order r (at own rank answers) None → slice_get own (length answers) ≡ Some c → (next, want.Solo o) ≡ step header rank c
-    → posts_held next ≤ posts_held rank + most_parts → IsPlaced script header order r (at_call own next answers) (Some o)
-placed_alone script order r header own rank next answers o c w g e p =
-    let says = says_at header rank c (next, want.Solo o) e in
-    placed_with script header order r (at_call own next answers) o offer.Solo (sym says.is_solo) (record {
-      before = rank;
-      call = c;
-      way = subst (λ (cs : List Call). IsOnWay script order r (record { rank = rank; answers = answers; calls = cs }) None) (drop_at own (length answers) c g) w;
-      step = e;
-      few = p;
-    })
-
-pub advance_meeting : (header : Header) (own : List Call) (rank next : machine.Rank) (answers : List Answer) (o : Offer) (c : Call)
-    → slice_get own (length answers) ≡ Some c → (next, want.Meet o) ≡ step header rank c → advance header (at own rank answers) ≡ (at_call own next answers, Some o)
-advance_meeting header own rank next answers o c g e =
-    comes_to_meeting header (at own rank answers) (at own rank answers) next o c (drop (suc (length answers)) own) refl (drop_at own (length answers) c g) e
-
-pub advance_alone : (header : Header) (own : List Call) (rank next : machine.Rank) (answers : List Answer) (o : Offer) (c : Call)
-    → slice_get own (length answers) ≡ Some c → (next, want.Solo o) ≡ step header rank c → advance header (at own rank answers) ≡ (at_call own next answers, Some o)
-advance_alone header own rank next answers o c g e =
-    comes_to_solo header (at own rank answers) (at own rank answers) next o c (drop (suc (length answers)) own) refl (drop_at own (length answers) c g) e
-
 -- at the end of its calls it is where it has gone up to
 pub advance_ended : (header : Header) (own : List Call) (rank : machine.Rank) (answers : List Answer) → drop (length answers) own ≡ []
     → advance header (at own rank answers) ≡ (at own rank answers, None)
@@ -141,26 +104,56 @@ placed_rest script header order r s (Some o) w = by_kind o.kind w
     by_kind offer.Solo h = alone_rest script header order r s o h
     by_kind (offer.Meet kind) h = way_rest script order r s (Some o) h
 
--- ---- what the rank wants at its next call
+-- ---- the offer that the rank makes at its next call
 
-pub asked_meeting : (header : Header) (rank next : machine.Rank) (o : Offer) (c : Call) → (next, want.Meet o) ≡ step header rank c → IsSoundOffer header o
-    → length o.batch.puts + length o.batch.gets ≤ 2 ^ 30 → IsAsked header next.known o
-asked_meeting header rank next o c e sound few =
-    let kept = meets_keeps header rank next c o e in
-    record { sound = sound; told = kept.1.0 ∙ sym kept.0; few = few; one = meets_quiet header rank next c o e }
-
-pub asked_alone : (header : Header) (rank next : machine.Rank) (o : Offer) (c : Call) → (next, want.Solo o) ≡ step header rank c → IsSoundOffer header o
-    → length o.batch.puts + length o.batch.gets ≤ 2 ^ 30 → IsAsked header next.known o
-asked_alone header rank next o c e sound few =
-    let kept = solo_keeps header rank next c o e in
-    record { sound = sound; told = kept.1.1.0 ∙ sym kept.1.0; few = few; one = λ raised. absurd (not_solo o.kind kept.0 raised) }
-  where
-    not_solo : (k : OfferKind) → k ≡ offer.Solo → raises k ≡ true → ⊥
-    not_solo k e h = let f : false ≡ true = sym (ap raises e) ∙ h in cc
+pub record MakesOffer (script : Script) (header : Header) (r : ℕ) (own : List Call) (rank next : machine.Rank) (answers : List Answer) (o : Offer) : Type 0 where
+  pub known : next.known ≡ rank.known
+  pub asked : IsAsked header next.known o
+  pub placed : (order : List Mark) → IsOnWay script order r (at own rank answers) None → IsPlaced script header order r (at_call own next answers) (Some o)
+  pub advanced : advance header (at own rank answers) ≡ (at_call own next answers, Some o)
 
 -- a sound want, at what it is
-pub sound_at : (header same : Header) (w v : Want) → same ≡ header → w ≡ v → IsSoundWant same w → IsSoundWant header v
+sound_at : (header same : Header) (w v : Want) → same ≡ header → w ≡ v → IsSoundWant same w → IsSoundWant header v
 sound_at header same w v e f h = subst (λ (k : Header). IsSoundWant k v) e (subst (λ (x : Want). IsSoundWant same x) f h)
 
-pub few_at : (w v : Want) (held : ℕ) → w ≡ v → posts_offered w ≤ held + most_parts → held + most_parts ≤ 2 ^ 30 → posts_offered v ≤ 2 ^ 30
+few_at : (w v : Want) (held : ℕ) → w ≡ v → posts_offered w ≤ held + most_parts → held + most_parts ≤ 2 ^ 30 → posts_offered v ≤ 2 ^ 30
 few_at w v held e h l = let f = ap posts_offered e in omega arith
+
+pub makes_offer : (script : Script) (header same : Header) (r : ℕ) (own : List Call) (rank next : machine.Rank) (answers : List Answer) (o : Offer) (c : Call) (w : Want) → same ≡ header
+    → (next, w) ≡ step same rank c → slice_get own (length answers) ≡ Some c → posts_held next ≤ posts_held rank + most_parts → IsSoundWant same w → posts_offered w ≤ posts_held rank + most_parts
+    → posts_held rank + most_parts ≤ 2 ^ 30 → (w ≡ want.Meet o) ⊎ (w ≡ want.Solo o) → MakesOffer script header r own rank next answers o
+makes_offer script header same r own rank next answers o c w e said g posts sound few room (inl is) =
+    let step = said_at header same rank next c w (want.Meet o) e said is in let kept = meets_keeps header rank next c o step in
+    let says = says_at header rank c (next, want.Meet o) step in let rest = drop (suc (length answers)) own in
+    record {
+      known = kept.0;
+      asked = record {
+        sound = sound_at header same w (want.Meet o) e is sound;
+        told = kept.1.0 ∙ sym kept.0;
+        few = few_at w (want.Meet o) (posts_held rank) is few room;
+        one = meets_quiet header rank next c o step;
+      };
+      placed = λ order way. subst (λ (k : OfferKind). IsPlacedWith script header order r (at_call own next answers, o) k) (sym says.meets)
+          (way_meets script order r header (at own rank answers) next o c rest way (drop_at own (length answers) c g) step posts);
+      advanced = comes_to_meeting header (at own rank answers) (at own rank answers) next o c rest refl (drop_at own (length answers) c g) step;
+    }
+makes_offer script header same r own rank next answers o c w e said g posts sound few room (inr is) =
+    let step = said_at header same rank next c w (want.Solo o) e said is in let kept = solo_keeps header rank next c o step in
+    let says = says_at header rank c (next, want.Solo o) step in let rest = drop (suc (length answers)) own in
+    record {
+      known = kept.1.0;
+      asked = record {
+        sound = sound_at header same w (want.Solo o) e is sound;
+        told = kept.1.1.0 ∙ sym kept.1.0;
+        few = few_at w (want.Solo o) (posts_held rank) is few room;
+        one = λ raised. let f : false ≡ true = sym (ap raises kept.0) ∙ raised in absurd cc;
+      };
+      placed = λ order way. subst (λ (k : OfferKind). IsPlacedWith script header order r (at_call own next answers, o) k) (sym says.is_solo) (record {
+        before = rank;
+        call = c;
+        way = subst (λ (cs : List Call). IsOnWay script order r (record { rank = rank; answers = answers; calls = cs }) None) (drop_at own (length answers) c g) way;
+        step = step;
+        few = posts;
+      });
+      advanced = comes_to_solo header (at own rank answers) (at own rank answers) next o c rest refl (drop_at own (length answers) c g) step;
+    }

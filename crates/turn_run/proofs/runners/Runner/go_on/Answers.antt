@@ -1,8 +1,7 @@
 -- One call more, or an offer.
-use Rattle.turn_run.proofs.Words.{◌≡◌, refl, ◌∙◌, ap, length, List, Some, inl, inr, [], ◌∷◌, length-append, arith, Answer, slice_get, advance, call_fresh, call_lawful, call_posts, meets_keeps, solo_keeps, alone_keeps, IsAsked, between, asking, IsPlaced, on_err, drop_at, said_at}
-use Rattle.std.specs.Prelude.{◌⊎◌}
+use Rattle.turn_run.proofs.Words.{◌≡◌, refl, ◌∙◌, ap, length, List, Some, [], ◌∷◌, length-append, arith, Answer, slice_get, call_fresh, call_lawful, call_posts, alone_keeps, between, on_err, drop_at, said_at}
 use Rattle.nc_base.specs.declared.step.Want.TheVariants as want
-use Rattle.turn_run.proofs.RunnerLaws.{next_call, way_on, advance_on, placed_meeting, placed_alone, advance_meeting, advance_alone, answers_on_way, asked_meeting, asked_alone, sound_at, few_at}
+use Rattle.turn_run.proofs.RunnerLaws.{next_call, way_on, advance_on, answers_on_way, makes_offer}
 use Rattle.turn_run.proofs.runners.Runner.go_on.Goals as goal
 
 pub step-requires-clause-fresh : goal.step-requires-clause-fresh
@@ -34,76 +33,27 @@ calls-preserved g c =
       advanced = c.calls.invariant.advanced ∙ advance_on header own rank next answers c.push.new.self a call there said more;
     }
 
-pub returns-in-Meet-clause-known : goal.returns-in-Meet-clause-known
-returns-in-Meet-clause-known g c =
-    let call = c.index-calls-next.result in let rank = c.calls.self.rank.state in
-    let next = c.step.new.self.state in let header = c.args.header.now in
-    let o = c.in-Meet.offer in let w = c.in_ok-answer.field-0 in
-    let by : (w ≡ want.Meet o) ⊎ (w ≡ want.Solo o) → next.known ≡ c.args.self.now.rank.state.known = λ k. elim k [
-      | inl e ↦ (meets_keeps header rank next call o (said_at header c.calls.self.rank.header rank next call w (want.Meet o) c.calls.invariant.of_header c.in_ok-answer.ensures.step e)).0
-          ∙ c.calls.invariant.known
-      | inr e ↦ (solo_keeps header rank next call o (said_at header c.calls.self.rank.header rank next call w (want.Solo o) c.calls.invariant.of_header c.in_ok-answer.ensures.step e)).1.0
-          ∙ c.calls.invariant.known
-    ] in
-    by c.in-Meet.is
-
-pub returns-in-Meet-clause-placed : goal.returns-in-Meet-clause-placed
-returns-in-Meet-clause-placed g c = λ order way.
+pub returns-in-Meet : goal.returns-in-Meet
+returns-in-Meet g c =
     let call = c.index-calls-next.result in let own = c.args.calls.now in
     let answers = c.calls.self.answers in let rank = c.calls.self.rank.state in
-    let next = c.step.new.self.state in let header = c.args.header.now in
-    let script = c.args.script.now in let o = c.in-Meet.offer in
-    let w = c.in_ok-answer.field-0 in
+    let script = c.args.script.now in let k = c.calls.invariant in
     let there : slice_get own (length answers) ≡ Some call = next_call own answers c.len-next.result call (omega arith) (omega arith) c.index-calls-next.is in
-    let here = c.calls.invariant.kept order way in
-    let lawful = call_lawful script order c.args.number (between own c.calls.self) call _ here (drop_at own (length answers) call there) in
-    let posts = c.in_ok-answer.ensures.held script.ranks c.args.number lawful in
-    let by : (w ≡ want.Meet o) ⊎ (w ≡ want.Solo o)
-    → IsPlaced script header order c.args.number (asking own (record { rank = c.step.new.self; answers = answers; held = Some o })) (Some o) = λ k. elim k [
-      | inl e ↦ placed_meeting script order c.args.number header own rank next answers o call here there
-          (said_at header c.calls.self.rank.header rank next call w (want.Meet o) c.calls.invariant.of_header c.in_ok-answer.ensures.step e) posts
-      | inr e ↦ placed_alone script order c.args.number header own rank next answers o call here there
-          (said_at header c.calls.self.rank.header rank next call w (want.Solo o) c.calls.invariant.of_header c.in_ok-answer.ensures.step e) posts
-    ] in
-    by c.in-Meet.is
-
-pub returns-in-Meet-clause-asked : goal.returns-in-Meet-clause-asked
-returns-in-Meet-clause-asked g c =
-    let call = c.index-calls-next.result in let own = c.args.calls.now in
-    let answers = c.calls.self.answers in let rank = c.calls.self.rank.state in
-    let next = c.step.new.self.state in let header = c.args.header.now in
-    let script = c.args.script.now in let o = c.in-Meet.offer in
-    let w = c.in_ok-answer.field-0 in
-    let there : slice_get own (length answers) ≡ Some call = next_call own answers c.len-next.result call (omega arith) (omega arith) c.index-calls-next.is in
-    let way = c.calls.invariant.way in let next_is = drop_at own (length answers) call there in
-    let lawful = call_lawful script way.0 c.args.number (between own c.calls.self) call _ way.1 next_is in
-    let room = call_posts script way.0 c.args.number (between own c.calls.self) call _ way.1 next_is in
-    let few = c.in_ok-answer.ensures.few script.ranks c.args.number lawful in
-    let by : (w ≡ want.Meet o) ⊎ (w ≡ want.Solo o) → IsAsked header next.known o = λ k. elim k [
-      | inl e ↦ asked_meeting header rank next o call
-          (said_at header c.calls.self.rank.header rank next call w (want.Meet o) c.calls.invariant.of_header c.in_ok-answer.ensures.step e)
-          (sound_at header c.calls.self.rank.header w (want.Meet o) c.calls.invariant.of_header e c.in_ok-answer.ensures.sound) (few_at w (want.Meet o) _ e few room)
-      | inr e ↦ asked_alone header rank next o call
-          (said_at header c.calls.self.rank.header rank next call w (want.Solo o) c.calls.invariant.of_header c.in_ok-answer.ensures.step e)
-          (sound_at header c.calls.self.rank.header w (want.Solo o) c.calls.invariant.of_header e c.in_ok-answer.ensures.sound) (few_at w (want.Solo o) _ e few room)
-    ] in
-    by c.in-Meet.is
-
-pub returns-in-Meet-clause-advanced : goal.returns-in-Meet-clause-advanced
-returns-in-Meet-clause-advanced g c =
-    let call = c.index-calls-next.result in let own = c.args.calls.now in
-    let answers = c.calls.self.answers in let rank = c.calls.self.rank.state in
-    let next = c.step.new.self.state in let header = c.args.header.now in
-    let o = c.in-Meet.offer in let w = c.in_ok-answer.field-0 in
-    let there : slice_get own (length answers) ≡ Some call = next_call own answers c.len-next.result call (omega arith) (omega arith) c.index-calls-next.is in
-    let by : (w ≡ want.Meet o) ⊎ (w ≡ want.Solo o)
-    → advance header (between own c.calls.self) ≡ (asking own (record { rank = c.step.new.self; answers = answers; held = Some o }), Some o) = λ k. elim k [
-      | inl e ↦ advance_meeting header own rank next answers o call there
-          (said_at header c.calls.self.rank.header rank next call w (want.Meet o) c.calls.invariant.of_header c.in_ok-answer.ensures.step e)
-      | inr e ↦ advance_alone header own rank next answers o call there
-          (said_at header c.calls.self.rank.header rank next call w (want.Solo o) c.calls.invariant.of_header c.in_ok-answer.ensures.step e)
-    ] in
-    c.calls.invariant.advanced ∙ by c.in-Meet.is
+    let next_is = drop_at own (length answers) call there in
+    let lawful = call_lawful script k.way.0 c.args.number (between own c.calls.self) call _ k.way.1 next_is in
+    let made = makes_offer script c.args.header.now c.calls.self.rank.header c.args.number own rank c.step.new.self.state answers c.in-Meet.offer call c.in_ok-answer.field-0 k.of_header c.in_ok-answer.ensures.step there
+    (c.in_ok-answer.ensures.held script.ranks c.args.number lawful) c.in_ok-answer.ensures.sound (c.in_ok-answer.ensures.few script.ranks c.args.number lawful)
+    (call_posts script k.way.0 c.args.number (between own c.calls.self) call _ k.way.1 next_is) c.in-Meet.is in
+    record {
+      header = c.in_ok-answer.ensures.header ∙ k.of_header;
+      known = made.known ∙ k.known;
+      placed = λ order way. made.placed order (k.kept order way);
+      more = k.more;
+      asked = made.asked;
+      advanced = k.advanced ∙ made.advanced;
+      ended = λ none. absurd cc;
+      some = tt;
+    }
 
 pub returns-in_err-answer-clause-some : goal.returns-in_err-answer-clause-some
 returns-in_err-answer-clause-some g c =
