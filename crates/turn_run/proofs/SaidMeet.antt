@@ -1,12 +1,12 @@
 -- The answers of the ranks of a meeting, also where it was cut off.
-use Rattle.turn_run.proofs.Words.{◌≡◌, ℕ, zero, suc, ◌<◌, ◌≤◌, refl, sym, ◌∙◌, ap, subst, inl, inr, ◌⊎◌, List, [], ◌∷◌, ◌++◌, length, map, set, Bool, true, false, Option, Some, None, append_assoc, arith, nat_tests, fold-append, append_cancel_left, same_Some, slice_get_within, slice_get, fold, zip, nat_lt, IfSome, Answer, Pair, Header, Batch, Call, Hints, Script, Mark, Meet, Offer, Reply, StepErr, Memory, Setting, Counted, meeting, Going, advance, after_mark, hears, offers_of, Begins, counted, Arrived, Stand, heard, step_to, point, HasSaid, AllSay, HasReached, AreAnswers, HaveAnswers, HaveHeardInPart, KeepAnswers, all_between, asking, between, calls_of, reply_of, AreFreed, HasHeard, HaveArrived, AreRunners, Stage, Leads, IsLed, HasLed, arrived, arrived_all, stand_of, Runner, if_some_at, entry_below, entry_map, gone_up, is_lawful, ranks_lawful, setting_of}
+use Rattle.turn_run.proofs.Words.{◌≡◌, ℕ, zero, suc, ◌<◌, ◌≤◌, refl, sym, ◌∙◌, ap, subst, inl, inr, ◌⊎◌, List, [], ◌∷◌, ◌++◌, length, map, set, Bool, true, false, Option, Some, append_assoc, arith, nat_tests, fold-append, append_cancel_left, same_Some, slice_get_within, slice_get, fold, zip, nat_lt, IfSome, Answer, Pair, Header, Batch, Call, Hints, Script, Mark, Meet, Offer, Reply, StepErr, Memory, Setting, Counted, meeting, Going, advance, after_mark, hears, offers_of, Begins, counted, Arrived, Stand, heard, step_to, point, HasSaid, AllSay, HasReached, AreAnswers, HaveAnswers, HaveHeardInPart, KeepAnswers, all_between, asking, between, calls_of, reply_of, AreFreed, HasHeard, HaveArrived, AreRunners, Stage, Leads, IsLed, HasLed, arrived, arrived_all, stand_of, Runner, if_some_at, entry_below, entry_map, gone_up, is_lawful, ranks_lawful, setting_of}
 use Rattle.turn_run.proofs.AloneLaws.{arrived_held}
 use Rattle.turn_run.proofs.MeetDone.{heard_before}
 use Rattle.turn_run.proofs.MeetOffers.{meets_at}
 use Rattle.turn_run.proofs.MeetStep.{done_behind, replies_of, HasGiven, HaveDone, IsTaken}
 use Rattle.turn_run.proofs.SaidLaws.{arrived_said, begins_heard, begins_up, reached_here, said_here, said_part, up_after}
 use Rattle.turn_run.proofs.RunnerLaws.{heard_runner}
-use Rattle.turn_run.proofs.StageLaws.{led_then}
+use Rattle.turn_run.proofs.StageLaws.{led_then, some_each}
 use Rattle.turn_run.proofs.TurnSteps.{calls_there, get_arrived, set_each}
 
 -- ---- before its step is done
@@ -33,17 +33,22 @@ keep_own runners r a b e f = ap (λ (x : Runner). x.answers) (sym (same_Some a b
 pub keep_freed : (runners now : List Runner) → AreFreed runners now → KeepAnswers runners now
 keep_freed runners now f r a b e g = (f.each r a b e g).answers
 
--- those before one element were kept, and those after it are as they were
+-- of those before one element it is known, and those after it are as they were
+at_part : (P : ℕ → Runner → Runner → Type 0) (old now : List Runner) (i : ℕ) (was new : Runner) → slice_get now i ≡ Some was
+    → ((r : ℕ) (a b : Runner) → r < i → slice_get old r ≡ Some a → slice_get now r ≡ Some b → P r a b) → ((r : ℕ) → i ≤ r → slice_get now r ≡ slice_get old r) → new.answers ≡ was.answers
+    → ((r : ℕ) (a b : Runner) → b.answers ≡ a.answers → P r a b) → (r : ℕ) (a b : Runner) → slice_get old r ≡ Some a → slice_get (set now i new) r ≡ Some b → P r a b
+at_part P old now i was new there before left same kept r a b g h =
+    set_each (λ (q : ℕ) (x : Runner). (y : Runner) → slice_get old q ≡ Some y → P q y x) now i was new there
+    (λ y e. kept i y new (same ∙ ap (λ (x : Runner). x.answers) (same_Some was y (sym there ∙ left i (omega arith) ∙ e)))) (λ q x other f y e. by_order q x y f e (nat_lt q i) refl) r b h a g
+  where
+    by_order : (q : ℕ) (x y : Runner) → slice_get now q ≡ Some x → slice_get old q ≡ Some y → (t : Bool) → nat_lt q i ≡ t → P q y x
+    by_order q x y f e true t = before q y x (grind (arith, nat_tests)) e f
+    by_order q x y f e false t = kept q y x (ap (λ (z : Runner). z.answers) (same_Some x y (sym f ∙ left q (grind (arith, nat_tests)) ∙ e)))
+
 pub keep_part : (old now : List Runner) (i : ℕ) (was new : Runner) → slice_get now i ≡ Some was
     → ((r : ℕ) (a b : Runner) → r < i → slice_get old r ≡ Some a → slice_get now r ≡ Some b → b.answers ≡ a.answers)
     → ((r : ℕ) → i ≤ r → slice_get now r ≡ slice_get old r) → new.answers ≡ was.answers → KeepAnswers old (set now i new)
-keep_part old now i was new there before left same r a b g h =
-    set_each (λ (q : ℕ) (x : Runner). (y : Runner) → slice_get old q ≡ Some y → x.answers ≡ y.answers) now i was new there
-    (λ y e. same ∙ ap (λ (x : Runner). x.answers) (same_Some was y (sym there ∙ left i (omega arith) ∙ e))) (λ q x other f y e. by_order q x y f e (nat_lt q i) refl) r b h a g
-  where
-    by_order : (q : ℕ) (x y : Runner) → slice_get now q ≡ Some x → slice_get old q ≡ Some y → (t : Bool) → nat_lt q i ≡ t → x.answers ≡ y.answers
-    by_order q x y f e true t = before q y x (grind (arith, nat_tests)) e f
-    by_order q x y f e false t = ap (λ (z : Runner). z.answers) (same_Some x y (sym f ∙ left q (grind (arith, nat_tests)) ∙ e))
+keep_part old now i was new there before left same = at_part (λ r a b. b.answers ≡ a.answers) old now i was new there before left same (λ r a b e. e)
 
 -- ---- its step
 
@@ -71,14 +76,8 @@ pub heard_part : (pair : Option Pair) (n : ℕ) (table : List (List (List ℕ)))
     → ((r : ℕ) (a b : Runner) (blobs : List (List ℕ)) → r < i → slice_get old r ≡ Some a → slice_get now r ≡ Some b → slice_get table r ≡ Some blobs → HasHeard a b (reply_of pair n blobs))
     → ((r : ℕ) → i ≤ r → slice_get now r ≡ slice_get old r) → new.answers ≡ was.answers → HaveHeardInPart pair n table old (set now i new)
 heard_part pair n table old now i was new there before left same r a b blobs g h t =
-    set_each (λ (q : ℕ) (x : Runner). (y : Runner) (row : List (List ℕ)) → slice_get old q ≡ Some y → slice_get table q ≡ Some row → (x.answers ≡ y.answers) ⊎ HasHeard y x (reply_of pair n row)) now i was new there
-    (λ y row e f. inl (same ∙ ap (λ (x : Runner). x.answers) (same_Some was y (sym there ∙ left i (omega arith) ∙ e))))
-    (λ q x other f y row e k. by_order q x y row f e k (nat_lt q i) refl) r b h a blobs g t
-  where
-    by_order : (q : ℕ) (x y : Runner) (row : List (List ℕ)) → slice_get now q ≡ Some x → slice_get old q ≡ Some y → slice_get table q ≡ Some row → (t : Bool) → nat_lt q i ≡ t
-        → (x.answers ≡ y.answers) ⊎ HasHeard y x (reply_of pair n row)
-    by_order q x y row f e k true t = inr (before q y x row (grind (arith, nat_tests)) e f k)
-    by_order q x y row f e k false t = inl (ap (λ (z : Runner). z.answers) (same_Some x y (sym f ∙ left q (grind (arith, nat_tests)) ∙ e)))
+    at_part (λ q x y. (row : List (List ℕ)) → slice_get table q ≡ Some row → (y.answers ≡ x.answers) ⊎ HasHeard x y (reply_of pair n row)) old now i was new there
+    (λ q x y k u v row w. inr (before q x y row k u v w)) left same (λ q x y e row w. inl e) r a b g h blobs t
 
 pub part_of_freed : (pair : Option Pair) (n : ℕ) (table : List (List (List ℕ))) (runners mid now : List Runner) → length mid ≡ length runners → AreFreed runners mid → HaveHeardInPart pair n table mid now
     → HaveHeardInPart pair n table runners now
@@ -97,11 +96,10 @@ pub reached_deaf : {script : Script} {header : Header} {len : ℕ} {fault : Step
     → IsTaken script.calls runners batches known → HasGiven s batches known r n held left pair table → HaveHeardInPart pair n table runners now
     → HasReached (AllSay fault now) s (point order held r) (arrived_all s.header script.calls runners) now_order
 reached_deaf {script} {header} {fault} {runners} now {batches} {known} {r} {n} k {s} {held} {left} {pair} {table} of_header memory grown m w all come t given part =
-    record { more = Meet k ∷ []; grown = grown; ends = by_held held given }
+    record { more = Meet k ∷ []; grown = grown; ends = some_each held (λ file there. heard_at file (rw there at given)) }
   where
-    by_held : (h : Option (List ℕ)) → HasGiven s batches known r n h left pair table → IfSome h (λ file. AllSay fault now (step_to s (counted file r, arrived_all s.header script.calls runners) (Meet k)))
-    by_held None b = tt
-    by_held (Some file) b = λ q x h a g.
+    heard_at : (file : List ℕ) → HasGiven s batches known r n (Some file) left pair table → AllSay fault now (step_to s (counted file r, arrived_all s.header script.calls runners) (Meet k))
+    heard_at file b = λ q x h a g.
         let within : q < length runners = (let i = slice_get_within now q x h in omega arith) in
         let long = t.long in let was = entry_below runners q within in
         let row = entry_below table q (omega arith) in let o = meets_at all t.hold come q was.0 was.1 in
@@ -132,12 +130,10 @@ pub meeting_between : {s : Setting} {calls : List (List Call)} {runners now : Li
     {table : List (List (List ℕ))} → IsTaken calls runners batches known → HaveDone s.header pair n runners now table → HasGiven s batches known r n held left pair table
     → (goings : List Going) → map (advance s.header) goings ≡ arrived_all s.header calls runners
     → IfSome held (λ file. (after_mark s (counted file r, goings) (Meet k)).1 ≡ all_between calls now)
-meeting_between {s} {calls} {runners} {now} {batches} {known} {r} {n} k {held} {left} {pair} {table} t d given goings up = by_held held given
-  where
-    by_held : (h : Option (List ℕ)) → HasGiven s batches known r n h left pair table → IfSome h (λ file. (after_mark s (counted file r, goings) (Meet k)).1 ≡ all_between calls now)
-    by_held None b = tt
-    by_held (Some file) b = (λ i. map (λ p. hears s.header p.0.0 p.1) (zip (up i) (meeting s (offers_of (up i)) (counted file r)).1))
-        ∙ (λ i. map (λ p. hears s.header p.0.0 p.1) (zip (arrived_all s.header calls runners) (replies_of t b i))) ∙ between_done s.header pair n calls runners now table d
+meeting_between {s} {calls} {runners} {now} {r} {n} k {held} {pair} {table} t d given goings up = some_each held (λ file there.
+    let b = rw there at given in
+    (λ i. map (λ p. hears s.header p.0.0 p.1) (zip (up i) (meeting s (offers_of (up i)) (counted file r)).1))
+    ∙ (λ i. map (λ p. hears s.header p.0.0 p.1) (zip (arrived_all s.header calls runners) (replies_of t b i))) ∙ between_done s.header pair n calls runners now table d)
 
 -- ---- steps before
 
@@ -146,22 +142,14 @@ between_led : (hints : Hints) (s : Setting) (before order now_order : List Mark)
     → (first : HasLed hints s before order a b) → (second : HasLed hints s order now_order b c) → now_order ≡ order ++ Meet k ∷ [] → map (advance s.header) goings ≡ a.ranks
     → ((gs : List Going) → map (advance s.header) gs ≡ b.ranks → IfSome b.held (λ file. (after_mark s (counted file b.records, gs) (Meet k)).1 ≡ bs))
     → IfSome a.held (λ file. (fold (after_mark s) (counted file a.records, goings) (first.more ++ second.more)).1 ≡ bs)
-between_led hints s before order now_order k a b c goings bs first second e up step = by_held a.held first.led
-  where
-    one : second.more ≡ Meet k ∷ []
-    one = append_cancel_left order second.more (Meet k ∷ []) (sym second.grown ∙ e)
-
-    by_held : (m : Option (List ℕ)) → IfSome m (λ file. IsLed hints s first.more file a b)
-        → IfSome m (λ file. (fold (after_mark s) (counted file a.records, goings) (first.more ++ second.more)).1 ≡ bs)
-    by_held None l = tt
-    by_held (Some file) l =
-        let state = fold (after_mark s) (counted file a.records, goings) first.more in
-        let stand : gone_up s state ≡ stand_of l.left b = up_after s (counted file a.records) goings a.ranks first.more up ∙ l.state in
-        let count : state.0 ≡ counted l.left b.records = ap (λ (x : Stand). x.0) stand in
-        ap (λ (ms : List Mark). (fold (after_mark s) (counted file a.records, goings) (first.more ++ ms)).1) one
-        ∙ ap (λ (x : Counted × List Going). x.1) (fold-append (after_mark s) (counted file a.records, goings) first.more (Meet k ∷ []))
-        ∙ ap (λ (x : Counted). (after_mark s (x, state.1) (Meet k)).1) count
-        ∙ if_some_at (λ (f : List ℕ). (after_mark s (counted f b.records, state.1) (Meet k)).1 ≡ bs) b.held l.left l.told (step state.1 (ap (λ (x : Stand). x.1) stand))
+between_led hints s before order now_order k a b c goings bs first second e up step = some_each a.held (λ file there.
+    let l = if_some_at (λ (f : List ℕ). IsLed hints s first.more f a b) a.held file there first.led in
+    let state = fold (after_mark s) (counted file a.records, goings) first.more in
+    let stand : gone_up s state ≡ stand_of l.left b = up_after s (counted file a.records) goings a.ranks first.more up ∙ l.state in
+    ap (λ (ms : List Mark). (fold (after_mark s) (counted file a.records, goings) (first.more ++ ms)).1) (append_cancel_left order second.more (Meet k ∷ []) (sym second.grown ∙ e))
+    ∙ ap (λ (x : Counted × List Going). x.1) (fold-append (after_mark s) (counted file a.records, goings) first.more (Meet k ∷ []))
+    ∙ ap (λ (x : Counted). (after_mark s (x, state.1) (Meet k)).1) (ap (λ (x : Stand). x.0) stand)
+    ∙ if_some_at (λ (f : List ℕ). (after_mark s (counted f b.records, state.1) (Meet k)).1 ≡ bs) b.held l.left l.told (step state.1 (ap (λ (x : Stand). x.1) stand)))
 
 -- and then others go on
 answers_then : (hints : Hints) (s : Setting) (fault : StepErr) (before mid now more : List Mark) (a b : Stage) (goings bs : List Going) (runners : List Runner)
@@ -171,19 +159,16 @@ answers_then : (hints : Hints) (s : Setting) (fault : StepErr) (before mid now m
 answers_then hints s fault before mid now more a b goings bs runners led grown up same h = record {
   more = more ++ h.more;
   grown = h.grown ∙ ap (λ (ms : List Mark). ms ++ h.more) grown ∙ append_assoc before more h.more;
-  said = by_held a.held led same;
+  said = some_each a.held (λ file there.
+      let l = if_some_at (λ (f : List ℕ). IsLed hints s more f a b) a.held file there led in
+      let e = if_some_at (λ (f : List ℕ). (fold (after_mark s) (counted f a.records, goings) more).1 ≡ bs) a.held file there same in
+      let state = fold (after_mark s) (counted file a.records, goings) more in
+      let count : state.0 ≡ counted l.left b.records = ap (λ (x : Stand). x.0) (up_after s (counted file a.records) goings a.ranks more up ∙ l.state) in
+      let there : (counted l.left b.records, bs) ≡ state = λ i. (sym count i, sym e i) in
+      subst (λ (gs : List Going). AreAnswers s.header fault gs runners) (ap (λ (x : Counted × List Going). (fold (after_mark s) x h.more).1) there
+      ∙ sym (ap (λ (x : Counted × List Going). x.1) (fold-append (after_mark s) (counted file a.records, goings) more h.more)))
+      (if_some_at (λ (f : List ℕ). AreAnswers s.header fault (fold (after_mark s) (counted f b.records, bs) h.more).1 runners) b.held l.left l.told h.said));
 }
-  where
-    by_held : (m : Option (List ℕ)) → IfSome m (λ file. IsLed hints s more file a b) → IfSome m (λ file. (fold (after_mark s) (counted file a.records, goings) more).1 ≡ bs)
-        → IfSome m (λ file. AreAnswers s.header fault (fold (after_mark s) (counted file a.records, goings) (more ++ h.more)).1 runners)
-    by_held None l e = tt
-    by_held (Some file) l e =
-        let state = fold (after_mark s) (counted file a.records, goings) more in
-        let count : state.0 ≡ counted l.left b.records = ap (λ (x : Stand). x.0) (up_after s (counted file a.records) goings a.ranks more up ∙ l.state) in
-        let there : (counted l.left b.records, bs) ≡ state = λ i. (sym count i, sym e i) in
-        subst (λ (gs : List Going). AreAnswers s.header fault gs runners) (ap (λ (x : Counted × List Going). (fold (after_mark s) x h.more).1) there
-        ∙ sym (ap (λ (x : Counted × List Going). x.1) (fold-append (after_mark s) (counted file a.records, goings) more h.more)))
-        (if_some_at (λ (f : List ℕ). AreAnswers s.header fault (fold (after_mark s) (counted f b.records, bs) h.more).1 runners) b.held l.left l.told h.said)
 
 pub answers_after : (hints : Hints) (s : Setting) (fault : StepErr) (before order now_order later : List Mark) (k : ℕ) (a b c : Stage) (goings bs : List Going) (runners : List Runner)
     → HasLed hints s before order a b → HasLed hints s order now_order b c → now_order ≡ order ++ Meet k ∷ [] → map (advance s.header) goings ≡ a.ranks
