@@ -64,13 +64,6 @@ alone_alike s r n t o reply to pair count fits up records ranks e stand w = subs
 
 -- ---- a rank's own steps, one after another
 
-pub gone_alone : (hints : Hints) (s : Setting) (r n : ℕ) (before now : List Mark) (held left : Option (List ℕ)) (calls made : Option (List DiskCall)) (t : Going) (o : Offer) (to : Arrived)
-    → now ≡ before ++ Solo r n ∷ []
-    → ((records : ℕ) (ranks : List Arrived) → slice_get ranks r ≡ Some (t, Some o) → Leads hints s (Solo r n ∷ []) (stage held calls records ranks) (stage left made records (set ranks r to)))
-    → ((records : ℕ) (ranks : List Arrived) → slice_get ranks r ≡ Some (t, Some o) → LeadsAlike s (Solo r n ∷ []) records ranks records (set ranks r to))
-    → HasGone hints s r (rank_stage before held calls (t, Some o)) (rank_stage now left made to)
-gone_alone hints s r n before now held left calls made t o to e led alike = record { more = Solo r n ∷ []; grown = e; own = one_of r n; led = led; alike = alike }
-
 pub gone_same : (hints : Hints) (s : Setting) (r : ℕ) (order : List Mark) (held : Option (List ℕ)) (calls : Option (List DiskCall)) (from to : Arrived) → from ≡ to
     → HasGone hints s r (rank_stage order held calls from) (rank_stage order held calls to)
 gone_same hints s r order held calls from to e = record {

@@ -1,5 +1,5 @@
 -- Record counts that a header can have.
-use Rattle.turn_run.proofs.Words.{◌≡◌, ℕ, ◌^◌, ◌<◌, ◌≤◌, refl, sym, ◌∙◌, subst, List, [], ◌∷◌, map, Bool, true, false, max, inl, inr, arith, nat_tests, nat_lt, Header, Post, header_len, is_sound, end_of, greatest, record_limit, needed, end_grows, sound_end, canon_len, sound_small, IsPut, counted_sound, put_needed, IsCount, IsRise, some_limit}
+use Rattle.turn_run.proofs.Words.{◌≡◌, ℕ, ◌^◌, ◌<◌, ◌≤◌, refl, sym, ◌∙◌, subst, Bool, true, false, max, inl, inr, arith, nat_tests, nat_lt, Header, Post, header_len, is_sound, end_of, record_limit, needed, end_grows, sound_end, canon_len, sound_small, IsPut, counted_sound, put_needed, IsCount, IsRise, some_limit}
 
 pub count_small : (header : Header) (len n : ℕ) → IsCount header len n → n < record_limit header.version
 count_small header len n h = sound_small (record header { records = n }) h.sound
@@ -53,18 +53,3 @@ count_begins header len n h = let l = h.long in let k = end_grows header (header
 pub put_count : (header : Header) (len : ℕ) (p : Post) → is_sound header ≡ true → IsPut header p → end_of header (header_len header) (needed header p) ≤ len
     → IsCount header len (needed header p)
 put_count header len p h put l = let both = put_needed header p put in record { sound = counted_sound header (needed header p) h both.0 both.1; long = l }
-
--- the greatest that puts need, where the file has as many bytes as that takes
-pub AllPuts : Header → List Post → Type 0
-AllPuts header [] = Unit {0}
-AllPuts header (p ∷ ps) = IsPut header p × AllPuts header ps
-
-pub needed_rise : (header : Header) (len : ℕ) (posts : List Post) → is_sound header ≡ true → AllPuts header posts
-    → end_of header (header_len header) (greatest (map (λ p. needed header p) posts)) ≤ len → IsRise header len (greatest (map (λ p. needed header p) posts))
-unfolding AllPuts
-needed_rise header len [] h puts l = inl refl
-needed_rise header len (p ∷ posts) h puts l =
-    let others = greatest (map (λ q. needed header q) posts) in
-    let first = end_grows header (header_len header) (needed header p) (max (needed header p) others) (omega arith) in
-    let rest = end_grows header (header_len header) others (max (needed header p) others) (omega arith) in
-    rise_max header len (needed header p) others (inr (put_count header len p h puts.0 (omega arith))) (needed_rise header len posts h puts.1 (omega arith))

@@ -1,7 +1,6 @@
 -- How a run ended, by the ends of its ranks.
-use Rattle.turn_run.proofs.Words.{◌≡◌, ℕ, ◌≤◌, refl, sym, subst, inl, inr, ◌⊎◌, List, [], map, true, Option, Some, None, Result, Err, OnErr, byte_len, Header, RankEnd, RunEnd, ServeEnd, DiskCall, StepErr, Rose, BothTold, raised, count_width, is_sound, IsTorn, as_setting, counted, contents_of, EndedAt, HasClosed, NoneBroke, most_known_of, as_left, in_close}
+use Rattle.turn_run.proofs.Words.{◌≡◌, ℕ, ◌≤◌, sym, subst, inl, inr, ◌⊎◌, List, [], map, true, Option, Some, None, Result, Err, OnErr, byte_len, Header, RankEnd, RunEnd, ServeEnd, DiskCall, StepErr, Rose, BothTold, raised, count_width, is_sound, IsTorn, as_setting, counted, contents_of, EndedAt, HasClosed, NoneBroke, most_known_of, as_left, in_close}
 use Rattle.nc_base.specs.declared.step.StepErr.TheVariants as fault
-use Rattle.turn_run.proofs.CutRuns.{raised_torn}
 
 -- what the end of a run tells
 pub record Closing (header : Header) (ends : List RankEnd) (before : ServeEnd) (held : Option (List ℕ)) (calls : Option (List DiskCall)) (faults count : ℕ)
@@ -25,23 +24,6 @@ pub record EndOfCut (header : Header) (ends : List RankEnd) (before : ServeEnd) 
   pub whole : e ≡ fault.Disk → NoneBroke ends
   pub kept : e ≡ fault.Disk → end.answers ≡ map (λ x. x.answers) ends
 
-pub ended_memory : (header : Header) (ends : List RankEnd) (before : Option StepErr) (e : StepErr) (held : Option (List ℕ)) (count : ℕ) → e ≡ fault.Memory → EndedAt header ends before e (contents_of held count) (contents_of held count)
-ended_memory header ends before e held count memory = as_left (inr memory) refl refl
-
-pub ended_before : (header : Header) (ends : List RankEnd) (before : Option StepErr) (e : StepErr) (held : Option (List ℕ)) (count : ℕ) → before ≡ Some e → EndedAt header ends before e (contents_of held count) (contents_of held count)
-ended_before header ends before e held count some = as_left (inl some) refl refl
-
-pub ended_refused : (header : Header) (ends : List RankEnd) (before : Option StepErr) (e : StepErr) (held left : Option (List ℕ)) (count records known : ℕ) → before ≡ None → NoneBroke ends → known ≡ most_known_of ends
-    → BothTold (λ old now. IsTorn [] (byte_len (count_width header.version)) old (raised (as_setting header) (counted old count) known).file now) held left → records ≡ count
-    → EndedAt header ends before e (contents_of held count) (contents_of left records)
-ended_refused header ends before e held left count records known none whole same torn k =
-    in_close none whole (subst (λ (n : ℕ). BothTold (λ old now. IsTorn [] (byte_len (count_width header.version)) old (raised (as_setting header) (counted old count) n).file now) held left) same torn) (inl k)
-
-pub ended_closed : (header : Header) (ends : List RankEnd) (before : Option StepErr) (e : StepErr) (held left : Option (List ℕ)) (calls made : Option (List DiskCall)) (count records : ℕ) → before ≡ None → NoneBroke ends
-    → HasClosed header (most_known_of ends) (contents_of held count) (contents_of left records) calls made → EndedAt header ends before e (contents_of held count) (contents_of left records)
-ended_closed header ends before e held left calls made count records none whole c =
-    in_close none whole (raised_torn header held left count (most_known_of ends) c.bytes) (inr c.count)
-
 -- want of memory may follow it
 pub ended_as : (header : Header) (ends : List RankEnd) (before : Option StepErr) (x e : StepErr) (held left : Option (List ℕ)) (count records : ℕ) → (e ≡ x) ⊎ (e ≡ fault.Memory)
     → EndedAt header ends before x (contents_of held count) (contents_of left records) → EndedAt header ends before e (contents_of held count) (contents_of left records)
@@ -54,9 +36,10 @@ pub ended_err : {T : Type 0} (header : Header) (ends : List RankEnd) (before : O
     → known ≡ most_known_of ends
     → OnErr r (BothTold (λ old now. IsTorn [] (byte_len (count_width header.version)) old (raised (as_setting header) (counted old count) known).file now) held left) → OnErr r (records ≡ count)
     → EndedAt header ends before e (contents_of held count) (contents_of left records)
-ended_err {T} header ends before r e held left count records known is none whole same torn k = ended_refused header ends before e held left count records known none whole same
-    (subst (λ (q : Result T StepErr). OnErr q (BothTold (λ old now. IsTorn [] (byte_len (count_width header.version)) old (raised (as_setting header) (counted old count) known).file now) held left)) is torn)
-    (subst (λ (q : Result T StepErr). OnErr q (records ≡ count)) is k)
+ended_err {T} header ends before r e held left count records known is none whole same torn k =
+    let kept = subst (λ (q : Result T StepErr). OnErr q (BothTold (λ old now. IsTorn [] (byte_len (count_width header.version)) old (raised (as_setting header) (counted old count) known).file now) held left)) is torn in
+    in_close none whole (subst (λ (n : ℕ). BothTold (λ old now. IsTorn [] (byte_len (count_width header.version)) old (raised (as_setting header) (counted old count) n).file now) held left) same kept)
+    (inl (subst (λ (q : Result T StepErr). OnErr q (records ≡ count)) is k))
 
 pub err_is : {T : Type 0} (x e : StepErr) → ◌≡◌ {A = Result T StepErr} (Err x) (Err e) → x ≡ e
 err_is x e h = cc

@@ -1,7 +1,8 @@
 -- A half of a meeting for which no batch has a request.
-use Rattle.turn_run.proofs.Words.{◌≡◌, ℕ, ◌+◌, ◌-◌, ◌≤◌, List, [], ◌∷◌, ◌++◌, length, map, replicate, Bool, true, Option, Some, None, refl, sym, ap, ◌∙◌, arith, append-nil, flat_map, nat_lt, enumerate_from, list_all, and_parts, Pair, Batch, Post, Hints, OverlapRule, Refuse, Serial, DiskCall, after, with_end, collective_windows, get_bytes, loads, put_calls, store_records, longer, Counted, Setting, after_puts, end_for, get_post, raised, told, told_under, needed_now, Puts, no_need, is_empty, after_round, counted, gets_in, puts_in, puts_of_batch, no_calls, none_windows}
+use Rattle.turn_run.proofs.Words.{◌≡◌, ℕ, ◌+◌, ◌-◌, ◌≤◌, List, [], ◌∷◌, ◌++◌, length, map, replicate, Bool, true, Option, Some, None, refl, sym, ap, ◌∙◌, arith, append-nil, flat_map, nat_lt, enumerate_from, list_all, and_parts, Pair, Batch, Post, Hints, OverlapRule, Refuse, Serial, DiskCall, after, with_end, collective_windows, get_bytes, loads, put_calls, store_records, longer, Counted, Setting, after_puts, end_for, get_post, raised, told, told_under, needed_now, Puts, no_need, is_empty, after_round, counted, gets_in, puts_in, puts_of_batch, no_calls, none_windows, map_map}
 use Rattle.std.proofs.Common.{IfSome}
 use Rattle.turn_run.proofs.MeetFile.{not_below, raised_none}
+use Rattle.turn_run.proofs.StageLaws.{some_each}
 
 none_of : {A : Type 0} (xs : List A) → is_empty xs ≡ true → xs ≡ []
 none_of [] h = refl
@@ -17,9 +18,8 @@ no_gets (b ∷ bs) h =
     ap (λ (gets : List Post). gets ++ gets_in bs) (none_of b.gets parts.0) ∙ no_gets bs parts.1
 
 -- rows without a blob are those of no gets
-rows_of_none : (f : Post → List ℕ) (slice batches : List Batch) (table : List (List (List ℕ))) → slice ≡ batches → have_no_gets slice → table ≡ map (λ (b : Batch). []) slice
-    → table ≡ map (λ b. map f b.gets) batches
-rows_of_none f slice batches table same none rows = rows ∙ each slice none ∙ ap (λ (bs : List Batch). map (λ b. map f b.gets) bs) same
+rows_of_none : {X : Type 0} (f : Post → X) (slice batches : List Batch) → slice ≡ batches → have_no_gets slice → map (λ (b : Batch). []) slice ≡ map (λ b. map f b.gets) batches
+rows_of_none {X} f slice batches same none = each slice none ∙ ap (λ (bs : List Batch). map (λ b. map f b.gets) bs) same
   where
     each : (bs : List Batch) → have_no_gets bs → map (λ (b : Batch). []) bs ≡ map (λ b. map f b.gets) bs
     each [] h = refl
@@ -29,19 +29,12 @@ rows_of_none f slice batches table same none rows = rows ∙ each slice none ∙
 
 pub got_of_none : (s : Setting) (slice batches : List Batch) (table : List (List (List ℕ))) → slice ≡ batches → have_no_gets slice → table ≡ map (λ (b : Batch). []) slice
     → (held : Option (List ℕ)) → IfSome held (λ file. table ≡ map (λ b. map (get_post s file) b.gets) batches)
-got_of_none s slice batches table same none rows None = tt
-got_of_none s slice batches table same none rows (Some file) = rows_of_none (get_post s file) slice batches table same none rows
+got_of_none s slice batches table same none rows held = some_each held (λ file there. rows ∙ rows_of_none (get_post s file) slice batches same none)
 
 pub lens_of_none : (f : Post → ℕ) (slice batches : List Batch) (table : List (List (List ℕ))) → slice ≡ batches → have_no_gets slice → table ≡ map (λ (b : Batch). []) slice
     → map (λ blobs. map (λ (blob : List ℕ). length blob) blobs) table ≡ map (λ b. map f b.gets) batches
-lens_of_none f slice batches table same none rows =
-    ap (λ (t : List (List (List ℕ))). map (λ blobs. map (λ (blob : List ℕ). length blob) blobs) t) rows ∙ each slice none ∙ ap (λ (bs : List Batch). map (λ b. map f b.gets) bs) same
-  where
-    each : (bs : List Batch) → have_no_gets bs → map (λ blobs. map (λ (blob : List ℕ). length blob) blobs) (map (λ (b : Batch). []) bs) ≡ map (λ b. map f b.gets) bs
-    each [] h = refl
-    each (b ∷ bs) h =
-        let parts = and_parts (is_empty b.gets) (list_all (λ (c : Batch). is_empty c.gets) bs) h in
-        ap (λ rows. [] ∷ rows) (each bs parts.1) ∙ ap (λ (gets : List Post). map f gets ∷ map (λ (c : Batch). map f c.gets) bs) (sym (none_of b.gets parts.0))
+lens_of_none f slice batches table same none rows = ap (λ (t : List (List (List ℕ))). map (λ blobs. map (λ (blob : List ℕ). length blob) blobs) t) rows
+    ∙ map_map (λ (blobs : List (List ℕ)). map (λ (blob : List ℕ). length blob) blobs) (λ (b : Batch). []) slice ∙ rows_of_none f slice batches same none
 
 pub calls_of_none : (hints : Hints) (s : Setting) (slice batches : List Batch) (calls : Option (List DiskCall)) → slice ≡ batches → have_no_gets slice
     → calls ≡ with_end calls (flat_map loads (collective_windows hints (get_bytes s (gets_in batches))))

@@ -9,7 +9,6 @@ pub mod MeetSolo
 pub mod MeetJob
 pub mod MeetFile
 pub mod HalfLaws
-pub mod MeetHear
 pub mod MeetOffers
 pub mod MeetStep
 pub mod MeetDone

@@ -86,29 +86,22 @@ brought {header} {len} {runner} {o} m = asked_fit header len runner.rank.state.k
 abbrev puts_from : ℕ → List Offer → Puts
 puts_from first offers = flat_map puts_of_batch (enumerate_from first (batches_of offers))
 
-puts_joined : (header : Header) (xs ys : Puts) → ArePuts header xs → ArePuts header ys → ArePuts header (xs ++ ys)
-puts_joined header xs ys h k p i = by_part (in_either xs ys p i)
+all_of_both : {X : Type 0} (P : X → Type 0) (xs ys : List X) → ((x : X) → In xs x → P x) → ((x : X) → In ys x → P x) → (x : X) → In (xs ++ ys) x → P x
+all_of_both P xs ys h k x i = by_part (in_either xs ys x i)
   where
-    by_part : In xs p ⊎ In ys p → IsPut header p.1
-    by_part (inl j) = h p j
-    by_part (inr j) = k p j
+    by_part : In xs x ⊎ In ys x → P x
+    by_part (inl j) = h x j
+    by_part (inr j) = k x j
 
 puts_brought : (header : Header) (len first : ℕ) (offers : List Offer) → AllByRecursion (IsFit header len) offers → ArePuts header (puts_from first offers)
 puts_brought header len first [] all = λ p i. absurd i
-puts_brought header len first (o ∷ offers) all = puts_joined header (map (λ post. (first, post)) o.batch.puts) (puts_from (first + 1) offers)
+puts_brought header len first (o ∷ offers) all = all_of_both (λ (p : ℕ × Post). IsPut header p.1) (map (λ post. (first, post)) o.batch.puts) (puts_from (first + 1) offers)
     (ranked_puts header first o.batch.puts (put_of header o all.0.sound)) (puts_brought header len (first + 1) offers all.1)
-
-gets_joined : (header : Header) (len : ℕ) (xs ys : List Post) → AreGets header len xs → AreGets header len ys → AreGets header len (xs ++ ys)
-gets_joined header len xs ys h k p i = by_part (in_either xs ys p i)
-  where
-    by_part : In xs p ⊎ In ys p → IsGet header len p
-    by_part (inl j) = h p j
-    by_part (inr j) = k p j
 
 gets_brought : (header : Header) (len : ℕ) (offers : List Offer) → AllByRecursion (IsFit header len) offers → AreGets header len (gets_in (batches_of offers))
 gets_brought header len [] all = λ p i. absurd i
 gets_brought header len (o ∷ offers) all =
-    gets_joined header len o.batch.gets (gets_in (batches_of offers)) (get_of header len o all.0.sound all.0.known) (gets_brought header len offers all.1)
+    all_of_both (IsGet header len) o.batch.gets (gets_in (batches_of offers)) (get_of header len o all.0.sound all.0.known) (gets_brought header len offers all.1)
 
 few_brought : (header : Header) (len : ℕ) (offers : List Offer) → AllByRecursion (IsFit header len) offers → (b : Batch) → In (batches_of offers) b → posts_in b < 2 ^ 32
 few_brought header len [] all b i = absurd i

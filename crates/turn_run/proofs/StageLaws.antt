@@ -1,20 +1,5 @@
--- Stages: what ranks that have gone up to their next offers have of the serial run, and steps one after another.
-use Rattle.turn_run.proofs.Words.{IfSome_then, ◌≡◌, ℕ, refl, sym, ◌∙◌, ap, subst, List, [], ◌∷◌, ◌++◌, Option, Some, None, append_assoc, append-nil, fold-append, fold, IfSome, Header, Hints, Script, Mark, DiskCall, with_end, Setting, run_calls, setting_of, first_state, serial_from, calls_over, step_calls, step_to, Arrived, Stand, all_calls_over, ended_from, IsLike, stage, stand_of, HasLed, IsLed, Leads, LeadsAlike, Stage, with_end-with_end, with_end-nil, gone_up, first_up, serial_of_arrivals, calls_of_arrivals, if_some_at, HasGone, rank_stage, set, slice_get}
-
--- ---- the serial run's ranks, gone up to their next offers
-
--- the end of the serial run is that of the ranks that have gone up from their beginnings
-pub serial_is : (script : Script) (header : Header) (file : List ℕ) (order : List Mark)
-    → serial_from script header file order ≡ ended_from (setting_of script header) (gone_up (setting_of script header) (first_state header file script.calls)) order
-serial_is script header file order =
-    let s = setting_of script header in
-    serial_of_arrivals script header file order ∙ ap (λ (stand : Stand). ended_from s stand order) (first_up header s file script.calls refl)
-
-pub calls_are : (script : Script) (header : Header) (file : List ℕ) (order : List Mark)
-    → run_calls script header file order ≡ all_calls_over script.hints (setting_of script header) (gone_up (setting_of script header) (first_state header file script.calls)) order
-calls_are script header file order =
-    let s = setting_of script header in
-    calls_of_arrivals script header file order ∙ ap (λ (stand : Stand). all_calls_over script.hints s stand order) (first_up header s file script.calls refl)
+-- Stages: steps one after another.
+use Rattle.turn_run.proofs.Words.{IfSome_then, ◌≡◌, ℕ, refl, sym, ◌∙◌, ap, subst, List, [], ◌∷◌, ◌++◌, Option, Some, None, append_assoc, append-nil, fold-append, fold, IfSome, Hints, Mark, DiskCall, with_end, Setting, calls_over, step_calls, step_to, Arrived, Stand, IsLike, stage, stand_of, HasLed, IsLed, Leads, LeadsAlike, Stage, with_end-with_end, with_end-nil, if_some_at, HasGone, rank_stage, set, slice_get}
 
 -- ---- steps one after another
 

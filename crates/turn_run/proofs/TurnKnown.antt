@@ -1,5 +1,5 @@
 -- The greatest count that ranks know, of their runners and at their ends.
-use Rattle.turn_run.proofs.Words.{◌≡◌, ℕ, zero, suc, ◌+◌, ◌<◌, refl, sym, ◌∙◌, ap, subst, inl, inr, List, [], ◌∷◌, length, map, take, max, Bool, true, false, Some, Result, Ok, Err, arith, nat_tests, slice_get, slice_index_or, nat_lt, OnOk, map_map, Header, RankEnd, RankStop, greatest, is_sound, IsCount, IsRise, most_known_of, runner_end, Runner}
+use Rattle.turn_run.proofs.Words.{◌≡◌, ℕ, suc, ◌+◌, ◌<◌, refl, sym, ap, subst, inl, inr, List, [], ◌∷◌, length, map, take, max, Bool, true, false, Some, Result, Ok, Err, arith, nat_tests, slice_get, slice_index_or, nat_lt, OnOk, map_map, Header, RankEnd, RankStop, greatest, is_sound, IsCount, IsRise, most_known_of, runner_end, Runner, map_more, greatest_joined}
 use Rattle.turn_run.proofs.CountLaws.{count_less, rise_max}
 
 -- ---- runners
@@ -25,21 +25,13 @@ ends_known why runners = ap greatest (map_map (λ (end : RankEnd). end.known) (r
 
 -- ---- ends
 
-one_more : (ends : List RankEnd) (i : ℕ) (end : RankEnd) → i < length ends → end ≡ slice_index_or ends i end → most_known_of (take (suc i) ends) ≡ max (most_known_of (take i ends)) end.known
-one_more [] i end l e = absurd (omega arith)
-one_more (x ∷ ends) zero end l e = let k : end.known ≡ x.known = ap (λ (y : RankEnd). y.known) e in omega arith
-one_more (x ∷ ends) (suc i) end l e =
-    joined x.known (most_known_of (take i ends)) end.known (most_known_of (take (suc i) ends)) (one_more ends i end (omega arith) e)
-  where
-    joined : (a b c m : ℕ) → m ≡ max b c → max a m ≡ max (max a b) c
-    joined a b c m h = omega arith
-
 -- with one rank more
 pub known_more : (ends : List RankEnd) (i : ℕ) (end : RankEnd) (before now : ℕ) → i < length ends → end ≡ slice_index_or ends i end → before ≡ most_known_of (take i ends)
     → now ≡ max before end.known → now ≡ most_known_of (take (i + 1) ends)
 known_more ends i end before now l e f h =
-    let next : suc i ≡ i + 1 = omega arith in
-    h ∙ ap (λ (n : ℕ). max n end.known) f ∙ sym (one_more ends i end l e) ∙ ap (λ (n : ℕ). most_known_of (take n ends)) next
+    let more = ap greatest (map_more (λ (x : RankEnd). x.known) ends i end l e) in
+    let both = greatest_joined (map (λ (x : RankEnd). x.known) (take i ends)) (end.known ∷ []) in
+    omega arith
 
 -- the greater of two counts that a header can have
 pub raised_sound : {T E : Type 0} (result : Result T E) (header : Header) (before known now : ℕ) → is_sound (record header { records = before }) ≡ true

@@ -1,7 +1,6 @@
 -- The first and the last stage of a run.
-use Rattle.turn_run.proofs.Words.{IfSome_then, ◌≡◌, ℕ, ◌<◌, ◌≤◌, refl, sym, ◌∙◌, ap, subst, List, [], ◌∷◌, ◌++◌, length, map, replicate, max, true, Option, Some, None, arith, length-replicate, slice_get, nat_lt, fold, IfSome, Answer, Header, Call, Hints, Script, DiskCall, Mark, after, with_end, run_calls, store_records, Setting, raised, header_len, is_sound, marks, is_lawful, end_of, greatest, End, advance, first_going, first_state, serial_from, setting_of, close_by, counted, blank, AreAlikeEnds, IsLike, close_alike, IsOnWay, ranks_lawful, way_begins, contents_of, HasBegun, IsCount, all_between, between, calls_of, AreFree, AreRunners, HaveArrived, IsRunner, calls_over, step_to, Arrived, Stand, all_calls_over, ended_from, arrived_all, stage, HasLed, IsLed, Leads, HasClosed, first_runner, Runner, slice_get_within, raised_records, with_end-with_end, entry_replicate, gone_up}
+use Rattle.turn_run.proofs.Words.{IfSome_then, ◌≡◌, ℕ, ◌<◌, ◌≤◌, refl, sym, ◌∙◌, ap, subst, List, [], ◌∷◌, ◌++◌, length, map, replicate, max, true, Option, Some, None, arith, length-replicate, slice_get, nat_lt, fold, IfSome, Answer, Header, Call, Hints, Script, DiskCall, Mark, after, with_end, run_calls, store_records, Setting, raised, header_len, is_sound, marks, is_lawful, end_of, greatest, End, advance, first_going, first_state, serial_from, setting_of, close_by, counted, blank, AreAlikeEnds, IsLike, close_alike, IsOnWay, ranks_lawful, way_begins, contents_of, HasBegun, IsCount, all_between, between, calls_of, AreFree, AreRunners, HaveArrived, IsRunner, calls_over, step_to, Arrived, Stand, all_calls_over, ended_from, arrived_all, stage, HasLed, IsLed, Leads, HasClosed, first_runner, Runner, slice_get_within, raised_records, with_end-with_end, entry_replicate, gone_up, serial_of_arrivals, calls_of_arrivals, first_up}
 use Rattle.serial_spec.specs.RankMachine as machine
-use Rattle.turn_run.proofs.StageLaws.{calls_are, serial_is}
 use Rattle.turn_run.proofs.TurnKnown.{most_known}
 use Rattle.turn_run.proofs.TurnEnds.{are_over, map_ended, AreOver}
 use Rattle.turn_run.proofs.TurnSteps.{calls_there}
@@ -78,14 +77,14 @@ pub serial_from_first : (script : Script) (header : Header) (file : List ℕ) (r
     → ended_from (setting_of script header) (counted file records, arrived_all header script.calls runners) order ≡ serial_from script header file order
 serial_from_first script header file records runners order lawful e s =
     ap (λ (stand : Stand). ended_from (setting_of script header) stand order) (first_stage script header file records runners lawful e s)
-    ∙ sym (serial_is script header file order)
+    ∙ sym (serial_of_arrivals script header file order ∙ ap (λ (stand : Stand). ended_from (setting_of script header) stand order) (first_up header (setting_of script header) file script.calls refl))
 
 pub calls_from_first : (script : Script) (header : Header) (file : List ℕ) (records : ℕ) (runners : List Runner) (order : List Mark) → is_lawful script ≡ true
     → records ≡ header.records → runners ≡ replicate script.ranks (first_runner header records)
     → all_calls_over script.hints (setting_of script header) (counted file records, arrived_all header script.calls runners) order ≡ run_calls script header file order
 calls_from_first script header file records runners order lawful e s =
     ap (λ (stand : Stand). all_calls_over script.hints (setting_of script header) stand order) (first_stage script header file records runners lawful e s)
-    ∙ sym (calls_are script header file order)
+    ∙ sym (calls_of_arrivals script header file order ∙ ap (λ (stand : Stand). all_calls_over script.hints (setting_of script header) stand order) (first_up header (setting_of script header) file script.calls refl))
 
 -- ---- the close
 

@@ -1,10 +1,10 @@
 -- Nothing went wrong before.
-use Rattle.turn_run.proofs.Words.{◌≡◌, ℕ, refl, sym, subst, None, true, rules, ◌∙◌, ap, Some, on_err_weaker, sound_small, is_sound, StepErr, on_ok}
+use Rattle.turn_run.proofs.Words.{◌≡◌, ℕ, refl, sym, subst, None, true, rules, ◌∙◌, ap, Some, on_err_weaker, sound_small, is_sound, StepErr, on_ok, as_left, inl, inr}
 use Rattle.nc_base.specs.declared.step.StepErr.TheVariants as fault
 use Rattle.turn_run.proofs.CountLaws.{count_begins, count_small}
 use Rattle.turn_run.proofs.CutEnds.{closing_torn}
 use Rattle.turn_run.proofs.TurnKnown.{raised_sound}
-use Rattle.turn_run.proofs.EndedLaws.{ended_before, ended_err, ended_memory, err_is}
+use Rattle.turn_run.proofs.EndedLaws.{ended_err, err_is}
 use Rattle.turn_run.proofs.rank_ends.close.Goals as goal
 
 pub raise_records-requires-clause-records : goal.raise_records-requires-clause-records
@@ -32,10 +32,10 @@ returns-clause-sound g c =
     c.raise_records.ensures.records
 
 pub returns-then-some_broke-clause-at : goal.returns-then-some_broke-clause-at
-returns-then-some_broke-clause-at g c e is = ended_memory _ _ _ _ _ _ (sym (err_is _ _ is))
+returns-then-some_broke-clause-at g c e is = as_left (inr (sym (err_is _ _ is))) refl refl
 
 pub returns-in-Some-clause-at : goal.returns-in-Some-clause-at
-returns-in-Some-clause-at g c e is = ended_before _ _ _ _ _ _ (c.in-Some.is ∙ ap (λ (x : StepErr). Some x) (err_is _ _ is))
+returns-in-Some-clause-at g c e is = as_left (inl (c.in-Some.is ∙ ap (λ (x : StepErr). Some x) (err_is _ _ is))) refl refl
 
 pub returns-clause-at : goal.returns-clause-at
 returns-clause-at g c e is =

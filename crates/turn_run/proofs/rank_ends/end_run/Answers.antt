@@ -1,7 +1,8 @@
 -- The ranks' ends, as a list that is lent.
-use Rattle.turn_run.proofs.Words.{◌≡◌, List, sym, subst, None, true, ap, Err, inr, refl, StepErr, RankEnd, is_sound, contents_of, most_known_of, NoneBroke, EndedAt}
-use Rattle.turn_run.proofs.EndedLaws.{ended_as, ended_closed}
+use Rattle.turn_run.proofs.Words.{◌≡◌, List, sym, subst, None, true, ap, Err, inr, refl, StepErr, RankEnd, is_sound, contents_of, most_known_of, NoneBroke, EndedAt, in_close}
+use Rattle.turn_run.proofs.EndedLaws.{ended_as}
 use Rattle.turn_run.proofs.rank_ends.end_run.Goals as goal
+use Rattle.turn_run.proofs.CutRuns.{raised_torn}
 
 pub close-requires-clause-known : goal.close-requires-clause-known
 close-requires-clause-known g c κs within =
@@ -13,7 +14,8 @@ returns-in-Ok-clause-served g c = λ none. (c.in-Ok.ensures.served.0, subst (λ 
 pub returns-in-Ok-clause-at : goal.returns-in-Ok-clause-at
 returns-in-Ok-clause-at g c = λ e is.
     subst (λ (ends : List RankEnd). EndedAt c.args.header.now ends c.args.served.fault e (contents_of (g.D.Disk.held c.args.disk.now) c.args.records.now) (contents_of (g.D.Disk.held c.close.new.disk) c.close.new.records)) c.deref.ensures.value
-    (ended_closed _ _ _ _ _ _ _ _ _ _ c.in-Ok.ensures.served.0 c.in-Ok.ensures.served.1 c.in-Ok.ensures.closed)
+    (in_close c.in-Ok.ensures.served.0 c.in-Ok.ensures.served.1 (raised_torn c.args.header.now (g.D.Disk.held c.args.disk.now) (g.D.Disk.held c.close.new.disk) c.args.records.now _ c.in-Ok.ensures.closed.bytes)
+    (inr c.in-Ok.ensures.closed.count))
 
 pub returns-in-Ok-clause-rows : goal.returns-in-Ok-clause-rows
 returns-in-Ok-clause-rows g c = λ e is. inr (c.ended.ensures.none e is)

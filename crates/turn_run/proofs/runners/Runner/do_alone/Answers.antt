@@ -1,9 +1,9 @@
 -- The step is done, and the rank has heard its reply.
-use Rattle.turn_run.proofs.Words.{◌≡◌, refl, sym, ◌∙◌, ap, subst, List, Some, inr, Mark, advance, setting_of, IsOnWay, IsCount, asking, between, calls_of, arrived, MayFollow, length, [], ◌∷◌, ◌++◌, Solo, Reply, puts_of, told, done_torn, SaysAt, None, ℕ, on_err, lawful_hints, equal_itself}
+use Rattle.turn_run.proofs.Words.{◌≡◌, refl, sym, ◌∙◌, ap, subst, List, Some, inr, Mark, advance, setting_of, IsOnWay, IsCount, asking, between, calls_of, arrived, MayFollow, length, [], ◌∷◌, ◌++◌, Solo, Reply, puts_of, told, done_torn, SaysAt, None, ℕ, on_err, lawful_hints, equal_itself, one_of}
 use Rattle.turn_run.proofs.CountLaws.{count_longer, count_max}
 use Rattle.turn_run.proofs.MeetOffers.{asked_fit}
 use Rattle.turn_run.proofs.RunnerLaws.{alone_done, alone_heard, alone_rest, heard_runner, HasRest}
-use Rattle.turn_run.proofs.AloneLaws.{alone_alike, alone_led, alone_waits, arrived_free, fits_open, gone_alone, grown_one, heard_known, order_is}
+use Rattle.turn_run.proofs.AloneLaws.{alone_alike, alone_led, alone_waits, arrived_free, fits_open, grown_one, heard_known, order_is}
 use Rattle.turn_run.proofs.CutLaws.{stopped_solo, stopped_unheard, memory_of}
 use Rattle.turn_run.proofs.SaidLaws.{reached_here, reached_unheard, said_here, says_here}
 use Rattle.turn_run.proofs.TellLaws.{told_alone, told_none}
@@ -61,13 +61,16 @@ returns-clause-gone g c =
     let header = c.args.lent.now.setup.header.now in
     let up : arrived header own c.hear.new.self ≡ _ = arrived_free header own c.hear.new.self (c.hear.ensures.held ∙ c.requires.free)
     ∙ ap (advance header) (heard_runner header own c.args.self.now c.hear.new.self c.in_ok-reply.reply c.requires.header c.in_ok-hear.ensures.heard) in
-    gone_alone c.args.lent.now.setup.script.now.hints (setting_of c.args.lent.now.setup.script.now header) c.args.ask.number _ c.args.progress.now.order c.note_step.new.order _ _ _ _ (asking own c.args.self.now) c.args.ask.offer
-    (arrived header own c.hear.new.self) c.in_ok-note_step.ensures.order
-    (alone_led c.args.lent.now.setup.script.now.hints (setting_of c.args.lent.now.setup.script.now header) c.args.ask.number _ (g.D.Disk.held c.args.disk.now) (g.D.Disk.held c.solo_reply.new.disk)
-    (g.D.Disk.calls c.args.disk.now) (g.D.Disk.calls c.solo_reply.new.disk) (asking own c.args.self.now) c.args.ask.offer c.in_ok-reply.reply (arrived header own c.hear.new.self)
-    c.in_ok-reply.ensures.reply c.in_ok-reply.ensures.bytes c.in_ok-reply.ensures.calls up)
-    (alone_alike (setting_of c.args.lent.now.setup.script.now header) c.args.ask.number c.len.result (asking own c.args.self.now) c.args.ask.offer c.in_ok-reply.reply (arrived header own c.hear.new.self)
-    c.in_ok-reply.ensures.told c.in_ok-reply.ensures.records c.in_ok-reply.ensures.fits up)
+    record {
+      more = Solo c.args.ask.number c.len.result ∷ [];
+      grown = c.in_ok-note_step.ensures.order;
+      own = one_of c.args.ask.number c.len.result;
+      led = alone_led c.args.lent.now.setup.script.now.hints (setting_of c.args.lent.now.setup.script.now header) c.args.ask.number c.len.result (g.D.Disk.held c.args.disk.now) (g.D.Disk.held c.solo_reply.new.disk)
+          (g.D.Disk.calls c.args.disk.now) (g.D.Disk.calls c.solo_reply.new.disk) (asking own c.args.self.now) c.args.ask.offer c.in_ok-reply.reply (arrived header own c.hear.new.self)
+          c.in_ok-reply.ensures.reply c.in_ok-reply.ensures.bytes c.in_ok-reply.ensures.calls up;
+      alike = alone_alike (setting_of c.args.lent.now.setup.script.now header) c.args.ask.number c.len.result (asking own c.args.self.now) c.args.ask.offer c.in_ok-reply.reply (arrived header own c.hear.new.self)
+          c.in_ok-reply.ensures.told c.in_ok-reply.ensures.records c.in_ok-reply.ensures.fits up;
+    }
 
 pub returns-clause-grown : goal.returns-clause-grown
 returns-clause-grown g c = grown_one _ _ _ _ c.in_ok-note_step.ensures.order
