@@ -91,19 +91,19 @@ module _ (script : Script) (header : Header) (e : StepErr) (records : ℕ) (firs
       by_stop file bytes (between memory l k) = stood_between may_follow.0 may_follow.1 memory l k
 
   -- no memory was left once all steps were done
-  pub stood_led : {calls made : Option (List DiskCall)} {left : Option (List ℕ)} {count : ℕ} {last : List Runner} → e ≡ fault.Memory
+  pub stood_led : (last : List Runner) {calls made : Option (List DiskCall)} {left : Option (List ℕ)} {count : ℕ} → e ≡ fault.Memory
       → HasLed script.hints s before order (stage held calls records (arrived_all header script.calls first)) (stage left made count (arrived_all header script.calls last))
       → Stood script header e order held left count
-  stood_led {count} memory h = IfSome_then held h.led (λ file l.
+  stood_led last {count} memory h = IfSome_then held h.led (λ file l.
       let at : counted l.left count ≡ (state_after script header file order).0 = ap (λ (stand : Stand). stand.0) (sym l.state ∙ up file h.more h.grown) in
       (l.left, l.told, stood_between may_follow.0 may_follow.1 memory (ap (λ (c : Counted). c.file) at) (ap (λ (c : Counted). c.records) at)))
 
   -- in the close
-  pub stood_closing : {calls made : Option (List DiskCall)} {left now : Option (List ℕ)} {count total : ℕ} {last : List Runner} → length script.calls ≡ length last → AreOver script.calls last → IsLegal script order
+  pub stood_closing : (last : List Runner) (now : Option (List ℕ)) {calls made : Option (List DiskCall)} {left : Option (List ℕ)} {count total : ℕ} → length script.calls ≡ length last → AreOver script.calls last → IsLegal script order
       → HasLed script.hints s before order (stage held calls records (arrived_all header script.calls first)) (stage left made count (arrived_all header script.calls last))
       → BothTold (λ old bytes. IsTorn [] (byte_len (count_width header.version)) old (raised (as_setting header) (counted old count) (most_known last)).file bytes) left now
       → (total ≡ count) ⊎ (total ≡ max count (most_known last)) → Stood script header e order held now total
-  stood_closing {now} {count} {total} {last} long over legal h torn which = IfSome_then held h.led (λ file l.
+  stood_closing last now {count} {total} long over legal h torn which = IfSome_then held h.led (λ file l.
       let q = subst (λ (m : Option (List ℕ)). BothTold (λ old bytes. IsTorn [] (byte_len (count_width header.version)) old (raised (as_setting header) (counted old count) (most_known last)).file bytes) m now) l.told torn in
       let state = state_after script header file order in
       let stand : (counted l.left count, arrived_all header script.calls last) ≡ gone_up s state = sym l.state ∙ up file h.more h.grown in

@@ -62,6 +62,9 @@ told_none s = by_rule s.overlap
     by_rule Refuse = refl
     by_rule Serial = refl
 
+pub told_of_none : (s : Setting) (puts : Puts) → puts ≡ [] → None ≡ told s puts
+told_of_none s puts none = sym (ap (told s) none ∙ told_none s)
+
 longer_none : (file : List ℕ) (n : ℕ) → n ≤ length file → longer file n ≡ file
 longer_none file n h = let none : n - length file ≡ 0 = omega arith in ap (λ (k : ℕ). file ++ replicate k 0) none ∙ append-nil file
 

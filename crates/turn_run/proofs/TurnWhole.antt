@@ -89,7 +89,7 @@ module _ (script : Script) (header : Header) (len : ℕ) (before : List Mark) (s
   stood_of : (e : StepErr) (now : Option (List ℕ)) (total : ℕ) → EndedAt header ends served.fault e (contents_of left count) (contents_of now total) → Stood script header e served.order held now total
   stood_of e now total (in_closing no_fault whole torn which) =
       let t = h.through no_fault in
-      stood_closing script header e records first before served.order held lawful same_count all none h.begun ((ranks_lawful script lawful).one_each ∙ sym t.runners.all) (are_over script last t.free t.arrived)
+      stood_closing script header e records first before served.order held lawful same_count all none h.begun last now ((ranks_lawful script lawful).one_each ∙ sym t.runners.all) (are_over script last t.free t.arrived)
       (ended_legal script header len served.order last lawful t.runners t.free t.arrived) t.led
       (subst (λ (n : ℕ). BothTold (λ old bytes. IsTorn [] (byte_len (count_width header.version)) old (raised (as_setting header) (counted old count) n).file bytes) left now) known_is torn)
       (subst (λ (n : ℕ). (total ≡ count) ⊎ (total ≡ max count n)) known_is which)
@@ -97,7 +97,7 @@ module _ (script : Script) (header : Header) (len : ℕ) (before : List Mark) (s
   stood_of e now total (as_left (inr memory) l k) = rw (l, k) (by_fault served.fault refl)
     where
       by_fault : (m : Option StepErr) → served.fault ≡ m → Stood script header e served.order held left count
-      by_fault None f = stood_led script header e records first before served.order held lawful same_count all none h.begun memory (h.through f).led
+      by_fault None f = stood_led script header e records first before served.order held lawful same_count all none h.begun last memory (h.through f).led
       by_fault (Some x) f =
           IfSome_then held (stood_before script header x records first before served.order held lawful same_count all none h.begun (h.cut x f)) (λ file k. (k.0, k.1, stood_as (inr memory) k.2))
 
