@@ -1,6 +1,6 @@
 -- Where a run on threads stood that a fault cut off, and which answers its ranks have.
-use Rattle.thread_run.proofs.Words.{◌≡◌, ℕ, ◌+◌, ◌≤◌, refl, sym, ◌∙◌, ap, subst, inl, inr, ◌⊎◌, List, [], ◌∷◌, ◌++◌, length, map, set, Bool, true, false, Option, Some, None, arith, eqb_tells, append-nil, slice_get, flat_map, nat_lt, ◌==◌, list_all, list_any, byte_len, entry_below, entry_beside, and_first, and_second, Header, Call, Script, Mark, Meet, Solo, Offer, OfferKind, OwnerItem, Reply, Stop, RankItem, StepErr, In, same_file, Owner, Event, Client, at_offer, event, holds, is_strange, meets_if, offers_at, offers_held, own_items, step_offers, at, Setting, Counted, puts_of, count_width, Arrival, IsLegal, fits_offer, offered, offered_by, waiting, Going, advance, after_mark, first_going, hears, offers_of, covered, IsLeft, IsTorn, OwnerStoodAt, StoodAt, bytes_of_mark, at_arrival, between_arrivals, in_step, torn_sides, AreSides, torn_still, solo_goes, HasOffered, IsBeginning, waiting_misfit, waiting_reply, meeting_is, same_offers, solo_of_is, AreSingle, IsSingleOffer, event_is, strange_alone, own_here, own_other, raised_grows, mark_grows, in_left, client_held, nat_tests}
-use borrow.Author.Tests.{ltb-true, ltb-false}
+use Rattle.thread_run.proofs.Words.{◌≡◌, ℕ, ◌+◌, ◌≤◌, refl, sym, ◌∙◌, ap, subst, inl, inr, ◌⊎◌, List, [], ◌∷◌, ◌++◌, length, map, set, Bool, true, false, Option, Some, None, arith, eqb_tells, append-nil, slice_get, flat_map, nat_lt, list_all, byte_len, entry_below, entry_beside, and_first, and_second, Header, Call, Script, Mark, Meet, Solo, Offer, OfferKind, OwnerItem, Reply, Stop, RankItem, StepErr, In, Owner, Event, Client, at_offer, event, holds, is_strange, meets_if, offers_at, offers_held, own_items, step_offers, Setting, Counted, puts_of, count_width, Arrival, IsLegal, fits_offer, offered, offered_by, waiting, Going, advance, after_mark, first_going, hears, offers_of, covered, IsLeft, IsTorn, OwnerStoodAt, StoodAt, bytes_of_mark, at_arrival, between_arrivals, in_step, torn_still, solo_goes, HasOffered, IsBeginning, waiting_misfit, waiting_reply, meeting_is, same_offers, solo_of_is, AreSingle, IsSingleOffer, event_is, strange_alone, own_here, own_other, raised_grows, mark_grows, in_left, client_held, nat_tests, torn_same}
+use borrow.Author.Tests.{ltb-true}
 use Rattle.nc_base.specs.declared.step.OfferKind.TheVariants as offer
 use Rattle.nc_base.specs.declared.step.RankItem.TheVariants as item
 use Rattle.nc_base.specs.declared.step.Reply as reply
@@ -75,35 +75,6 @@ brings s d goings r (item.Offer c o) others x g given end a b fit t = by_kind o.
 
 -- ---- nothing was done
 
--- what is torn between a file and itself is that file
-torn_same : (bytes : List ℕ) (field : ℕ) (old new left : List ℕ) → new ≡ old → IsTorn bytes field old new left → left ≡ old
-torn_same bytes field old new left e t =
-    let u = subst (λ (f : List ℕ). IsTorn bytes field old f left) e t in
-    let long = u.long in
-    let short = u.short in
-    same_file left old (omega arith) (λ x. by_place x)
-  where
-    v : AreSides bytes field old old left
-    v = torn_sides bytes field old old left (subst (λ (f : List ℕ). IsTorn bytes field old f left) e t)
-
-    either : (x : ℕ) → (at left x ≡ at old x) ⊎ (at left x ≡ at old x) → at left x ≡ at old x
-    either x xs = grind (arith, nat_tests)
-
-    by_high : (x : ℕ) → list_any (λ y. y == x) bytes ≡ false → 4 ≤ x → (b : Bool) → nat_lt x (4 + field) ≡ b → at left x ≡ at old x
-    by_high x h l true k = either x (v.beside x l (ltb-true _ _ k))
-    by_high x h l false k = v.outside x h (inr (ltb-false _ _ k))
-
-    by_low : (x : ℕ) → list_any (λ y. y == x) bytes ≡ false → (b : Bool) → nat_lt x 4 ≡ b → at left x ≡ at old x
-    by_low x h true k = v.outside x h (inl (ltb-true _ _ k))
-    by_low x h false k = by_high x h (ltb-false _ _ k) (nat_lt x (4 + field)) refl
-
-    by_in : (x : ℕ) → (b : Bool) → list_any (λ y. y == x) bytes ≡ b → at left x ≡ at old x
-    by_in x true h = either x (v.inside x h)
-    by_in x false h = by_low x h (nat_lt x 4) refl
-
-    by_place : (x : ℕ) → at left x ≡ at old x
-    by_place x = by_in x (list_any (λ y. y == x) bytes) refl
-
 -- where nothing is told of a step, the run stood before any that may follow
 pub stood_still : (script : Script) (s : Setting) (e : StepErr) (state : Counted × List Going) (order : List Mark) (left : List ℕ) (records : ℕ) → ((later : List Mark) × IsLegal script (order ++ later))
     → left ≡ state.0.file → records ≡ state.0.records → StoodAt script s e state order left records
@@ -143,16 +114,20 @@ stood_run script s e d goings order later left records given end t low begun nex
     by_records : (n m : ℕ) → m ≡ n → (records ≡ n) ⊎ (records ≡ m) → records ≡ n
     by_records n m e xs = grind (arith, nat_tests)
 
+    own : List ℕ
+    own = covered s.header (flat_map puts_of (step_offers d a))
+
     by_step : Brings s d goings a → StoodAt script s e (d.state, goings) order left records
     by_step (inl same) =
         stood_still script s e (d.state, goings) order left records begun
-        (torn_same (covered s.header (flat_map puts_of (step_offers d a))) (byte_len (count_width s.header.version)) d.state.file (event s d a).owner.state.file left (ap (λ (c : Counted). c.file) same) l.0)
+        (torn_same own (byte_len (count_width s.header.version)) d.state.file left
+        (subst (λ (c : Counted). IsTorn own (byte_len (count_width s.header.version)) d.state.file c.file left) same l.0))
         (by_records d.state.records (event s d a).owner.state.records (ap (λ (c : Counted). c.records) same) l.1)
     by_step (inr b) =
         let n = next a others is fit b.mark b.marks in
         in_step b.mark n.0 n.1
         (subst (λ (own : List ℕ). IsLeft s.header own d.state (after_mark s (d.state, goings) b.mark).0 left records) b.bytes
-        (subst (λ (new : Counted). IsLeft s.header (covered s.header (flat_map puts_of (step_offers d a))) d.state new left records) b.state l))
+        (subst (λ (new : Counted). IsLeft s.header own d.state new left records) b.state l))
 
 -- ---- no rank's offer both raises the count and brings puts
 

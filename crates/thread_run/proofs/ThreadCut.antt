@@ -1,5 +1,5 @@
 -- A run on threads that a fault cut off, from what the owner tells and what the close tells.
-use Rattle.thread_run.proofs.Words.{◌≡◌, ℕ, ◌-◌, ◌<◌, ◌≤◌, refl, sym, ◌∙◌, ap, subst, inl, inr, ◌⊎◌, List, [], ◌∷◌, ◌++◌, length, map, max, replicate, Bool, true, false, cond, Option, Some, None, append_assoc, arith, append-nil, length-map, length-replicate, list_all-append, slice_get_within, same_Some, slice_get, nat_lt, filter, IfSome, byte_len, list_all, entry_below, entry_beside, and_second, Answer, Header, Call, RankEnd, RunEnd, ServeEnd, Script, Mark, OwnerItem, Stop, RankItem, StepErr, BothTold, Owner, event, first_owner, free_client, given_along, is_strange, offers_in, own_items, served, Setting, Counted, raised, count_width, is_sound, Arrival, IsLegal, is_offer, opening_owner, run_of, is_lawful, rank_end, told_of, Going, advance, after_mark, first_going, first_state, serial_from, setting_of, state_after, Begins, HasAnswers, IsCutRun, IsLeft, IsTorn, OwnerStoodAt, StoodAt, in_step, in_close, as_setting, counted, HasOffered, completed, completed_by, contents_of, point, HasBegun, HasSaid, calls_of, cut_rows, no_answers, said_here, said_part, said_up, told_along, counts_along, owner_told, AreSingle, HasCutService, IsDone, IsDoneSo, opening, passed, HasCut, EndedAt, NoneBroke, most_known_of, EndOfCut, served_on, goes_on, mapped_entry, nat_tests}
+use Rattle.thread_run.proofs.Words.{◌≡◌, ℕ, ◌-◌, ◌<◌, ◌≤◌, refl, sym, ◌∙◌, ap, subst, inl, inr, ◌⊎◌, List, [], ◌∷◌, ◌++◌, length, map, max, replicate, Bool, true, false, cond, Option, Some, None, append_assoc, arith, append-nil, length-map, length-replicate, list_all-append, slice_get_within, same_Some, slice_get, nat_lt, filter, IfSome, byte_len, list_all, entry_below, entry_beside, and_second, Answer, Header, Call, RankEnd, RunEnd, ServeEnd, Script, Mark, OwnerItem, Stop, RankItem, StepErr, BothTold, Owner, event, first_owner, free_client, given_along, is_strange, offers_in, own_items, served, Counted, raised, count_width, is_sound, Arrival, IsLegal, is_offer, opening_owner, run_of, is_lawful, rank_end, told_of, Going, advance, after_mark, first_going, first_state, serial_from, setting_of, state_after, Begins, HasAnswers, IsCutRun, IsLeft, IsTorn, OwnerStoodAt, StoodAt, in_close, as_setting, counted, HasOffered, completed, completed_by, contents_of, point, HasBegun, HasSaid, calls_of, cut_rows, no_answers, said_here, said_part, said_up, told_along, counts_along, owner_told, AreSingle, HasCutService, IsDone, IsDoneSo, opening, passed, HasCut, EndedAt, NoneBroke, most_known_of, EndOfCut, served_on, goes_on, mapped_entry, nat_tests, stood_as}
 use Rattle.std.proofs.lemmas.List.{length-append}
 use Rattle.nc_base.specs.declared.run.RankStop.TheVariants as stop
 use Rattle.nc_base.specs.declared.step.StepErr.TheVariants as fault
@@ -14,13 +14,6 @@ use Rattle.thread_run.proofs.ThreadTies.{Own, Told, begun, broke_or_not, offered
 use Rattle.thread_run.proofs.ServiceCut.{Service, service_cut, service_done}
 
 -- ---- the ranks
-
-stood_as : (script : Script) (s : Setting) (x e : StepErr) (state : Counted × List Going) (order : List Mark) (left : List ℕ) (records : ℕ) → (x ≡ e) ⊎ (e ≡ fault.Memory)
-    → StoodAt script s x state order left records → StoodAt script s e state order left records
-stood_as script s x e state order left records which (in_step m later legal l) = in_step m later legal l
-stood_as script s x e state order left records which (in_close legal l) = in_close legal l
-stood_as script s x e state order left records (inl same) (between later legal memory l k) = between later legal (sym same ∙ memory) l k
-stood_as script s x e state order left records (inr memory') (between later legal memory l k) = between later legal memory' l k
 
 module _ (script : Script) (header : Header) (arrivals : List Arrival) (given : ℕ → List OwnerItem) (ends : List RankEnd) (sound : is_sound header ≡ true) (lawful : is_lawful script ≡ true)
     (t : Told script header arrivals given ends) (file : List ℕ) (order : List Mark) (h : Service (setting_of script header) (opening_owner script header file) script.ranks arrivals given order) where
@@ -182,7 +175,7 @@ module _ (script : Script) (header : Header) (arrivals : List Arrival) (given : 
         l ∙ told,
         as_run e before held count left records end c h g.left
             (subst (λ (n : ℕ). StoodAt script (setting_of script header) e (state_after script header file before.order) before.order g.left n) (sym k)
-            (stood_as script (setting_of script header) x e (state_after script header file before.order) before.order g.left count which at)),
+            (stood_as which at)),
       )
 
   -- a rank had no memory, and the owner met no fault

@@ -125,7 +125,8 @@ pub use Rattle.thread_run.specs.declared.rank_handle.Word.{Word}
 pub use Rattle.thread_run.specs.declared.rank_handle.Word.TheVariants.{Go}
 pub use Rattle.thread_run.specs.Threads.{HasRooms}
 pub use Rattle.turn_run.proofs.AloneLaws.{alone_waits, fits_open, going_free, going_held}
-pub use Rattle.turn_run.proofs.CutRuns.{cut_rows, no_answers}
+pub use Rattle.turn_run.proofs.CutMeet.{torn_same}
+pub use Rattle.turn_run.proofs.CutRuns.{cut_rows, no_answers, stood_as}
 pub use Rattle.turn_run.proofs.EndedLaws.{Closing, EndOfCut}
 pub use Rattle.turn_run.proofs.RunnerLaws.{alone_heard, answered_is, answers_begin, heard_runner}
 pub use Rattle.turn_run.proofs.SaidLaws.{said_here, said_part, said_up}
