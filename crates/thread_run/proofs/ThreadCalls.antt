@@ -1,5 +1,5 @@
 -- The owner's run beside the serial run, one arrival after another: its device calls, its offers, and what its ranks know.
-use Rattle.thread_run.proofs.Words.{◌≡◌, ℕ, ◌<◌, refl, sym, ◌∙◌, ap, subst, inl, inr, ◌⊎◌, List, [], ◌∷◌, ◌++◌, length, map, set, Bool, true, false, Option, Some, None, append-nil, length-set, slice_get, fold, nat_lt, list_all, same_Some, entry_below, entry_beside, and_first, Header, Answer, Call, Hints, Mark, MeetKind, Offer, OfferKind, RankItem, In, Owner, Event, Client, at_item, at_offer, event, holds, is_strange, meets_if, own_items, owed, served, meeting_calls, Counted, Setting, Arrival, is_offer, Rank, Going, advance, after_mark, go, offers_of, calls_so_far, calls_more, get_set, own_here, Arrived, Stands, join, served_on, stranger_on, same_offers, event_is, not_ended, strange_alone, Lasting, IsPaired, offered_now, client_held, AreSingle, IsSingle, calls_at, calls_at_offer, calls_if, owner_calls, event_calls, IsSingleOffer, quiet_step, calls_on, arith, nat_tests}
+use Rattle.thread_run.proofs.Words.{◌≡◌, ℕ, ◌<◌, refl, sym, ◌∙◌, ap, subst, inl, inr, ◌⊎◌, List, [], ◌∷◌, ◌++◌, length, map, set, Bool, true, false, Option, Some, None, append-nil, length-set, slice_get, fold, nat_lt, list_all, same_Some, entry_below, entry_beside, and_first, Header, Answer, Call, Hints, Mark, MeetKind, Offer, OfferKind, RankItem, In, Owner, Event, Client, at_item, at_offer, event, holds, is_strange, meets_if, own_items, owed, served, meeting_calls, Counted, Setting, Arrival, is_offer, Rank, Going, advance, after_mark, go, offers_of, calls_so_far, calls_more, get_set, own_here, Arrived, Stands, join, served_on, stranger_on, same_offers, event_is, not_ended, strange_alone, Lasting, IsPaired, offered_now, client_held, AreSingle, IsSingle, calls_at, calls_at_offer, calls_if, owner_calls, event_calls, IsSingleOffer, quiet_step, calls_on, arith, nat_tests, fold_two}
 use borrow.Author.Tests.{ltb-true}
 use Rattle.nc_base.specs.declared.step.OfferKind.TheVariants as offer
 use Rattle.nc_base.specs.declared.step.RankItem.TheVariants as item
@@ -67,6 +67,36 @@ onward s Good lasting ks d goings r i rest t = by (entry_below goings r low)
     by : (g : Going) × (slice_get goings r ≡ Some g) → Onward s Good d goings r i rest
     by (g, b) = let x = entry_beside goings d.clients r g (sym t.paired.long) b in by_two x.0 g x.1 b
 
+-- what follows for all arrivals from what each adds
+pub along : (s : Setting) (Good : ℕ → Going → Type 0) (lasting : Lasting s.header Good) (P : Owner → List Going → List Arrival → Type 0)
+    → ((ks : List MeetKind) (d : Owner) (goings : List Going) → Stands s Good ks d goings [] → P d goings [])
+    → ((ks : List MeetKind) (d : Owner) (goings : List Going) (r : ℕ) (i : RankItem) (rest : List Arrival) → Stands s Good ks d goings ((r, i) ∷ rest) → (o : Onward s Good d goings r i rest)
+    → P (event s d (r, i)).owner o.after rest → P d goings ((r, i) ∷ rest))
+    → (ks : List MeetKind) (d : Owner) (goings : List Going) (arrivals : List Arrival) → Stands s Good ks d goings arrivals → P d goings arrivals
+along s Good lasting P none more ks d goings [] t = none ks d goings t
+along s Good lasting P none more ks d goings ((r, i) ∷ rest) t =
+    let o = onward s Good lasting ks d goings r i rest t in
+    more ks d goings r i rest t o (along s Good lasting P none more o.kinds_left (event s d (r, i)).owner o.after rest o.stands)
+
+-- where the owner and the ranks stand in the end
+pub record Last (s : Setting) (Good : ℕ → Going → Type 0) (d : Owner) (goings : List Going) (arrivals : List Arrival) : Type 0 where
+  pub kinds_left : List MeetKind
+  pub after : List Going
+  pub folded : fold (after_mark s) (d.state, goings) (served s d arrivals).marks ≡ ((served s d arrivals).owner.state, after)
+  pub stands : Stands s Good kinds_left (served s d arrivals).owner after []
+
+pub last_along : (s : Setting) (Good : ℕ → Going → Type 0) (lasting : Lasting s.header Good) (ks : List MeetKind) (d : Owner) (goings : List Going) (arrivals : List Arrival)
+    → Stands s Good ks d goings arrivals → Last s Good d goings arrivals
+last_along s Good lasting = along s Good lasting (Last s Good) (λ ks d goings t. record { kinds_left = ks; after = goings; folded = refl; stands = t }) (λ ks d goings r i rest t o later.
+    let on = served_on s d (r, i) rest o.not_strange in
+    record {
+      kinds_left = later.kinds_left;
+      after = later.after;
+      folded = ap (λ (ms : List Mark). fold (after_mark s) (d.state, goings) ms) on.marks ∙ fold_two s (d.state, goings) (event s d (r, i)).marks (served s (event s d (r, i)).owner rest).marks
+          ∙ ap (λ (u : Counted × List Going). fold (after_mark s) u (served s (event s d (r, i)).owner rest).marks) o.folded ∙ later.folded ∙ sym (ap (λ (z : Owner). (z.state, later.after)) on.owner);
+      stands = subst (λ (z : Owner). Stands s Good later.kinds_left z later.after []) (sym on.owner) later.stands;
+    })
+
 -- with one offer more, each that is held is still the next of its rank
 pub held_next : (s : Setting) (d : Owner) (goings : List Going) (r : ℕ) (x : Client) (g : Going) (o : Offer) → slice_get goings r ≡ Some g → (advance s.header g).1 ≡ Some o
     → ((q : ℕ) (x' : Client) (g' : Going) (o' : Offer) → slice_get d.clients q ≡ Some x' → slice_get goings q ≡ Some g' → x'.held ≡ Some o' → (advance s.header g').1 ≡ Some o')
@@ -97,24 +127,16 @@ module _ (hints : Hints) (s : Setting) (d : Owner) (goings : List Going) (r : �
 -- the owner's device calls are those of the serial run, without the close
 pub calls_along : (hints : Hints) (s : Setting) (Good : ℕ → Going → Type 0) (lasting : Lasting s.header Good) (ks : List MeetKind) (d : Owner) (goings : List Going) (arrivals : List Arrival)
     → Stands s Good ks d goings arrivals → owner_calls hints s d arrivals ≡ calls_so_far hints s (d.state, goings) (served s d arrivals).marks
-calls_along hints s Good lasting ks d goings [] t = refl
-calls_along hints s Good lasting ks d goings ((r, i) ∷ rest) t =
-    by (onward s Good lasting ks d goings r i rest t) (λ ks' d' goings' u. calls_along hints s Good lasting ks' d' goings' rest u)
-  where
-    by : Onward s Good d goings r i rest
-        → ((ks' : List MeetKind) (d' : Owner) (goings' : List Going) → Stands s Good ks' d' goings' rest → owner_calls hints s d' rest ≡ calls_so_far hints s (d'.state, goings') (served s d' rest).marks)
-        → owner_calls hints s d ((r, i) ∷ rest) ≡ calls_so_far hints s (d.state, goings) (served s d ((r, i) ∷ rest)).marks
-    by o again =
-        let here : event_calls hints s d (r, i) ≡ calls_so_far hints s (d.state, goings) (event s d (r, i)).marks =
-        ap (λ (m : Option Client). calls_at hints s d r i m) o.at_client
-        ∙ item_is hints s d goings r o.client o.going o.at_client o.at_going t.paired.long (λ q x' g' o' a b w. ((t.paired.paired_at q x' g' a b).waits o' w).0) i o.offers
-        ∙ ap (λ (u : Event). calls_so_far hints s (d.state, goings) u.marks) (sym o.is) in
-        let later = again o.kinds_left (event s d (r, i)).owner o.after o.stands in
-        calls_on hints s d (r, i) rest o.not_strange
-        ∙ (λ j. here j ++ later j)
-        ∙ ap (λ (z : Counted × List Going). calls_so_far hints s (d.state, goings) (event s d (r, i)).marks ++ calls_so_far hints s z (served s (event s d (r, i)).owner rest).marks) (sym o.folded)
-        ∙ sym (calls_more hints s (d.state, goings) (event s d (r, i)).marks (served s (event s d (r, i)).owner rest).marks)
-        ∙ ap (λ (ms : List Mark). calls_so_far hints s (d.state, goings) ms) (sym (served_on s d (r, i) rest o.not_strange).marks)
+calls_along hints s Good lasting =
+    along s Good lasting (λ d goings arrivals. owner_calls hints s d arrivals ≡ calls_so_far hints s (d.state, goings) (served s d arrivals).marks) (λ ks d goings t. refl) (λ ks d goings r i rest t o later.
+    let here : event_calls hints s d (r, i) ≡ calls_so_far hints s (d.state, goings) (event s d (r, i)).marks =
+    ap (λ (m : Option Client). calls_at hints s d r i m) o.at_client
+    ∙ item_is hints s d goings r o.client o.going o.at_client o.at_going t.paired.long (λ q x' g' o' a b w. ((t.paired.paired_at q x' g' a b).waits o' w).0) i o.offers
+    ∙ ap (λ (u : Event). calls_so_far hints s (d.state, goings) u.marks) (sym o.is) in
+    calls_on hints s d (r, i) rest o.not_strange ∙ (λ j. here j ++ later j)
+    ∙ ap (λ (z : Counted × List Going). calls_so_far hints s (d.state, goings) (event s d (r, i)).marks ++ calls_so_far hints s z (served s (event s d (r, i)).owner rest).marks) (sym o.folded)
+    ∙ sym (calls_more hints s (d.state, goings) (event s d (r, i)).marks (served s (event s d (r, i)).owner rest).marks)
+    ∙ ap (λ (ms : List Mark). calls_so_far hints s (d.state, goings) ms) (sym (served_on s d (r, i) rest o.not_strange).marks))
 
 -- ---- offers that raise the count by their kind bring no puts
 
@@ -127,11 +149,8 @@ single_item header g i f = grind (arith, nat_tests, single_go)
 
 pub single_along : (s : Setting) (Good : ℕ → Going → Type 0) (lasting : Lasting s.header Good) (ks : List MeetKind) (d : Owner) (goings : List Going) (arrivals : List Arrival)
     → Stands s Good ks d goings arrivals → AreSingle arrivals
-single_along s Good lasting ks d goings [] t a h = absurd h
-single_along s Good lasting ks d goings ((r, i) ∷ rest) t a h =
-    by (onward s Good lasting ks d goings r i rest t) (λ ks' d' goings' u. single_along s Good lasting ks' d' goings' rest u) h
+single_along s Good lasting = along s Good lasting (λ d goings arrivals. AreSingle arrivals) (λ ks d goings t a h. absurd h) (λ ks d goings r i rest t o later a h. one_more i rest (single_item s.header o.going i o.offers) later a h)
   where
-    by : Onward s Good d goings r i rest → ((ks' : List MeetKind) (d' : Owner) (goings' : List Going) → Stands s Good ks' d' goings' rest → AreSingle rest)
-        → ((r, i) ≡ a) ⊎ In rest a → IsSingle a.1
-    by o again (inl e) = subst (λ (b : Arrival). IsSingle b.1) e (single_item s.header o.going i o.offers)
-    by o again (inr e) = again o.kinds_left (event s d (r, i)).owner o.after o.stands a e
+    one_more : {r : ℕ} (i : RankItem) (rest : List Arrival) → IsSingle i → AreSingle rest → (a : Arrival) → ((r, i) ≡ a) ⊎ In rest a → IsSingle a.1
+    one_more i rest one later a (inl e) = subst (λ (b : Arrival). IsSingle b.1) e one
+    one_more i rest one later a (inr k) = later a k

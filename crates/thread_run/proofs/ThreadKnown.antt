@@ -1,9 +1,9 @@
 -- The counts that the ranks know at their ends are such that the header can have.
-use Rattle.thread_run.proofs.Words.{◌≡◌, ℕ, suc, ◌*◌, ◌^◌, ◌<◌, refl, sym, ◌∙◌, ap, subst, inl, inr, ◌⊎◌, List, [], ◌∷◌, ◌++◌, length, map, max, set, Bool, true, false, Option, Some, None, arith, eqb_tells, nat_tests, length-set, map-append, slice_get, flat_map, fold, not, nat_lt, ◌==◌, IfSome, enumerate_from, list_all, list_any, same_Some, or_first_false, or_second_false, Pair, Header, Var, Post, Mark, MeetKind, Offer, OfferKind, RankItem, Owner, Event, Client, at_item, at_offer, event, holds, meets_if, needed_now, offers_held, refused, served, strange_offer, size_of, Counted, Setting, needs, puts_of, told, header_len, is_sound, Arrival, end_of, greatest, product, record_limit, needed, Going, advance, after_mark, Puts, sound_end, put_needed, bad_none, bad_put, passes_accepted, Stands, served_on, fold_two, offer_at, offers_long, Lasting, client_held, one_held, entry_beside}
+use Rattle.thread_run.proofs.Words.{◌≡◌, ℕ, suc, ◌*◌, ◌^◌, ◌<◌, refl, sym, ◌∙◌, ap, subst, inl, inr, ◌⊎◌, List, [], ◌∷◌, ◌++◌, length, map, max, set, Bool, true, false, Option, Some, None, arith, eqb_tells, nat_tests, length-set, map-append, slice_get, flat_map, not, nat_lt, ◌==◌, IfSome, enumerate_from, list_all, list_any, same_Some, or_first_false, or_second_false, Pair, Header, Var, Post, MeetKind, Offer, OfferKind, RankItem, Owner, Event, Client, at_item, at_offer, holds, meets_if, needed_now, offers_held, refused, served, strange_offer, size_of, Setting, needs, puts_of, told, header_len, is_sound, Arrival, end_of, greatest, product, needed, Going, advance, Puts, sound_end, put_needed, bad_none, bad_put, passes_accepted, Stands, served_on, offer_at, offers_long, Lasting, client_held, one_held, entry_beside}
 use Rattle.nc_base.specs.declared.request.Direction.TheVariants as way
 use Rattle.nc_base.specs.declared.step.OfferKind.TheVariants as offer
 use Rattle.nc_base.specs.declared.step.RankItem.TheVariants as item
-use Rattle.thread_run.proofs.ThreadCalls.{Onward, onward, held_next}
+use Rattle.thread_run.proofs.ThreadCalls.{held_next, along}
 
 -- ---- counts whose file does not end too far
 
@@ -120,49 +120,9 @@ module _ (s : Setting) (sound : is_sound s.header ≡ true) (d : Owner) (goings 
 
 pub near_along : (s : Setting) (sound : is_sound s.header ≡ true) (Good : ℕ → Going → Type 0) (lasting : Lasting s.header Good) (ks : List MeetKind) (d : Owner) (goings : List Going) (arrivals : List Arrival)
     → Stands s Good ks d goings arrivals → EndsNear s.header sound d.reached → EndsNear s.header sound (served s d arrivals).owner.reached
-near_along s sound Good lasting ks d goings [] t near = near
-near_along s sound Good lasting ks d goings ((r, i) ∷ rest) t near =
-    by (onward s Good lasting ks d goings r i rest t) (λ ks' d' goings' u n. near_along s sound Good lasting ks' d' goings' rest u n)
-  where
-    by : Onward s Good d goings r i rest
-        → ((ks' : List MeetKind) (d' : Owner) (goings' : List Going) → Stands s Good ks' d' goings' rest → EndsNear s.header sound d'.reached → EndsNear s.header sound (served s d' rest).owner.reached)
-        → EndsNear s.header sound (served s d ((r, i) ∷ rest)).owner.reached
-    by o again =
-        let here = near_item s sound d goings r o.client o.going o.at_client o.at_going t.paired.long (λ q g' p b e. fits q g' p b e) (λ q x' g' p a b w. ((t.paired.paired_at q x' g' a b).waits p w).0) near i o.offers in
-        subst (λ (z : Owner). EndsNear s.header sound z.reached) (sym (served_on s d (r, i) rest o.not_strange).owner)
-        (again o.kinds_left (event s d (r, i)).owner o.after o.stands (subst (λ (u : Event). EndsNear s.header sound u.owner.reached) (sym o.is) here))
-      where
-        fits : (q : ℕ) (g' : Going) (p : Offer) → slice_get goings q ≡ Some g' → (advance s.header g').1 ≡ Some p → strange_offer s.header d.reached (Some p) ≡ false
-        fits q g' p b e = let y = entry_beside goings d.clients q g' (sym t.paired.long) b in lasting.fits d.reached g' p (t.paired.paired_at q y.0 g' y.1 b).good e
-
--- what is true of the ranks at their ends
-pub good_along : (s : Setting) (Good : ℕ → Going → Type 0) (lasting : Lasting s.header Good) (ks : List MeetKind) (d : Owner) (goings : List Going) (arrivals : List Arrival)
-    → Stands s Good ks d goings arrivals → (q : ℕ) (g : Going) → slice_get (fold (after_mark s) (d.state, goings) (served s d arrivals).marks).1 q ≡ Some g → Good (served s d arrivals).owner.reached g
-good_along s Good lasting ks d goings [] t q g b = let y = entry_beside goings d.clients q g (sym t.paired.long) b in (t.paired.paired_at q y.0 g y.1 b).good
-good_along s Good lasting ks d goings ((r, i) ∷ rest) t q g b =
-    by (onward s Good lasting ks d goings r i rest t) (λ ks' d' goings' u b'. good_along s Good lasting ks' d' goings' rest u q g b')
-  where
-    by : Onward s Good d goings r i rest
-        → ((ks' : List MeetKind) (d' : Owner) (goings' : List Going) → Stands s Good ks' d' goings' rest → slice_get (fold (after_mark s) (d'.state, goings') (served s d' rest).marks).1 q ≡ Some g
-        → Good (served s d' rest).owner.reached g)
-        → Good (served s d ((r, i) ∷ rest)).owner.reached g
-    by o again =
-        let on = served_on s d (r, i) rest o.not_strange in
-        let same : fold (after_mark s) (d.state, goings) (served s d ((r, i) ∷ rest)).marks ≡ fold (after_mark s) ((event s d (r, i)).owner.state, o.after) (served s (event s d (r, i)).owner rest).marks =
-        ap (λ (m : List Mark). fold (after_mark s) (d.state, goings) m) on.marks ∙ fold_two s (d.state, goings) (event s d (r, i)).marks (served s (event s d (r, i)).owner rest).marks
-        ∙ ap (λ (u : Counted × List Going). fold (after_mark s) u (served s (event s d (r, i)).owner rest).marks) o.folded in
-        subst (λ (z : Owner). Good z.reached g) (sym on.owner)
-        (again o.kinds_left (event s d (r, i)).owner o.after o.stands (sym (ap (λ (u : Counted × List Going). slice_get u.1 q) same) ∙ b))
-
-pub small_along : (s : Setting) (Good : ℕ → Going → Type 0) (lasting : Lasting s.header Good) (ks : List MeetKind) (d : Owner) (goings : List Going) (arrivals : List Arrival)
-    → Stands s Good ks d goings arrivals → (served s d arrivals).owner.reached < record_limit s.header.version
-small_along s Good lasting ks d goings [] t = t.small
-small_along s Good lasting ks d goings ((r, i) ∷ rest) t =
-    by (onward s Good lasting ks d goings r i rest t) (λ ks' d' goings' u. small_along s Good lasting ks' d' goings' rest u)
-  where
-    by : Onward s Good d goings r i rest
-        → ((ks' : List MeetKind) (d' : Owner) (goings' : List Going) → Stands s Good ks' d' goings' rest → (served s d' rest).owner.reached < record_limit s.header.version)
-        → (served s d ((r, i) ∷ rest)).owner.reached < record_limit s.header.version
-    by o again =
-        subst (λ (z : Owner). z.reached < record_limit s.header.version) (sym (served_on s d (r, i) rest o.not_strange).owner)
-        (again o.kinds_left (event s d (r, i)).owner o.after o.stands)
+near_along s sound Good lasting =
+    along s Good lasting (λ d goings arrivals. EndsNear s.header sound d.reached → EndsNear s.header sound (served s d arrivals).owner.reached) (λ ks d goings t near. near) (λ ks d goings r i rest t o later near.
+    let fits : (q : ℕ) (g : Going) (p : Offer) → slice_get goings q ≡ Some g → (advance s.header g).1 ≡ Some p → strange_offer s.header d.reached (Some p) ≡ false = λ q g p b e.
+    let y = entry_beside goings d.clients q g (sym t.paired.long) b in lasting.fits d.reached g p (t.paired.paired_at q y.0 g y.1 b).good e in
+    let here = near_item s sound d goings r o.client o.going o.at_client o.at_going t.paired.long fits (λ q x g p a b w. ((t.paired.paired_at q x g a b).waits p w).0) near i o.offers in
+    subst (λ (z : Owner). EndsNear s.header sound z.reached) (sym (served_on s d (r, i) rest o.not_strange).owner) (later (subst (λ (u : Event). EndsNear s.header sound u.owner.reached) (sym o.is) here)))

@@ -2,8 +2,8 @@
 use Rattle.thread_run.proofs.Words.{◌≡◌, ℕ, suc, ◌+◌, ◌^◌, ◌<◌, ◌≤◌, refl, sym, ◌∙◌, ap, subst, List, [], ◌∷◌, ◌++◌, length, map, max, replicate, true, Option, Some, None, arith, length-map, length-replicate, slice_get, fold, nat_lt, enumerate_from, list_all, Header, Call, Script, MeetKind, Offer, Owner, Client, free_client, own_items, owed, served, run_calls, store_records, Counted, Setting, header_len, is_sound, Arrival, IsJoined, back_of, opening_owner, rank_ends, run_of, is_lawful, end_of, greatest, record_limit, rank_end, Going, advance, after_mark, first_going, first_state, serial_from, setting_of, end_grows, counted_sound, calls_close, sound_small, Good, good_first, lasting, Joins, Stands, join, closes, client_end, IsPaired, ArePaired, AreSingle, owner_calls, entry_map, map_map, entry_beside}
 use Rattle.nc_base.specs.declared.step.OfferKind.TheVariants as offer
 use Rattle.join_laws.proofs.WholeLaws.{get_replicate, lawful_agrees, get_map as from_map, none_first}
-use Rattle.thread_run.proofs.ThreadCalls.{calls_along, single_along}
-use Rattle.thread_run.proofs.ThreadKnown.{EndsNear, good_along, near_along, near_first, small_along}
+use Rattle.thread_run.proofs.ThreadCalls.{calls_along, single_along, last_along, Last}
+use Rattle.thread_run.proofs.ThreadKnown.{EndsNear, near_along, near_first}
 
 rows_within : {B : Type 0} (h : ℕ × B → ℕ) (n : ℕ) (ys : List B) (from : ℕ) → ((q : ℕ) (b : B) → slice_get ys q ≡ Some b → h (from + q, b) ≤ n) → greatest (map h (enumerate_from from ys)) ≤ n
 rows_within h n [] from f = omega arith
@@ -67,6 +67,9 @@ module _ (script : Script) (header : Header) (file : List ℕ) (arrivals : List 
   whole : Joins s owner goings arrivals
   whole = join s (Good header script.ranks) (lasting header sound script.ranks) meetings owner goings arrivals stands
 
+  final : Last s (Good header script.ranks) owner goings arrivals
+  final = last_along s (Good header script.ranks) (lasting header sound script.ranks) meetings owner goings arrivals stands
+
   pub single_all : AreSingle arrivals
   single_all = single_along s (Good header script.ranks) (lasting header sound script.ranks) meetings owner goings arrivals stands
 
@@ -93,7 +96,9 @@ module _ (script : Script) (header : Header) (file : List ℕ) (arrivals : List 
       cm.ends ∙ ap (λ (z : Client). (client_end header z.held (first_going header own) back, None)) (get_replicate (length script.calls) free_client q x.0 x.1) in
       let last : slice_get (fold (after_mark s) (owner.state, goings) (served s owner arrivals).marks).1 q ≡ Some cm.going =
       ap (λ (u : Counted × List Going). slice_get u.1 q) whole.folded ∙ cm.at_last in
-      let good = good_along s (Good header script.ranks) (lasting header sound script.ranks) meetings owner goings arrivals stands q cm.going last in
+      let there : slice_get final.after q ≡ Some cm.going = sym (ap (λ (u : Counted × List Going). slice_get u.1 q) final.folded) ∙ last in
+      let y = entry_beside final.after (served s owner arrivals).owner.clients q cm.going (sym final.stands.paired.long) there in
+      let good = (final.stands.paired.paired_at q y.0 cm.going y.1 there).good in
       let kept = (closes header q 0 cm.going (ap (λ (p : Going × Option Offer). p.1) ends)).known in
       let same = ap (λ (p : Going × Option Offer). p.0.rank.known) ends in
       within _ _ _ _ good.known kept same
@@ -110,10 +115,9 @@ module _ (script : Script) (header : Header) (file : List ℕ) (arrivals : List 
       let below : most ≤ reached = subst (λ (ns : List ℕ). greatest ns ≤ reached) (sym (map_map (λ (g : Going). g.rank.known) (λ (p : ℕ × List Call). rank_end header (first_going header p.1) (back_of script header file arrivals p.0)) (enumerate_from 0 script.calls)))
       (rows_within (λ (p : ℕ × List Call). (rank_end header (first_going header p.1) (back_of script header file arrivals p.0)).rank.known) reached script.calls 0
       (λ q own e. let same : q ≡ 0 + q = omega arith in subst (λ (k : ℕ). (rank_end header (first_going header own) (back_of script header file arrivals k)).rank.known ≤ reached) same (known_each q own e))) in
-      let small = small_along s (Good header script.ranks) (lasting header sound script.ranks) meetings owner goings arrivals stands in
       let near = near_along s sound (Good header script.ranks) (lasting header sound script.ranks) meetings owner goings arrivals stands (near_first header sound) in
       let grows = end_grows header (header_len header) most reached below in
-      counted_sound header most sound (less most reached (record_limit header.version) below small)
+      counted_sound header most sound (less most reached (record_limit header.version) below final.stands.small)
       (less (end_of header (header_len header) most) (end_of header (header_len header) reached) (2 ^ 62) grows near)
     where
       less : (a b n : ℕ) → a ≤ b → b < n → a < n
