@@ -1,19 +1,8 @@
 -- A run on threads, from what the owner tells and what the close tells.
-use Rattle.thread_run.proofs.Words.{◌≡◌, ℕ, ◌≤◌, refl, sym, ◌∙◌, ap, subst, inl, inr, ◌⊎◌, List, [], ◌∷◌, ◌++◌, map, max, replicate, true, Option, Some, None, nat_lt, IfSome, Header, RankEnd, RunEnd, ServeEnd, Script, DiskCall, Mark, OwnerItem, StepErr, Rose, after, with_end, Owner, Ending, first_owner, free_client, served, run_calls, store_records, raised, is_sound, Arrival, IsLegal, opening_owner, run_of, is_lawful, serial_from, setting_of, as_setting, counted, seen, HasBegun, HasCut, IsRun, AreSingle, owner_calls, HasFailed, IsDone, IsDoneSo, opening, passed, NoneBroke, most_known_of, Closing, rose_later, blank, with_end-with_end, rose_before, some_or_none, le_two, arith, nat_tests}
+use Rattle.thread_run.proofs.Words.{◌≡◌, ℕ, sym, ◌∙◌, ap, subst, inl, inr, ◌⊎◌, List, [], ◌++◌, map, max, replicate, true, Option, Some, None, nat_lt, IfSome, Header, RankEnd, RunEnd, ServeEnd, Script, DiskCall, Mark, OwnerItem, StepErr, Rose, after, with_end, Owner, Ending, first_owner, free_client, served, run_calls, store_records, raised, is_sound, Arrival, IsLegal, opening_owner, run_of, is_lawful, serial_from, setting_of, as_setting, counted, seen, HasBegun, HasCut, IsRun, owner_calls, IsDone, IsDoneSo, opening, passed, NoneBroke, most_known_of, Closing, rose_later, blank, with_end-with_end, rose_before, some_or_none, le_two, arith, nat_tests, append-nil}
 use Rattle.nc_base.specs.declared.step.StepErr.TheVariants as fault
 use Rattle.thread_run.proofs.ThreadRuns.{Finished, FinishedAlike, FinishedSo, finished, finished_alike, finished_so}
-use Rattle.thread_run.proofs.ThreadTies.{Told, begun}
-
--- what the owner tells
-pub record OwnerSide (script : Script) (header : Header) (arrivals : List Arrival) (given : ℕ → List OwnerItem) (held : Option (List ℕ)) (calls : Option (List DiskCall)) (faults : ℕ)
-    (left : Option (List ℕ)) (made : Option (List DiskCall)) (failed records : ℕ) (end : ServeEnd) : Type 0 where
-  pub done : end.fault ≡ None → (file : List ℕ) → IsDone (setting_of script header) (opening script.ranks (counted file header.records)) (passed arrivals script.ranks given) end.order end.stranger
-  pub counts : end.fault ≡ None → (file : List ℕ) → records ≡ (served (setting_of script header) (opening script.ranks (counted file header.records)) arrivals).owner.state.records
-  pub bytes : end.fault ≡ None → IfSome held (λ file. IsDoneSo (setting_of script header) (opening script.ranks (counted file header.records)) (passed arrivals script.ranks given) left records)
-  pub device : end.fault ≡ None → AreSingle arrivals → IfSome held (λ file. made ≡ with_end calls (owner_calls script.hints (setting_of script header) (opening script.ranks (counted file header.records)) arrivals))
-  pub cut_off : (e : StepErr) → end.fault ≡ Some e → HasFailed (setting_of script header) (opening script.ranks) header.records (passed arrivals script.ranks given) end.order end.stranger
-  pub cause : end.fault ≡ Some fault.Disk → Rose faults failed
-  pub later : faults ≤ failed
+use Rattle.thread_run.proofs.ThreadTies.{Told, begun, OwnerSide}
 
 if_both : {X : Type 0} {P Q R : X → Type 0} (m : Option X) → IfSome m P → IfSome m Q → ((x : X) → P x → Q x → R x) → IfSome m R
 if_both m p q f = grind (arith, nat_tests)
@@ -24,18 +13,14 @@ module _ (script : Script) (header : Header) (arrivals : List Arrival) (given : 
   owner_at file = ap (λ (n : ℕ). first_owner (replicate n free_client) (counted file header.records)) (sym t.calls)
 
   -- the owner's order begins one of the script's
-  pub order_begun : (held : Option (List ℕ)) (calls : Option (List DiskCall)) (faults : ℕ) (left : Option (List ℕ)) (made : Option (List DiskCall)) (failed records : ℕ) (end : ServeEnd)
-      → OwnerSide script header arrivals given held calls faults left made failed records end → HasBegun script end.order
-  order_begun held calls faults left made failed records end o = by (some_or_none end.fault)
+  pub order_begun : {held : Option (List ℕ)} {calls : Option (List DiskCall)} {faults : ℕ} {told : Option (List (Mark × ℕ))} {left : Option (List ℕ)} {made : Option (List DiskCall)} {failed records : ℕ}
+      {heard : Option (List (Mark × ℕ))} {end : ServeEnd} → OwnerSide script header arrivals given script.ranks held calls faults told left made failed records heard end → HasBegun script end.order
+  order_begun {end} o = by (some_or_none end.fault)
     where
-      append_none : (xs : List Arrival) → xs ≡ xs ++ []
-      append_none [] = refl
-      append_none (x ∷ xs) = ap (λ (v : List Arrival). x ∷ v) (append_none xs)
-
       by : (end.fault ≡ None) ⊎ ((e : StepErr) × (end.fault ≡ Some e)) → HasBegun script end.order
       by (inl none) =
           let e : end.order ≡ (run_of script header [] arrivals).marks = (o.done none []).order ∙ ap (λ (d : Owner). (served (setting_of script header) d arrivals).marks) (owner_at []) in
-          subst (λ (ms : List Mark). HasBegun script ms) (sym e) (begun script header arrivals given ends t [] arrivals [] (append_none arrivals) lawful)
+          subst (λ (ms : List Mark). HasBegun script ms) (sym e) (begun script header arrivals given ends t [] arrivals [] (sym (append-nil arrivals)) lawful)
       by (inr (x, some)) =
           let h = o.cut_off x some in
           let e : end.order ≡ (run_of script header [] h.first).marks = (h.cut_off []).order ∙ ap (λ (d : Owner). (served (setting_of script header) d h.first).marks) (owner_at []) in
@@ -45,11 +30,11 @@ module _ (script : Script) (header : Header) (arrivals : List Arrival) (given : 
       → NoneBroke ends → is_sound (record header { records = most_known_of ends }) ≡ true
   known_sound end done whole = (finished script header arrivals given ends end.order end.stranger sound lawful t whole done).sound
 
-  pub run_all : (held : Option (List ℕ)) (calls : Option (List DiskCall)) (faults : ℕ) (held' : Option (List ℕ)) (calls' : Option (List DiskCall)) (faults' count : ℕ) (before : ServeEnd)
-      (left : Option (List ℕ)) (made : Option (List DiskCall)) (failed records : ℕ) (end : RunEnd)
-      → OwnerSide script header arrivals given held calls faults held' calls' faults' count before → Closing header ends before held' calls' faults' count left made failed records end
+  pub run_all : {held : Option (List ℕ)} {calls : Option (List DiskCall)} {faults : ℕ} {told : Option (List (Mark × ℕ))} {held' : Option (List ℕ)} {calls' : Option (List DiskCall)} {faults' count : ℕ}
+      {heard : Option (List (Mark × ℕ))} {before : ServeEnd} {left : Option (List ℕ)} {made : Option (List DiskCall)} {failed records : ℕ} {end : RunEnd}
+      → OwnerSide script header arrivals given script.ranks held calls faults told held' calls' faults' count heard before → Closing header ends before held' calls' faults' count left made failed records end
       → HasCut script header held left records end → IsRun script header (seen held calls faults) (seen left made failed) records end
-  run_all held calls faults held' calls' faults' count before left made failed records end o c cut_off = record {
+  run_all {held} {calls} {faults} {held'} {calls'} {faults'} {count} {before} {left} {failed} {records} {end} o c cut_off = record {
     legal = λ none. subst (λ (ms : List Mark). IsLegal script ms) (sym c.order) (fin none).legal;
     bytes = λ none. if_both held (o.bytes (c.went none).0) (o.bytes (c.went none).0) (λ file so more.
         (c.closed none).bytes ∙ ap (λ (m : Option (List ℕ)). after (λ f. (raised (as_setting header) (counted f count) (most_known_of ends)).file) m) so.told
@@ -70,7 +55,7 @@ module _ (script : Script) (header : Header) (arrivals : List Arrival) (given : 
         ++ store_records (setting_of script header) (nat_lt (so.records i) (counts none file so i))))
         ∙ ap (λ (cs : List DiskCall). with_end calls cs) (sym (fin_so none file so).calls) ∙ ap (λ (ms : List Mark). with_end calls (run_calls script header file ms)) (sym c.order));
     sound = c.sound;
-    begun = subst (λ (ms : List Mark). HasBegun script ms) (sym c.order) (order_begun held calls faults held' calls' faults' count before o);
+    begun = subst (λ (ms : List Mark). HasBegun script ms) (sym c.order) (order_begun o);
     fault = λ disk. cause disk (some_or_none before.fault);
     later = le_two faults faults' failed o.later c.later;
     cut = cut_off;
@@ -100,22 +85,3 @@ module _ (script : Script) (header : Header) (arrivals : List Arrival) (given : 
       cause disk (inr (e, some)) =
           let same : Some e ≡ Some fault.Disk = ap (λ (x : StepErr). Some x) (c.first e some disk) in
           rose_later faults faults' failed (o.cause (some ∙ same)) c.later
-
--- the owner of as many senders as there are ranks
-pub owner_of : (script : Script) (header : Header) (arrivals : List Arrival) (given : ℕ → List OwnerItem) (held : Option (List ℕ)) (calls : Option (List DiskCall)) (faults : ℕ)
-    (left : Option (List ℕ)) (made : Option (List DiskCall)) (failed records : ℕ) (end : ServeEnd) (n : ℕ) → n ≡ script.ranks
-    → (end.fault ≡ None → (file : List ℕ) → IsDone (setting_of script header) (opening n (counted file header.records)) (passed arrivals n given) end.order end.stranger)
-    → (end.fault ≡ None → (file : List ℕ) → records ≡ (served (setting_of script header) (opening n (counted file header.records)) arrivals).owner.state.records)
-    → (end.fault ≡ None → IfSome held (λ file. IsDoneSo (setting_of script header) (opening n (counted file header.records)) (passed arrivals n given) left records))
-    → (end.fault ≡ None → AreSingle arrivals → IfSome held (λ file. made ≡ with_end calls (owner_calls script.hints (setting_of script header) (opening n (counted file header.records)) arrivals)))
-    → ((e : StepErr) → end.fault ≡ Some e → HasFailed (setting_of script header) (opening n) header.records (passed arrivals n given) end.order end.stranger)
-    → (end.fault ≡ Some fault.Disk → Rose faults failed) → faults ≤ failed → OwnerSide script header arrivals given held calls faults left made failed records end
-owner_of script header arrivals given held calls faults left made failed records end n e done counts bytes device cut_off cause later = record {
-  done = λ none file. subst (λ (m : ℕ). IsDone (setting_of script header) (opening m (counted file header.records)) (passed arrivals m given) end.order end.stranger) e (done none file);
-  counts = λ none file. subst (λ (m : ℕ). records ≡ (served (setting_of script header) (opening m (counted file header.records)) arrivals).owner.state.records) e (counts none file);
-  bytes = λ none. subst (λ (m : ℕ). IfSome held (λ file. IsDoneSo (setting_of script header) (opening m (counted file header.records)) (passed arrivals m given) left records)) e (bytes none);
-  device = λ none single. subst (λ (m : ℕ). IfSome held (λ file. made ≡ with_end calls (owner_calls script.hints (setting_of script header) (opening m (counted file header.records)) arrivals))) e (device none single);
-  cut_off = λ x some. subst (λ (m : ℕ). HasFailed (setting_of script header) (opening m) header.records (passed arrivals m given) end.order end.stranger) e (cut_off x some);
-  cause = cause;
-  later = later;
-}

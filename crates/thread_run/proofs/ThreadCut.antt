@@ -1,5 +1,5 @@
 -- A run on threads that a fault cut off, from what the owner tells and what the close tells.
-use Rattle.thread_run.proofs.Words.{◌≡◌, ℕ, ◌-◌, ◌<◌, ◌≤◌, refl, sym, ◌∙◌, ap, subst, inl, inr, ◌⊎◌, List, [], ◌∷◌, ◌++◌, length, map, max, replicate, Bool, true, false, cond, Option, Some, None, append_assoc, arith, append-nil, length-map, length-replicate, list_all-append, slice_get_within, same_Some, slice_get, nat_lt, filter, IfSome, byte_len, list_all, entry_below, entry_beside, and_second, Answer, Header, Call, RankEnd, RunEnd, ServeEnd, Script, Mark, OwnerItem, Stop, RankItem, StepErr, BothTold, Owner, event, first_owner, free_client, given_along, is_strange, offers_in, own_items, served, Counted, raised, count_width, is_sound, Arrival, IsLegal, is_offer, opening_owner, run_of, is_lawful, rank_end, told_of, Going, advance, after_mark, first_going, first_state, serial_from, setting_of, state_after, Begins, HasAnswers, IsCutRun, IsLeft, IsTorn, OwnerStoodAt, StoodAt, in_close, as_setting, counted, HasOffered, completed, completed_by, contents_of, point, HasBegun, HasSaid, calls_of, cut_rows, no_answers, said_here, said_part, said_up, told_along, counts_along, owner_told, AreSingle, HasCutService, IsDone, IsDoneSo, opening, passed, HasCut, EndedAt, NoneBroke, most_known_of, EndOfCut, served_on, goes_on, mapped_entry, nat_tests, stood_as}
+use Rattle.thread_run.proofs.Words.{◌≡◌, ℕ, ◌-◌, ◌<◌, ◌≤◌, refl, sym, ◌∙◌, ap, subst, inl, inr, ◌⊎◌, List, [], ◌∷◌, ◌++◌, length, map, max, replicate, Bool, true, false, cond, Option, Some, None, append_assoc, arith, append-nil, length-map, length-replicate, list_all-append, slice_get_within, same_Some, slice_get, nat_lt, filter, byte_len, list_all, entry_below, entry_beside, and_second, Answer, Header, Call, RankEnd, RunEnd, ServeEnd, Script, Mark, OwnerItem, Stop, RankItem, StepErr, BothTold, Owner, event, first_owner, free_client, given_along, is_strange, offers_in, own_items, served, Counted, raised, count_width, is_sound, Arrival, IsLegal, is_offer, opening_owner, run_of, is_lawful, rank_end, told_of, Going, advance, after_mark, first_going, first_state, serial_from, setting_of, state_after, Begins, HasAnswers, IsCutRun, IsLeft, IsTorn, OwnerStoodAt, StoodAt, in_close, as_setting, counted, HasOffered, completed, completed_by, contents_of, point, HasBegun, HasSaid, calls_of, cut_rows, no_answers, said_here, said_part, said_up, told_along, counts_along, owner_told, AreSingle, HasCutService, IsDone, IsDoneSo, opening, passed, HasCut, EndedAt, NoneBroke, most_known_of, EndOfCut, served_on, goes_on, mapped_entry, nat_tests, stood_as, some_each, if_some_at, DiskCall}
 use Rattle.std.proofs.lemmas.List.{length-append}
 use Rattle.nc_base.specs.declared.run.RankStop.TheVariants as stop
 use Rattle.nc_base.specs.declared.step.StepErr.TheVariants as fault
@@ -10,7 +10,7 @@ use Rattle.thread_run.proofs.CutJoin.{Ran, cut_run, end_of_rank}
 use Rattle.thread_run.proofs.CutStood.{single_begun, stood_run}
 use Rattle.thread_run.proofs.TellLaws.{count_of}
 use Rattle.thread_run.proofs.ThreadRuns.{FinishedSo, finished, finished_so}
-use Rattle.thread_run.proofs.ThreadTies.{Own, Told, begun, broke_or_not, offered_all, own_of, puts, takes}
+use Rattle.thread_run.proofs.ThreadTies.{Own, Told, begun, broke_or_not, offered_all, own_of, puts, takes, OwnerSide}
 use Rattle.thread_run.proofs.ServiceCut.{Service, service_cut, service_done}
 
 -- ---- the ranks
@@ -250,28 +250,11 @@ module _ (script : Script) (header : Header) (arrivals : List Arrival) (given : 
       by_fault (Some x) f = cut_served x e before held count left records end c (inr memory) l k (cut x f)
 
 pub run_cut : (script : Script) (header : Header) (arrivals : List Arrival) (given : ℕ → List OwnerItem) (ends : List RankEnd) → is_sound header ≡ true → is_lawful script ≡ true
-    → Told script header arrivals given ends → (told held : Option (List ℕ)) (count : ℕ) (before : ServeEnd) (left : Option (List ℕ)) (records : ℕ) (end : RunEnd) (n : ℕ) → n ≡ script.ranks
-    → (before.fault ≡ None → (file : List ℕ) → IsDone (setting_of script header) (opening n (counted file header.records)) (passed arrivals n given) before.order before.stranger)
-    → (before.fault ≡ None → IfSome told (λ file. IsDoneSo (setting_of script header) (opening n (counted file header.records)) (passed arrivals n given) held count))
-    → ((x : StepErr) → before.fault ≡ Some x → IfSome told (λ file. HasCutService (setting_of script header) x (opening n (counted file header.records)) (passed arrivals n given) (point before.order held count)))
-    → ((e : StepErr) → end.fault ≡ Some e → EndOfCut header ends before e held count left records end) → HasCut script header told left records end
-run_cut script header arrivals given ends sound lawful t told held count before left records end n same done so cut c e is =
-    by_ranks n same done so cut
-  where
-    by_told : (m : Option (List ℕ))
-        → (before.fault ≡ None → (file : List ℕ) → IsDone (setting_of script header) (opening script.ranks (counted file header.records)) (passed arrivals script.ranks given) before.order before.stranger)
-        → (before.fault ≡ None → IfSome m (λ file. IsDoneSo (setting_of script header) (opening script.ranks (counted file header.records)) (passed arrivals script.ranks given) held count))
-        → ((x : StepErr) → before.fault ≡ Some x → IfSome m (λ file. HasCutService (setting_of script header) x (opening script.ranks (counted file header.records)) (passed arrivals script.ranks given) (point before.order held count)))
-        → IfSome m (λ file. (bytes : List ℕ) × (left ≡ Some bytes) × IsCutRun script header file e end.order bytes records end.answers)
-    by_told None done so cut = tt
-    by_told (Some file) done so cut = cut_at script header arrivals given ends sound lawful t file e before held count left records end (c e is) (c e is).at done so cut
-
-    by_ranks : (k : ℕ) → k ≡ script.ranks
-        → (before.fault ≡ None → (file : List ℕ) → IsDone (setting_of script header) (opening k (counted file header.records)) (passed arrivals k given) before.order before.stranger)
-        → (before.fault ≡ None → IfSome told (λ file. IsDoneSo (setting_of script header) (opening k (counted file header.records)) (passed arrivals k given) held count))
-        → ((x : StepErr) → before.fault ≡ Some x → IfSome told (λ file. HasCutService (setting_of script header) x (opening k (counted file header.records)) (passed arrivals k given) (point before.order held count)))
-        → IfSome told (λ file. (bytes : List ℕ) × (left ≡ Some bytes) × IsCutRun script header file e end.order bytes records end.answers)
-    by_ranks k e done so cut =
-        by_told told (λ none file. subst (λ (m : ℕ). IsDone (setting_of script header) (opening m (counted file header.records)) (passed arrivals m given) before.order before.stranger) e (done none file))
-        (λ none. subst (λ (m : ℕ). IfSome told (λ file. IsDoneSo (setting_of script header) (opening m (counted file header.records)) (passed arrivals m given) held count)) e (so none))
-        (λ x some. subst (λ (m : ℕ). IfSome told (λ file. HasCutService (setting_of script header) x (opening m (counted file header.records)) (passed arrivals m given) (point before.order held count))) e (cut x some))
+    → Told script header arrivals given ends → {held : Option (List ℕ)} {calls : Option (List DiskCall)} {faults : ℕ} {told : Option (List (Mark × ℕ))} {left : Option (List ℕ)} {made : Option (List DiskCall)}
+    {failed count : ℕ} {heard : Option (List (Mark × ℕ))} {before : ServeEnd} {now : Option (List ℕ)} {records : ℕ} {end : RunEnd}
+    → OwnerSide script header arrivals given script.ranks held calls faults told left made failed count heard before
+    → ((e : StepErr) → end.fault ≡ Some e → EndOfCut header ends before e left count now records end) → HasCut script header held now records end
+run_cut script header arrivals given ends sound lawful t {held} {left} {count} {before} {now} {records} {end} o c e is = some_each held (λ file there.
+    cut_at script header arrivals given ends sound lawful t file e before left count now records end (c e is) (c e is).at o.done
+    (λ none. if_some_at (λ (f : List ℕ). IsDoneSo (setting_of script header) (opening script.ranks (counted f header.records)) (passed arrivals script.ranks given) left count) held file there (o.bytes none))
+    (λ x some. if_some_at (λ (f : List ℕ). HasCutService (setting_of script header) x (opening script.ranks (counted f header.records)) (passed arrivals script.ranks given) (point before.order left count)) held file there (o.cut x some)))

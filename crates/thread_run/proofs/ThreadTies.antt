@@ -1,8 +1,9 @@
 -- What each rank's thread and the owner tell by themselves, and that it ties them.
-use Rattle.thread_run.proofs.Words.{◌≡◌, ℕ, ◌<◌, refl, sym, ◌∙◌, ap, subst, inl, inr, ◌⊎◌, List, [], ◌∷◌, ◌++◌, length, take, drop, true, Option, Some, None, arith, slice_get_within, slice_get, nat_lt, IsTrue, list_all, entry_below, Header, Call, RankEnd, RankStop, Script, OwnerItem, RankItem, own_items, Arrival, HasEnd, IsAgreed, IsJoined, IsTied, back_of, run_of, is_lawful, offered, first_going, AreAlike, HasOffered, IsBeginning, offered_alike, begun_each, begun_known, long_whole, tied_each, tied_joins, HasAttended, HasBroken, HasFinished, HasBegun, IsSettled, calls_of, NoneBroke, alike_take, alike_long, take-append-drop, length-take-le, first_of, prefix_long, front_or_all, nat_tests}
+use Rattle.thread_run.proofs.Words.{◌≡◌, ℕ, ◌<◌, refl, sym, ◌∙◌, ap, subst, inl, inr, ◌⊎◌, List, [], ◌∷◌, ◌++◌, length, take, drop, true, Option, Some, None, arith, slice_get_within, slice_get, nat_lt, IsTrue, list_all, entry_below, Header, Call, RankEnd, RankStop, Script, OwnerItem, RankItem, own_items, Arrival, HasEnd, IsAgreed, IsJoined, IsTied, back_of, run_of, is_lawful, offered, first_going, AreAlike, HasOffered, IsBeginning, offered_alike, begun_each, begun_known, long_whole, tied_each, tied_joins, HasAttended, HasBroken, HasFinished, HasBegun, IsSettled, calls_of, NoneBroke, alike_take, alike_long, take-append-drop, length-take-le, first_of, prefix_long, front_or_all, nat_tests, ◌≤◌, IfSome, ServeEnd, DiskCall, Mark, StepErr, Rose, with_end, served, counted, setting_of, AreSingle, owner_calls, HasCutService, HasFailed, HasToldAlong, IsDone, IsDoneSo, opening, passed, point}
 use mathlib.Core.List.{IsPrefix}
 use Rattle.nc_base.specs.declared.run.RankStop.TheVariants as stop
 use Rattle.nc_base.specs.declared.step.RankItem.TheVariants as item
+use Rattle.nc_base.specs.declared.step.StepErr.TheVariants as fault
 
 -- what the threads came to, and what the owner took
 pub record Told (script : Script) (header : Header) (arrivals : List Arrival) (given : ℕ → List OwnerItem) (ends : List RankEnd) : Type 0 where
@@ -11,6 +12,20 @@ pub record Told (script : Script) (header : Header) (arrivals : List Arrival) (g
   pub long : length ends ≡ script.ranks
   pub calls : length script.calls ≡ script.ranks
   pub each : (r : ℕ) (end : RankEnd) → slice_get ends r ≡ Some end → IsSettled header (calls_of script r) (own_items r arrivals) (given r) end
+
+-- what the owner tells, who served so many senders
+pub record OwnerSide (script : Script) (header : Header) (arrivals : List Arrival) (given : ℕ → List OwnerItem) (n : ℕ) (held : Option (List ℕ)) (calls : Option (List DiskCall)) (faults : ℕ)
+    (told : Option (List (Mark × ℕ))) (left : Option (List ℕ)) (made : Option (List DiskCall)) (failed records : ℕ) (heard : Option (List (Mark × ℕ))) (end : ServeEnd) : Type 0 where
+  pub done : end.fault ≡ None → (file : List ℕ) → IsDone (setting_of script header) (opening n (counted file header.records)) (passed arrivals n given) end.order end.stranger
+  pub counts : end.fault ≡ None → (file : List ℕ) → records ≡ (served (setting_of script header) (opening n (counted file header.records)) arrivals).owner.state.records
+  pub bytes : end.fault ≡ None → IfSome held (λ file. IsDoneSo (setting_of script header) (opening n (counted file header.records)) (passed arrivals n given) left records)
+  pub device : end.fault ≡ None → AreSingle arrivals → IfSome held (λ file. made ≡ with_end calls (owner_calls script.hints (setting_of script header) (opening n (counted file header.records)) arrivals))
+  pub cut_off : (e : StepErr) → end.fault ≡ Some e → HasFailed (setting_of script header) (opening n) header.records (passed arrivals n given) end.order end.stranger
+  pub cut : (x : StepErr) → end.fault ≡ Some x
+      → IfSome held (λ file. HasCutService (setting_of script header) x (opening n (counted file header.records)) (passed arrivals n given) (point end.order left records))
+  pub told_along : (file : List ℕ) → HasToldAlong (setting_of script header) (opening n (counted file header.records)) arrivals end.order told heard
+  pub cause : end.fault ≡ Some fault.Disk → Rose faults failed
+  pub later : faults ≤ failed
 
 calls_at : (script : Script) (r : ℕ) (own : List Call) → slice_get script.calls r ≡ Some own → calls_of script r ≡ own
 calls_at script r own e = ap (λ (m : Option (List Call)). elim m [ None ↦ [] | Some z ↦ z ]) e

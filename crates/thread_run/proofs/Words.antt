@@ -42,7 +42,7 @@ pub use Rattle.list_laws.proofs.Each.{passes_at}
 pub use Rattle.list_laws.proofs.Fronts.{first_of, front_or_all, prefix_long}
 pub use Rattle.list_laws.proofs.Maps.{entry_map, map_map, mapped_entry, rows_same}
 pub use Rattle.list_laws.proofs.Numbers.{le_two}
-pub use Rattle.list_laws.proofs.Optional.{some_or_none}
+pub use Rattle.list_laws.proofs.Optional.{if_some_at, some_or_none}
 pub use Rattle.list_laws.proofs.Places.{each_more, entry_below, entry_beside, entry_replicate, entry_set, entry_set_other, left_more}
 pub use Rattle.list_laws.proofs.Truth.{and_first, and_second, or_first_false, or_second_false}
 pub use Rattle.nc_base.specs.declared.answer.Answer.{Answer}
@@ -130,6 +130,7 @@ pub use Rattle.turn_run.proofs.CutRuns.{cut_rows, no_answers, stood_as}
 pub use Rattle.turn_run.proofs.EndedLaws.{Closing, EndOfCut}
 pub use Rattle.turn_run.proofs.RunnerLaws.{alone_heard, answered_is, answers_begin, heard_runner}
 pub use Rattle.turn_run.proofs.SaidLaws.{said_here, said_part, said_up}
+pub use Rattle.turn_run.proofs.StageLaws.{some_each}
 pub use Rattle.turn_run.proofs.TellLaws.{marks_ended, told_along}
 pub use Rattle.turn_run.proofs.TurnCauses.{rose_later}
 pub use Rattle.turn_run.specs.Begun.{HasBegun}
