@@ -1,5 +1,5 @@
 -- A rank at its offer: what it waits for, and its way after the reply.
-use Rattle.thread_run.proofs.Words.{◌≡◌, ℕ, ◌<◌, ap, sym, subst, ◌∙◌, List, [], ◌∷◌, ◌++◌, length, map, Bool, true, Option, Some, None, append_assoc, arith, slice_get, is_some, IfSome, bytes_eq-Decides, at_in, and_first, Header, Var, Answer, Call, Direction, Region, Script, Mark, Meet, Solo, Offer, OfferKind, is_lawful, most_calls, Open, hear, fits_offer, wanted, check_some, Going, advance, first_going, hears, fits_gets, IsSoundOffer, HasOwnElements, own_elements, IsOnWay, meetings, Keeps, ranks_lawful, call_number, call_waits, way_begins, way_hears, IsAsked, asking, between, calls_of, going_of, HasHeard, IsPlaced, IsPlacedWith, first_runner, Runner, alone_waits, going_held, alone_heard, answered_is, heard_runner, entry_below, nat_tests}
+use Rattle.thread_run.proofs.Words.{◌≡◌, ℕ, ◌<◌, ap, sym, subst, ◌∙◌, List, [], ◌∷◌, ◌++◌, length, map, Bool, true, Option, Some, None, append_assoc, arith, slice_get, is_some, IfSome, bytes_eq-Decides, at_in, and_first, Header, Var, Answer, Call, Direction, Region, Script, Mark, Meet, Solo, Offer, OfferKind, is_lawful, most_calls, Open, hear, fits_offer, wanted, check_some, Going, advance, first_going, hears, fits_gets, IsSoundOffer, HasOwnElements, own_elements, IsOnWay, meetings, Keeps, ranks_lawful, call_number, call_waits, way_begins, way_hears, IsAsked, asking, between, calls_of, going_of, HasHeard, IsPlaced, IsPlacedWith, first_runner, Runner, alone_waits, going_held, alone_heard, answered_is, heard_runner, entry_below, nat_tests, OwnerItem, RankItem, refl}
 use Rattle.nc_base.specs.declared.answer.Code.TheVariants as code
 use Rattle.nc_base.specs.declared.step.OfferKind.TheVariants as offer
 use Rattle.nc_base.specs.declared.step.Reply.{Reply}
@@ -85,3 +85,11 @@ asked_own header known m o e h = grind (arith, nat_tests, own_puts)
 
 pub items_more : {X : Type 0} (first mid now some : List X) (x y : X) → mid ≡ first ++ some → now ≡ mid ++ x ∷ [] → x ≡ y → now ≡ first ++ (some ++ y ∷ [])
 items_more {X} first mid now some x y e f g = grind (arith, nat_tests, append_assoc)
+
+-- one item more was put, and one more taken
+pub one_each : (out : List RankItem) (from : List OwnerItem) (put : List RankItem) (taken : List OwnerItem) (x : OwnerItem) {mid now : List RankItem} {back last : List OwnerItem} {i j : RankItem}
+    (P : List RankItem → List OwnerItem → Type 0)
+    → mid ≡ out ++ put → back ≡ from ++ taken → now ≡ mid ++ i ∷ [] → i ≡ j → last ≡ back ++ x ∷ [] → P (put ++ j ∷ []) (taken ++ x ∷ [])
+    → (p : List RankItem) × (t : List OwnerItem) × (now ≡ out ++ p) × (last ≡ from ++ t) × P p t
+one_each out from put taken x {mid} {now} {back} {last} {i} {j} P e f g same h p =
+    (put ++ j ∷ [], taken ++ x ∷ [], items_more out mid now put i j e g same, items_more from back last taken x x f h refl, p)

@@ -78,7 +78,7 @@ module _ (script : Script) (header : Header) (arrivals : List Arrival) (given : 
 
       counts : end.fault ≡ None → (file : List ℕ) → IsDoneSo (setting_of script header) (opening script.ranks (counted file header.records)) (passed arrivals script.ranks given) held' count
           → records ≡ (serial_from script header file before.order).records
-      counts none file so = (c.closed none).count ∙ ap (λ (n : ℕ). max n (most_known_of ends)) so.records ∙ (fin_so none file so).records
+      counts none file so = (c.closed none).count ∙ ap (λ (n : ℕ). max n (most_known_of ends)) so.records ∙ (fin_alike none file).records
 
       cause : end.fault ≡ Some fault.Disk → (before.fault ≡ None) ⊎ ((e : StepErr) × (before.fault ≡ Some e)) → Rose faults failed
       cause disk (inl none) = rose_before faults faults' failed o.later (c.cause none disk)

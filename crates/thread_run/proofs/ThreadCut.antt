@@ -9,7 +9,7 @@ use Rattle.thread_run.proofs.CutRank.{last_end}
 use Rattle.thread_run.proofs.CutJoin.{Ran, cut_run, end_of_rank}
 use Rattle.thread_run.proofs.CutStood.{single_begun, stood_run}
 use Rattle.thread_run.proofs.TellLaws.{count_of}
-use Rattle.thread_run.proofs.ThreadRuns.{FinishedSo, finished, finished_so}
+use Rattle.thread_run.proofs.ThreadRuns.{FinishedSo, finished, finished_so, FinishedAlike, finished_alike}
 use Rattle.thread_run.proofs.ThreadTies.{Own, Told, begun, broke_or_not, offered_all, own_of, puts, takes, OwnerSide}
 use Rattle.thread_run.proofs.ServiceCut.{Service, service_cut, service_done}
 
@@ -217,6 +217,8 @@ module _ (script : Script) (header : Header) (arrivals : List Arrival) (given : 
       let fin = finished script header arrivals given ends before.order before.stranger sound lawful t whole done in
       let last = subst (λ (d : Owner). FinishedSo script header arrivals ends before.order file (served s d arrivals).owner) owner_is
       (finished_so script header arrivals given ends before.order before.stranger sound lawful t whole done file held count so) in
+      let near = subst (λ (d : Owner). FinishedAlike script header ends before.order file (served s d arrivals).owner) owner_is
+      (finished_alike script header arrivals given ends before.order before.stranger sound lawful t whole done file) in
       let st = (run_of script header file arrivals).owner.state in
       let b = subst (λ (m : Option (List ℕ)). BothTold (λ old now. IsTorn [] (byte_len (count_width header.version)) old (raised (as_setting header) (counted old count) (most_known_of ends)).file now) m left) o.told torn in
       let file_is : (raised (as_setting header) (counted st.file count) (most_known_of ends)).file ≡ (serial_from script header file before.order).bytes =
@@ -227,7 +229,7 @@ module _ (script : Script) (header : Header) (arrivals : List Arrival) (given : 
             (in_close fin.legal
             (subst (λ (old : Counted). IsLeft header [] old (record { file = (serial_from script header file before.order).bytes; records = (serial_from script header file before.order).records }) b.0 records) there (
               subst (λ (f : List ℕ). IsTorn [] (byte_len (count_width header.version)) st.file f b.0) file_is b.2,
-              by_count st.records (serial_from script header file before.order).records o.records (last.records) which,
+              by_count st.records (serial_from script header file before.order).records o.records near.records which,
             ))),
       )
     where

@@ -14,9 +14,7 @@ pub record Finished (script : Script) (header : Header) (arrivals : List Arrival
 -- from these bytes
 pub record FinishedSo (script : Script) (header : Header) (arrivals : List Arrival) (ends : List RankEnd) (order : List Mark) (file : List ℕ) (owner : Owner) : Type 0 where
   pub bytes : (raised (as_setting header) (counted owner.state.file owner.state.records) (most_known_of ends)).file ≡ (serial_from script header file order).bytes
-  pub records : max owner.state.records (most_known_of ends) ≡ (serial_from script header file order).records
   pub answers : map (λ end. end.answers) ends ≡ (serial_from script header file order).answers
-  pub pending : map (λ end. end.pending) ends ≡ (serial_from script header file order).pending
   pub calls : run_calls script header file order
       ≡ owner_calls script.hints (setting_of script header) (opening script.ranks (counted file header.records)) arrivals
       ++ store_records (setting_of script header) (nat_lt owner.state.records (serial_from script header file order).records)
@@ -57,23 +55,9 @@ module _ (script : Script) (header : Header) (arrivals : List Arrival) (given : 
       ap f (same_Some end o.end (sym a ∙ o.at_end)) ∙ k r own e ∙ ap (λ (q : ℕ). h (rank_end header (first_going header own) (back q))) same)
       ∙ sym (map_map h (λ (p : ℕ × List Call). rank_end header (first_going header p.1) (back p.0)) (enumerate_from 0 script.calls))
 
-  known_is : (file : List ℕ) → most_known_of ends ≡ greatest (map (λ g. g.rank.known) (rank_ends script header file arrivals))
-  known_is file =
-      ap greatest (each_end (λ end. end.known) (λ g. g.rank.known) (back_of script header file arrivals)
-      (λ r own e.
-      let agreed = lawful_agrees script lawful in
-      let took = took_all script header arrivals given ends t agreed whole file (alike file) r own e in
-      let near = alike file r (low_rank script header arrivals given ends t r own e) in
-      (finished_of script header arrivals given ends t agreed whole file (alike file) r own e).known
-      ∙ ap (λ (v : List OwnerItem). (rank_end header (first_going header own) v).rank.known) took
-      ∙ ap (λ (k : machine.Rank). k.known) (end_alike header (first_going header own) (given r) (back_of script header file arrivals r) near).rank))
-
-  pub finished : Finished script header arrivals ends order
-  finished = record {
-    legal = subst (λ (ms : List Mark). IsLegal script ms) (sym (order_is [])) (whole_run script header [] arrivals sound lawful (joined_at [])).legal;
-    sound = subst (λ (n : ℕ). is_sound (record header { records = n }) ≡ true) (sym (known_is [])) (known_sound script header [] arrivals sound lawful (joined_at []));
-    single = single_all script header [] arrivals sound lawful (joined_at []);
-  }
+  fin : (file : List ℕ) (r : ℕ) (own : List Call) (e : slice_get script.calls r ≡ Some own)
+      → HasFinished header own (puts script header arrivals given ends t r) (takes script header arrivals given ends t r) (own_of script header arrivals given ends t r own e).end
+  fin file r own e = finished_of script header arrivals given ends t (lawful_agrees script lawful) whole file (alike file) r own e
 
   -- the end of a rank, but for the values that its gets gave
   end_near : (file : List ℕ) (r : ℕ) (own : List Call) → slice_get script.calls r ≡ Some own
@@ -83,52 +67,45 @@ module _ (script : Script) (header : Header) (arrivals : List Arrival) (given : 
       subst (λ (v : List OwnerItem). AreNear (rank_end header (first_going header own) v) (rank_end header (first_going header own) (back_of script header file arrivals r))) (sym took)
       (end_alike header (first_going header own) (given r) (back_of script header file arrivals r) (alike file r (low_rank script header arrivals given ends t r own e)))
 
+  known_is : (file : List ℕ) → most_known_of ends ≡ greatest (map (λ g. g.rank.known) (rank_ends script header file arrivals))
+  known_is file = ap greatest (each_end (λ end. end.known) (λ g. g.rank.known) (back_of script header file arrivals)
+      (λ r own e. (fin file r own e).known ∙ ap (λ (k : machine.Rank). k.known) (end_near file r own e).rank))
+
+  pub finished : Finished script header arrivals ends order
+  finished = record {
+    legal = subst (λ (ms : List Mark). IsLegal script ms) (sym (order_is [])) (whole_run script header [] arrivals sound lawful (joined_at [])).legal;
+    sound = subst (λ (n : ℕ). is_sound (record header { records = n }) ≡ true) (sym (known_is [])) (known_sound script header [] arrivals sound lawful (joined_at []));
+    single = single_all script header [] arrivals sound lawful (joined_at []);
+  }
+
+  last : (file : List ℕ) → serial_from script header file order ≡ close_by (setting_of script header) (run_of script header file arrivals).owner.state (rank_ends script header file arrivals)
+  last file = ap (λ (ms : List Mark). serial_from script header file ms) (order_is file) ∙ (whole_run script header file arrivals sound lawful (joined_at file)).ends
+
   pub finished_alike : (file : List ℕ)
       → FinishedAlike script header ends order file (served (setting_of script header) (opening script.ranks (counted file header.records)) arrivals).owner
   finished_alike file = subst (λ (d : Owner). FinishedAlike script header ends order file (served (setting_of script header) d arrivals).owner) (sym (owner_is file)) (record {
-    records = ap (λ (n : ℕ). max state.records n) (known_is file)
-        ∙ sym (raised_records (setting_of script header) state (greatest (map (λ g. g.rank.known) (rank_ends script header file arrivals)))) ∙ sym (ap (λ (e : End). e.records) last);
+    records = ap (λ (n : ℕ). max (run_of script header file arrivals).owner.state.records n) (known_is file)
+        ∙ sym (raised_records (setting_of script header) (run_of script header file arrivals).owner.state (greatest (map (λ g. g.rank.known) (rank_ends script header file arrivals)))) ∙ sym (ap (λ (e : End). e.records) (last file));
     answers = map_map (map blank) (λ (end : RankEnd). end.answers) ends
         ∙ each_end (λ end. map blank end.answers) (λ g. map blank g.answers) (back_of script header file arrivals)
-        (λ r own e. ap (map blank) (fin r own e).answers ∙ (end_near file r own e).answers)
-        ∙ sym (map_map (map blank) (λ (g : Going). g.answers) (rank_ends script header file arrivals)) ∙ sym (ap (λ (e : End). map (map blank) e.answers) last);
+        (λ r own e. ap (map blank) (fin file r own e).answers ∙ (end_near file r own e).answers)
+        ∙ sym (map_map (map blank) (λ (g : Going). g.answers) (rank_ends script header file arrivals)) ∙ sym (ap (λ (e : End). map (map blank) e.answers) (last file));
     pending = each_end (λ end. end.pending) (λ g. machine.pending g.rank) (back_of script header file arrivals)
-        (λ r own e. (fin r own e).pending ∙ ap (λ (k : machine.Rank). machine.pending k) (end_near file r own e).rank) ∙ sym (ap (λ (e : End). e.pending) last);
+        (λ r own e. (fin file r own e).pending ∙ ap (λ (k : machine.Rank). machine.pending k) (end_near file r own e).rank) ∙ sym (ap (λ (e : End). e.pending) (last file));
   })
-    where
-      state : Counted
-      state = (run_of script header file arrivals).owner.state
-
-      last : serial_from script header file order ≡ close_by (setting_of script header) (run_of script header file arrivals).owner.state (rank_ends script header file arrivals)
-      last = ap (λ (ms : List Mark). serial_from script header file ms) (order_is file) ∙ (whole_run script header file arrivals sound lawful (joined_at file)).ends
-
-      fin : (r : ℕ) (own : List Call) (e : slice_get script.calls r ≡ Some own)
-          → HasFinished header own (puts script header arrivals given ends t r) (takes script header arrivals given ends t r) (own_of script header arrivals given ends t r own e).end
-      fin r own e = finished_of script header arrivals given ends t (lawful_agrees script lawful) whole file (alike file) r own e
 
   pub finished_so : (file : List ℕ) (told : Option (List ℕ)) (records : ℕ)
       → IsDoneSo (setting_of script header) (opening script.ranks (counted file header.records)) (passed arrivals script.ranks given) told records
       → FinishedSo script header arrivals ends order file (served (setting_of script header) (opening script.ranks (counted file header.records)) arrivals).owner
   finished_so file told records so = subst (λ (d : Owner). FinishedSo script header arrivals ends order file (served (setting_of script header) d arrivals).owner) (sym (owner_is file)) (record {
-    bytes = ap (λ (n : ℕ). (raised (as_setting header) (counted state.file state.records) n).file) (known_is file) ∙ sym (ap (λ (e : End). e.bytes) last);
-    records = ap (λ (n : ℕ). max state.records n) (known_is file)
-        ∙ sym (raised_records (setting_of script header) state (greatest (map (λ g. g.rank.known) (rank_ends script header file arrivals)))) ∙ sym (ap (λ (e : End). e.records) last);
+    bytes = ap (λ (n : ℕ). (raised (as_setting header) (counted state.file state.records) n).file) (known_is file) ∙ sym (ap (λ (e : End). e.bytes) (last file));
     answers = each_end (λ end. end.answers) (λ g. g.answers) (back_of script header file arrivals)
-        (λ r own e. (fin r own e).answers ∙ ap (λ (v : List OwnerItem). (rank_end header (first_going header own) v).answers) (back r own e)) ∙ sym (ap (λ (e : End). e.answers) last);
-    pending = each_end (λ end. end.pending) (λ g. machine.pending g.rank) (back_of script header file arrivals)
-        (λ r own e. (fin r own e).pending ∙ ap (λ (v : List OwnerItem). machine.pending (rank_end header (first_going header own) v).rank) (back r own e)) ∙ sym (ap (λ (e : End). e.pending) last);
+        (λ r own e. (fin file r own e).answers ∙ ap (λ (v : List OwnerItem). (rank_end header (first_going header own) v).answers) (back r own e)) ∙ sym (ap (λ (e : End). e.answers) (last file));
     calls = calls;
   })
     where
       state : Counted
       state = (run_of script header file arrivals).owner.state
-
-      last : serial_from script header file order ≡ close_by (setting_of script header) (run_of script header file arrivals).owner.state (rank_ends script header file arrivals)
-      last = ap (λ (ms : List Mark). serial_from script header file ms) (order_is file) ∙ (whole_run script header file arrivals sound lawful (joined_at file)).ends
-
-      fin : (r : ℕ) (own : List Call) (e : slice_get script.calls r ≡ Some own)
-          → HasFinished header own (puts script header arrivals given ends t r) (takes script header arrivals given ends t r) (own_of script header arrivals given ends t r own e).end
-      fin r own e = finished_of script header arrivals given ends t (lawful_agrees script lawful) whole file (alike file) r own e
 
       back : (r : ℕ) (own : List Call) → slice_get script.calls r ≡ Some own → takes script header arrivals given ends t r ≡ back_of script header file arrivals r
       back r own e =

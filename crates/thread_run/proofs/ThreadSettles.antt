@@ -14,7 +14,7 @@ put_on old now r before after h a b = same_Some _ _ (sym b ∙ h.each r before a
 
 -- threads that were told to go, and served
 pub record AreServed (script : Script) (header : Header) (started : StartedRanks) (told : List RankHandle) (lines back : List (End OwnerItem)) (now : Receiver RankItem) : Type 0 where
-  pub started : HaveStarted header script started
+  pub begun : HaveStarted header script started
   pub handles : AreRankHandles started.inbox.of [] started.ones.items lines
   pub empty : All (λ l. l.items ≡ []) lines
   pub go : AreTold started.ones.items told
@@ -26,7 +26,7 @@ pub are_served : {script : Script} {header : Header} (started : StartedRanks) {o
     → ones ≡ started.ones.items → lines ≡ started.lines.items → AreTold ones told → length told ≡ length ones → HasTaken started.inbox now → HavePut lines back
     → AreServed script header started told lines back now
 are_served started {told} s e f go long taken put = record {
-  started = s;
+  begun = s;
   handles = subst (λ (v : List (End OwnerItem)). AreRankHandles started.inbox.of [] started.ones.items v) (sym f) s.handles;
   empty = subst (λ (v : List (End OwnerItem)). All (λ l. l.items ≡ []) v) (sym f) s.empty;
   go = subst (λ (v : List RankHandle). AreTold v told) e go;
@@ -65,15 +65,15 @@ empty_at lines r line all e = at lines r all e
 pub told_all : {script : Script} {header : Header} {started : StartedRanks} {told : List RankHandle} {lines back : List (End OwnerItem)} {now : Receiver RankItem} {ends : List RankEnd} → is_lawful script ≡ true
     → AreServed script header started told lines back now → AreSettled now.items told back ends → Told script header (arrived started.inbox now) (gained lines back) ends
 told_all {script} {header} {started} {told} {lines} {back} {now} {ends} lawful s settled = record {
-  numbers = subst (λ (n : ℕ). IsTrue (list_all (λ a. nat_lt a.0 n) (arrived started.inbox now))) s.started.senders s.taken.numbers;
-  ended = λ q l. s.taken.ended q (subst (λ (n : ℕ). q < n) (sym s.started.senders) l);
-  long = settled.long ∙ s.long ∙ s.started.all;
+  numbers = subst (λ (n : ℕ). IsTrue (list_all (λ a. nat_lt a.0 n) (arrived started.inbox now))) s.begun.senders s.taken.numbers;
+  ended = λ q l. s.taken.ended q (subst (λ (n : ℕ). q < n) (sym s.begun.senders) l);
+  long = settled.long ∙ s.long ∙ s.begun.all;
   calls = (ranks_lawful script lawful).one_each;
   each = each;
 }
   where
     items_are : now.items ≡ arrived started.inbox now
-    items_are = s.taken.items ∙ ap (λ (v : List Arrival). v ++ arrived started.inbox now) s.started.taken
+    items_are = s.taken.items ∙ ap (λ (v : List Arrival). v ++ arrived started.inbox now) s.begun.taken
 
     each : (r : ℕ) (end : RankEnd) → slice_get ends r ≡ Some end → IsSettled header (calls_of script r) (own_items r (arrived started.inbox now)) (gained lines back r) end
     each r end e =
@@ -82,7 +82,7 @@ told_all {script} {header} {started} {told} {lines} {back} {now} {ends} lawful s
         let before = entry_beside started.ones.items lines r a.0 s.handles.long a.1 in
         let after = entry_beside lines back r before.0 (sym s.put.long) before.1 in
         let mine = s.go r a.0 b.0 a.1 b.1 in
-        let own = s.started.of r a.0 a.1 in
+        let own = s.begun.of r a.0 a.1 in
         let line = put_on lines back r before.0 after.0 s.put before.1 after.1 in
         let items : after.0.items ≡ gained lines back r = ap (λ (z : End OwnerItem). z.items) line ∙ ap (λ (v : List OwnerItem). v ++ gained lines back r) (empty_at lines r before.0 s.empty before.1) in
         let head : b.0.child.promise.header.value.now ≡ header = ap (λ z. z.promise.header.value.now) mine.child ∙ own.of_header in

@@ -1,10 +1,10 @@
 -- From one offer to the next, or to the end.
-use Rattle.thread_run.proofs.Words.{◌≡◌, ℕ, ◌<◌, ap, sym, subst, refl, ◌∙◌, length, List, [], ◌∷◌, ◌++◌, Ok, length-append, arith, append-nil, Answer, Call, advance, HasStood, asking, between, calls_of, going_of, Runner, fits_open, heard_runner}
+use Rattle.thread_run.proofs.Words.{◌≡◌, ℕ, ◌<◌, ap, sym, subst, refl, ◌∙◌, length, List, [], ◌∷◌, ◌++◌, Ok, length-append, arith, append-nil, Answer, Call, advance, HasStood, asking, between, calls_of, going_of, Runner, fits_open, heard_runner, IsAccounted}
 use Rattle.nc_base.specs.declared.run.RankStop.TheVariants as stop
 use Rattle.nc_base.specs.declared.step.OwnerItem.TheVariants as owner_item
 use Rattle.nc_base.specs.declared.step.RankItem.TheVariants as item
 use Rattle.thread_run.proofs.AttendLaws.{accounted_first, accounted_free, accounted_held, accounted_on, broken_at, broken_first, stood_done, stood_misfit, stood_stopped, unheard_begins}
-use Rattle.thread_run.proofs.AttendWay.{asked_own, first_between, first_some, first_way, fits_is, fits_long, items_more, later_some, placed_heard, placed_held, placed_number, placed_waits}
+use Rattle.thread_run.proofs.AttendWay.{asked_own, first_between, first_some, first_way, fits_is, fits_long, later_some, placed_heard, placed_held, placed_number, placed_waits, one_each}
 use Rattle.thread_run.proofs.rank_side.make_calls.Goals as goal
 
 pub go_on-requires-clause-way : goal.go_on-requires-clause-way
@@ -56,15 +56,9 @@ returns-in-Stop-clause-stood g c =
     let sent : c.offer.result ≡ item.Offer (length runner.answers) o = c.offer.ensures ∙ ap (λ (n : ℕ). item.Offer n o) c.len.ensures in
     let all = c.own_calls-calls.ensures ∙ ap (calls_of c.args.script.now) c.number-number.ensures in
     let left : Runner = record { rank = runner.rank; answers = runner.answers; held = c.take.new.self } in
-    let put = account.0 ++ item.Offer (length runner.answers) o ∷ [] in
-    let taken = account.1 ++ owner_item.Stop ∷ [] in (
-      put,
-      taken,
-      items_more c.args.out.now.items c.offers.out.items c.put.new.self.items account.0 _ _ account.2 c.put.ensures.items sent,
-      items_more c.args.back.now.items c.offers.back.items c.take-in-Some.new.self.items account.1 _ _ account.3 c.in-Stop.ensures.items refl,
-      subst (λ (cs : List Call). HasStood header cs put taken left (Ok stop.Stopped)) all
-          (stood_stopped header own account.0 account.1 (asking own runner) o left here refl refl),
-    )
+    one_each _ _ account.0 account.1 _ (λ p t. HasStood header (calls_of c.args.script.now c.args.out.now.number) p t left (Ok stop.Stopped)) account.2 account.3 c.put.ensures.items sent c.in-Stop.ensures.items
+    (subst (λ (cs : List Call). HasStood header cs (account.0 ++ item.Offer (length runner.answers) o ∷ []) (account.1 ++ owner_item.Stop ∷ []) left (Ok stop.Stopped)) all
+    (stood_stopped header own account.0 account.1 (asking own runner) o left here refl refl))
 
 pub fits-requires : goal.fits-requires
 fits-requires g c =
@@ -92,15 +86,9 @@ returns-then-not-fits-clause-stood g c =
     let waits = placed_waits c.args.script.now header placed.0 c.number-number.result (asking own runner) o with_offer in
     let fits = fits_is runner.rank.state.«open» header runner.rank.header o c.in-Reply.reply c.fits.result c.offers.invariant.of_header waits c.fits.ensures in
     let left : Runner = record { rank = runner.rank; answers = runner.answers; held = c.take.new.self } in
-    let put = account.0 ++ item.Offer (length runner.answers) o ∷ [] in
-    let taken = account.1 ++ (owner_item.Reply c.in-Reply.reply) ∷ [] in (
-      put,
-      taken,
-      items_more c.args.out.now.items c.offers.out.items c.put.new.self.items account.0 _ _ account.2 c.put.ensures.items sent,
-      items_more c.args.back.now.items c.offers.back.items c.take-in-Some.new.self.items account.1 _ _ account.3 c.in-Reply.ensures.items refl,
-      subst (λ (cs : List Call). HasStood header cs put taken left (Ok stop.Misfit)) all
-          (stood_misfit header own account.0 account.1 (asking own runner) o c.in-Reply.reply left here (sym fits ∙ c.if-not-fits.true) refl refl),
-    )
+    one_each _ _ account.0 account.1 _ (λ p t. HasStood header (calls_of c.args.script.now c.args.out.now.number) p t left (Ok stop.Misfit)) account.2 account.3 c.put.ensures.items sent c.in-Reply.ensures.items
+    (subst (λ (cs : List Call). HasStood header cs (account.0 ++ item.Offer (length runner.answers) o ∷ []) (account.1 ++ owner_item.Reply c.in-Reply.reply ∷ []) left (Ok stop.Misfit)) all
+    (stood_misfit header own account.0 account.1 (asking own runner) o c.in-Reply.reply left here (sym fits ∙ c.if-not-fits.true) refl refl))
 
 pub hear-requires : goal.hear-requires
 hear-requires g c =
@@ -133,16 +121,10 @@ returns-in_err-hear-clause-stood g c =
     let with_offer = placed_held c.args.script.now header placed.0 c.number-number.result own runner o (sym c.in-Some.ensures.value) placed.1 in
     let waits = placed_waits c.args.script.now header placed.0 c.number-number.result (asking own runner) o with_offer in
     let fits = fits_is runner.rank.state.«open» header runner.rank.header o c.in-Reply.reply c.fits.result c.offers.invariant.of_header waits c.fits.ensures in
-    let put = account.0 ++ item.Offer (length runner.answers) o ∷ [] in
-    let taken = account.1 ++ (owner_item.Reply c.in-Reply.reply) ∷ [] in (
-      put,
-      taken,
-      items_more c.args.out.now.items c.offers.out.items c.put.new.self.items account.0 _ _ account.2 c.put.ensures.items sent,
-      items_more c.args.back.now.items c.offers.back.items c.take-in-Some.new.self.items account.1 _ _ account.3 c.in-Reply.ensures.items refl,
-      subst (λ (cs : List Call). HasStood header cs put taken c.hear.new.self c.from_residual-in_err-hear.result) all
-          (broken_at header own account.0 account.1 (asking own runner) o c.in-Reply.reply c.hear.new.self c.from_residual-in_err-hear.result here (sym fits ∙ c.if-not-fits.false)
-          c.from_residual-in_err-hear.ensures.0 (unheard_begins header (asking own runner) c.in-Reply.reply c.hear.new.self.answers c.in_err-hear.ensures.kept)),
-    )
+    one_each _ _ account.0 account.1 _ (λ p t. HasStood header (calls_of c.args.script.now c.args.out.now.number) p t c.hear.new.self c.from_residual-in_err-hear.result) account.2 account.3 c.put.ensures.items sent c.in-Reply.ensures.items
+    (subst (λ (cs : List Call). HasStood header cs (account.0 ++ item.Offer (length runner.answers) o ∷ []) (account.1 ++ owner_item.Reply c.in-Reply.reply ∷ []) c.hear.new.self c.from_residual-in_err-hear.result) all
+    (broken_at header own account.0 account.1 (asking own runner) o c.in-Reply.reply c.hear.new.self c.from_residual-in_err-hear.result here (sym fits ∙ c.if-not-fits.false)
+    c.from_residual-in_err-hear.ensures.0 (unheard_begins header (asking own runner) c.in-Reply.reply c.hear.new.self.answers c.in_err-hear.ensures.kept)))
 
 pub go_on-requires-in-Some-clause-way : goal.go_on-requires-in-Some-clause-way
 go_on-requires-in-Some-clause-way g c κs within =
@@ -195,13 +177,8 @@ offers-preserved g c =
       placed = (way.0, c.in_ok-go_on-2.ensures.placed way.0 way.1);
       asked = c.in_ok-go_on-2.ensures.asked;
       ended = c.in_ok-go_on-2.ensures.ended;
-      accounted = (
-        account.0 ++ item.Offer (length runner.answers) o ∷ [],
-        account.1 ++ owner_item.Reply c.in-Reply.reply ∷ [],
-        items_more c.args.out.now.items c.offers.out.items c.put.new.self.items account.0 _ _ account.2 c.put.ensures.items sent,
-        items_more c.args.back.now.items c.offers.back.items c.take-in-Some.new.self.items account.1 _ _ account.3 c.in-Reply.ensures.items refl,
-        accounted_on header own account.0 account.1 (asking own runner) o c.in-Reply.reply (going_of own new, new.held) here (sym fits ∙ c.if-not-fits.false) went,
-      );
+      accounted = one_each _ _ account.0 account.1 _ (λ p t. IsAccounted header own p t (going_of own new, new.held)) account.2 account.3 c.put.ensures.items sent c.in-Reply.ensures.items
+          (accounted_on header own account.0 account.1 (asking own runner) o c.in-Reply.reply (going_of own new, new.held) here (sym fits ∙ c.if-not-fits.false) went);
     }
 
 pub returns-in_err-go_on-2-clause-stood : goal.returns-in_err-go_on-2-clause-stood
@@ -219,17 +196,11 @@ returns-in_err-go_on-2-clause-stood g c =
     let waits = placed_waits c.args.script.now header placed.0 c.number-number.result (asking own runner) o with_offer in
     let fits = fits_is runner.rank.state.«open» header runner.rank.header o c.in-Reply.reply c.fits.result c.offers.invariant.of_header waits c.fits.ensures in
     let before : Runner = record { rank = runner.rank; answers = runner.answers; held = c.take.new.self } in
-    let put = account.0 ++ item.Offer (length runner.answers) o ∷ [] in
-    let taken = account.1 ++ (owner_item.Reply c.in-Reply.reply) ∷ [] in (
-      put,
-      taken,
-      items_more c.args.out.now.items c.offers.out.items c.put.new.self.items account.0 _ _ account.2 c.put.ensures.items sent,
-      items_more c.args.back.now.items c.offers.back.items c.take-in-Some.new.self.items account.1 _ _ account.3 c.in-Reply.ensures.items refl,
-      subst (λ (cs : List Call). HasStood header cs put taken c.go_on-in-Some.new.self c.from_residual-in_err-go_on-2.result) all
-          (broken_at header own account.0 account.1 (asking own runner) o c.in-Reply.reply c.go_on-in-Some.new.self c.from_residual-in_err-go_on-2.result here (sym fits ∙ c.if-not-fits.false)
-          c.from_residual-in_err-go_on-2.ensures.0 (later_some header own before c.hear.new.self c.in-Reply.reply c.go_on-in-Some.new.self.answers c.offers.invariant.of_header c.in_ok-hear.ensures.heard
-          c.in_err-go_on-2.ensures.some)),
-    )
+    one_each _ _ account.0 account.1 _ (λ p t. HasStood header (calls_of c.args.script.now c.args.out.now.number) p t c.go_on-in-Some.new.self c.from_residual-in_err-go_on-2.result) account.2 account.3 c.put.ensures.items sent c.in-Reply.ensures.items
+    (subst (λ (cs : List Call). HasStood header cs (account.0 ++ item.Offer (length runner.answers) o ∷ []) (account.1 ++ owner_item.Reply c.in-Reply.reply ∷ []) c.go_on-in-Some.new.self c.from_residual-in_err-go_on-2.result) all
+    (broken_at header own account.0 account.1 (asking own runner) o c.in-Reply.reply c.go_on-in-Some.new.self c.from_residual-in_err-go_on-2.result here (sym fits ∙ c.if-not-fits.false)
+    c.from_residual-in_err-go_on-2.ensures.0 (later_some header own before c.hear.new.self c.in-Reply.reply c.go_on-in-Some.new.self.answers c.offers.invariant.of_header c.in_ok-hear.ensures.heard
+    c.in_err-go_on-2.ensures.some)))
 
 pub returns-clause-stood : goal.returns-clause-stood
 returns-clause-stood g c =

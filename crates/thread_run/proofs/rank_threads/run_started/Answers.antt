@@ -68,7 +68,7 @@ returns g c =
         first = end.first;
         cause = end.cause;
         later = end.later;
-      }) (run_cut script header arrivals given ends c.requires.sound c.requires.lawful all owner (λ e is. record {
+      }) (run_cut script header arrivals given ends c.requires.sound c.requires.lawful all {end = c.end_run.result} owner (λ e is. record {
         order = end.order;
         at = end.at e is;
         rows = end.rows e is;
