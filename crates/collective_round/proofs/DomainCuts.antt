@@ -40,30 +40,25 @@ share_bytes lo hi nodes unit cover a = filter (λ x. (x - low_of lo unit) / shar
 one_more : (a : ℕ) → range_with_len 0 (a + 1) ≡ range_with_len 0 a ++ a ∷ []
 one_more a = let same : 0 + a ≡ a = omega arith in range_append 0 a 1 ∙ ap (λ (k : ℕ). range_with_len 0 a ++ k ∷ []) same
 
-windows_more : (size : ℕ) (cover : List Extent) (bytes : ℕ → List ℕ) (a : ℕ) (domains : List Extent) (d : Extent)
-    → flat_map (λ e. turns_of size e cover) domains ≡ map told_of (flat_map (λ i. windows size (bytes i)) (range_with_len 0 a)) → bytes_in d cover ≡ bytes a
-    → flat_map (λ e. turns_of size e cover) (domains ++ d ∷ []) ≡ map told_of (flat_map (λ i. windows size (bytes i)) (range_with_len 0 (a + 1)))
-windows_more size cover bytes a domains d h e =
-    sym (flat_map_more (λ e. turns_of size e cover) [] domains d)
-    ∙ ap (λ (ts : List Told). ts ++ turns_of size d cover) h
-    ∙ ap (λ (b : List ℕ). map told_of (flat_map (λ i. windows size (bytes i)) (range_with_len 0 a)) ++ map told_of (windows size b)) e
-    ∙ sym (map-append told_of (flat_map (λ i. windows size (bytes i)) (range_with_len 0 a)) (windows size (bytes a)))
+-- the windows of so many shares
+abbrev so_far : ℕ → (ℕ → List ℕ) → ℕ → List Told
+so_far size bytes a = map told_of (flat_map (λ i. windows size (bytes i)) (range_with_len 0 a))
+
+windows_push : (size : ℕ) (bytes : ℕ → List ℕ) (a : ℕ) → so_far size bytes a ++ map told_of (windows size (bytes a)) ≡ so_far size bytes (a + 1)
+windows_push size bytes a =
+    sym (map-append told_of (flat_map (λ i. windows size (bytes i)) (range_with_len 0 a)) (windows size (bytes a)))
     ∙ ap (λ (ws : List (List ℕ)). map told_of ws) (flat_map_more (λ i. windows size (bytes i)) [] (range_with_len 0 a) a)
     ∙ ap (λ (r : List ℕ). map told_of (flat_map (λ i. windows size (bytes i)) r)) (sym (one_more a))
 
-no_windows : (size : ℕ) (bytes : List ℕ) → 1 ≤ size → bytes ≡ [] → windows size bytes ≡ []
-no_windows size bytes h e = ap (λ (b : List ℕ). windows size b) e ∙ windows_walked size [] h tt
+windows_more : (size : ℕ) (cover : List Extent) (bytes : ℕ → List ℕ) (a : ℕ) (domains : List Extent) (d : Extent) → flat_map (λ e. turns_of size e cover) domains ≡ so_far size bytes a
+    → bytes_in d cover ≡ bytes a → flat_map (λ e. turns_of size e cover) (domains ++ d ∷ []) ≡ so_far size bytes (a + 1)
+windows_more size cover bytes a domains d h e =
+    sym (flat_map_more (λ e. turns_of size e cover) [] domains d) ∙ (λ i. h i ++ map told_of (windows size (e i))) ∙ windows_push size bytes a
 
-windows_none : (size : ℕ) (bytes : ℕ → List ℕ) (a : ℕ) (ts : List Told) → 1 ≤ size
-    → ts ≡ map told_of (flat_map (λ i. windows size (bytes i)) (range_with_len 0 a)) → bytes a ≡ []
-    → ts ≡ map told_of (flat_map (λ i. windows size (bytes i)) (range_with_len 0 (a + 1)))
+windows_none : (size : ℕ) (bytes : ℕ → List ℕ) (a : ℕ) (ts : List Told) → 1 ≤ size → ts ≡ so_far size bytes a → bytes a ≡ [] → ts ≡ so_far size bytes (a + 1)
 windows_none size bytes a ts s h e =
-    h
-    ∙ ap (λ (ws : List (List ℕ)). map told_of ws)
-    (sym (append-nil (flat_map (λ i. windows size (bytes i)) (range_with_len 0 a)))
-    ∙ ap (λ (w : List (List ℕ)). flat_map (λ i. windows size (bytes i)) (range_with_len 0 a) ++ w) (sym (no_windows size (bytes a) s e))
-    ∙ flat_map_more (λ i. windows size (bytes i)) [] (range_with_len 0 a) a
-    ∙ ap (λ (r : List ℕ). flat_map (λ i. windows size (bytes i)) r) (sym (one_more a)))
+    let none : [] ≡ windows size (bytes a) = sym (ap (λ (b : List ℕ). windows size b) e ∙ windows_walked size [] s tt) in
+    h ∙ sym (append-nil (so_far size bytes a)) ∙ ap (λ (ws : List (List ℕ)). so_far size bytes a ++ map told_of ws) none ∙ windows_push size bytes a
 
 -- an extent without a byte has no covered byte
 empty_bytes : (d : Extent) (cover : List Extent) → d.len ≤ 0 → bytes_in d cover ≡ []

@@ -1,9 +1,8 @@
 -- Gets on the parts of a disk, which are joined again.
-use Rattle.collective_round.proofs.Words.{◌≡◌, ◌∙◌, ℕ, ◌+◌, ◌≤◌, inl, inr, sym, ap, subst, List, [], ◌∷◌, length, map, Option, Some, Result, Ok, Err, arith, flat_map, zip, IfSome, OnOk, AllZip, Extent, DiskCall, with_end, load_calls, In, end_after, in_map, HasGot, PartState, Told, read, parts_of, with_parts, Adjoin, Follow, read_slice, zip_weaker, nat_tests}
-use Rattle.collective_round.proofs.PartDomains.{on_states, part_bytes}
-use Rattle.collective_round.proofs.PartLaws.{flat_flat, follow_again, whole_calls, whole_kept, whole_place, IsInPlace}
+use Rattle.collective_round.proofs.Words.{◌≡◌, ◌∙◌, ℕ, ◌+◌, ◌≤◌, inl, inr, refl, sym, ap, subst, List, [], ◌∷◌, length, map, Option, Some, Result, arith, flat_map, zip, IfSome, OnOk, AllZip, on_ok_weaker, Extent, DiskCall, with_end, load_calls, In, end_after, in_map, HasGot, PartState, Told, read, parts_of, with_parts, Adjoin, Follow, read_slice, nat_tests}
+use Rattle.collective_round.proofs.PartDomains.{part_bytes}
+use Rattle.collective_round.proofs.PartLaws.{IsInPlace, IsOld, AreSplit, all_calls, all_follow, all_place, all_told, fine, flat_flat, kept_told, told_kept}
 use Rattle.collective_round.proofs.PartSplits.{next_begin}
-use Rattle.collective_round.proofs.PutPartLaws.{AreSplit}
 
 -- ---- the bytes of a part
 
@@ -24,48 +23,33 @@ told_read r held P h = grind (arith, nat_tests)
 
 -- ---- parts that were read
 
-got_states : {D T E : Type 0} (state : D → PartState) (turns : Extent → List Told) (disk front : PartState) (domains : List Extent) (parts news : List D) (end : Result T E)
-    → AreSplit state disk front domains parts → AllZip (λ p new. HasGot (turns p.1) (state p.0) (state new) end) (zip parts domains) news
-    → AllZip (λ p new. HasGot (turns p.1) p.0 new end) (zip (parts_of disk domains) domains) (map state news)
-got_states state turns disk front domains parts news end s h =
-    subst (λ (ps : List PartState). AllZip (λ p new. HasGot (turns p.1) p.0 new end) (zip ps domains) (map state news)) s.parts_are
-    (on_states state (λ p d new. HasGot (turns d) p new end) parts domains news h)
-
-got_place : {T E : Type 0} (turns : Extent → List Told) (disk : PartState) (domains : List Extent) (news : List PartState) (end : Result T E)
-    → AllZip (λ p new. HasGot (turns p.1) p.0 new end) (zip (parts_of disk domains) domains) news → AllZip (λ p new. IsInPlace p.0 new) (zip (parts_of disk domains) domains) news
-got_place turns disk domains news end h = grind (arith, nat_tests, zip_weaker)
-
--- the parts follow the front, as taking them back requires
-pub gets_follow : {D T E : Type 0} (state : D → PartState) (turns : Extent → List Told) (disk front : PartState) (domains : List Extent) (parts news : List D) (end : Result T E)
-    → AreSplit state disk front domains parts → AllZip (λ p new. HasGot (turns p.1) (state p.0) (state new) end) (zip parts domains) news → Follow (front.from + front.len) (map state news)
-gets_follow state turns disk front domains parts news end s h =
-    grind (arith, nat_tests, got_place turns disk domains (map state news) end (got_states state turns disk front domains parts news end s h), follow_again, got_states)
-
 -- the gets of all parts are those of the whole disk
 pub record HasGotWhole {T E : Type 0} (ts : List Told) (old new : PartState) (end : Result T E) : Type 0 where
   pub place : IsInPlace old new
   pub held : new.held ≡ old.held
   pub device : OnOk end (new.calls ≡ with_end old.calls (flat_map load_calls ts))
 
+got_place : {T E : Type 0} (ts : List Told) (old new : PartState) (end : Result T E) → HasGot ts old new end → IsInPlace old new
+got_place ts old new end h = record { from = h.from; len = h.len }
+
+-- the parts follow the front, as taking them back requires
+pub gets_follow : {D T E : Type 0} (state : D → PartState) (turns : Extent → List Told) (disk front : PartState) (domains : List Extent) (parts news : List D) (end : Result T E)
+    → AreSplit state disk front domains parts → AllZip (λ p new. HasGot (turns p.1) (state p.0) (state new) end) (zip parts domains) news → Follow (front.from + front.len) (map state news)
+gets_follow state turns disk front domains parts news end s got =
+    all_follow state disk front domains parts s (λ d p now. HasGot (turns d) p now end) news got (λ d p now h. got_place (turns d) p now end h)
+
 pub parts_got : {D T E : Type 0} (state : D → PartState) (turns : Extent → List Told) (disk front new : PartState) (domains : List Extent) (parts news : List D) (end : Result T E)
     → AreSplit state disk front domains parts → IfSome disk.held (λ file. length file ≡ disk.len)
     → AllZip (λ p new. HasGot (turns p.1) (state p.0) (state new) end) (zip parts domains) news → new ≡ with_parts front (map state news)
     → HasGotWhole (flat_map turns domains) disk new end
-parts_got {D} {T} {E} state turns disk front new domains parts news end s told h joined =
-    let gots = got_states state turns disk front domains parts news end s h in
-    subst (λ (n : PartState). HasGotWhole (flat_map turns domains) disk n end) (sym joined)
-    (record {
-      place = whole_place disk front domains (map state news) s.line s.room s.front_is (got_place turns disk domains (map state news) end gots);
-      held = whole_kept disk front domains (map state news) told s.line s.room s.front_is
-          (zip_weaker (λ p new. HasGot (turns p.1) p.0 new end) (λ p new. new.held ≡ p.0.held) (zip (parts_of disk domains) domains) (map state news) (λ p new got. got.held) gots);
-      device = device end gots;
+parts_got {D} {T} {E} state turns disk front new domains parts news end s long got back =
+    subst (λ (n : PartState). HasGotWhole (flat_map turns domains) disk n end) (sym back) (record {
+      place = all_place state disk front domains parts s Got news got (λ d p now h. got_place (turns d) p now end h);
+      held = kept_told disk.held (with_parts front (map state news)).held
+          (all_told state disk front domains parts s Got news got fine IsOld long (λ x v l. refl) (λ d p now h. told_kept p.from p.held now.held h.held));
+      device = on_ok_weaker end (λ e. e ∙ ap (λ (c : List DiskCall). with_end disk.calls c) (sym (flat_flat load_calls turns domains)))
+          (all_calls state disk front domains parts s Got news got end (λ d. flat_map load_calls (turns d)) (λ d p now h. h.device));
     })
   where
-    device : (r : Result T E) → AllZip (λ p new. HasGot (turns p.1) p.0 new r) (zip (parts_of disk domains) domains) (map state news)
-        → OnOk r ((with_parts front (map state news)).calls ≡ with_end disk.calls (flat_map load_calls (flat_map turns domains)))
-    device (Err e) gots = tt
-    device (Ok x) gots =
-        whole_calls disk front (λ d. flat_map load_calls (turns d)) domains (map state news) s.front_is
-        (zip_weaker (λ p new. HasGot (turns p.1) p.0 new (Ok x)) (λ p new. new.calls ≡ with_end p.0.calls (flat_map load_calls (turns p.1)))
-        (zip (parts_of disk domains) domains) (map state news) (λ p new got. got.device) gots)
-        ∙ ap (λ (c : List DiskCall). with_end disk.calls c) (sym (flat_flat load_calls turns domains))
+    Got : Extent → PartState → PartState → Type 0
+    Got d p now = HasGot (turns d) p now end

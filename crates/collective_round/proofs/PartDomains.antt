@@ -1,5 +1,5 @@
 -- A disk in parts: which bytes each has, and what is said of the parts and of their states.
-use Rattle.collective_round.proofs.Words.{◌≡◌, ℕ, zero, suc, ◌+◌, ◌-◌, ◌<◌, ◌≤◌, inl, inr, refl, sym, ◌∙◌, ap, subst, List, [], ◌∷◌, length, take, drop, map, Bool, true, false, Some, arith, length-map, same_Some, nat_lt, zip, AllZip, entry_map, no_none_some, Extent, Owned, IsFrom, cell_of, ranges, In, HaveSame, Source, end_after, first_at, IsCover, spans, in_flat, in_range, in_map, map_in, IsCovered, IsDomainOf, PartState, SomeZip, begin_or, part_between, parts_of, Adjoin, AreDomains, nat_tests}
+use Rattle.collective_round.proofs.Words.{◌≡◌, ℕ, zero, suc, ◌+◌, ◌-◌, ◌<◌, ◌≤◌, inl, inr, refl, sym, ◌∙◌, ap, subst, List, [], ◌∷◌, length, take, drop, map, Bool, true, false, Some, arith, length-map, same_Some, nat_lt, range_with_len, zip, AllZip, entry_map, no_none_some, Extent, Owned, LieOn, IsFrom, cell_of, ranges, In, HaveSame, Source, end_after, first_at, IsCover, spans, flat_in, in_flat, in_left, in_range, in_right, range_high, in_map, map_in, IsCovered, IsDomainOf, PartState, SomeZip, begin_or, part_between, parts_of, Adjoin, AreDomains, nat_tests}
 use Rattle.std.proofs.Common.{slice_get}
 use borrow.Author.Tests.{ltb-true, ltb-false}
 use Rattle.collective_round.proofs.DomainCuts.{within_reach}
@@ -8,19 +8,12 @@ use Rattle.collective_round.proofs.PartSplits.{end_dropped, next_begin}
 -- ---- parts and domains
 
 -- as many parts as domains
-pub parts_many : (disk : PartState) (domains : List Extent) → length (parts_of disk domains) ≡ length domains
+parts_many : (disk : PartState) (domains : List Extent) → length (parts_of disk domains) ≡ length domains
 parts_many disk [] = refl
 parts_many disk (d ∷ domains) = ap suc (parts_many disk domains)
 
 pub as_many_parts : {D : Type 0} (state : D → PartState) (disk : PartState) (domains : List Extent) (parts : List D) → map state parts ≡ parts_of disk domains → length domains ≡ length parts
 as_many_parts state disk domains parts e = sym (parts_many disk domains) ∙ sym (ap (λ (ps : List PartState). length ps) e) ∙ length-map parts state
-
-covered_in : (list : List Owned) (cover : List Extent) (x : ℕ) → HaveSame (spans cover) (ranges list) → IsCovered list x → In (spans cover) x
-covered_in list cover x same h = grind (arith, nat_tests, in_range h.by.extent.at h.by.extent.len x h.low h.high, in_flat)
-
--- what the cover's end is at most, the domains' end is
-pub domains_room : (cover domains : List Extent) (n : ℕ) → AreDomains cover domains → end_after 0 cover ≤ n → end_after 0 domains ≤ n
-domains_room cover domains n div l = let end = div.end in end_dropped zero domains (first_at cover) n (omega arith)
 
 -- the first part has all covered bytes up to the next one
 first_domain : (list : List Owned) (hi m n : ℕ) (d : Extent) (rest : List Extent) → Adjoin (d ∷ rest) → end_after m (d ∷ rest) ≡ hi → hi ≤ n → ((x : ℕ) → IsCovered list x → x < hi)
@@ -41,31 +34,6 @@ part_domain list hi m disk (d ∷ rest) line end room high zero p domain e f =
     grind (arith, nat_tests, same_Some (part_between disk d.at (begin_or disk.len rest)) p e, same_Some d domain f, first_domain list hi m disk.len d rest line end room high)
 part_domain list hi m disk (d ∷ rest) line end room high (suc k) p domain e f =
     part_domain list hi (d.at + d.len) disk rest line.2 end room high k p domain e f
-
--- each domain has all covered bytes of its part
-pub domain_of_part : {D : Type 0} (state : D → PartState) (list : List Owned) (cover domains : List Extent) (disk : PartState) (parts : List D) → map state parts ≡ parts_of disk domains
-    → IsCover cover → HaveSame (spans cover) (ranges list) → AreDomains cover domains → end_after 0 cover ≤ disk.len
-    → (k : ℕ) (part : D) (domain : Extent) → slice_get parts k ≡ Some part → slice_get domains k ≡ Some domain → IsDomainOf list (state part).from (state part).len domain
-domain_of_part state list cover domains disk parts are h same div room k part domain at_part at_domain =
-    part_domain list (end_after 0 cover) (first_at cover) disk domains div.line div.end room (λ x covered. (within_reach cover x h (covered_in list cover x same covered)).1)
-    k (state part) domain (subst (λ (ps : List PartState). slice_get ps k ≡ Some (state part)) are (entry_map state parts k part at_part)) at_domain
-
--- the first domain begins at the first covered byte
-begins_first : (cover domains : List Extent) (n x : ℕ) → IsCover cover → AreDomains cover domains → In (spans cover) x → begin_or n domains ≤ x
-begins_first cover domains n x h div m = grind (arith, nat_tests, within_reach cover x h m)
-
--- the cells of entries lie from the begin of the first domain on
-pub cells_behind : (source : Source) (list : List Owned) (cover domains : List Extent) (n : ℕ) → ((o : Owned) → In list o → 1 ≤ o.extent.len)
-    → IsCover cover → HaveSame (spans cover) (ranges list) → AreDomains cover domains → IsFrom (begin_or n domains) (map (λ o. cell_of source o) list)
-cells_behind source list cover domains n filled h same div = each list (λ o m. m)
-  where
-    each : (os : List Owned) → ((o : Owned) → In os o → In list o) → IsFrom (begin_or n domains) (map (λ o. cell_of source o) os)
-    each [] f = tt
-    each (o ∷ os) f = (
-      begins_first cover domains n o.extent.at h div
-          (covered_in list cover o.extent.at same (record { by = o; inside = f o (inl refl); low = omega arith; high = (let some = filled o (f o (inl refl)) in omega arith) })),
-      each os (λ p m. f p (inr m)),
-    )
 
 -- the bytes of a part are those of the disk there
 held_there : (domains : List Extent) (disk : PartState) (file : List ℕ) → disk.held ≡ Some file → (p : PartState) → In (parts_of disk domains) p → p.held ≡ Some (take p.len (drop p.from file))
@@ -88,25 +56,73 @@ place_on : (disk : PartState) (domains : List Extent) (m x : ℕ) → Adjoin dom
 place_on disk [] m x line room low high = absurd (omega arith)
 place_on disk (d ∷ rest) m x line room low high = by_next (λ l. place_on disk rest (d.at + d.len) x line.2 room l high) (nat_lt x (begin_or disk.len rest)) refl
   where
-    later : IsOnSome (parts_of disk rest) x → IsOnSome (parts_of disk (d ∷ rest)) x
-    later h = record { part = h.part; inside = inr h.inside; low = h.low; high = h.high }
-
     by_next : (begin_or disk.len rest ≤ x → IsOnSome (parts_of disk rest) x) → (t : Bool) → nat_lt x (begin_or disk.len rest) ≡ t → IsOnSome (parts_of disk (d ∷ rest)) x
     by_next found true e = let l = ltb-true _ _ e in record { part = part_between disk d.at (begin_or disk.len rest); inside = inl refl; low = low; high = omega arith }
-    by_next found false e = later (found (ltb-false _ _ e))
+    by_next found false e = let h = found (ltb-false _ _ e) in record { part = h.part; inside = inr h.inside; low = h.low; high = h.high }
 
--- each covered byte lies on a part
-pub on_some_part : {D : Type 0} (state : D → PartState) (list : List Owned) (cover domains : List Extent) (disk : PartState) (parts : List D) → map state parts ≡ parts_of disk domains
-    → IsCover cover → HaveSame (spans cover) (ranges list) → AreDomains cover domains → end_after 0 cover ≤ disk.len
-    → (x : ℕ) → IsCovered list x → (part : D) × In parts part × ((state part).from ≤ x) × (x < (state part).from + (state part).len)
-on_some_part {D} state list cover domains disk parts are h same div room x covered =
-    let inside = covered_in list cover x same covered in
-    let reach = within_reach cover x h inside in
-    let high = reach.1 in
-    let end = div.end in
-    let found = place_on disk domains (first_at cover) x div.line (omega arith) (begins_first cover domains disk.len x h div inside) (omega arith) in
-    let of = map_in state parts found.part (subst (λ (ps : List PartState). In ps found.part) (sym are) found.inside) in
-    (of.0, of.1, subst (λ (p : PartState). p.from ≤ x) (sym of.2) found.low, subst (λ (p : PartState). x < p.from + p.len) (sym of.2) found.high)
+-- ---- entries that lie on a disk, their cover, and the domains
+
+pub record AreOn (list : List Owned) (cover domains : List Extent) (len : ℕ) : Type 0 where
+  pub covers : IsCover cover
+  pub bytes : HaveSame (spans cover) (ranges list)
+  pub on : LieOn 0 len list
+  pub div : AreDomains cover domains
+
+cover_last : (n : ℕ) (e : Extent) (cover : List Extent) → IsCover (e ∷ cover) → (1 ≤ end_after n (e ∷ cover)) × In (spans (e ∷ cover)) (end_after n (e ∷ cover) - 1)
+cover_last n e [] h = grind (arith, nat_tests, in_range e.at e.len (e.at + e.len - 1) (omega arith) (omega arith), in_left)
+cover_last n e (f ∷ cover) h = grind (arith, nat_tests, cover_last (e.at + e.len) f cover h.2, in_right)
+
+cover_room : (cover : List Extent) (list : List Owned) (len : ℕ) → IsCover cover → HaveSame (spans cover) (ranges list) → LieOn 0 len list → end_after 0 cover ≤ len
+cover_room [] list len h same on = omega arith
+cover_room (e ∷ cover) list len h same on = grind (arith, nat_tests, cover_last 0 e cover h, flat_in, range_high)
+
+module _ (list : List Owned) (cover domains : List Extent) (len : ℕ) (a : AreOn list cover domains len) where
+  covered_in : (x : ℕ) → IsCovered list x → In (spans cover) x
+  covered_in x h = a.bytes.1 x (in_flat (λ (o : Owned). range_with_len o.extent.at o.extent.len) list h.by x h.inside (in_range h.by.extent.at h.by.extent.len x h.low h.high))
+
+  -- they end within the disk
+  ends_there : end_after 0 cover ≤ len
+  ends_there = cover_room cover list len a.covers a.bytes a.on
+
+  pub domains_room : end_after 0 domains ≤ len
+  domains_room = let end = a.div.end in let room = ends_there in end_dropped zero domains (first_at cover) len (omega arith)
+
+  -- the first domain begins at the first covered byte
+  begins_first : (n x : ℕ) → In (spans cover) x → begin_or n domains ≤ x
+  begins_first n x m = grind (arith, nat_tests, a.div, within_reach cover x a.covers m)
+
+  -- the cells of entries lie from the begin of the first domain on
+  pub cells_behind : (source : Source) (n : ℕ) → ((o : Owned) → In list o → 1 ≤ o.extent.len) → IsFrom (begin_or n domains) (map (λ o. cell_of source o) list)
+  cells_behind source n filled = each list (λ o m. m)
+    where
+      each : (os : List Owned) → ((o : Owned) → In os o → In list o) → IsFrom (begin_or n domains) (map (λ o. cell_of source o) os)
+      each [] f = tt
+      each (o ∷ os) f =
+          let some = filled o (f o (inl refl)) in (
+            begins_first n o.extent.at (covered_in o.extent.at (record { by = o; inside = f o (inl refl); low = omega arith; high = omega arith })),
+            each os (λ p m. f p (inr m)),
+          )
+
+  -- each domain has all covered bytes of its part
+  pub domain_of_part : {D : Type 0} (state : D → PartState) (disk : PartState) (parts : List D) → disk.len ≡ len → map state parts ≡ parts_of disk domains
+      → (k : ℕ) (part : D) (domain : Extent) → slice_get parts k ≡ Some part → slice_get domains k ≡ Some domain → IsDomainOf list (state part).from (state part).len domain
+  domain_of_part state disk parts long are k part domain at_part at_domain =
+      let room = ends_there in
+      part_domain list (end_after 0 cover) (first_at cover) disk domains a.div.line a.div.end (omega arith) (λ x covered. (within_reach cover x a.covers (covered_in x covered)).1)
+      k (state part) domain (subst (λ (ps : List PartState). slice_get ps k ≡ Some (state part)) are (entry_map state parts k part at_part)) at_domain
+
+  -- each covered byte lies on a part
+  pub on_some_part : {D : Type 0} (state : D → PartState) (disk : PartState) (parts : List D) → disk.len ≡ len → map state parts ≡ parts_of disk domains
+      → (x : ℕ) → IsCovered list x → (part : D) × In parts part × ((state part).from ≤ x) × (x < (state part).from + (state part).len)
+  on_some_part {D} state disk parts long are x covered =
+      let inside = covered_in x covered in
+      let reach = within_reach cover x a.covers inside in
+      let high = reach.1 in
+      let end = a.div.end in
+      let room = ends_there in
+      let found = place_on disk domains (first_at cover) x a.div.line (omega arith) (begins_first disk.len x inside) (omega arith) in
+      let of = map_in state parts found.part (subst (λ (ps : List PartState). In ps found.part) (sym are) found.inside) in
+      (of.0, of.1, subst (λ (p : PartState). p.from ≤ x) (sym of.2) found.low, subst (λ (p : PartState). x < p.from + p.len) (sym of.2) found.high)
 
 -- ---- what is said of parts is said of their states
 

@@ -1,144 +1,244 @@
--- Parts that are one disk again: where they are, their calls, parts that were only read, and the count of faults.
-use Rattle.collective_round.proofs.Words.{◌≡◌, ℕ, ◌+◌, ◌-◌, ◌^◌, ◌≤◌, min, inl, inr, refl, sym, ◌∙◌, ap, subst, List, [], ◌∷◌, ◌++◌, length, take, drop, map, Option, Some, None, append_assoc, arith, append-nil, take_all, flat_map-append, flat_map, zip, IfSome, AllZip, Extent, DiskCall, Rose, after, joined, with_end, with_end-nil, end_after, PartState, SomeZip, begin_or, part_between, parts_of, with_part, with_parts, Adjoin, Follow, IsFront, nat_tests}
+-- Parts that are one disk again: what holds of each part holds of the whole.
+use Rattle.collective_round.proofs.Words.{◌≡◌, ℕ, ◌+◌, ◌-◌, ◌^◌, ◌<◌, ◌≤◌, min, inl, inr, refl, sym, ◌∙◌, ap, subst, List, [], ◌∷◌, ◌++◌, length, take, drop, map, Bool, true, false, Option, Some, None, Result, Ok, Err, IsErrOf, append_assoc, arith, append-nil, length-append, length-take, get_or_append_left, get_or-append_right, take_all, flat_map-append, flat_map, nat_lt, zip, zip_weaker, IfSome, OnOk, AllZip, Extent, Owned, DiskCall, StepErr, Disk, HasDiskCause, Rose, after, joined, with_end, with_end-nil, BothTold, at, same_file, get_or_past, end_after, PartState, SomeZip, begin_or, parts_of, with_part, with_parts, Adjoin, Follow, IsFront, nat_tests}
+use borrow.Author.Tests.{ltb-true, ltb-false}
 use Rattle.collective_round.proofs.PartSplits.{joined_at_least, next_begin, take_both}
-use Rattle.collective_round.proofs.PartDomains.{some_states}
+use Rattle.collective_round.proofs.PartDomains.{AreOn, as_many_parts, domains_room, on_states, some_states}
 
--- ---- parts that are where they were
+-- ---- bytes
+
+-- each byte stands for an old one, of which the place counts from a base on
+pub record AreBytes (S : ℕ → ℕ → ℕ → Type 0) (base : ℕ) (old left : List ℕ) : Type 0 where
+  pub len : length left ≡ length old
+  pub each : (y x : ℕ) → x ≡ base + y → y < length old → S x (at old y) (at left y)
+
+bytes_joined : (S : ℕ → ℕ → ℕ → Type 0) (a x b y : List ℕ) (n : ℕ) → length a ≡ n → AreBytes S 0 a x → AreBytes S n b y → AreBytes S 0 (a ++ b) (x ++ y)
+bytes_joined S a x b y n e h k = record {
+  len = omega (arith, length-append x y, length-append a b, h.len, k.len);
+  each = λ z p q l.
+      (let same : z ≡ p = omega arith in
+      subst (λ (r : ℕ). S r (at (a ++ b) z) (at (x ++ y) z)) same (by_side z (omega (arith, length-append a b)) (nat_lt z (length a)) refl));
+}
+  where
+    by_side : (z : ℕ) → z < length a + length b → (t : Bool) → nat_lt z (length a) ≡ t → S z (at (a ++ b) z) (at (x ++ y) z)
+    by_side z l true t =
+        let old : at a z ≡ at (a ++ b) z = sym (get_or_append_left a b 0 z (ltb-true _ _ t)) in
+        let new : at x z ≡ at (x ++ y) z = sym (get_or_append_left x y 0 z (omega (arith, ltb-true _ _ t, h.len))) in
+        subst (λ (p : ℕ × ℕ). S z p.0 p.1) (λ i. (old i, new i)) (h.each z z (omega arith) (ltb-true _ _ t))
+    by_side z l false t =
+        let past = ltb-false _ _ t in
+        let low : n ≤ z = omega arith in
+        let old : at b (z - n) ≡ at (a ++ b) z = sym (get_or-append_right a b n z 0 e low) in
+        let new : at y (z - n) ≡ at (x ++ y) z = sym (get_or-append_right x y n z 0 (h.len ∙ e) low) in
+        subst (λ (p : ℕ × ℕ). S z p.0 p.1) (λ i. (old i, new i)) (k.each (z - n) z (omega arith) (omega arith))
+
+-- the same of what a disk may tell: its front is unchanged
+told_front : (S : ℕ → ℕ → ℕ → Type 0) (n : ℕ) (held now : Option (List ℕ)) → ((x v : ℕ) → x < n → S x v v) → now ≡ after (take n) held
+    → BothTold (λ file left. AreBytes S 0 (take n file) left) held now
+told_front S n None now still e = e
+told_front S n (Some file) now still e = (take n file, e, record { len = refl; each = λ y x same l. still x (at (take n file) y) (omega (arith, length-take n file)) })
+
+-- one part more
+told_more : (S : ℕ → ℕ → ℕ → Type 0) (from to n : ℕ) (held front part : Option (List ℕ)) → from ≤ to → to ≤ n → IfSome held (λ file. length file ≡ n)
+    → BothTold (λ file left. AreBytes S 0 (take from file) left) held front → BothTold (AreBytes S from) (after (λ file. take (to - from) (drop from file)) held) part
+    → BothTold (λ file left. AreBytes S 0 (take to file) left) held (joined front part)
+told_more S from to n None front part order within long h k = ap (λ (o : Option (List ℕ)). joined o part) h
+told_more S from to n (Some file) front part order within long h k =
+    let whole : length file ≡ n = long in (
+      h.0 ++ k.0,
+      λ i. joined (h.1 i) (k.1 i),
+      subst (λ (bytes : List ℕ). AreBytes S 0 bytes (h.0 ++ k.0)) (take_both from to file order)
+          (bytes_joined S (take from file) h.0 (take (to - from) (drop from file)) k.0 from (omega (arith, length-take from file)) h.2 k.2),
+    )
+
+told_all : (S : ℕ → ℕ → ℕ → Type 0) (n : ℕ) (held now : Option (List ℕ)) → IfSome held (λ file. length file ≡ n)
+    → BothTold (λ file left. AreBytes S 0 (take n file) left) held now → BothTold (AreBytes S 0) held now
+told_all S n None now long h = h
+told_all S n (Some file) now long h =
+    let whole : length file ≡ n = long in
+    (h.0, h.1, subst (λ (bytes : List ℕ). AreBytes S 0 bytes h.0) (take_all n file (omega arith)) h.2)
+
+-- bytes that are the old ones
+abbrev pub IsOld : ℕ → ℕ → ℕ → Type 0
+IsOld x old new = new ≡ old
+
+pub told_kept : (base : ℕ) (held now : Option (List ℕ)) → now ≡ held → BothTold (AreBytes IsOld base) held now
+told_kept base None now e = e
+told_kept base (Some file) now e = (file, e, record { len = refl; each = λ y x same l. refl })
+
+pub kept_told : (held now : Option (List ℕ)) → BothTold (AreBytes IsOld 0) held now → now ≡ held
+kept_told None now h = h
+kept_told (Some file) now h = h.1 ∙ ap Some (same_file h.0 file h.2.len (λ x. by_end x (nat_lt x (length file)) refl))
+  where
+    by_end : (x : ℕ) (t : Bool) → nat_lt x (length file) ≡ t → at h.0 x ≡ at file x
+    by_end x true t = h.2.each x x (omega arith) (ltb-true _ _ t)
+    by_end x false t = let past = ltb-false _ _ t in get_or_past h.0 x 0 (omega (arith, h.2.len)) ∙ sym (get_or_past file x 0 past)
+
+-- ---- the parts of a disk, one after another
 
 pub record IsInPlace (old new : PartState) : Type 0 where
   pub from : new.from ≡ old.from
   pub len : new.len ≡ old.len
 
-follow_from : (disk : PartState) (domains : List Extent) (news : List PartState) (m : ℕ) → Adjoin domains → end_after m domains ≤ disk.len
-    → AllZip (λ p new. IsInPlace p.0 new) (zip (parts_of disk domains) domains) news → Follow (begin_or disk.len domains) news
-follow_from disk [] [] m line room h = tt
-follow_from disk (d ∷ rest) (n ∷ news) m line room h =
-    grind (arith, nat_tests, follow_from disk rest news (d.at + d.len) line.2 room h.1, next_begin d rest m disk.len line room)
-follow_from disk _ _ m line room h = absurd h
+-- of each part, with its domain and with what it became
+abbrev OfEach : PartState → List Extent → (Extent → PartState → PartState → Type 0) → List PartState → Type 0
+OfEach disk domains R news = AllZip (λ p new. R p.1 p.0 new) (zip (parts_of disk domains) domains) news
 
--- they follow the front, as taking them back requires
-pub follow_again : (disk front : PartState) (domains : List Extent) (news : List PartState) → disk.from ≡ 0 → Adjoin domains → end_after 0 domains ≤ disk.len
-    → IsFront domains disk front → AllZip (λ p new. IsInPlace p.0 new) (zip (parts_of disk domains) domains) news → Follow (front.from + front.len) news
-follow_again disk front domains news whole line room f h = grind (arith, nat_tests, follow_from disk domains news 0 line room h)
+abbrev InPlace : Extent → PartState → PartState → Type 0
+InPlace d old new = IsInPlace old new
 
 from_kept : (front : PartState) (news : List PartState) → (with_parts front news).from ≡ front.from
 from_kept front [] = refl
 from_kept front (n ∷ news) = from_kept (with_part front n) news
 
-len_from : (disk front : PartState) (domains : List Extent) (news : List PartState) (m : ℕ) → front.len ≡ begin_or disk.len domains → Adjoin domains → end_after m domains ≤ disk.len
-    → AllZip (λ p new. IsInPlace p.0 new) (zip (parts_of disk domains) domains) news → (with_parts front news).len ≡ disk.len
-len_from disk front [] [] m e line room h = e
-len_from disk front (d ∷ rest) (n ∷ news) m e line room h =
-    let next = next_begin d rest m disk.len line room in
-    let low = next.0 in
-    let long : n.len ≡ begin_or disk.len rest - d.at = h.0.len in
-    len_from disk (with_part front n) rest news (d.at + d.len) (omega arith) line.2 room h.1
-len_from disk front _ _ m e line room h = absurd h
-
-pub whole_place : (disk front : PartState) (domains : List Extent) (news : List PartState) → Adjoin domains → end_after 0 domains ≤ disk.len
-    → IsFront domains disk front → AllZip (λ p new. IsInPlace p.0 new) (zip (parts_of disk domains) domains) news → IsInPlace disk (with_parts front news)
-whole_place disk front domains news line room f h = record { from = from_kept front news ∙ f.from; len = len_from disk front domains news 0 f.len line room h }
-
--- ---- calls
+pub flat_flat : {A B C : Type 0} (g : B → List C) (f : A → List B) (xs : List A) → flat_map g (flat_map f xs) ≡ flat_map (λ x. flat_map g (f x)) xs
+flat_flat g f [] = refl
+flat_flat g f (x ∷ xs) = flat_map-append g (f x) (flat_map f xs) ∙ ap (λ r. flat_map g (f x) ++ r) (flat_flat g f xs)
 
 joined_calls : (told : Option (List DiskCall)) (done more : List DiskCall) → joined (with_end told done) (with_end (after (λ _. []) told) more) ≡ with_end told (done ++ more)
 joined_calls None done more = refl
 joined_calls (Some calls) done more = ap Some (append_assoc calls done more)
 
-calls_from : (disk front : PartState) (calls : Extent → List DiskCall) (domains : List Extent) (news : List PartState) (done : List DiskCall) → front.calls ≡ with_end disk.calls done
-    → AllZip (λ p new. new.calls ≡ with_end p.0.calls (calls p.1)) (zip (parts_of disk domains) domains) news → (with_parts front news).calls ≡ with_end disk.calls (done ++ flat_map calls domains)
-calls_from disk front calls [] [] done e h = e ∙ ap (λ (c : List DiskCall). with_end disk.calls c) (sym (append-nil done))
-calls_from disk front calls (d ∷ rest) (n ∷ news) done e h =
-    calls_from disk (with_part front n) calls rest news (done ++ calls d) ((λ i. joined (e i) (h.0 i)) ∙ joined_calls disk.calls done (calls d)) h.1
-    ∙ ap (λ (c : List DiskCall). with_end disk.calls c) (append_assoc done (calls d) (flat_map calls rest))
-calls_from disk front calls _ _ done e h = absurd h
+module _ (disk : PartState) where
+  follow_from : (domains : List Extent) (news : List PartState) (m : ℕ) → Adjoin domains → end_after m domains ≤ disk.len → OfEach disk domains InPlace news
+      → Follow (begin_or disk.len domains) news
+  follow_from [] [] m line room h = tt
+  follow_from (d ∷ rest) (n ∷ news) m line room h = grind (arith, nat_tests, follow_from rest news (d.at + d.len) line.2 room h.1, next_begin d rest m disk.len line room)
+  follow_from _ _ m line room h = absurd h
 
--- the calls of the parts, one part after another
-pub whole_calls : (disk front : PartState) (calls : Extent → List DiskCall) (domains : List Extent) (news : List PartState) → IsFront domains disk front
-    → AllZip (λ p new. new.calls ≡ with_end p.0.calls (calls p.1)) (zip (parts_of disk domains) domains) news → (with_parts front news).calls ≡ with_end disk.calls (flat_map calls domains)
-whole_calls disk front calls domains news f h = calls_from disk front calls domains news [] (f.calls ∙ sym (with_end-nil disk.calls)) h
+  len_from : (front : PartState) (domains : List Extent) (news : List PartState) (m : ℕ) → front.len ≡ begin_or disk.len domains → Adjoin domains → end_after m domains ≤ disk.len
+      → OfEach disk domains InPlace news → (with_parts front news).len ≡ disk.len
+  len_from front [] [] m e line room h = e
+  len_from front (d ∷ rest) (n ∷ news) m e line room h =
+      let next = next_begin d rest m disk.len line room in
+      let low = next.0 in
+      let long : n.len ≡ begin_or disk.len rest - d.at = h.0.len in
+      len_from (with_part front n) rest news (d.at + d.len) (omega arith) line.2 room h.1
+  len_from front _ _ m e line room h = absurd h
 
-pub flat_flat : {A B C : Type 0} (g : B → List C) (f : A → List B) (xs : List A) → flat_map g (flat_map f xs) ≡ flat_map (λ x. flat_map g (f x)) xs
-flat_flat g f [] = refl
-flat_flat g f (x ∷ xs) = flat_map-append g (f x) (flat_map f xs) ∙ ap (λ r. flat_map g (f x) ++ r) (flat_flat g f xs)
+  calls_from : (front : PartState) (calls : Extent → List DiskCall) (domains : List Extent) (news : List PartState) (done : List DiskCall) → front.calls ≡ with_end disk.calls done
+      → OfEach disk domains (λ d p new. new.calls ≡ with_end p.calls (calls d)) news → (with_parts front news).calls ≡ with_end disk.calls (done ++ flat_map calls domains)
+  calls_from front calls [] [] done e h = e ∙ ap (λ (c : List DiskCall). with_end disk.calls c) (sym (append-nil done))
+  calls_from front calls (d ∷ rest) (n ∷ news) done e h =
+      calls_from (with_part front n) calls rest news (done ++ calls d) ((λ i. joined (e i) (h.0 i)) ∙ joined_calls disk.calls done (calls d)) h.1
+      ∙ ap (λ (c : List DiskCall). with_end disk.calls c) (append_assoc done (calls d) (flat_map calls rest))
+  calls_from front calls _ _ done e h = absurd h
 
--- ---- bytes that are not told
+  told_from : (S : ℕ → ℕ → ℕ → Type 0) (front : PartState) (domains : List Extent) (news : List PartState) (m : ℕ) → Adjoin domains → end_after m domains ≤ disk.len
+      → IfSome disk.held (λ file. length file ≡ disk.len) → BothTold (λ file left. AreBytes S 0 (take (begin_or disk.len domains) file) left) disk.held front.held
+      → OfEach disk domains (λ d p new. BothTold (AreBytes S p.from) p.held new.held) news → BothTold (AreBytes S 0) disk.held (with_parts front news).held
+  told_from S front [] [] m line room long h k = told_all S disk.len disk.held front.held long h
+  told_from S front (d ∷ rest) (n ∷ news) m line room long h k =
+      let next = next_begin d rest m disk.len line room in
+      let low = next.0 in
+      told_from S (with_part front n) rest news (d.at + d.len) line.2 room long
+      (told_more S d.at (begin_or disk.len rest) disk.len disk.held front.held n.held (omega arith) next.1 long h k.0) k.1
+  told_from S front _ _ m line room long h k = absurd k
 
-pub held_none : (front : PartState) (news : List PartState) → front.held ≡ None → (with_parts front news).held ≡ None
-held_none front [] e = e
-held_none front (n ∷ news) e = held_none (with_part front n) news (ap (λ (h : Option (List ℕ)). joined h n.held) e)
+  rose_from : (before : ℕ) (front : PartState) (domains : List Extent) (news : List PartState) → min before (2 ^ 64 - 1) ≤ front.faults
+      → SomeZip (λ old new. Rose old.faults new.faults) (parts_of disk domains) news → Rose before (with_parts front news).faults
+  rose_from before front (d ∷ rest) (n ∷ news) l (inl r) = joined_at_least (min (before + 1) (2 ^ 64 - 1)) (with_part front n) news (omega arith) (omega arith)
+  rose_from before front (d ∷ rest) (n ∷ news) l (inr h) = rose_from before (with_part front n) rest news (omega arith) h
+  rose_from before front _ _ l h = absurd h
 
--- ---- parts that were only read
+-- ---- an operation on each part is one on the disk
 
-kept_from : (disk front : PartState) (domains : List Extent) (news : List PartState) (file : List ℕ) (m : ℕ) → disk.held ≡ Some file → length file ≡ disk.len → Adjoin domains
-    → end_after m domains ≤ disk.len → front.held ≡ Some (take (begin_or disk.len domains) file)
-    → AllZip (λ p new. new.held ≡ p.0.held) (zip (parts_of disk domains) domains) news → (with_parts front news).held ≡ Some file
-kept_from disk front [] [] file m told long line room e h = e ∙ ap Some (take_all disk.len file (omega arith))
-kept_from disk front (d ∷ rest) (n ∷ news) file m told long line room e h =
-    let next = next_begin d rest m disk.len line room in
-    let low = next.0 in
-    let order : d.at ≤ begin_or disk.len rest = omega arith in
-    let part : n.held ≡ Some (take (begin_or disk.len rest - d.at) (drop d.at file))
-    = h.0 ∙ ap (λ (o : Option (List ℕ)). after (λ f. take (begin_or disk.len rest - d.at) (drop d.at f)) o) told in
-    kept_from disk (with_part front n) rest news file (d.at + d.len) told long line.2 room
-    ((λ i. joined (e i) (part i)) ∙ ap Some (take_both d.at (begin_or disk.len rest) file order)) h.1
-kept_from disk front _ _ file m told long line room e h = absurd h
+-- What is known of a disk, its parts and the domains.
+pub record AreSplit {D : Type 0} (state : D → PartState) (disk front : PartState) (domains : List Extent) (parts : List D) : Type 0 where
+  pub begin : disk.from ≡ 0
+  pub line : Adjoin domains
+  pub room : end_after 0 domains ≤ disk.len
+  pub front_is : IsFront domains disk front
+  pub parts_are : map state parts ≡ parts_of disk domains
 
-pub whole_kept : (disk front : PartState) (domains : List Extent) (news : List PartState) → IfSome disk.held (λ file. length file ≡ disk.len) → Adjoin domains → end_after 0 domains ≤ disk.len
-    → IsFront domains disk front → AllZip (λ p new. new.held ≡ p.0.held) (zip (parts_of disk domains) domains) news → (with_parts front news).held ≡ disk.held
-whole_kept disk front domains news told line room f h = by_held disk.held refl told
-  where
-    by_held : (o : Option (List ℕ)) → disk.held ≡ o → IfSome o (λ file. length file ≡ disk.len) → (with_parts front news).held ≡ disk.held
-    by_held None e long = held_none front news (f.held ∙ ap (λ (q : Option (List ℕ)). after (take (begin_or disk.len domains)) q) e) ∙ sym e
-    by_held (Some file) e long =
-        kept_from disk front domains news file 0 e long line room (f.held ∙ ap (λ (q : Option (List ℕ)). after (take (begin_or disk.len domains)) q) e) h ∙ sym e
+pub are_split : {D : Type 0} (state : D → PartState) (disk front : PartState) (list : List Owned) (cover domains : List Extent) (parts : List D) → disk.from ≡ 0
+    → AreOn list cover domains disk.len → IsFront domains disk front → map state parts ≡ parts_of disk domains → AreSplit state disk front domains parts
+are_split state disk front list cover domains parts begin a front_is are =
+    record { begin = begin; line = a.div.line; room = domains_room list cover domains disk.len a; front_is = front_is; parts_are = are }
+
+-- the parts fail only where a count rose
+pub all_cause : {D T : Type 0} (state : D → PartState) (disk front new : PartState) (domains : List Extent) (parts news : List D) (end : Result T StepErr) → AreSplit state disk front domains parts
+    → disk.faults < 2 ^ 64 → disk.faults ≤ front.faults → (IsErrOf end Disk → SomeZip (λ old new. Rose (state old).faults (state new).faults) parts news) → new ≡ with_parts front (map state news)
+    → HasDiskCause disk.faults new.faults end
+all_cause state disk front new domains parts news end s counted later failed back = record {
+  later = subst (λ (p : PartState). disk.faults ≤ p.faults) (sym back) (joined_at_least disk.faults front (map state news) counted later);
+  failed = λ f.
+      subst (λ (p : PartState). Rose disk.faults p.faults) (sym back)
+      (rose_from disk disk.faults front domains (map state news) (omega arith)
+      (subst (λ (ps : List PartState). SomeZip (λ old new. Rose old.faults new.faults) ps (map state news)) s.parts_are
+      (some_states state (λ old new. Rose old.faults new.faults) parts news (failed f))));
+}
+
+module _ {D : Type 0} (state : D → PartState) (disk front : PartState) (domains : List Extent) (parts : List D) (s : AreSplit state disk front domains parts)
+    (Q : Extent → PartState → PartState → Type 0) (news : List D) (did : AllZip (λ p new. Q p.1 (state p.0) (state new)) (zip parts domains) news) where
+  of_each : (R : Extent → PartState → PartState → Type 0) → ((d : Extent) (p new : PartState) → Q d p new → R d p new) → OfEach disk domains R (map state news)
+  of_each R f =
+      subst (λ (ps : List PartState). AllZip (λ p new. R p.1 p.0 new) (zip ps domains) (map state news)) s.parts_are
+      (on_states state (λ p d new. R d p new) parts domains news
+      (zip_weaker (λ p new. Q p.1 (state p.0) (state new)) (λ p new. R p.1 (state p.0) (state new)) (zip parts domains) news (λ p new q. f p.1 (state p.0) (state new) q) did))
+
+  -- the parts follow the front, as taking them back requires
+  pub all_follow : ((d : Extent) (p new : PartState) → Q d p new → IsInPlace p new) → Follow (front.from + front.len) (map state news)
+  all_follow place =
+      let end : begin_or disk.len domains ≡ front.from + front.len = omega (arith, s.begin, s.front_is.from, s.front_is.len) in
+      subst (λ (n : ℕ). Follow n (map state news)) end (follow_from disk domains (map state news) 0 s.line s.room (of_each InPlace place))
+
+  pub all_place : ((d : Extent) (p new : PartState) → Q d p new → IsInPlace p new) → IsInPlace disk (with_parts front (map state news))
+  all_place place = record {
+    from = from_kept front (map state news) ∙ s.front_is.from;
+    len = len_from disk front domains (map state news) 0 s.front_is.len s.line s.room (of_each InPlace place);
+  }
+
+  pub all_calls : {T E : Type 0} (end : Result T E) (calls : Extent → List DiskCall) → ((d : Extent) (p new : PartState) → Q d p new → OnOk end (new.calls ≡ with_end p.calls (calls d)))
+      → OnOk end ((with_parts front (map state news)).calls ≡ with_end disk.calls (flat_map calls domains))
+  all_calls (Err e) calls f = tt
+  all_calls (Ok x) calls f =
+      calls_from disk front calls domains (map state news) [] (s.front_is.calls ∙ sym (with_end-nil disk.calls)) (of_each (λ d p new. new.calls ≡ with_end p.calls (calls d)) f)
+
+  pub all_told : {T E : Type 0} (end : Result T E) (S : ℕ → ℕ → ℕ → Type 0) → IfSome disk.held (λ file. length file ≡ disk.len) → ((x v : ℕ) → x < begin_or disk.len domains → S x v v)
+      → ((d : Extent) (p new : PartState) → Q d p new → OnOk end (BothTold (AreBytes S p.from) p.held new.held)) → OnOk end (BothTold (AreBytes S 0) disk.held (with_parts front (map state news)).held)
+  all_told (Err e) S long still f = tt
+  all_told (Ok x) S long still f =
+      told_from disk S front domains (map state news) 0 s.line s.room long (told_front S (begin_or disk.len domains) disk.held front.held still s.front_is.held)
+      (of_each (λ d p new. BothTold (AreBytes S p.from) p.held new.held) f)
+
+-- where nothing can be refused
+abbrev pub fine : Result (Unit {0}) ℕ
+fine = Ok tt
 
 -- ---- parts on which nothing was done
 
-parts_again : (R : PartState → Extent → PartState → Type 0) (disk : PartState) (domains : List Extent) → ((p : PartState) (d : Extent) → R p d p)
-    → AllZip (λ p new. R p.0 p.1 new) (zip (parts_of disk domains) domains) (parts_of disk domains)
-parts_again R disk [] f = tt
-parts_again R disk (d ∷ rest) f = (f (part_between disk d.at (begin_or disk.len rest)) d, parts_again R disk rest f)
+same_parts : {D : Type 0} (state : D → PartState) (parts : List D) (domains : List Extent) → length domains ≡ length parts → AllZip (λ p new. state new ≡ state p.0) (zip parts domains) parts
+same_parts state [] [] e = tt
+same_parts state (p ∷ parts) (d ∷ domains) e = (refl, same_parts state parts domains (omega arith))
+same_parts state _ _ e = absurd (omega arith)
 
 no_calls : (domains : List Extent) → flat_map {A = DiskCall} (λ d. []) domains ≡ []
 no_calls [] = refl
 no_calls (d ∷ rest) = no_calls rest
 
-pub parts_follow : (disk front : PartState) (domains : List Extent) → disk.from ≡ 0 → Adjoin domains → end_after 0 domains ≤ disk.len → IsFront domains disk front
-    → Follow (front.from + front.len) (parts_of disk domains)
-parts_follow disk front domains whole line room f =
-    follow_again disk front domains (parts_of disk domains) whole line room f (parts_again (λ p d new. IsInPlace p new) disk domains (λ p d. record { from = refl; len = refl }))
-
 pub record IsAsBefore (old new : PartState) : Type 0 where
-  pub from : new.from ≡ old.from
-  pub len : new.len ≡ old.len
+  pub place : IsInPlace old new
   pub held : new.held ≡ old.held
   pub calls : new.calls ≡ old.calls
 
--- taken back as they were, they are the disk
-pub parts_rejoined : (disk front : PartState) (domains : List Extent) → IfSome disk.held (λ file. length file ≡ disk.len) → Adjoin domains → end_after 0 domains ≤ disk.len → IsFront domains disk front
-    → IsAsBefore disk (with_parts front (parts_of disk domains))
-parts_rejoined disk front domains told line room f =
-    let place = whole_place disk front domains (parts_of disk domains) line room f (parts_again (λ p d new. IsInPlace p new) disk domains (λ p d. record { from = refl; len = refl })) in
-    record {
-      from = place.from;
-      len = place.len;
-      held = whole_kept disk front domains (parts_of disk domains) told line room f (parts_again (λ p d new. new.held ≡ p.held) disk domains (λ p d. refl));
-      calls = whole_calls disk front (λ d. []) domains (parts_of disk domains) f (parts_again (λ p d new. new.calls ≡ with_end p.calls []) disk domains (λ p d. sym (with_end-nil p.calls)))
-          ∙ ap (λ (c : List DiskCall). with_end disk.calls c) (no_calls domains) ∙ with_end-nil disk.calls;
-    }
+module _ {D : Type 0} (state : D → PartState) (disk front : PartState) (domains : List Extent) (parts : List D) (s : AreSplit state disk front domains parts) where
+  unchanged : AllZip (λ p new. state new ≡ state p.0) (zip parts domains) parts
+  unchanged = same_parts state parts domains (as_many_parts state disk domains parts s.parts_are)
 
--- ---- the count of faults
+  stays : (d : Extent) (p new : PartState) → new ≡ p → IsInPlace p new
+  stays d p new e = record { from = ap (λ (q : PartState). q.from) e; len = ap (λ (q : PartState). q.len) e }
 
-rose_from : (before : ℕ) (disk front : PartState) (domains : List Extent) (news : List PartState) → min before (2 ^ 64 - 1) ≤ front.faults
-    → SomeZip (λ old new. Rose old.faults new.faults) (parts_of disk domains) news → Rose before (with_parts front news).faults
-rose_from before disk front (d ∷ rest) (n ∷ news) l (inl r) = joined_at_least (min (before + 1) (2 ^ 64 - 1)) (with_part front n) news (omega arith) (omega arith)
-rose_from before disk front (d ∷ rest) (n ∷ news) l (inr h) = rose_from before disk (with_part front n) rest news (omega arith) h
-rose_from before disk front _ _ l h = absurd h
+  pub parts_follow : Follow (front.from + front.len) (map state parts)
+  parts_follow = all_follow state disk front domains parts s (λ d p new. new ≡ p) parts unchanged stays
 
--- a part whose count rose makes the whole count rise
-pub joined_rose : {D : Type 0} (state : D → PartState) (before : ℕ) (disk front : PartState) (domains : List Extent) (parts news : List D) → map state parts ≡ parts_of disk domains → before ≤ front.faults
-    → SomeZip (λ old new. Rose (state old).faults (state new).faults) parts news → Rose before (with_parts front (map state news)).faults
-joined_rose state before disk front domains parts news are later h =
-    rose_from before disk front domains (map state news) (omega arith)
-    (subst (λ (ps : List PartState). SomeZip (λ old new. Rose old.faults new.faults) ps (map state news)) are (some_states state (λ old new. Rose old.faults new.faults) parts news h))
+  -- taken back as they were, they are the disk
+  pub parts_rejoined : IfSome disk.held (λ file. length file ≡ disk.len) → IsAsBefore disk (with_parts front (map state parts))
+  parts_rejoined long = record {
+    place = all_place state disk front domains parts s (λ d p new. new ≡ p) parts unchanged stays;
+    held = kept_told disk.held (with_parts front (map state parts)).held
+        (all_told state disk front domains parts s (λ d p new. new ≡ p) parts unchanged fine IsOld long (λ x v l. refl)
+        (λ d p new e. told_kept p.from p.held new.held (ap (λ (q : PartState). q.held) e)));
+    calls = all_calls state disk front domains parts s (λ d p new. new ≡ p) parts unchanged fine (λ d. [])
+        (λ d p new e. ap (λ (q : PartState). q.calls) e ∙ sym (with_end-nil p.calls))
+        ∙ ap (λ (c : List DiskCall). with_end disk.calls c) (no_calls domains) ∙ with_end-nil disk.calls;
+  }

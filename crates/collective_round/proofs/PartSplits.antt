@@ -1,6 +1,7 @@
 -- A disk that is split from the last domain on, and taken back.
-use Rattle.collective_round.proofs.Words.{◌≡◌, ℕ, zero, suc, ◌+◌, ◌-◌, ◌^◌, ◌<◌, ◌≤◌, ◌∙◌, ap, subst, List, [], ◌∷◌, ◌++◌, length, take, drop, get_or, map, Option, Err, arith, drop-take, drop_more, reverse-append, take-append-drop, take-take, reverse, IsErrOf, Extent, DiskCall, both_faults, after, joined, after-after, after-same, end_after, PartState, begin_or, part_between, with_part, with_parts, Adjoin, Follow, IsFront, nat_tests}
+use Rattle.collective_round.proofs.Words.{◌≡◌, ℕ, zero, suc, ◌+◌, ◌-◌, ◌^◌, ◌<◌, ◌≤◌, ◌∙◌, ap, subst, List, [], ◌∷◌, ◌++◌, length, take, drop, get_or, map, Option, Err, arith, drop-take, drop_more, reverse-append, take-append-drop, take-take, reverse, IsErrOf, Extent, DiskCall, both_faults, after, joined, end_after, PartState, begin_or, part_between, with_part, with_parts, Adjoin, Follow, IsFront, nat_tests}
 use Rattle.collective_round.proofs.DomainCuts.{end_grows}
+use Rattle.collective_round.proofs.PutLaws.{held_two}
 
 -- ---- the begin of what comes next
 
@@ -8,10 +9,6 @@ use Rattle.collective_round.proofs.DomainCuts.{end_grows}
 pub next_begin : (d : Extent) (rest : List Extent) (m n : ℕ) → Adjoin (d ∷ rest) → end_after m (d ∷ rest) ≤ n → (d.at + d.len ≤ begin_or n rest) × (begin_or n rest ≤ n)
 next_begin d [] m n h l = (l, omega arith)
 next_begin d (e ∷ rest) m n h l = let next = h.1 in let grown = end_grows (e ∷ rest) (d.at + d.len) h.2 in (omega arith, omega arith)
-
-pub begin_within : (domains : List Extent) (m n : ℕ) → Adjoin domains → end_after m domains ≤ n → begin_or n domains ≤ n
-begin_within [] m n h l = omega arith
-begin_within (d ∷ domains) m n h l = let grown = end_grows (d ∷ domains) m h in omega arith
 
 pub end_dropped : (k : ℕ) (domains : List Extent) (m n : ℕ) → end_after m domains ≤ n → end_after 0 (drop k domains) ≤ n
 end_dropped zero [] m n l = omega arith
@@ -45,11 +42,8 @@ front_more disk mid new d rest whole line room f from len held calls =
     record {
       from = from ∙ f.from;
       len = len ∙ first;
-      held = held
-          ∙ ap (λ (n : ℕ). after (take n) mid.held) first
-          ∙ ap (λ (h : Option (List ℕ)). after (take d.at) h) f.held
-          ∙ after-after (take d.at) (take (begin_or disk.len rest)) disk.held
-          ∙ after-same (λ file. take d.at (take (begin_or disk.len rest) file)) (take d.at) disk.held (λ file. take-take d.at (begin_or disk.len rest) file order);
+      held = held_two disk.held mid.held new.held (take (begin_or disk.len rest)) (take (d.at - mid.from)) (take d.at) f.held held
+          (λ file. ap (λ (n : ℕ). take n (take (begin_or disk.len rest) file)) first ∙ take-take d.at (begin_or disk.len rest) file order);
       calls = calls ∙ f.calls;
     }
 
@@ -65,12 +59,8 @@ part_split disk mid part d rest whole line room f from len held calls faults =
     let order : d.at ≤ begin_or disk.len rest = omega arith in
     let many : part.len ≡ begin_or disk.len rest - d.at = omega arith in
     let bytes : part.held ≡ after (λ file. take (begin_or disk.len rest - d.at) (drop d.at file)) disk.held
-    = held
-    ∙ ap (λ (n : ℕ). after (drop n) mid.held) first
-    ∙ ap (λ (h : Option (List ℕ)). after (drop d.at) h) f.held
-    ∙ after-after (drop d.at) (take (begin_or disk.len rest)) disk.held
-    ∙ after-same (λ file. drop d.at (take (begin_or disk.len rest) file)) (λ file. take (begin_or disk.len rest - d.at) (drop d.at file)) disk.held
-    (λ file. cut_between d.at (begin_or disk.len rest) file order) in
+    = held_two disk.held mid.held part.held (take (begin_or disk.len rest)) (drop (d.at - mid.from)) (λ file. take (begin_or disk.len rest - d.at) (drop d.at file)) f.held held
+    (λ file. ap (λ (n : ℕ). drop n (take (begin_or disk.len rest) file)) first ∙ cut_between d.at (begin_or disk.len rest) file order) in
     let none : part.calls ≡ after (λ _. []) disk.calls = calls ∙ ap (λ (c : Option (List DiskCall)). after (λ _. []) c) f.calls in
     λ i. record { from = from i; len = many i; held = bytes i; calls = none i; faults = faults i }
 

@@ -1,10 +1,11 @@
 -- The words of this crate's proofs, from where they stand.
 pub use Rattle.std.proofs.Common.{Bool, Err, List, None, Ok, Option, Result, Some, [], ap, append_assoc, arith, cond, drop, false, get_or, inl, inr, length, length-append, map, max, min, refl, rules, subst, suc, sym, take, true, vec_capacity, zero, ℕ, ◌%◌, ◌&&◌, ◌*◌, ◌++◌, ◌+◌, ◌-◌, ◌/◌, ◌<◌, ◌^◌, ◌||◌, ◌↔◌, ◌∙◌, ◌∷◌, ◌≡◌, ◌≤◌, ◌⊎◌}
+pub use Rattle.std.proofs.Math.ListN.{get_or-map}
 pub use Rattle.std.proofs.Math.Nat.{mul_comm}
 pub use Rattle.std.proofs.lemmas.Bool.{and_from, and_parts, cases_lt, le-leb, leb-true, lt-leb, lt-ltb, or_right}
 pub use Rattle.std.proofs.lemmas.Bool.Decides.{nat_tests}
 pub use Rattle.std.proofs.lemmas.Grind.{common_steps, flat_map-append}
-pub use Rattle.std.proofs.lemmas.List.{append-nil, drop-take, drop_more, flat_map_more, get_or-append_right, get_or_append_left, length-drop, length-map, length-replicate, length-take, length_push, map-append, reverse-append, take-append-drop, take-take, take_all, take_more}
+pub use Rattle.std.proofs.lemmas.List.{append-nil, drop-take, drop_more, ext_get_or, flat_map_more, get_or-append_right, get_or_append_left, get_or_past, length-drop, length-map, length-replicate, length-take, length_push, map-append, reverse-append, take-append-drop, take-take, take_all, take_more}
 pub use Rattle.std.proofs.lemmas.List.Folds.{flat_map-map}
 pub use Rattle.std.proofs.lemmas.List.FromFn.{length-range_with_len}
 pub use Rattle.std.proofs.lemmas.Nat.{mul-le}
@@ -40,9 +41,9 @@ pub use Rattle.get_exchange.proofs.CollectLaws.{in_request}
 pub use Rattle.get_exchange.specs.Blobs.{AreAsLong, FitTable, HasRead, HaveOnePlaces, blob_at, of_request}
 pub use Rattle.get_exchange.specs.Gets.{HasGot, IsGetPlan, get_turns}
 pub use Rattle.list_laws.proofs.Each.{zip_weaker}
-pub use Rattle.list_laws.proofs.Maps.{entry_map, next_numbered}
+pub use Rattle.list_laws.proofs.Maps.{entry_map, map_map, next_numbered}
 pub use Rattle.list_laws.proofs.Optional.{both_none, if_some_at, neither_some, no_none_some, none_of_test, told_unless}
-pub use Rattle.list_laws.proofs.Places.{entry_numbered}
+pub use Rattle.list_laws.proofs.Places.{entry_below, entry_numbered, entry_read}
 pub use Rattle.list_laws.proofs.Ranges.{range_append, range_first, range_rest, spans_long}
 pub use Rattle.list_laws.proofs.Results.{on_err}
 pub use Rattle.list_laws.proofs.Truth.{and_first, and_second, equal_true, no_both, no_false, or_first_false, or_second_false}
@@ -80,10 +81,10 @@ pub use Rattle.overlay_laws.proofs.OriginLaws.{cells_by_origins, greatest_once, 
 pub use Rattle.overlay_laws.proofs.PartLaws.{parts_done}
 pub use Rattle.overlay_laws.proofs.ReadLaws.{read_slice}
 pub use Rattle.overlay_laws.proofs.RoomLaws.{puts_room}
-pub use Rattle.overlay_laws.proofs.SaidLaws.{cells_long, said_is, same_said, says_some}
+pub use Rattle.overlay_laws.proofs.SaidLaws.{cells_long, said_is, same_file, same_said, says_some}
 pub use Rattle.overlay_laws.proofs.ShareLaws.{no_pair_once}
 pub use Rattle.overlay_laws.proofs.WalkLaws.{filter_all, filter_none, filter_same, windows_walked}
-pub use Rattle.overlay_laws.proofs.WindowLaws.{clips_from, clips_within, within_lowered}
+pub use Rattle.overlay_laws.proofs.WindowLaws.{clips_from, clips_in, clips_within, moved_said, none_below, within_lowered}
 pub use Rattle.overlay_laws.specs.Changes.{IsBetween, load_calls, store_calls}
 pub use Rattle.overlay_laws.specs.Entries.{AreOf, HaveSame, In, IsGathered, IsRun, IsRunFrom, Source, cell_of, cells_of_puts, got_cell, ranges}
 pub use Rattle.overlay_laws.specs.Hulls.{AreHints}
@@ -103,7 +104,7 @@ pub use Rattle.serial_spec.proofs.LawfulTests.{within_is}
 pub use Rattle.serial_spec.proofs.LengthLaws.{size_most, size_pos}
 pub use Rattle.serial_spec.proofs.MemberLaws.{at_in, filter_in, in_at, in_filter}
 pub use Rattle.serial_spec.proofs.RoomLaws.{end_grows}
-pub use Rattle.serial_spec.proofs.SaidLaws.{puts_are_cells, puts_say}
+pub use Rattle.serial_spec.proofs.SaidLaws.{cells_said, puts_are_cells, puts_say}
 pub use Rattle.serial_spec.specs.DeviceCalls.{collective_windows, domain_size, domains, first_of, get_bytes, grow_to, in_order, last_of, loads, not_empty, overlays, put_calls, sieved, sieving_windows, store_records, windows}
 pub use Rattle.serial_spec.specs.Extents.{spans}
 pub use Rattle.serial_spec.specs.ExternalForm.{size_of}
@@ -122,7 +123,7 @@ pub use Rattle.serial_spec.specs.RankSide.{wanted}
 pub use Rattle.serial_spec.specs.Records.{needed, needed_by, records_of, records_of_some, with_records}
 pub use Rattle.serial_spec.specs.RegionCheck.{check_some}
 pub use Rattle.serial_spec.specs.Request.{cells, coordinates, elements, places}
-pub use Rattle.serial_spec.specs.Said.{Cell, IsFrom, IsOneValued, IsWithin, Says, moved_down, said_at, said_by, write_cells}
+pub use Rattle.serial_spec.specs.Said.{Cell, IsFrom, IsOneValued, IsWithin, Says, byte_or, moved_down, said_at, said_by, write_cells}
 pub use Rattle.serial_spec.specs.SharedByte.{IsOwnOnce, Puts, bytes_of, bytes_of_some, covered, holdings, holdings_of_entries, said_by_puts, shared_pair, shared_pair_of}
 pub use Rattle.serial_spec.specs.SoundHeaders.{counts_are_small, is_sound}
 pub use Rattle.serial_spec.specs.Torn.{IsTorn, may_change}

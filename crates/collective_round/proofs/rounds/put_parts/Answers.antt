@@ -1,8 +1,8 @@
 -- The puts of the parts are those of the disk.
-use Rattle.collective_round.proofs.Words.{◌∙◌, rules, arith, common_steps, flat_map, planned_turns, source_in, PartState, part_state}
-use Rattle.collective_round.proofs.PartDomains.{as_many_parts, domain_of_part}
-use Rattle.collective_round.proofs.PutParts.{HasPutWhole}
-use Rattle.collective_round.proofs.PutPartLaws.{are_split, cover_room, parts_cause, parts_follow, parts_put, plan_room}
+use Rattle.collective_round.proofs.Words.{◌∙◌, refl, rules, arith, common_steps, planned_turns, source_in, PartState, part_state}
+use Rattle.collective_round.proofs.PartDomains.{AreOn, as_many_parts, domain_of_part, domains_room}
+use Rattle.collective_round.proofs.PartLaws.{all_cause, are_split}
+use Rattle.collective_round.proofs.PutParts.{parts_put, puts_follow}
 use Rattle.collective_round.proofs.rounds.put_parts.Given.{Over}
 use Rattle.collective_round.proofs.rounds.put_parts.Goals as goal
 
@@ -12,7 +12,8 @@ state g d = part_state g.D.Disk d
 pub split-requires-clause-room : goal.split-requires-clause-room
 split-requires-clause-room g c κs within =
     let plan = c.args.plan.now in
-    plan_room plan.cover.now c.args.domains.now plan.list.now (g.D.Disk.len c.args.disk.now) c.requires.plan.covers c.requires.plan.cover_bytes c.requires.on_disk c.requires.domains
+    domains_room plan.list.now plan.cover.now c.args.domains.now (g.D.Disk.len c.args.disk.now)
+    (record { covers = c.requires.plan.covers; bytes = c.requires.plan.cover_bytes; on = c.requires.on_disk; div = c.requires.domains })
 
 pub exchange_put-parts-requires-clause-one_each : goal.exchange_put-parts-requires-clause-one_each
 exchange_put-parts-requires-clause-one_each g c κs within =
@@ -21,41 +22,43 @@ exchange_put-parts-requires-clause-one_each g c κs within =
 pub exchange_put-parts-requires-clause-domains : goal.exchange_put-parts-requires-clause-domains
 exchange_put-parts-requires-clause-domains g c κs within =
     let plan = c.args.plan.now in
-    domain_of_part (state g) plan.list.now plan.cover.now c.args.domains.now (state g c.args.disk.now) c.in_ok-parts.parts.items c.in_ok-parts.ensures.parts
-    c.requires.plan.covers c.requires.plan.cover_bytes c.requires.domains
-    (cover_room plan.cover.now plan.list.now (g.D.Disk.len c.args.disk.now) c.requires.plan.covers c.requires.plan.cover_bytes c.requires.on_disk)
+    domain_of_part plan.list.now plan.cover.now c.args.domains.now (g.D.Disk.len c.args.disk.now)
+    (record { covers = c.requires.plan.covers; bytes = c.requires.plan.cover_bytes; on = c.requires.on_disk; div = c.requires.domains })
+    (state g) (state g c.args.disk.now) c.in_ok-parts.parts.items refl c.in_ok-parts.ensures.parts
 
 pub append_all-requires-after_bounds : goal.append_all-requires-after_bounds
 append_all-requires-after_bounds g c κs within =
     let plan = c.args.plan.now in
-    parts_follow _ (source_in plan) plan.list.now (λ d. planned_turns plan d) _ _ _ _ c.exchange_put-parts.result.0.items c.exchange_put-parts.result.1
-    (are_split (state g) _ _ _ _ plan.list.now c.in_ok-parts.parts.items
-    c.requires.from c.requires.plan.covers c.requires.plan.cover_bytes c.requires.on_disk c.requires.domains c.in_ok-parts.ensures.front c.in_ok-parts.ensures.parts)
+    puts_follow (state g) (source_in plan) plan.list.now (λ d. planned_turns plan d) (state g c.args.disk.now) (state g c.split.new.disk) c.args.domains.now c.in_ok-parts.parts.items c.exchange_put-parts.result.0.items c.exchange_put-parts.result.1
+    (are_split (state g) (state g c.args.disk.now) (state g c.split.new.disk) plan.list.now plan.cover.now c.args.domains.now c.in_ok-parts.parts.items c.requires.from
+    (record { covers = c.requires.plan.covers; bytes = c.requires.plan.cover_bytes; on = c.requires.on_disk; div = c.requires.domains }) c.in_ok-parts.ensures.front c.in_ok-parts.ensures.parts)
     c.exchange_put-parts.ensures.put
-
-put_done : (g : Over) (c : goal.After-append_all g)
-    → HasPutWhole (source_in c.args.plan.now) c.args.plan.now.list.now (flat_map (λ d. planned_turns c.args.plan.now d) c.args.domains.now)
-    (state g c.args.disk.now) (state g c.append_all.new.disk) c.exchange_put-parts.result.1
-put_done g c =
-    let plan = c.args.plan.now in
-    parts_put _ (source_in plan) plan.list.now (λ d. planned_turns plan d) _ _ _ _ _ _ c.exchange_put-parts.result.0.items c.exchange_put-parts.result.1
-    (are_split (state g) _ _ _ _ plan.list.now c.in_ok-parts.parts.items
-    c.requires.from c.requires.plan.covers c.requires.plan.cover_bytes c.requires.on_disk c.requires.domains c.in_ok-parts.ensures.front c.in_ok-parts.ensures.parts)
-    c.size-size.ensures.told (λ o m. (c.requires.plan.pieces o m).some) c.requires.on_disk
-    c.requires.plan.covers c.requires.plan.cover_bytes c.requires.domains c.exchange_put-parts.ensures.put c.append_all.ensures
 
 pub returns : goal.returns
 returns g c =
-    let got = put_done g c in
+    let plan = c.args.plan.now in
+    let old = state g c.args.disk.now in
+    let front = state g c.split.new.disk in
+    let new = state g c.append_all.new.disk in
+    let parts = c.in_ok-parts.parts.items in
+    let news = c.exchange_put-parts.result.0.items in
+    let end = c.exchange_put-parts.result.1 in
+    let on : AreOn plan.list.now plan.cover.now c.args.domains.now (g.D.Disk.len c.args.disk.now) = record {
+      covers = c.requires.plan.covers;
+      bytes = c.requires.plan.cover_bytes;
+      on = c.requires.on_disk;
+      div = c.requires.domains;
+    } in
+    let s = are_split (state g) old front plan.list.now plan.cover.now c.args.domains.now parts c.requires.from on c.in_ok-parts.ensures.front c.in_ok-parts.ensures.parts in
+    let got = parts_put (state g) (source_in plan) plan.list.now (λ d. planned_turns plan d) plan.cover.now old front new c.args.domains.now parts news end
+    (λ o m. (c.requires.plan.pieces o m).some) on s c.size-size.ensures.told c.exchange_put-parts.ensures.put c.append_all.ensures in
     record {
       bytes = got.bytes;
       between = got.between;
       calls = got.device;
       from = got.place.from ∙ c.requires.from;
       len = got.place.len;
-      cause =
-          parts_cause (state g) (state g c.args.disk.now) (state g c.split.new.disk) (state g c.append_all.new.disk) c.args.domains.now c.in_ok-parts.parts.items
-          c.exchange_put-parts.result.0.items c.exchange_put-parts.result.1 c.in_ok-parts.ensures.parts c.size-size.ensures.counted
+      cause = all_cause (state g) old front new c.args.domains.now parts news end s c.size-size.ensures.counted
           (c.in_ok-parts.ensures.cause c.size-size.ensures.counted).later c.exchange_put-parts.ensures.failed c.append_all.ensures;
     }
 
