@@ -19,16 +19,8 @@ mapped_says f (p ∷ ps) x v (inr h) = let r = mapped_says f ps x v h in (r.0, i
 -- resolved entries have of each byte the greatest origin
 pub resolved_one : (source : Source) (list result : List Owned) → IsOnceEach (origins list) → IsResolved list result → AreFound source result
     → IsOneValued (said_by (map (λ o. cell_of source o) result))
-resolved_one source list result once resolved found x v w a b = sym p.2 ∙ ap (byte_at source) same ∙ q.2
-  where
-    origin : (u : ℕ) → Says (said_by (map (λ o. cell_of source o) result)) x u → (o : Origin) × Says (origins result) x o × (byte_at source o ≡ u)
-    origin u h = mapped_says (byte_at source) (origins result) x u (subst (λ ps. Says ps x u) (cells_by_origins source result found) h)
-
-    p : (o : Origin) × Says (origins result) x o × (byte_at source o ≡ v)
-    p = origin v a
-
-    q : (o : Origin) × Says (origins result) x o × (byte_at source o ≡ w)
-    q = origin w b
-
-    same : p.0 ≡ q.0
-    same = greatest_once (origins list) once x p.0 q.0 (resolved.0 x p.0 p.1) (resolved.0 x q.0 q.1)
+resolved_one source list result once resolved found x v w a b =
+    let cells = cells_by_origins source result found in
+    let p = mapped_says (byte_at source) (origins result) x v (subst (λ ps. Says ps x v) cells a) in
+    let q = mapped_says (byte_at source) (origins result) x w (subst (λ ps. Says ps x w) cells b) in
+    sym p.2 ∙ ap (byte_at source) (greatest_once (origins list) once x p.0 q.0 (resolved.0 x p.0 p.1) (resolved.0 x q.0 q.1)) ∙ q.2

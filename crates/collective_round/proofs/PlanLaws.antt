@@ -1,16 +1,12 @@
 -- The entries of puts or gets and their cover are a plan of what is to be done.
 use Rattle.collective_round.proofs.Words.{◌≡◌, ℕ, ◌+◌, ◌<◌, ◌≤◌, inl, inr, refl, subst, List, [], ◌∷◌, length, Option, Some, None, arith, slice_get, get_is, Header, Batch, Extent, Owned, bytes_of_post, Source, In, HaveSame, ranges, AreFound, IsCover, spans, in_map, IsGetPlan, ArePieces, IsPlan, Puts, source_of, AreGot, AreLaid, AreSorted, nat_tests}
 use Rattle.exchange_crew.specs.Turns as turns
+use Rattle.collective_round.proofs.LaidLaws.{found_at}
 use Rattle.collective_round.proofs.PutLaws.{cover_ends}
 
 -- where the first batch is that of rank 0
 pub same_source : (batches : List Batch) → source_of 0 batches ≡ turns.source_of batches
 same_source batches = grind (arith, nat_tests)
-
-found_at : (source : Source) (list : List Owned) (o : Owned) → AreFound source list → In list o → o.from + o.extent.len ≤ length (source o.rank o.slot)
-found_at source [] o h m = absurd m
-found_at source (p ∷ list) o h (inl e) = subst (λ (q : Owned). q.from + q.extent.len ≤ length (source q.rank q.slot)) e h.0
-found_at source (p ∷ list) o h (inr m) = found_at source list o h.1 m
 
 are_pieces : (source : Source) (list : List Owned) → AreFound source list → AreSorted list → ArePieces source list
 are_pieces source list found sorted o m = record {

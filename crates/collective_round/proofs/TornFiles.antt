@@ -1,5 +1,5 @@
 -- A torn file: each byte outside of the count's field that is old or new, and what a longer or a later write leaves of it.
-use Rattle.collective_round.proofs.Words.{each_in, and_first, and_second, no_false, or_first_false, or_second_false, leb-true, le-leb, lt-ltb, or_right, ◌≡◌, ℕ, ◌+◌, ◌<◌, ◌≤◌, refl, sym, subst, ◌∙◌, inl, inr, ◌⊎◌, List, [], ◌∷◌, length, true, false, ◌&&◌, max, Option, Some, None, arith, common_steps, nat_tests, nat_lt, nat_le, ◌==◌, slice_get, list_any, range_with_len, byte_len, Header, Var, Post, Direction, PartlyWritten, size_of, at, longer, Setting, end_for, after_puts, count, count_width, header_len, is_sound, place, IsElementBelow, needed_by, records_of, with_records, check_some, places, elements, Puts, bytes_of, bytes_of_some, covered, IsTorn, accepted_elements, elements_past_header, at-longer, at-written_before, at-written_after, longer_long, canon_len, IsBetween, In, any_in, flat_in, range_low, ArePuts, written_grows, after_long}
+use Rattle.collective_round.proofs.Words.{each_in, and_first, and_second, no_false, or_first_false, or_second_false, leb-true, le-leb, lt-ltb, or_right, ◌≡◌, ℕ, ◌+◌, ◌<◌, ◌≤◌, refl, sym, subst, ◌∙◌, inl, inr, ◌⊎◌, List, [], ◌∷◌, length, true, false, ◌&&◌, max, Option, Some, None, arith, common_steps, map_in, nat_tests, nat_lt, nat_le, ◌==◌, slice_get, list_any, range_with_len, byte_len, Header, Var, Post, Direction, PartlyWritten, size_of, at, longer, Setting, end_for, after_puts, count, count_width, header_len, is_sound, place, IsElementBelow, needed_by, records_of, with_records, check_some, places, elements, Puts, bytes_of, bytes_of_some, covered, IsTorn, accepted_elements, elements_past_header, at-longer, at-written_before, at-written_after, longer_long, canon_len, IsBetween, In, any_in, flat_in, range_low, ArePuts, written_grows, after_long}
 use Rattle.std.specs.Prelude.{map}
 use borrow.Author.Tests.{ltb-true, ltb-false}
 use Rattle.nc_base.specs.declared.answer.Code.TheVariants as code
@@ -26,15 +26,10 @@ covered_past header puts x sound are m =
     by_var post known way None e ok k = absurd k
     by_var post known way (Some v) e ok k =
         let g = flat_in (λ (y : ℕ). range_with_len y (size_of v.kind)) (places header v post.region) x k in
-        let i = from_map (λ (i : List ℕ). place header v i) (elements post.region) g.0 g.1 in
+        let i = map_in (λ (i : List ℕ). place header v i) (elements post.region) g.0 g.1 in
         let is = each_in (IsElementBelow header v (records_of header v post.region)) (elements post.region) i.0 (accepted_elements header post.var v post.region known way sound e ok) i.1 in
         let same : place header v i.0 ≡ g.0 = i.2 in
         omega (arith, elements_past_header header post.var v i.0 sound e is.0, range_low g.0 (size_of v.kind) x g.2)
-      where
-        from_map : {A B : Type 0} (f : A → B) (xs : List A) (y : B) → In (map f xs) y → (x : A) × In xs x × (f x ≡ y)
-        from_map f [] y m = absurd m
-        from_map f (z ∷ xs) y (inl e) = (z, inl refl, e)
-        from_map f (z ∷ xs) y (inr m) = let r = from_map f xs y m in (r.0, inr r.1, r.2)
 
 -- ---- a torn file
 

@@ -1,8 +1,8 @@
 -- What a refused step of puts leaves of a file.
-use Rattle.collective_round.proofs.Words.{lt-ltb, ◌≡◌, ℕ, ◌+◌, ◌<◌, ◌≤◌, refl, ap, subst, List, [], length, Bool, true, false, cond, Option, Some, None, arith, nat_lt, byte_len, Pair, PartlyWritten, after, BothTold, told_as, at, longer, Setting, end_for, after_puts, told, count, count_width, is_sound, needed_by, with_records, Puts, covered, IsTorn, IsBetween, needed_now, ArePuts, after_round, counted, after_keeps, longer_long, after_long, after_grows, raised_grows, nat_tests}
+use Rattle.collective_round.proofs.Words.{Header, lt-ltb, ◌≡◌, ℕ, ◌+◌, ◌<◌, ◌≤◌, refl, ap, subst, List, [], length, Bool, true, false, cond, Option, Some, None, arith, nat_lt, byte_len, Pair, PartlyWritten, after, BothTold, told_as, at, longer, Setting, end_for, after_puts, told, count, count_width, is_sound, needed_by, with_records, Puts, covered, IsTorn, IsBetween, needed_now, ArePuts, after_round, counted, after_keeps, longer_long, after_long, after_grows, raised_grows, nat_tests}
 use Rattle.collective_round.proofs.PutLaws.{laid_round}
 use Rattle.collective_round.proofs.StepLaws.{round_by}
-use Rattle.collective_round.proofs.TornFiles.{covered_past, torn_by, torn_still, torn_grown, torn_laid, torn_wider, counted_past, torn_counted, torn_after, torn_stored}
+use Rattle.collective_round.proofs.TornFiles.{covered_past, field_of, torn_by, torn_still, torn_grown, torn_laid, torn_wider, counted_past, torn_counted, torn_after, torn_stored}
 
 -- ---- a step, on a disk that may tell its bytes
 
@@ -15,6 +15,10 @@ none_torn bytes field whole (Some old) grows = (old, refl, torn_still bytes fiel
 pub round_grows : (s : Setting) (puts : Puts) (records : ℕ) (file : List ℕ) → length file ≤ length (after_round s puts (counted file records)).file
 round_grows s puts records file =
     grind (arith, nat_tests, after_grows s puts (told s puts) file, raised_grows s (counted (after_puts s puts (told s puts) file) records) (needed_now s puts))
+
+pub round_untouched : (s : Setting) (puts : Puts) (records : ℕ) (held : Option (List ℕ))
+    → BothTold (λ old left. IsTorn (covered s.header puts) (field_of s.header) old (after_round s puts (counted old records)).file left) held held
+round_untouched s puts records held = none_torn (covered s.header puts) (field_of s.header) (λ file. (after_round s puts (counted file records)).file) held (round_grows s puts records)
 
 -- the disk grew, at most to the end for the puts
 pub grown_torn : (s : Setting) (puts : Puts) (n m : ℕ) (held now : Option (List ℕ)) → n ≡ needed_by s.header puts
@@ -36,56 +40,48 @@ pub laid_torn : (s : Setting) (puts : Puts) (n : ℕ) (held mid now : Option (Li
     → BothTold (λ old left. IsTorn (covered s.header puts) 0 old (after_puts s puts None old) left) held now
 laid_torn s puts n held mid now g is e whole b = grind (arith, nat_tests, torn_laid)
 
+-- a file whose count is raised, or which stays
+abbrev counted_file : Header → ℕ → Bool → List ℕ → List ℕ
+counted_file header n t file = cond t (with_records header.version file n) file
+
+counted_agree : (header : Header) (n : ℕ) (t : Bool) (file : List ℕ) (x : ℕ) → 4 + field_of header ≤ x → at (counted_file header n t file) x ≡ at file x
+counted_agree header n true file x h = counted_past header.version n file x h
+counted_agree header n false file x h = refl
+
 -- the puts were cut off, of a round that would raise the count after them
 round_torn : (s : Setting) (puts : Puts) (records : ℕ) (old left : List ℕ) → is_sound s.header ≡ true → ArePuts s.header puts → told s puts ≡ None
     → IsTorn (covered s.header puts) 0 old (after_puts s puts None old) left
-    → IsTorn (covered s.header puts) (byte_len (count_width s.header.version)) old (after_round s puts (counted old records)).file left
+    → IsTorn (covered s.header puts) (field_of s.header) old (after_round s puts (counted old records)).file left
 round_torn s puts records old left sound are none t =
-    subst (λ (f : List ℕ). IsTorn (covered s.header puts) (byte_len (count_width s.header.version)) old f left) (laid_round s puts records old none)
-    (by_test (nat_lt records (needed_by s.header puts)))
+    subst (λ (f : List ℕ). IsTorn (covered s.header puts) (field_of s.header) old f left) (laid_round s puts records old none) (by_test (nat_lt records (needed_by s.header puts)))
   where
-    by_test : (t : Bool) → IsTorn (covered s.header puts) (byte_len (count_width s.header.version)) old
-        (cond t (with_records s.header.version (after_puts s puts None old) (needed_by s.header puts)) (after_puts s puts None old)) left
+    by_test : (t : Bool) → IsTorn (covered s.header puts) (field_of s.header) old (counted_file s.header (needed_by s.header puts) t (after_puts s puts None old)) left
     by_test true = torn_counted s.header.version (needed_by s.header puts) (covered s.header puts) old (after_puts s puts None old) left (λ x m. covered_past s.header puts x sound are m) t
-    by_test false = torn_wider (covered s.header puts) (byte_len (count_width s.header.version)) old (after_puts s puts None old) left t
+    by_test false = torn_wider (covered s.header puts) (field_of s.header) old (after_puts s puts None old) left t
 
 pub puts_torn : (s : Setting) (puts : Puts) (records : ℕ) (held now : Option (List ℕ)) → is_sound s.header ≡ true → ArePuts s.header puts → told s puts ≡ None
     → BothTold (λ old left. IsTorn (covered s.header puts) 0 old (after_puts s puts None old) left) held now
-    → BothTold (λ old left. IsTorn (covered s.header puts) (byte_len (count_width s.header.version)) old (after_round s puts (counted old records)).file left) held now
+    → BothTold (λ old left. IsTorn (covered s.header puts) (field_of s.header) old (after_round s puts (counted old records)).file left) held now
 puts_torn s puts records held now sound are none b =
     told_as (λ old left. IsTorn (covered s.header puts) 0 old (after_puts s puts None old) left)
-    (λ old left. IsTorn (covered s.header puts) (byte_len (count_width s.header.version)) old (after_round s puts (counted old records)).file left) held now
+    (λ old left. IsTorn (covered s.header puts) (field_of s.header) old (after_round s puts (counted old records)).file left) held now
     (λ old left t. round_torn s puts records old left sound are none t) b
 
 -- the count was cut off
 pub count_torn : (s : Setting) (puts : Puts) (records n : ℕ) (held mid now : Option (List ℕ)) → is_sound s.header ≡ true → ArePuts s.header puts
     → n ≡ needed_by s.header puts → told s puts ≡ None → mid ≡ after (after_puts s puts None) held
-    → BothTold (λ old left. IsTorn [] (byte_len (count_width s.header.version)) old (cond (nat_lt records n) (with_records s.header.version old n) old) left) mid now
-    → BothTold (λ old left. IsTorn (covered s.header puts) (byte_len (count_width s.header.version)) old (after_round s puts (counted old records)).file left) held now
+    → BothTold (λ old left. IsTorn [] (field_of s.header) old (counted_file s.header n (nat_lt records n) old) left) mid now
+    → BothTold (λ old left. IsTorn (covered s.header puts) (field_of s.header) old (after_round s puts (counted old records)).file left) held now
 count_torn s puts records n None mid now sound are is none f b = grind (arith, nat_tests)
 count_torn s puts records n (Some old) mid now sound are is none f b =
-    by_told (subst (λ (m : Option (List ℕ)). BothTold (λ old left. IsTorn [] (byte_len (count_width s.header.version)) old (cond (nat_lt records n) (with_records s.header.version old n) old) left) m now) f b)
-  where
-    agree : (t : Bool) (whole : List ℕ) (x : ℕ) → 4 + byte_len (count_width s.header.version) ≤ x → at (cond t (with_records s.header.version whole n) whole) x ≡ at whole x
-    agree true whole x h = counted_past s.header.version n whole x h
-    agree false whole x h = refl
-
-    by_count : (left : List ℕ) → IsTorn [] (byte_len (count_width s.header.version)) (after_puts s puts None old)
-        (cond (nat_lt records n) (with_records s.header.version (after_puts s puts None old) n) (after_puts s puts None old)) left
-        → IsTorn (covered s.header puts) (byte_len (count_width s.header.version)) old
-        (cond (nat_lt records n) (with_records s.header.version (after_puts s puts None old) n) (after_puts s puts None old)) left
-    by_count left t =
-        torn_after (covered s.header puts) (byte_len (count_width s.header.version)) old (after_puts s puts None old)
-        (cond (nat_lt records n) (with_records s.header.version (after_puts s puts None old) n) (after_puts s puts None old)) left
-        (after_grows s puts None old) (λ x h. after_keeps s puts None old x h) (λ x m. covered_past s.header puts x sound are m)
-        (λ x h. agree (nat_lt records n) (after_puts s puts None old) x h) t
-
-    by_told : BothTold (λ old left. IsTorn [] (byte_len (count_width s.header.version)) old (cond (nat_lt records n) (with_records s.header.version old n) old) left) (Some (after_puts s puts None old)) now
-        → BothTold (λ old left. IsTorn (covered s.header puts) (byte_len (count_width s.header.version)) old (after_round s puts (counted old records)).file left) (Some old) now
-    by_told r = (
+    let whole = after_puts s puts None old in
+    let new = counted_file s.header n (nat_lt records n) whole in
+    let r = subst (λ (m : Option (List ℕ)). BothTold (λ file left. IsTorn [] (field_of s.header) file (counted_file s.header n (nat_lt records n) file) left) m now) f b in (
       r.0,
       r.1,
-      subst (λ (g : List ℕ). IsTorn (covered s.header puts) (byte_len (count_width s.header.version)) old g r.0) (round_by s puts records n old is none) (by_count r.0 r.2),
+      subst (λ (g : List ℕ). IsTorn (covered s.header puts) (field_of s.header) old g r.0) (round_by s puts records n old is none)
+          (torn_after (covered s.header puts) (field_of s.header) old whole new r.0 (after_grows s puts None old) (λ x h. after_keeps s puts None old x h)
+          (λ x m. covered_past s.header puts x sound are m) (λ x h. counted_agree s.header n (nat_lt records n) whole x h) r.2),
     )
 
 -- the write of the count

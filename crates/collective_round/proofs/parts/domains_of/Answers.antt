@@ -46,23 +46,19 @@ loop-a-preserved c =
 pub returns : goal.returns
 returns c =
     let range = in_range_hints c.args.hints.now c.requires.hints in
-    let last : c.loop-a.a ≡ c.args.hints.now.cb_nodes = (let over = c.loop-a-test.false in let within = c.loop-a.auto.a-end in omega arith) in
+    let lo = c.reach_of-reach.result.at in
+    let hi = c.reach_of-reach.result.at + c.reach_of-reach.result.len in
+    let nodes = c.args.hints.now.cb_nodes in
+    let unit = c.args.hints.now.striping_unit in
+    let size = c.args.hints.now.cb_buffer in
+    let domains = c.loop-a.domains.items in
+    let begin = c.reach_of-reach.ensures.begin in
+    let end = c.reach_of-reach.ensures.end in
+    let last : c.loop-a.a ≡ nodes = (let over = c.loop-a-test.false in let within = c.loop-a.auto.a-end in omega arith) in
+    let cut = subst (λ (k : ℕ). AreCut lo hi nodes unit size c.args.cover.now k domains) last c.loop-a.invariant.0 in
     record {
       few = first_of (search rules, grind (arith, common_steps));
-      domains = cut_domains _ _ _ _ c.args.hints.now.cb_buffer
-          c.args.cover.now c.loop-a.domains.items (omega arith) range.nodes.0 range.unit.0 c.reach_of-reach.ensures.begin c.reach_of-reach.ensures.end
-          (subst (λ (k : ℕ). AreCut c.reach_of-reach.result.at (c.reach_of-reach.result.at + c.reach_of-reach.result.len) c.args.hints.now.cb_nodes c.args.hints.now.striping_unit c.args.hints.now.cb_buffer
-          c.args.cover.now k c.loop-a.domains.items) last c.loop-a.invariant.0);
-      ends =
-          let cut = c.loop-a.invariant.0 in
-          ends_below c.loop-a.domains.items c.reach_of-reach.result.at _ cut.line
-          (subst (λ (k : ℕ). end_after c.reach_of-reach.result.at c.loop-a.domains.items ≡ k)
-          (last_border c.reach_of-reach.result.at (c.reach_of-reach.result.at + c.reach_of-reach.result.len) _ _ (omega arith) range.nodes.0 range.unit.0)
-          (subst (λ (k : ℕ). AreCut c.reach_of-reach.result.at (c.reach_of-reach.result.at + c.reach_of-reach.result.len) c.args.hints.now.cb_nodes c.args.hints.now.striping_unit c.args.hints.now.cb_buffer
-          c.args.cover.now k c.loop-a.domains.items) last cut).end)
-          c.reach_of-reach.ensures.limit;
-      windows = cut_windows c.args.hints.now _ _ c.args.cover.now c.loop-a.domains.items c.requires.hints c.requires.cover
-          c.reach_of-reach.ensures.begin c.reach_of-reach.ensures.end
-          (subst (λ (k : ℕ). AreCut c.reach_of-reach.result.at (c.reach_of-reach.result.at + c.reach_of-reach.result.len) c.args.hints.now.cb_nodes c.args.hints.now.striping_unit c.args.hints.now.cb_buffer
-          c.args.cover.now k c.loop-a.domains.items) last c.loop-a.invariant.0);
+      domains = cut_domains lo hi nodes unit size c.args.cover.now domains (omega arith) range.nodes.0 range.unit.0 begin end cut;
+      ends = ends_below domains lo hi cut.line (cut.end ∙ last_border lo hi nodes unit (omega arith) range.nodes.0 range.unit.0) c.reach_of-reach.ensures.limit;
+      windows = cut_windows c.args.hints.now lo hi c.args.cover.now domains c.requires.hints c.requires.cover begin end cut;
     }
