@@ -1,15 +1,5 @@
 -- Packing: one entry more goes into the list of its rank, and one list more into a message.
-use Rattle.put_exchange.proofs.Words.{◌≡◌, ℕ, zero, suc, ◌+◌, ◌<◌, ◌≤◌, inl, inr, refl, sym, ◌∙◌, ap, List, [], ◌∷◌, ◌++◌, length, map, take, set, get_or, Bool, true, false, cond, Some, ◌&&◌, arith, and_parts, and_right, eqb-true, append-nil, length-map, map-append, take_more, length-range_with_len, filter, filter-append, slice_get-get_or, slice_get, ◌==◌, range_with_len, range_push, equal_true, Batch, Owned, Vec, Global, In, map_in, filter_in, cell_of, clip, part_bytes, slot_in, meets, of_rank, ArePieces, Told, puts_of_some, source_of, AreCuts, binned, bytes_of, cells_in, cells_of, cut_in, cuts_by, has_pieces, hull_of, posts_of, sent, sent_by, Cut, Sent, nat_tests}
-
--- ---- the bytes of an entry's post
-
-pub batch_in : (batches : List Batch) (rank slot : ℕ) → 1 ≤ length (source_of batches rank slot) → rank < length batches
-batch_in [] rank slot h = absurd (omega arith)
-batch_in (b ∷ batches) zero slot h = omega arith
-batch_in (b ∷ batches) (suc rank) slot h = let l = batch_in batches rank slot h in omega arith
-
-pub batch_puts : (batches : List Batch) (rank : ℕ) (d : Batch) → rank < length batches → (get_or batches rank d).puts ≡ puts_of_some (slice_get batches rank)
-batch_puts batches rank d l = sym (ap puts_of_some (slice_get-get_or batches rank d l))
+use Rattle.put_exchange.proofs.Words.{◌≡◌, ℕ, zero, suc, ◌+◌, ◌<◌, ◌≤◌, inl, inr, refl, sym, ◌∙◌, ap, List, [], ◌∷◌, ◌++◌, length, map, take, set, get_or, Bool, true, false, cond, Some, ◌&&◌, arith, and_parts, and_right, eqb-true, eqb_tells, append-nil, length-map, map-append, take_more, length-range_with_len, filter, filter-append, slice_get-get_or, slice_get, ◌==◌, range_with_len, range_push, equal_true, Batch, Owned, Vec, Global, In, map_in, filter_in, cell_of, clip, part_bytes, slot_in, meets, of_rank, ArePieces, Told, puts_of_some, source_of, AreCuts, binned, bytes_of, cells_in, cells_of, cut_in, cuts_by, has_pieces, hull_of, posts_of, sent, sent_by, Cut, Sent, nat_tests}
 
 -- ---- the cuts of a rank's entries
 
@@ -93,6 +83,9 @@ bin_at f a (suc n) (suc k) (b ∷ bins) bin e at =
 pub bin_is : (f : ℕ → List Cut) (n k : ℕ) (bins : List (Vec Cut Global)) (bin : Vec Cut Global) → binned bins ≡ map f (range_with_len 0 n) → slice_get bins k ≡ Some bin → bin.items ≡ f k
 bin_is f n k bins bin e at = let here : 0 + k ≡ k = omega arith in bin_at f 0 n k bins bin e at ∙ ap f here
 
+unequal : (a b : ℕ) → (a ≡ b → ⊥) → (a == b) ≡ false
+unequal a b ne = grind (arith, nat_tests, eqb_tells)
+
 -- an entry that has a piece goes into the list of its rank
 binned_more : (n : ℕ) (xs : List Owned) (o : Owned) (t : Told) (bins : List (Vec Cut Global)) (bin : Vec Cut Global) (d : Vec Cut Global) → o.rank < n → meets t.0 (t.0 + t.1) o ≡ true
     → binned bins ≡ map (λ r. cuts_by t xs r) (range_with_len 0 n) → bin.items ≡ (get_or bins o.rank d).items ++ cut_in t.0 (t.0 + t.1) o ∷ []
@@ -108,13 +101,6 @@ binned_more n xs o t bins bin d below meet is put =
     ∙ set_map old new 0 n o.rank bin.items below
     (put ∙ ap (λ (cs : List Cut). cs ++ cut_in t.0 (t.0 + t.1) o ∷ []) own ∙ cuts_more xs o t meet ∙ ap new (sym here))
     (λ j other. cuts_kept xs o t j (ap (λ (b : Bool). b && meets t.0 (t.0 + t.1) o) (unequal o.rank j (λ e. other (sym e ∙ sym here)))))
-  where
-    unequal : (a b : ℕ) → (a ≡ b → ⊥) → (a == b) ≡ false
-    unequal a b ne = by_test (a == b) refl
-      where
-        by_test : (v : Bool) → (a == b) ≡ v → (a == b) ≡ false
-        by_test true e = absurd (ne (eqb-true _ _ e))
-        by_test false e = e
 
 -- one that has none changes nothing
 binned_kept : (n : ℕ) (xs : List Owned) (o : Owned) (t : Told) (bins : List (List Cut)) → meets t.0 (t.0 + t.1) o ≡ false

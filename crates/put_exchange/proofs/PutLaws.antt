@@ -171,22 +171,17 @@ put_next source list picked from t ts old mid one p low high s = record {
     by_said x (Some v) e =
         inl (said (turn_cells source picked from t) mid x v e
         ∙ sym (said (part_cells source list from (length old)) old x v (turn_part source list picked from (length old) t one p low high x v e)))
-    by_said x None e = by_done (s.done x)
-      where
-        same : at (put_window source from t picked mid) x ≡ at mid x
-        same = unsaid (turn_cells source picked from t) mid x e
-
-        by_turn : (u : Told) → In (t ∷ ts) u → u.0 ≤ x + from → x + from < u.0 + u.1
-            → (at (put_window source from t picked mid) x ≡ at (put_part source list from old) x) ⊎ ((u : Told) × In ts u × (u.0 ≤ x + from) × (x + from < u.0 + u.1))
-        by_turn u (inr m) l h = inr (u, m, l, h)
-        by_turn u (inl g) l h =
-            inl (same ∙ by_whole x (said_at (said_by (part_cells source list from (length old))) x) refl e
-            (subst (λ (w : Told). w.0 ≤ x + from) (sym g) l) (subst (λ (w : Told). x + from < w.0 + w.1) (sym g) h))
-
-        by_done : (at mid x ≡ at (put_part source list from old) x) ⊎ ((u : Told) × In (t ∷ ts) u × (u.0 ≤ x + from) × (x + from < u.0 + u.1))
-            → (at (put_window source from t picked mid) x ≡ at (put_part source list from old) x) ⊎ ((u : Told) × In ts u × (u.0 ≤ x + from) × (x + from < u.0 + u.1))
-        by_done (inl k) = inl (same ∙ k)
-        by_done (inr r) = by_turn r.0 r.1 r.2 r.3
+    by_said x None e =
+        let same : at (put_window source from t picked mid) x ≡ at mid x = unsaid (turn_cells source picked from t) mid x e in
+        elim (s.done x) [
+          | inl k ↦ inl (same ∙ k)
+          | inr r ↦ elim r.1 [
+            | inr m ↦ inr (r.0, m, r.2, r.3)
+            | inl g ↦
+                inl (same ∙ by_whole x (said_at (said_by (part_cells source list from (length old))) x) refl e
+                (subst (λ (w : Told). w.0 ≤ x + from) (sym g) r.2) (subst (λ (w : Told). x + from < w.0 + w.1) (sym g) r.3))
+          ]
+        ]
 
 put_end : (source : Source) (list : List Owned) (from : ℕ) (old now : List ℕ) → IsPutSoFar source list from [] old now → now ≡ put_part source list from old
 put_end source list from old now s = grind (arith, nat_tests, cells_long _ old (part_within source list from (length old)), same_file, part_within)

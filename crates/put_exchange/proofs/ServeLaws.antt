@@ -52,22 +52,6 @@ window_messages : {T E : Type 0} (source : Source) (from ranks count : ℕ) (lis
 window_messages source from ranks count list t done before now held left end put many e =
     grind (arith, nat_tests, append_parts before put.got done (messages_in source ranks list t) many (sym put.taken ∙ e), messages_carry source ranks list t)
 
--- a window that was put, or cut off
-put_between : {T E : Type 0} (source : Source) (from len ranks room count : ℕ) (list : List Owned) (t : Told) (before now : List Sent) (held mid left : Option (List ℕ)) (end : Result T E)
-    → IsGiven source ranks list from len held → IsTurn list room t → from ≤ t.0 → t.0 + t.1 ≤ from + len → (put : HasPutTaken (turn_due from t count) before now mid left end)
-    → Carry source t (pieces_in ranks list t) put.got → BothTold (λ old new. IsBetween old (put_part source list from old) new) held mid
-    → BothTold (λ old new. IsBetween old (put_part source list from old) new) held left
-put_between source from len ranks room count list t before now held mid left end given turn low high put got b =
-    told_more source list (pieces_in ranks list t) from len t held mid left given.told given.one (pieces_picked ranks list t given.below) low high b
-    (put.between source (pieces_in ranks list t) got (pieces_filled source ranks room list t given.pieces given.below turn))
-
-put_bytes : {T E : Type 0} (source : Source) (from len ranks room count : ℕ) (list : List Owned) (t : Told) (ts : List Told) (before now : List Sent) (held mid left : Option (List ℕ)) (x : T)
-    → IsGiven source ranks list from len held → IsTurn list room t → from ≤ t.0 → t.0 + t.1 ≤ from + len → (put : HasPutTaken {E = E} (turn_due from t count) before now mid left (Ok x))
-    → Carry source t (pieces_in ranks list t) put.got → BothTold (λ old new. IsPutSoFar source list from (t ∷ ts) old new) held mid → BothTold (λ old new. IsPutSoFar source list from ts old new) held left
-put_bytes source from len ranks room count list t ts before now held mid left x given turn low high put got b =
-    told_next source list (pieces_in ranks list t) from len t ts held mid left given.told given.one (pieces_picked ranks list t given.below) low high b
-    (put.bytes source (pieces_in ranks list t) got (pieces_filled source ranks room list t given.pieces given.below turn))
-
 -- what one window did
 pub record DidTurn {T E : Type 0} (from count : ℕ) (t : Told) (taken more : List Sent) (mid now : Option (List ℕ)) (made drawn : Option (List DiskCall))
     (before end : Result T E) : Type 0 where
@@ -86,7 +70,8 @@ next_between : {T E : Type 0} (source : Source) (from len ranks room count : ℕ
 next_between source from len ranks room count list t prior taken more held mid now made drawn (Ok x) end given turn low high many d b e =
     let put = d.put refl in
     let r = window_messages source from ranks count list t prior taken more mid now end put many e in
-    put_between source from len ranks room count list t taken more held mid now end given turn low high put r.1 (b r.0)
+    told_more source list (pieces_in ranks list t) from len t held mid now given.told given.one (pieces_picked ranks list t given.below) low high (b r.0)
+    (put.between source (pieces_in ranks list t) r.1 (pieces_filled source ranks room list t given.pieces given.below turn))
 next_between source from len ranks room count list t prior taken more held mid now made drawn (Err x) end given turn low high many d b e =
     grind (arith, nat_tests, append_parts taken d.took.got prior (messages_in source ranks list t) many (sym d.took.taken ∙ e))
 
@@ -99,7 +84,8 @@ next_bytes : {T E : Type 0} (source : Source) (from len ranks room count : ℕ) 
 next_bytes source from len ranks room count list t ts prior taken more held mid now made drawn (Ok x) (Ok y) given turn low high many d b =
     λ e. let put = d.put refl in
     let r = window_messages source from ranks count list t prior taken more mid now (Ok y) put many e in
-    put_bytes source from len ranks room count list t ts taken more held mid now y given turn low high put r.1 (b r.0)
+    told_next source list (pieces_in ranks list t) from len t ts held mid now given.told given.one (pieces_picked ranks list t given.below) low high (b r.0)
+    (put.bytes source (pieces_in ranks list t) r.1 (pieces_filled source ranks room list t given.pieces given.below turn))
 next_bytes source from len ranks room count list t ts prior taken more held mid now made drawn (Err x) (Ok y) given turn low high many d b = let e = d.ok in absurd cc
 next_bytes source from len ranks room count list t ts prior taken more held mid now made drawn before (Err y) given turn low high many d b = tt
 
