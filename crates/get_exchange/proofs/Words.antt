@@ -46,6 +46,7 @@ pub use Rattle.get_exchange.specs.declared.reading.Reading.{Reading}
 pub use Rattle.get_exchange.specs.declared.reading.Reading.TheVariants.{Hull}
 pub use Rattle.get_exchange.specs.declared.shelf.Shelf.{Shelf}
 pub use Rattle.get_exchange.specs.declared.walk.ReadWalk.{ReadWalk}
+pub use Rattle.list_laws.proofs.Each.{zip_weaker}
 pub use Rattle.list_laws.proofs.Places.{drop_at, entry_below, entry_set, entry_set_other, middle_at}
 pub use Rattle.list_laws.proofs.Refills.{refilled}
 pub use Rattle.list_laws.proofs.Truth.{and_first, and_second, equal_true, no_both}
