@@ -6,7 +6,7 @@ use Rattle.nc_base.specs.declared.errors.LimitName.TheVariants as limit
 use Rattle.nc_base.specs.declared.script.Extra.TheVariants as extra
 use Rattle.script_text.proofs.Steps.{went, go_on, same_ok, passed, read_word, word_read, by_false, tested, decided, step_then, free_then, end_then}
 use Rattle.script_text.proofs.Lexing.{is_plain, is_good}
-use Rattle.script_text.proofs.Lines.{is_line, spelled, numbered}
+use Rattle.script_text.proofs.Lines.{is_line, spelled, numbered, Lead, lead_on}
 use Rattle.script_text.proofs.Numerals.{name_plain}
 use Rattle.script_text.proofs.PrintedValues.{is_read}
 use Rattle.script_text.proofs.PrintedRegions.{kept}
@@ -23,15 +23,10 @@ Leads version known (Quoted text ∷ ws) after = ⊥
 Leads version known (Broken ∷ ws) after = ⊥
 
 abbrev pub Runs : ℕ → Known → List (List Word) → Known → Type 0
-Runs version known [] after = known ≡ after
-Runs version known (ws ∷ wss) after = (next : Known) × Leads version known ws next × Runs version next wss after
-
-pub leads_on : (version : ℕ) (k next after : Known) (ws : List Word) (wss : List (List Word)) → Leads version k ws next → Runs version next wss after → Runs version k (ws ∷ wss) after
-leads_on version k next after ws wss a b = (next, a, b)
+Runs version known wss after = Lead (Leads version) known wss after
 
 pub runs_on : (version : ℕ) (k x y : Known) (a b : List (List Word)) → Runs version k a x → Runs version x b y → Runs version k (a ++ b) y
-runs_on version k x y [] b h j = subst (λ (z : Known). Runs version z b y) (sym h) j
-runs_on version k x y (ws ∷ a) b h j = (h.0, h.1, runs_on version h.0 x y a b h.2 j)
+runs_on version k x y a b h j = lead_on (Leads version) k x y a b h j
 
 abbrev pub defined_by : ℕ → ℕ → List Line → Result (Option ℕ × Known) ScriptErr → Result (ℕ × (Known × List Line)) ScriptErr
 defined_by past version lines r = elim r [ Err e ↦ Err e | Ok s ↦ elim s.0 [ Some ranks ↦ Ok (ranks, (s.1, lines)) | None ↦ definitions past version s.1 lines ] ]
@@ -42,7 +37,7 @@ step_again version k x first ws other h = by_false (bytes_eq first (codes "data"
 pub run_again : (past version n m : ℕ) (k x : Known) (wss more : List (List Word)) → n + length wss ≡ m → Runs version k wss x
     → definitions past version k (numbered n (wss ++ more)) ≡ definitions past version x (numbered m more)
 run_again past version n m k x [] more e h = grind (arith, nat_tests, numbered)
-run_again past version n m k x (ws ∷ wss) more e h = grind (arith, nat_tests, run_again past version (n + 1) m h.0 x wss more (omega arith) h.2)
+run_again past version n m k x (ws ∷ wss) more e h = grind (arith, nat_tests, run_again past version (n + 1) m h.0 x wss more (omega arith) h.3)
 
 -- ---- what is added, as it is printed
 
@@ -154,7 +149,7 @@ att_added values d ws r low read h =
     let c = went (attribute 5 d.titles values b.value.0 b.value.1) _ r b.rest in
     let o = b.value.0 in
     let a = c.value in
-    let k = attr_read 5 d.titles values o b.value.1 a low (kept is_read owner_of_text kind.BadName ws b.value b.first read) c.first in
+    let k = attr_read 5 d.titles values o b.value.1 a low (kept owner_of_text kind.BadName ws b.value b.first read) c.first in
     let owner = owner_read ws b.value b.first in
     let words = owner_rest o a owner in
     let next : Added = record d { titles = d.titles ++ (o, a.name) ∷ []; extras = d.extras ++ extra.Att (owner_name o) a ∷ [] } in
@@ -189,10 +184,10 @@ replay_pushed v w d x (f ∷ es) e r h good again = (h.0, h.1, h.2, replay_pushe
 pub replay_on : (v w : ℕ) (d x : Added) (r : ℕ × Added) → Replay v d x.extras w x → AddedBy w x r → Replay v d r.1.extras (w + r.0) r.1
 replay_on v w d x r h a = subst (λ (es : List Extra). Replay v d es (w + r.0) r.1) (sym a.extras) (replay_pushed v w d x x.extras a.what r h a.good a.again)
 
-pub replay_lines : (v w : ℕ) (d x : Added) (es : List Extra) → Replay v d es w x → list_all is_line (map extra_line es) ≡ true
-replay_lines v w d x [] h = refl
-replay_lines v w d x (e ∷ es) h = and_from _ _ (extra_is_line e h.1) (replay_lines (v + h.0.0) w h.0.1 x es h.3)
+extra_leads : (e : Extra) (v : ℕ) (d : Added) (r : ℕ × Added) (k : Known) → addition v d (extra_word e) (extra_rest e) ≡ Ok r
+    → Leads 0 (record k { added = d; values = v }) (extra_line e) (record k { added = r.1; values = v + r.0 })
+extra_leads e v d r k h = grind (arith, nat_tests)
 
 pub replay_runs : (v w : ℕ) (d x : Added) (es : List Extra) (k : Known) → Replay v d es w x → Runs 0 (record k { added = d; values = v }) (map extra_line es) (record k { added = x; values = w })
 replay_runs v w d x [] k h = ap (λ (n : ℕ). record k { added = d; values = n }) h.0 ∙ ap (λ (y : Added). record k { added = y; values = w }) h.1
-replay_runs v w d x (e ∷ es) k h = grind (arith, nat_tests, replay_runs (v + h.0.0) w h.0.1 x es k h.3)
+replay_runs v w d x (e ∷ es) k h = (record k { added = h.0.1; values = v + h.0.0 }, extra_is_line e h.1, extra_leads e v d h.0 k h.2, replay_runs (v + h.0.0) w h.0.1 x es k h.3)

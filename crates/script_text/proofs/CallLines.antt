@@ -4,7 +4,7 @@ use Rattle.std.proofs.Common.{flat_map}
 use borrow.Author.Tests.{ltb-true, lt-ltb}
 use Rattle.nc_base.specs.declared.errors.ScriptKind.TheVariants as kind
 use Rattle.script_text.proofs.Steps.{went, go_on, same_ok, whole_value, by_false, tested, carried, step_then}
-use Rattle.script_text.proofs.Lines.{is_line, spelled, numbered}
+use Rattle.script_text.proofs.Lines.{is_line, spelled, numbered, Lead, lead_on}
 use Rattle.script_text.proofs.Numerals.{decimal_numeral, decimal_plain, decimal_word}
 use Rattle.script_text.proofs.PrintedValues.{is_read, not_letters}
 use Rattle.script_text.proofs.CallTokens.{call_tokens, call_spelled, call_plain}
@@ -136,14 +136,6 @@ digits_no_comment ds some h = grind (arith, nat_tests, ne_eqb, and_parts)
 call_is_line : (ranks r : ℕ) (own : List Call) (c : Call) → r < 64 → CallAgain ranks r own c → is_line (call_tokens_of r c) ≡ true
 call_is_line ranks r own c low again = grind (arith, nat_tests, decimal_numeral, and_from, not, digits_no_comment, decimal, decimal_plain, call_plain)
 
-own_are_lines : (ranks r : ℕ) (cs own : List Call) → r < 64 → Chain ranks r own cs → list_all is_line (own_lines r cs) ≡ true
-own_are_lines ranks r [] own low h = refl
-own_are_lines ranks r (c ∷ cs) own low h = and_from _ _ (call_is_line ranks r own c low h.0) (own_are_lines ranks r cs (own ++ c ∷ []) low h.1)
-
-pub calls_are_lines : (ranks r : ℕ) (calls : List (List Call)) → r + length calls ≤ 64 → Chains ranks r calls → list_all is_line (call_lines r calls) ≡ true
-calls_are_lines ranks r [] low h = refl
-calls_are_lines ranks r (own ∷ more) low h = grind (arith, nat_tests, calls_are_lines ranks (r + 1) more (omega arith) h.1, all_joined, own_are_lines)
-
 -- ---- and they are read again
 
 rank_again : (ranks r : ℕ) → r < ranks → r < 64 → rank_of_text ranks (decimal r) ≡ Ok r
@@ -182,43 +174,57 @@ data_on : (past n : ℕ) (d e : Called) (w : Word) (ws : List Word) (lines : Lis
     → data_part past d (record { number = n; first = w; rest = ws } ∷ lines) ≡ data_part past e lines
 data_on past n d e w ws lines h = ap (λ (r : Result (Bool × Called) ScriptKind). data_by past (record { number = n; first = w; rest = ws }) lines (at_line n r)) h
 
-own_again : (ranks past : ℕ) (cs : List Call) (front : List (List Call)) (own : List Call) (back : List (List Call)) (v r n m : ℕ) (more : List (List Word))
-    → length front ≡ r → r < 64 → length (front ++ own ∷ back) ≡ ranks → Chain ranks r own cs → v + count cs ≤ most_values → n + length cs ≡ m
-    → data_part past (at_rank front own back v) (numbered n (own_lines r cs ++ more)) ≡ data_part past (at_rank front (own ++ cs) back (v + count cs)) (numbered m more)
-own_again ranks past [] front own back v r n m more e small long h few num = grind (arith, nat_tests, numbered, append-nil)
-own_again ranks past (c ∷ cs) front own back v r n m more e small long h few num =
-    let step = call_again_step ranks front own back v r c e small long h.0 (omega arith) in
+-- a line of a call leads on
+abbrev pub Calls : Called → List Word → Called → Type 0
+Calls d [] e = ⊥
+Calls d (w ∷ ws) e = call_step d w ws ≡ Ok (false, e)
+
+calls_run_again : (past n m : ℕ) (d e : Called) (wss more : List (List Word)) → n + length wss ≡ m → Lead Calls d wss e → data_part past d (numbered n (wss ++ more)) ≡ data_part past e (numbered m more)
+calls_run_again past n m d e [] more num h = grind (arith, nat_tests, numbered)
+calls_run_again past n m d e ([] ∷ wss) more num h = absurd h.2
+calls_run_again past n m d e ((w ∷ ws) ∷ wss) more num h =
+    data_on past n d h.0 w ws (numbered (n + 1) (wss ++ more)) h.2 ∙ calls_run_again past (n + 1) m h.0 e wss more (omega arith) h.3
+
+own_run : (ranks : ℕ) (cs : List Call) (front : List (List Call)) (own : List Call) (back : List (List Call)) (v r : ℕ)
+    → length front ≡ r → r < 64 → length (front ++ own ∷ back) ≡ ranks → Chain ranks r own cs → v + count cs ≤ most_values
+    → Lead Calls (at_rank front own back v) (own_lines r cs) (at_rank front (own ++ cs) back (v + count cs))
+own_run ranks [] front own back v r e small long h few = grind (arith, nat_tests, append-nil)
+own_run ranks (c ∷ cs) front own back v r e small long h few =
     let next_own = own ++ c ∷ [] in
     let next_long : length (front ++ next_own ∷ back) ≡ ranks = omega (arith, long, length-append front (own ∷ back), length-append front (next_own ∷ back)) in
-    let rest = own_again ranks past cs front next_own back (v + values_in_call c) r (n + 1) m more e small next_long h.1 (omega arith) (omega arith) in
-    let total : (v + values_in_call c) + count cs ≡ v + (values_in_call c + count cs) = omega arith in
-    data_on past n (at_rank front own back v) (at_rank front next_own back (v + values_in_call c)) (Plain (decimal r)) (Plain (call_word c) ∷ call_tokens c) (numbered (n + 1) (own_lines r cs ++ more)) step
-    ∙ (rw (append_assoc own (c ∷ []) cs, total) at rest)
-
-abbrev lines_in : List (List Call) → ℕ
-lines_in [] = 0
-lines_in (own ∷ more) = length own + lines_in more
+    let rest = own_run ranks cs front next_own back (v + values_in_call c) r e small next_long h.1 (omega arith) in
+    let total : (v + values_in_call c) + count cs ≡ v + (values_in_call c + count cs) = omega arith in (
+      at_rank front next_own back (v + values_in_call c),
+      call_is_line ranks r own c small h.0,
+      call_again_step ranks front own back v r c e small long h.0 (omega arith),
+      (rw (append_assoc own (c ∷ []) cs, total) at rest),
+    )
 
 abbrev from_rank : List (List Call) → List (List Call) → ℕ → Called
 from_rank front rest v = record { calls = front ++ rest; values = v }
 
-calls_again : (ranks past : ℕ) (calls front : List (List Call)) (v r n m : ℕ) (more : List (List Word))
-    → length front ≡ r → r + length calls ≡ ranks → ranks ≤ 64 → Chains ranks r calls → v + count_all calls ≤ most_values → n + lines_in calls ≡ m
-    → data_part past (from_rank front (replicate (length calls) []) v) (numbered n (call_lines r calls ++ more)) ≡ data_part past (from_rank front calls (v + count_all calls)) (numbered m more)
-calls_again ranks past [] front v r n m more e long small h few num = grind (arith, nat_tests, numbered)
-calls_again ranks past (own ∷ calls) front v r n m more e long small h few num =
+calls_run : (ranks : ℕ) (calls front : List (List Call)) (v r : ℕ) → length front ≡ r → r + length calls ≡ ranks → ranks ≤ 64 → Chains ranks r calls → v + count_all calls ≤ most_values
+    → Lead Calls (from_rank front (replicate (length calls) []) v) (call_lines r calls) (from_rank front calls (v + count_all calls))
+calls_run ranks [] front v r e long small h few = grind (arith, nat_tests)
+calls_run ranks (own ∷ calls) front v r e long small h few =
     let back : List (List Call) = replicate (length calls) [] in
     let as_long : length back ≡ length calls = length-replicate (length calls) [] in
     let whole_long : length (front ++ [] ∷ back) ≡ ranks = omega (arith, length-append front ([] ∷ back), as_long) in
-    let first = own_again ranks past own front [] back v r n (n + length own) (call_lines (r + 1) calls ++ more) e (omega arith) whole_long h.0 (omega arith) refl in
-    let rest = calls_again ranks past calls (front ++ own ∷ []) (v + count own) (r + 1) (n + length own) m more (omega (arith, e, length-append front (own ∷ []))) (omega arith) small h.1 (omega arith) (omega arith) in
+    let first = own_run ranks own front [] back v r e (omega arith) whole_long h.0 (omega arith) in
+    let rest = calls_run ranks calls (front ++ own ∷ []) (v + count own) (r + 1) (omega (arith, e, length-append front (own ∷ []))) (omega arith) small h.1 (omega arith) in
     let total : (v + count own) + count_all calls ≡ v + (count own + count_all calls) = omega arith in
-    rw (append_assoc (own_lines r own) (call_lines (r + 1) calls) more) (first ∙ (rw (append_assoc front (own ∷ []) back, append_assoc front (own ∷ []) calls, total) at rest))
+    lead_on Calls _ (at_rank front own back (v + count own)) _ (own_lines r own) (call_lines (r + 1) calls) first (rw (append_assoc front (own ∷ []) back, append_assoc front (own ∷ []) calls, total) at rest)
+
+-- the printed calls lead from none to all
+pub all_calls_run : (ranks v : ℕ) (calls : List (List Call)) → ranks ≤ 64 → DataEnd ranks v calls
+    → Lead Calls (from_rank [] (replicate ranks []) v) (call_lines 0 calls) (from_rank [] calls (v + count_all calls))
+all_calls_run ranks v calls small e =
+    subst (λ n. Lead Calls (from_rank [] (replicate n []) v) (call_lines 0 calls) (from_rank [] calls (v + count_all calls))) e.long
+    (calls_run ranks calls [] v 0 refl (omega (arith, e.long)) small e.chains e.few)
 
 -- the printed calls up to `end`
 pub data_again : (ranks past n v : ℕ) (calls : List (List Call)) → ranks ≤ 64 → DataEnd ranks v calls
     → (m : ℕ) × (data_part past (record { calls = replicate ranks []; values = v }) (numbered n (call_lines 0 calls ++ (Plain (codes "end") ∷ []) ∷ [])) ≡ Ok (m, (record { calls = calls; values = v + count_all calls }, [])))
 data_again ranks past n v calls small e =
-    let m = n + lines_in calls in
-    let all = calls_again ranks past calls [] v 0 n m ((Plain (codes "end") ∷ []) ∷ []) refl (omega (arith, e.long)) small e.chains e.few refl in
-    (m, ap (λ (k : ℕ). data_part past (record { calls = replicate k []; values = v }) (numbered n (call_lines 0 calls ++ (Plain (codes "end") ∷ []) ∷ []))) (sym e.long) ∙ all)
+    let m = n + length (call_lines 0 calls) in
+    (m, calls_run_again past n m (from_rank [] (replicate ranks []) v) (from_rank [] calls (v + count_all calls)) (call_lines 0 calls) ((Plain (codes "end") ∷ []) ∷ []) refl (all_calls_run ranks v calls small e))

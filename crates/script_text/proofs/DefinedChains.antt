@@ -255,7 +255,7 @@ att_on : (version values : ℕ) (d : Defined) (ws : List Word) (r : ℕ × Defin
 att_on version values d ws r low read ok h =
     step_then (reads_as owner_of_text kind.BadName ws) _ r h (λ o is h. step_then (owner_place d.vars o.0) _ r h (λ k there h. step_then (attribute version d.titles values o.0 o.1) _ r h (λ a told h.
     subst (DefinedOn version values) (same_ok (a.count, with_title o.0 a.name (with_attr_of_owner k a d)) r h)
-    (att_by_place version values d o.0 k a ok (place_read d.vars o.0 k there) (attr_read version d.titles values o.0 o.1 a low (kept is_read owner_of_text kind.BadName ws o is read) told)))))
+    (att_by_place version values d o.0 k a ok (place_read d.vars o.0 k there) (attr_read version d.titles values o.0 o.1 a low (kept owner_of_text kind.BadName ws o is read) told)))))
 
 fill_on : (version values : ℕ) (d : Defined) (ws : List Word) (r : ℕ × Defined) → values ≤ most_values → DefinedOk version values d → fill_line d ws ≡ Ok r → DefinedOn version values r
 fill_on version values d ws r low ok h = grind (arith, nat_tests, went, same_ok)

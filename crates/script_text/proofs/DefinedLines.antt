@@ -1,5 +1,5 @@
 -- The definitions of a new dataset, printed in their canonical order, are read as the same definitions.
-use Rattle.script_text.proofs.Words.{◌≡◌, ℕ, suc, ◌+◌, ◌≤◌, List, [], ◌∷◌, ◌++◌, map, position, length, Bool, true, false, nat_lt, ◌==◌, Some, None, Ok, refl, sym, ap, append_assoc, append-nil, arith, bytes_eq, codes, list_all, list_any, and_parts, and_from, and_left, and_right, or_from, or_parts, ne_eqb, list_any-append, Dim, Attr, Var, most_values, type_word, bracketed, Word, Plain, is_name, is_among, var_names, var_line, owner_place, Title, same_title, Defined, with_var, with_title, with_attr_of_owner, att_line, definition, Known, all_joined, nat_tests}
+use Rattle.script_text.proofs.Words.{◌≡◌, ℕ, suc, ◌+◌, ◌≤◌, List, [], ◌∷◌, ◌++◌, map, position, length, Bool, true, false, nat_lt, ◌==◌, Some, None, Ok, refl, sym, ap, append_assoc, append-nil, arith, bytes_eq, codes, list_all, list_any, and_parts, and_from, and_left, and_right, or_from, or_parts, ne_eqb, list_any-append, Dim, Attr, Var, most_values, type_word, bracketed, Word, Plain, is_name, is_among, var_names, dim_line, var_line, owner_place, Title, same_title, Defined, with_var, with_title, with_attr_of_owner, att_line, definition, Known, all_joined, nat_tests}
 use Rattle.nc_base.specs.declared.errors.ScriptKind.TheVariants as kind
 use Rattle.nc_base.specs.declared.errors.LimitName.TheVariants as limit
 use Rattle.script_text.proofs.Steps.{go_on, passed, faultless, word_read, by_false}
@@ -8,7 +8,7 @@ use Rattle.script_text.proofs.Lines.{is_line}
 use Rattle.script_text.proofs.Numerals.{name_plain}
 use Rattle.script_text.proofs.PrintedAttributes.{type_plain, attr_tokens, AttrAgain}
 use Rattle.script_text.proofs.PrintedDefinitions.{dim_tokens, head_again, names_plain, names_again}
-use Rattle.script_text.proofs.AddedLines.{Leads, Runs, runs_on, owner_again, leads_on}
+use Rattle.script_text.proofs.AddedLines.{Leads, Runs, runs_on, owner_again}
 use Rattle.script_text.proofs.Places.{name_at, names_shown, place_of_new}
 use Rattle.script_text.proofs.DefinedChains.{DimChain, VarOk, VarChain, AttrChain, OwnChains, with_own, push_attr, pushes, count_attrs, count_own}
 
@@ -22,6 +22,12 @@ pub leads_by : (version : ℕ) (k : Known) (first : List ℕ) (ws : List Word) (
     → definition version k.values k.defined first ws ≡ Ok r → Leads version k (Plain first ∷ ws) (record k { defined = r.1; values = k.values + r.0 })
 leads_by version k first ws r new a b c h = grind (arith, nat_tests, by_false, bytes_eq, codes, go_on)
 
+-- such a line, and those that follow
+pub define_on : (version : ℕ) (k : Known) (d : Defined) (v : ℕ) (first : List ℕ) (ws : List Word) (r : ℕ × Defined) (wss : List (List Word)) (after : Known) → (version == 0) ≡ false → is_line (Plain first ∷ ws) ≡ true
+    → bytes_eq first (codes "ranks") ≡ false → bytes_eq first (codes "hint") ≡ false → bytes_eq first (codes "data") ≡ false → definition version v d first ws ≡ Ok r
+    → Runs version (at_state k r.1 (v + r.0)) wss after → Runs version (at_state k d v) ((Plain first ∷ ws) ∷ wss) after
+define_on version k d v first ws r wss after new line a b c h more = (at_state k r.1 (v + r.0), line, leads_by version (at_state k d v) first ws r new a b c h, more)
+
 -- ---- dimensions
 
 abbrev pub line_of_dim : Dim → List Word
@@ -30,7 +36,11 @@ line_of_dim d = Plain (codes "dim") ∷ dim_tokens d
 dims_run : (version : ℕ) (k : Known) (d : Defined) (ds front : List Dim) → (version == 0) ≡ false → DimChain version front ds
     → Runs version (at_state k (record d { dims = front }) 0) (map line_of_dim ds) (at_state k (record d { dims = front ++ ds }) 0)
 dims_run version k d [] front new h = ap (λ (xs : List Dim). at_state k (record d { dims = xs }) 0) (sym (append-nil front))
-dims_run version k d (x ∷ ds) front new h = grind (arith, nat_tests, dims_run version k d ds (front ++ x ∷ []) new h.1, leads_by, codes, go_on, append_assoc)
+dims_run version k d (x ∷ ds) front new h =
+    let next = record d { dims = front ++ x ∷ [] } in
+    let more = dims_run version k d ds (front ++ x ∷ []) new h.1 in
+    define_on version k (record d { dims = front }) 0 (codes "dim") (dim_tokens x) (0, next) _ _ new h.0.good refl refl refl
+    (go_on (dim_line version front (dim_tokens x)) _ x (0, next) h.0.again refl) (rw (append_assoc front (x ∷ []) ds) at more)
 
 -- ---- variables
 
@@ -52,6 +62,9 @@ joined_vars : (vs more : List Var) → var_names (vs ++ more) ≡ var_names vs +
 joined_vars [] more = refl
 joined_vars (v ∷ vs) more = ap (λ (xs : List (List ℕ)). v.name ∷ xs) (joined_vars vs more)
 
+var_is_line : (version : ℕ) (dims : List Dim) (names : List (List ℕ)) (v : Var) → VarOk version dims names v → is_line (line_of_var dims v) ≡ true
+var_is_line version dims names v ok = grind (arith, nat_tests, names_shown, names_plain, and_from, type_plain, name_plain)
+
 vars_run : (version : ℕ) (k : Known) (d : Defined) (names : List (List ℕ)) (vs done : List Var) → (version == 0) ≡ false → VarChain version d.dims names vs → var_names done ≡ names
     → Runs version (at_state k (record d { vars = done }) 0) (map (line_of_var d.dims) vs) (at_state k (record d { vars = done ++ map bare vs }) 0)
 vars_run version k d names [] done new h same = ap (λ (xs : List Var). at_state k (record d { vars = xs }) 0) (sym (append-nil done))
@@ -60,8 +73,8 @@ vars_run version k d names (v ∷ vs) done new h same =
     let next = record d { vars = done ++ bare v ∷ [] } in
     let ws = Plain (type_word v.kind) ∷ Plain v.name ∷ Plain (bracketed (map (name_at d.dims) v.dims)) ∷ [] in
     let more = vars_run version k d (names ++ v.name ∷ []) vs (done ++ bare v ∷ []) new h.1 (rw joined_vars (rw same)) in
-    leads_on version (at_state k here 0) (at_state k next 0) _ (Plain (codes "var") ∷ ws) _ (leads_by version (at_state k here 0) (codes "var") ws (0, next) new refl refl refl
-    (go_on (var_line version d.dims done ws) (λ y. Ok (0, with_var y here)) (bare v) (0, next) (var_again version d.dims names done v h.0 same) refl)) (rw (append_assoc done (bare v ∷ []) (map bare vs)) at more)
+    define_on version k here 0 (codes "var") ws (0, next) _ _ new (var_is_line version d.dims names v h.0) refl refl refl
+    (go_on (var_line version d.dims done ws) (λ y. Ok (0, with_var y here)) (bare v) (0, next) (var_again version d.dims names done v h.0 same) refl) (rw (append_assoc done (bare v ∷ []) (map bare vs)) at more)
 
 -- ---- attributes of the dataset
 
@@ -95,8 +108,8 @@ dataset_run version k d (a ∷ list) names front titles v new h fresh few =
     let next = with_atts d (front ++ a ∷ []) next_titles in
     let more = dataset_run version k d list (names ++ a.name ∷ []) (front ++ a ∷ []) next_titles (v + a.count) new h.2 (fresh_pushed titles owner names a.name fresh) (omega arith) in
     let total : (v + a.count) + count_attrs list ≡ v + (a.count + count_attrs list) = omega arith in
-    leads_on version (at_state k here v) (at_state k next (v + a.count)) _ (line_of_att owner a) _ (leads_by version (at_state k here v) (codes "att") (Plain owner ∷ attr_tokens a) (a.count, next) new refl refl refl
-    (att_dataset_again version here v a h.0 (fresh a.name h.1) (omega arith))) (rw (append_assoc front (a ∷ []) list, append_assoc titles ((owner, a.name) ∷ []) (titles_of owner list), total) at more)
+    define_on version k here v (codes "att") (Plain owner ∷ attr_tokens a) (a.count, next) _ _ new h.0.good refl refl refl
+    (att_dataset_again version here v a h.0 (fresh a.name h.1) (omega arith)) (rw (append_assoc front (a ∷ []) list, append_assoc titles ((owner, a.name) ∷ []) (titles_of owner list), total) at more)
 
 -- ---- attributes of the variables
 
@@ -137,8 +150,8 @@ own_run version k d front back (a ∷ list) names w titles v new named alone h f
     let next = with_vars d (front ++ with_own a w ∷ back) next_titles in
     let more = own_run version k d front back list (names ++ a.name ∷ []) (with_own a w) next_titles (v + a.count) new named alone h.2 (fresh_pushed titles w.name names a.name fresh) (omega arith) in
     let total : (v + a.count) + count_attrs list ≡ v + (a.count + count_attrs list) = omega arith in
-    leads_on version (at_state k here v) (at_state k next (v + a.count)) _ (line_of_att w.name a) _ (leads_by version (at_state k here v) (codes "att") (Plain w.name ∷ attr_tokens a) (a.count, next) new refl refl refl
-    (att_own_again version d front back w titles v a named alone h.0 (fresh a.name h.1) (omega arith))) (rw (append_assoc w.attrs (a ∷ []) list, append_assoc titles ((w.name, a.name) ∷ []) (titles_of w.name list), total) at more)
+    define_on version k here v (codes "att") (Plain w.name ∷ attr_tokens a) (a.count, next) _ _ new (and_from _ _ (name_plain w.name named) h.0.good) refl refl refl
+    (att_own_again version d front back w titles v a named alone h.0 (fresh a.name h.1) (omega arith)) (rw (append_assoc w.attrs (a ∷ []) list, append_assoc titles ((w.name, a.name) ∷ []) (titles_of w.name list), total) at more)
 
 -- the titles are of owners of these names, or of the dataset
 abbrev Apart : List Title → List (List ℕ) → Type 0
@@ -207,28 +220,3 @@ definitions_run version v k d new hd hv ha ho counted few =
     (runs_on version (at_state k one 0) (at_state k two 0) (at_state k (told_again d) v) (map (line_of_var d.dims) d.vars) _ (vars_run version k one [] d.vars [] new hv refl)
     (runs_on version (at_state k two 0) (at_state k three (count_attrs d.attrs)) (at_state k (told_again d) v) (map (line_of_att (codes ":")) d.attrs) _ (rw zero_more at all_atts)
     (rw (full_again version d.dims [] d.vars hv, ← counted) at all_own)))
-
--- ---- these lines are cut again
-
-dims_are_lines : (version : ℕ) (front ds : List Dim) → DimChain version front ds → list_all is_line (map line_of_dim ds) ≡ true
-dims_are_lines version front [] h = refl
-dims_are_lines version front (d ∷ ds) h = and_from _ _ h.0.good (dims_are_lines version (front ++ d ∷ []) ds h.1)
-
-var_is_line : (version : ℕ) (dims : List Dim) (names : List (List ℕ)) (v : Var) → VarOk version dims names v → is_line (line_of_var dims v) ≡ true
-var_is_line version dims names v ok = grind (arith, nat_tests, names_shown, names_plain, and_from, type_plain, name_plain)
-
-vars_are_lines : (version : ℕ) (dims : List Dim) (names : List (List ℕ)) (vs : List Var) → VarChain version dims names vs → list_all is_line (map (line_of_var dims) vs) ≡ true
-vars_are_lines version dims names [] h = refl
-vars_are_lines version dims names (v ∷ vs) h = and_from _ _ (var_is_line version dims names v h.0) (vars_are_lines version dims (names ++ v.name ∷ []) vs h.1)
-
-atts_are_lines : (version : ℕ) (owner : List ℕ) (names : List (List ℕ)) (list : List Attr) → is_plain owner ≡ true → AttrChain version names list → list_all is_line (map (line_of_att owner) list) ≡ true
-atts_are_lines version owner names [] plain h = refl
-atts_are_lines version owner names (a ∷ list) plain h = and_from _ _ (and_from _ _ plain h.0.good) (atts_are_lines version owner (names ++ a.name ∷ []) list plain h.2)
-
-own_are_lines : (version : ℕ) (dims : List Dim) (old : List Title) (names : List (List ℕ)) (vs : List Var) → VarChain version dims names vs → OwnChains version old vs → list_all is_line (lines_of_own vs) ≡ true
-own_are_lines version dims old names [] h own = refl
-own_are_lines version dims old names (v ∷ vs) h own =
-    all_joined is_line (map (line_of_att v.name) v.attrs) (lines_of_own vs) (atts_are_lines version v.name [] v.attrs (name_plain v.name h.0.head.named) own.0) (own_are_lines version dims old (names ++ v.name ∷ []) vs h.1 own.2)
-
-pub definitions_are_lines : (version : ℕ) (d : Defined) → DimChain version [] d.dims → VarChain version d.dims [] d.vars → AttrChain version [] d.attrs → OwnChains version d.titles d.vars → list_all is_line (definition_lines d) ≡ true
-definitions_are_lines version d hd hv ha ho = grind (arith, nat_tests, all_joined, dims_are_lines, vars_are_lines, codes, atts_are_lines, own_are_lines)

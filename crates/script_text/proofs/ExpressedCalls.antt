@@ -37,13 +37,13 @@ call_told : (ranks r : ℕ) (own : List Call) (c : Call) → is_lawful_call rank
 call_told ranks r own (call.Put all n g vs) lawful h new =
     let a = and_parts (is_given g) (are_values vs) lawful in
     let b = and_parts (is_name n) (are_expressible_values vs) h in
-    put_same ranks r own all n g.form g 0 vs b.0 (region_told g a.0) (values_told vs a.1 b.1)
-call_told ranks r own (call.Get all n g) lawful h new = get_same ranks r own all n g.form g h (region_told g lawful)
+    put_same ranks r own all n g 0 vs b.0 (region_told g a.0) (values_told vs a.1 b.1)
+call_told ranks r own (call.Get all n g) lawful h new = get_same ranks r own all n g h (region_told g lawful)
 call_told ranks r own (call.Post id k n g vs) lawful h new =
     let a = and_parts (is_given g) (is_post_of k vs) lawful in
     let b = and_parts (is_id id && is_name n) (are_expressible_values vs) h in
     let d = and_parts (is_id id) (is_name n) b.0 in
-    post_same ranks r own k id n g.form g 0 vs (ltb-true id (2 ^ 32) d.0) new d.1 (region_told g a.0) (posted_told k vs a.1 b.1)
+    post_same ranks r own k id n g 0 vs (ltb-true id (2 ^ 32) d.0) new d.1 (region_told g a.0) (posted_told k vs a.1 b.1)
 call_told ranks r own c lawful h new = plain_told ranks r own c tt lawful h
 
 -- ---- the ids of a rank's posts

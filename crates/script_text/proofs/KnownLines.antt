@@ -1,14 +1,14 @@
 -- The number of ranks and the hints, and what is known before `data` as a whole.
-use Rattle.script_text.proofs.Words.{◌≡◌, ◌∙◌, ℕ, ◌+◌, ◌^◌, ◌≤◌, ◌<◌, min, List, [], ◌∷◌, ◌++◌, map, Bool, true, false, ◌==◌, Option, Some, None, is_some, slice_set, Result, Ok, refl, ap, subst, arith, bytes_eq, codes, decimal, list_all, and_parts, and_from, faultless_some, ScriptKind, Hints, OverlapRule, Refuse, Serial, most_values, shown_hint, shown_hints, Word, Plain, Line, ◌>>=◌, or_fault, bare, Within, HintRow, flag, rule_number, rule_of, off_or_on, refuse_or_serial, hint_table, hint_of_text, hint_form, shown_value, none_given, hint_in, hints_of, number_within, hint_value, hint_line, ranks_line, no_definition, definition, nothing_added, addition, Known, nothing_known, known_after, at_line, data_line, definition_step, definitions, nat_tests, take, drop}
+use Rattle.script_text.proofs.Words.{◌≡◌, ◌∙◌, ℕ, ◌+◌, ◌^◌, ◌≤◌, ◌<◌, min, List, [], ◌∷◌, ◌++◌, map, Bool, true, false, ◌==◌, Option, Some, None, is_some, slice_set, Result, Ok, refl, ap, subst, arith, bytes_eq, codes, decimal, list_all, and_parts, and_from, faultless_some, ScriptKind, Hints, OverlapRule, Refuse, Serial, most_values, shown_hint, shown_hints, Word, Plain, Line, ◌>>=◌, or_fault, bare, Within, HintForm, HintRow, flag, rule_number, rule_of, off_or_on, refuse_or_serial, hint_table, hint_of_text, hint_form, shown_value, none_given, hint_in, hints_of, number_within, hint_value, hint_line, ranks_line, no_definition, definition, nothing_added, addition, Known, nothing_known, known_after, at_line, data_line, definition_step, definitions, nat_tests, take, drop}
 use Rattle.std.proofs.Common.{flat_map}
 use Rattle.nc_base.specs.declared.errors.ScriptKind.TheVariants as kind
 use Rattle.script_text.proofs.Steps.{went, same_ok, word_read, whole_value, tested, looked, carried}
 use Rattle.script_text.proofs.Lexing.{is_plain}
-use Rattle.script_text.proofs.Lines.{is_line, spelled}
+use Rattle.script_text.proofs.Lines.{spelled}
 use Rattle.script_text.proofs.PrintedValues.{is_read}
 use Rattle.script_text.proofs.PrintedDefinitions.{is_value_of, within_again, within_plain, are_hints, hint_read, hint_or_fits, ranks_read}
 use Rattle.script_text.proofs.CallLines.{are_read, line_ok}
-use Rattle.script_text.proofs.AddedLines.{Leads, Runs, Replay, replay_on, addition_read, leads_on}
+use Rattle.script_text.proofs.AddedLines.{Leads, Runs, Replay, replay_on, addition_read}
 use Rattle.script_text.proofs.DefinedChains.{DefinedOk, definition_read}
 
 -- ---- the hints as they are printed
@@ -78,60 +78,49 @@ pub hint_leads : (version : ℕ) (k : Known) (word shown : List ℕ) (i v : ℕ)
     → Leads version k (Plain (codes "hint") ∷ Plain word ∷ Plain shown ∷ []) (record k { hints = slice_set k.hints i (Some v) })
 hint_leads version k word shown i v at free read = grind (arith, nat_tests)
 
-number_value : (low high unit n : ℕ) → is_value_of (Within low high unit) n ≡ true → high < 2 ^ 63 → hint_value (Within low high unit) (Plain (decimal n) ∷ []) ≡ Ok (n, [])
-number_value low high unit n h top = word_read (number_within low high unit) kind.BadNumber (decimal n) n [] (within_again low high unit n h top)
+-- the value of a hint of this form, printed, is read again
+record HintAgain (f : HintForm) (n : ℕ) : Type 0 where
+  plain : is_plain (shown_value f n) ≡ true
+  again : hint_value f (Plain (shown_value f n) ∷ []) ≡ Ok (n, [])
 
-flag_value : (b : Bool) → hint_value off_or_on (Plain (shown_value off_or_on (flag b)) ∷ []) ≡ Ok (flag b, [])
-flag_value true = refl
-flag_value false = refl
+number_told : (low high unit n : ℕ) → is_value_of (Within low high unit) n ≡ true → high < 2 ^ 63 → HintAgain (Within low high unit) n
+number_told low high unit n h top = record {
+  plain = within_plain low high unit n h top;
+  again = word_read (number_within low high unit) kind.BadNumber (decimal n) n [] (within_again low high unit n h top);
+}
 
-rule_value : (o : OverlapRule) → hint_value refuse_or_serial (Plain (shown_value refuse_or_serial (rule_number o)) ∷ []) ≡ Ok (rule_number o, [])
-rule_value Refuse = refl
-rule_value Serial = refl
+flag_told : (b : Bool) → HintAgain off_or_on (flag b)
+flag_told true = record { plain = refl; again = refl }
+flag_told false = record { plain = refl; again = refl }
+
+rule_told : (o : OverlapRule) → HintAgain refuse_or_serial (rule_number o)
+rule_told Refuse = record { plain = refl; again = refl }
+rule_told Serial = record { plain = refl; again = refl }
 
 -- what is known with these hints
 abbrev pub with_hints : Known → List (Option ℕ) → Known
 with_hints k hints = record k { hints = hints }
 
+-- the line of a hint that was not given, and those that follow
+hint_on : (version : ℕ) (k after : Known) (word : List ℕ) (i v : ℕ) (wss : List (List Word)) → is_plain word ≡ true → hint_of_text word ≡ Some i → is_some (hint_in i k.hints) ≡ false → HintAgain (hint_form i) v
+    → Runs version (with_hints k (slice_set k.hints i (Some v))) wss after → Runs version k (hint_line_of word (shown_value (hint_form i) v) ∷ wss) after
+hint_on version k after word i v wss plain at free told more =
+    (with_hints k (slice_set k.hints i (Some v)), and_from _ _ plain (and_from _ _ told.plain refl), hint_leads version k word (shown_value (hint_form i) v) i v at free told.again, more)
+
 pub hints_run : (version : ℕ) (k : Known) (h : Hints) → HintsFit h → Runs version (with_hints k none_given) (hint_tokens h) (with_hints k (all_given h))
 hints_run version k h fit =
     let at = λ (n : ℕ). with_hints k (take n (all_given h) ++ drop n none_given) in
     let next = λ (n : ℕ). drop n (hint_tokens h) in
-    leads_on version (at 0) (at 1) (at 10) (hint_line_of (codes "cb_nodes") (decimal h.cb_nodes)) (next 1) (hint_leads version (at 0) (codes "cb_nodes") (decimal h.cb_nodes) 0 h.cb_nodes refl refl (number_value 1 64 1 h.cb_nodes fit.cb_nodes (omega arith)))
-    (leads_on version (at 1) (at 2) (at 10) (hint_line_of (codes "cb_buffer_size") (decimal h.cb_buffer)) (next 2) (hint_leads version (at 1) (codes "cb_buffer_size") (decimal h.cb_buffer) 1 h.cb_buffer refl refl (number_value 1 33554432 1 h.cb_buffer fit.cb_buffer (omega arith)))
-    (leads_on version (at 2) (at 3) (at 10) (hint_line_of (codes "ind_rd_buffer_size") (decimal h.rd_buffer)) (next 3) (hint_leads version (at 2) (codes "ind_rd_buffer_size") (decimal h.rd_buffer) 2 h.rd_buffer refl refl (number_value 1 33554432 1 h.rd_buffer fit.rd_buffer (omega arith)))
-    (leads_on version (at 3) (at 4) (at 10) (hint_line_of (codes "ind_wr_buffer_size") (decimal h.wr_buffer)) (next 4) (hint_leads version (at 3) (codes "ind_wr_buffer_size") (decimal h.wr_buffer) 3 h.wr_buffer refl refl (number_value 1 33554432 1 h.wr_buffer fit.wr_buffer (omega arith)))
-    (leads_on version (at 4) (at 5) (at 10) (hint_line_of (codes "line_room") (decimal h.line_room)) (next 5) (hint_leads version (at 4) (codes "line_room") (decimal h.line_room) 4 h.line_room refl refl (number_value 1 64 1 h.line_room fit.line_room (omega arith)))
-    (leads_on version (at 5) (at 6) (at 10) (hint_line_of (codes "threads") (shown_value off_or_on (flag h.threads))) (next 6) (hint_leads version (at 5) (codes "threads") (shown_value off_or_on (flag h.threads)) 5 (flag h.threads) refl refl (flag_value h.threads))
-    (leads_on version (at 6) (at 7) (at 10) (hint_line_of (codes "overlap") (shown_value refuse_or_serial (rule_number h.overlap))) (next 7) (hint_leads version (at 6) (codes "overlap") (shown_value refuse_or_serial (rule_number h.overlap)) 6 (rule_number h.overlap) refl refl (rule_value h.overlap))
-    (leads_on version (at 7) (at 8) (at 10) (hint_line_of (codes "nc_header_align_size") (decimal h.header_align)) (next 8) (hint_leads version (at 7) (codes "nc_header_align_size") (decimal h.header_align) 7 h.header_align refl refl (number_value 4 1048576 4 h.header_align fit.header_align (omega arith)))
-    (leads_on version (at 8) (at 9) (at 10) (hint_line_of (codes "nc_var_align_size") (decimal h.var_align)) (next 9) (hint_leads version (at 8) (codes "nc_var_align_size") (decimal h.var_align) 8 h.var_align refl refl (number_value 4 1048576 4 h.var_align fit.var_align (omega arith)))
-    (leads_on version (at 9) (at 10) (at 10) (hint_line_of (codes "striping_unit") (decimal h.striping_unit)) (next 10) (hint_leads version (at 9) (codes "striping_unit") (decimal h.striping_unit) 9 h.striping_unit refl refl (number_value 1 33554432 1 h.striping_unit fit.striping_unit (omega arith)))
-    refl)))))))))
-
-flag_plain : (b : Bool) → is_plain (shown_value off_or_on (flag b)) ≡ true
-flag_plain true = refl
-flag_plain false = refl
-
-rule_plain : (o : OverlapRule) → is_plain (shown_value refuse_or_serial (rule_number o)) ≡ true
-rule_plain Refuse = refl
-rule_plain Serial = refl
-
-hint_is_line : (word shown : List ℕ) → is_plain word ≡ true → is_plain shown ≡ true → is_line (Plain (codes "hint") ∷ Plain word ∷ Plain shown ∷ []) ≡ true
-hint_is_line word shown a b = and_from _ _ a (and_from _ _ b refl)
-
-pub hints_are_lines : (h : Hints) → HintsFit h → list_all is_line (hint_tokens h) ≡ true
-hints_are_lines h fit =
-    and_from _ _ (hint_is_line (codes "cb_nodes") (decimal h.cb_nodes) refl (within_plain 1 64 1 h.cb_nodes fit.cb_nodes (omega arith)))
-    (and_from _ _ (hint_is_line (codes "cb_buffer_size") (decimal h.cb_buffer) refl (within_plain 1 33554432 1 h.cb_buffer fit.cb_buffer (omega arith)))
-    (and_from _ _ (hint_is_line (codes "ind_rd_buffer_size") (decimal h.rd_buffer) refl (within_plain 1 33554432 1 h.rd_buffer fit.rd_buffer (omega arith)))
-    (and_from _ _ (hint_is_line (codes "ind_wr_buffer_size") (decimal h.wr_buffer) refl (within_plain 1 33554432 1 h.wr_buffer fit.wr_buffer (omega arith)))
-    (and_from _ _ (hint_is_line (codes "line_room") (decimal h.line_room) refl (within_plain 1 64 1 h.line_room fit.line_room (omega arith)))
-    (and_from _ _ (hint_is_line (codes "threads") (shown_value off_or_on (flag h.threads)) refl (flag_plain h.threads))
-    (and_from _ _ (hint_is_line (codes "overlap") (shown_value refuse_or_serial (rule_number h.overlap)) refl (rule_plain h.overlap))
-    (and_from _ _ (hint_is_line (codes "nc_header_align_size") (decimal h.header_align) refl (within_plain 4 1048576 4 h.header_align fit.header_align (omega arith)))
-    (and_from _ _ (hint_is_line (codes "nc_var_align_size") (decimal h.var_align) refl (within_plain 4 1048576 4 h.var_align fit.var_align (omega arith)))
-    (and_from _ _ (hint_is_line (codes "striping_unit") (decimal h.striping_unit) refl (within_plain 1 33554432 1 h.striping_unit fit.striping_unit (omega arith)))
+    hint_on version (at 0) (at 10) (codes "cb_nodes") 0 h.cb_nodes (next 1) refl refl refl (number_told 1 64 1 h.cb_nodes fit.cb_nodes (omega arith))
+    (hint_on version (at 1) (at 10) (codes "cb_buffer_size") 1 h.cb_buffer (next 2) refl refl refl (number_told 1 33554432 1 h.cb_buffer fit.cb_buffer (omega arith))
+    (hint_on version (at 2) (at 10) (codes "ind_rd_buffer_size") 2 h.rd_buffer (next 3) refl refl refl (number_told 1 33554432 1 h.rd_buffer fit.rd_buffer (omega arith))
+    (hint_on version (at 3) (at 10) (codes "ind_wr_buffer_size") 3 h.wr_buffer (next 4) refl refl refl (number_told 1 33554432 1 h.wr_buffer fit.wr_buffer (omega arith))
+    (hint_on version (at 4) (at 10) (codes "line_room") 4 h.line_room (next 5) refl refl refl (number_told 1 64 1 h.line_room fit.line_room (omega arith))
+    (hint_on version (at 5) (at 10) (codes "threads") 5 (flag h.threads) (next 6) refl refl refl (flag_told h.threads)
+    (hint_on version (at 6) (at 10) (codes "overlap") 6 (rule_number h.overlap) (next 7) refl refl refl (rule_told h.overlap)
+    (hint_on version (at 7) (at 10) (codes "nc_header_align_size") 7 h.header_align (next 8) refl refl refl (number_told 4 1048576 4 h.header_align fit.header_align (omega arith))
+    (hint_on version (at 8) (at 10) (codes "nc_var_align_size") 8 h.var_align (next 9) refl refl refl (number_told 4 1048576 4 h.var_align fit.var_align (omega arith))
+    (hint_on version (at 9) (at 10) (codes "striping_unit") 9 h.striping_unit (next 10) refl refl refl (number_told 1 33554432 1 h.striping_unit fit.striping_unit (omega arith))
     refl)))))))))
 
 -- ---- what is known before `data`

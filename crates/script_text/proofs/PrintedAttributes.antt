@@ -164,13 +164,13 @@ attribute_name_read : (titles : List Title) (owner : List ℕ) (ws : List Word) 
 attribute_name_read titles owner ws n read h =
     step_then (name ws) _ n h (λ m is h. free_then _ _ _ n h (λ fresh h.
     subst (λ (x : List ℕ × List Word). (is_name x.0 ≡ true) × (list_any (same_title (owner, x.0)) titles ≡ false) × (list_all is_read x.1 ≡ true)) (same_ok m n h)
-    (name_read ws m is, fresh, kept is_read name_of_text kind.BadName ws m is read)))
+    (name_read ws m is, fresh, kept name_of_text kind.BadName ws m is read)))
 
 pub attr_read : (version : ℕ) (titles : List Title) (before : ℕ) (owner : List ℕ) (ws : List Word) (a : Attr)
     → before ≤ most_values → list_all is_read ws ≡ true → attribute version titles before owner ws ≡ Ok a → AttrRead version titles before owner a
 attr_read version titles before owner ws a low read h =
     step_then (attribute_name titles owner ws) _ a h (λ n new h. step_then (reads_as (type_of version) kind.UnknownWord n.1) _ a h (λ t typed h. step_then (values (Some t.0) before t.1) _ a h (λ vs spelt h.
     let m = attribute_name_read titles owner ws n read new in
-    let fit = values_fit (Some t.0) before t.1 vs low (kept is_read (type_of version) kind.UnknownWord n.1 t typed m.2) spelt in
+    let fit = values_fit (Some t.0) before t.1 vs low (kept (type_of version) kind.UnknownWord n.1 t typed m.2) spelt in
     subst (AttrRead version titles before owner) (same_ok (attr_of n.0 t.0 vs) a h)
     (record { same = attr_same version n.0 t.0 vs m.0 (type_read version n.1 t typed) (values_shown n.0 t.0 before vs fit); fresh = m.1; few = fit.room.all }))))

@@ -6,7 +6,7 @@ use Rattle.script_text.proofs.Steps.{went, go_on, same_ok, passed, read_word, wo
 use Rattle.script_text.proofs.Lexing.{is_good}
 use Rattle.script_text.proofs.Numerals.{name_plain, size_plain}
 use Rattle.script_text.proofs.PrintedValues.{value_tokens, is_read, Fitting, values_fit, values_again, values_good}
-use Rattle.script_text.proofs.PrintedRegions.{kept, name_read, name_again, size_read, size_word, region_tokens, RegionAgain, region_again, region_kept, id_bound, id_again, id_plain, ChoiceAgain, choice_told, choice_read, name_then}
+use Rattle.script_text.proofs.PrintedRegions.{kept, name_read, name_again, size_read, size_word, region_tokens, RegionAgain, region_read, id_bound, id_again, id_plain, ChoiceAgain, choice_told, choice_read, name_then}
 use Rattle.script_text.proofs.CallTokens.{tokens_behind, call_tokens, made_tokens, get_word, post_word, put_word}
 
 -- ---- a call read again
@@ -28,42 +28,40 @@ no_values ranks r own before c low none again = record { same = again; few = ome
 fitting_at : (vs : Values) (before now : ℕ) → Fitting None before vs → now + count_of vs ≤ most_values → Fitting None now vs
 fitting_at vs before now fit low = record { are = fit.are; room = record { all = low; own = fit.room.own } }
 
-pub put_same : (ranks r : ℕ) (own : List Call) (all : Bool) (n : List ℕ) (f : Form) (g : Given) (before : ℕ) (vs : Values)
-    → is_name n ≡ true → RegionAgain f g → Fitting None before vs → CallAgain ranks r own (call.Put all n g vs)
-put_same ranks r own all n f g before vs hn hg hv =
-    let region_of = subst (λ k. RegionAgain k g) hg.same_form hg in
+pub put_same : (ranks r : ℕ) (own : List Call) (all : Bool) (n : List ℕ) (g : Given) (before : ℕ) (vs : Values)
+    → is_name n ≡ true → RegionAgain g → Fitting None before vs → CallAgain ranks r own (call.Put all n g vs)
+put_same ranks r own all n g before vs hn hg hv =
     let rest = region_tokens g.form g ++ value_tokens vs in
     record {
-      good = and_from _ _ (name_plain n hn) (all_joined is_good (region_tokens g.form g) (value_tokens vs) region_of.good (values_good None vs hv.are));
+      good = and_from _ _ (name_plain n hn) (all_joined is_good (region_tokens g.form g) (value_tokens vs) hg.good (values_good None vs hv.are));
       again = λ now low. put_word ranks r own now (Plain n ∷ rest) all g.form
           ∙ go_on (name (Plain n ∷ rest)) _ (n, rest) (call.Put all n g vs) (name_again n rest hn)
-          (go_on (region g.form rest) _ (g, value_tokens vs) (call.Put all n g vs) (region_of.again (value_tokens vs))
+          (go_on (region g.form rest) _ (g, value_tokens vs) (call.Put all n g vs) (hg.again (value_tokens vs))
           (go_on (values None now (value_tokens vs)) _ vs (call.Put all n g vs) (values_again None now vs (fitting_at vs before now hv low)) refl));
     }
 
 put_read : (ranks r : ℕ) (own : List Call) (all : Bool) (f : Form) (before : ℕ) (ws : List Word) (c : Call)
     → before ≤ most_values → list_all is_read ws ≡ true → put_call all f before ws ≡ Ok c → CallRead ranks r own before c
 put_read ranks r own all f before ws c low read h =
-    step_then (name ws) _ c h (λ n named h. step_then (region f n.1) _ c h (λ g told h. step_then (values None before g.1) _ c h (λ vs spelt h.
-    let fit = values_fit None before g.1 vs low (region_kept is_read f n.1 g told (kept is_read name_of_text kind.BadName ws n named read)) spelt in
-    subst (CallRead ranks r own before) (same_ok (call.Put all n.0 g.0 vs) c h)
-    (record { same = put_same ranks r own all n.0 f g.0 before vs (name_read ws n named) (region_again f n.1 g told) fit; few = fit.room.all }))))
+    name_then ws _ c h (λ n named kept h. step_then (region f n.1) _ c h (λ g told h. step_then (values None before g.1) _ c h (λ vs spelt h.
+    let place = region_read f n.1 g told in
+    let fit = values_fit None before g.1 vs low (place.rest (kept read)) spelt in
+    subst (CallRead ranks r own before) (same_ok (call.Put all n.0 g.0 vs) c h) (record { same = put_same ranks r own all n.0 g.0 before vs named place.same fit; few = fit.room.all }))))
 
-pub get_same : (ranks r : ℕ) (own : List Call) (all : Bool) (n : List ℕ) (f : Form) (g : Given) → is_name n ≡ true → RegionAgain f g → CallAgain ranks r own (call.Get all n g)
-get_same ranks r own all n f g hn hg =
-    let region_of = subst (λ k. RegionAgain k g) hg.same_form hg in
+pub get_same : (ranks r : ℕ) (own : List Call) (all : Bool) (n : List ℕ) (g : Given) → is_name n ≡ true → RegionAgain g → CallAgain ranks r own (call.Get all n g)
+get_same ranks r own all n g hn hg =
     let rest = region_tokens g.form g in
     record {
-      good = and_from _ _ (name_plain n hn) region_of.good;
+      good = and_from _ _ (name_plain n hn) hg.good;
       again = λ now low. get_word ranks r own now (Plain n ∷ rest) all g.form
           ∙ go_on (name (Plain n ∷ rest)) _ (n, rest) (call.Get all n g) (name_again n rest hn)
-          (go_on (region g.form rest) _ (g, []) (call.Get all n g) (ap (region g.form) (sym (append-nil rest)) ∙ region_of.again []) refl);
+          (go_on (region g.form rest) _ (g, []) (call.Get all n g) (ap (region g.form) (sym (append-nil rest)) ∙ hg.again []) refl);
     }
 
 get_read : (ranks r : ℕ) (own : List Call) (before : ℕ) (low : before ≤ most_values) (all : Bool) (f : Form) (ws : List Word) (c : Call) → get_call all f ws ≡ Ok c → CallRead ranks r own before c
 get_read ranks r own before low all f ws c h =
-    name_then ws _ c h (λ n named h. step_then (region f n.1) _ c h (λ g told h. end_then g.1 _ c h (λ none h.
-    subst (CallRead ranks r own before) (same_ok (call.Get all n.0 g.0) c h) (no_values ranks r own before _ low refl (get_same ranks r own all n.0 f g.0 named (region_again f n.1 g told))))))
+    name_then ws _ c h (λ n named _ h. step_then (region f n.1) _ c h (λ g told h. end_then g.1 _ c h (λ none h.
+    subst (CallRead ranks r own before) (same_ok (call.Get all n.0 g.0) c h) (no_values ranks r own before _ low refl (get_same ranks r own all n.0 g.0 named (region_read f n.1 g told).same)))))
 
 -- the values of a post of this kind
 pub record PostedAgain (k : PostKind) (before : ℕ) (vs : Values) : Type 0 where
@@ -82,20 +80,19 @@ posted_read Iget before ws vs low read h = subst (PostedAgain Iget before) (whol
 posted_read Iput before ws vs low read h = (put_values before vs (values_fit None before ws vs low read h)).0
 posted_read Bput before ws vs low read h = (put_values before vs (values_fit None before ws vs low read h)).1
 
-pub post_same : (ranks r : ℕ) (own : List Call) (k : PostKind) (id : ℕ) (n : List ℕ) (f : Form) (g : Given) (before : ℕ) (vs : Values)
-    → id < 2 ^ 32 → is_posted id (posted own) ≡ false → is_name n ≡ true → RegionAgain f g → PostedAgain k before vs → CallAgain ranks r own (call.Post id k n g vs)
-post_same ranks r own k id n f g before vs low fresh hn hg hv =
-    let region_of = subst (λ x. RegionAgain x g) hg.same_form hg in
+pub post_same : (ranks r : ℕ) (own : List Call) (k : PostKind) (id : ℕ) (n : List ℕ) (g : Given) (before : ℕ) (vs : Values)
+    → id < 2 ^ 32 → is_posted id (posted own) ≡ false → is_name n ≡ true → RegionAgain g → PostedAgain k before vs → CallAgain ranks r own (call.Post id k n g vs)
+post_same ranks r own k id n g before vs low fresh hn hg hv =
     let rest = region_tokens g.form g ++ value_tokens vs in
     let c = call.Post id k n g vs in
     record {
-      good = and_from _ _ (id_plain id low) (and_from _ _ (name_plain n hn) (all_joined is_good (region_tokens g.form g) (value_tokens vs) region_of.good hv.good));
+      good = and_from _ _ (id_plain id low) (and_from _ _ (name_plain n hn) (all_joined is_good (region_tokens g.form g) (value_tokens vs) hg.good hv.good));
       again = λ now few. post_word ranks r own now (Plain (decimal id) ∷ Plain n ∷ rest) k g.form
           ∙ go_on (new_id (posted own) (Plain (decimal id) ∷ Plain n ∷ rest)) _ (id, Plain n ∷ rest) c
           (go_on (reads_as id_of_text kind.BadNumber (Plain (decimal id) ∷ Plain n ∷ rest)) _ (id, Plain n ∷ rest) (id, Plain n ∷ rest) (word_read id_of_text kind.BadNumber (decimal id) id (Plain n ∷ rest) (id_again id low))
           (go_on (refuse_if (is_posted id (posted own)) kind.TwiceNamed) _ tt (id, Plain n ∷ rest) (passed _ _ fresh) refl))
           (go_on (name (Plain n ∷ rest)) _ (n, rest) c (name_again n rest hn)
-          (go_on (region g.form rest) _ (g, value_tokens vs) c (region_of.again (value_tokens vs))
+          (go_on (region g.form rest) _ (g, value_tokens vs) c (hg.again (value_tokens vs))
           (go_on (post_values k now (value_tokens vs)) _ vs c (hv.again now few) refl)));
     }
 
@@ -105,11 +102,12 @@ new_id_read own ws i read h = grind (arith, nat_tests, step_then, free_then, rea
 post_read : (ranks r : ℕ) (own : List Call) (k : PostKind) (f : Form) (before : ℕ) (ws : List Word) (c : Call)
     → before ≤ most_values → list_all is_read ws ≡ true → post_call k (posted own) f before ws ≡ Ok c → CallRead ranks r own before c
 post_read ranks r own k f before ws c low read h =
-    step_then (new_id (posted own) ws) _ c h (λ i new h. step_then (name i.1) _ c h (λ n named h. step_then (region f n.1) _ c h (λ g told h. step_then (post_values k before g.1) _ c h (λ vs spelt h.
+    step_then (new_id (posted own) ws) _ c h (λ i new h. name_then i.1 _ c h (λ n named kept h. step_then (region f n.1) _ c h (λ g told h. step_then (post_values k before g.1) _ c h (λ vs spelt h.
     let id = new_id_read own ws i read new in
-    let again = posted_read k before g.1 vs low (region_kept is_read f n.1 g told (kept is_read name_of_text kind.BadName i.1 n named id.2)) spelt in
+    let place = region_read f n.1 g told in
+    let again = posted_read k before g.1 vs low (place.rest (kept id.2)) spelt in
     subst (CallRead ranks r own before) (same_ok (call.Post i.0 k n.0 g.0 vs) c h)
-    (record { same = post_same ranks r own k i.0 n.0 f g.0 before vs id.0 id.1 (name_read i.1 n named) (region_again f n.1 g told) again; few = again.few })))))
+    (record { same = post_same ranks r own k i.0 n.0 g.0 before vs id.0 id.1 named place.same again; few = again.few })))))
 
 -- ---- calls that name no region
 
@@ -137,9 +135,9 @@ nothing_behind u = record { good = refl; again = refl }
 behind_read : (f : Family) (ws : List Word) (b : Behind f) → behind f ws ≡ Ok b → BehindAgain f b
 behind_read Requests ws c h = choice_behind c (choice_read ws c h)
 behind_read Size ws n h = step_then (size ws) whole n h (λ x is h. subst (BehindAgain Size) (whole_value x n h).0 (size_behind x.0 (size_read ws x is)))
-behind_read Name ws n h = name_then ws whole n h (λ x named h. subst (BehindAgain Name) (whole_value x n h).0 (name_behind x.0 named))
+behind_read Name ws n h = name_then ws whole n h (λ x named _ h. subst (BehindAgain Name) (whole_value x n h).0 (name_behind x.0 named))
 behind_read Record ws v h =
-    name_then ws _ v h (λ n named h. step_then (size n.1) _ v h (λ k is h. subst (BehindAgain Record) (whole_value ((n.0, k.0), k.1) v h).0 (record_behind n.0 k.0 named (size_read n.1 k is))))
+    name_then ws _ v h (λ n named _ h. step_then (size n.1) _ v h (λ k is h. subst (BehindAgain Record) (whole_value ((n.0, k.0), k.1) v h).0 (record_behind n.0 k.0 named (size_read n.1 k is))))
 behind_read Nothing ws u h = nothing_behind u
 
 pub behind_told : (f : Family) (b : Behind f) → is_expressible_behind f b ≡ true → is_sized f b ≡ true → BehindAgain f b

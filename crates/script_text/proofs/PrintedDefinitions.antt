@@ -128,7 +128,7 @@ dim_told version dims n len named fresh room hl one = grind (arith, nat_tests, a
 
 pub dim_read : (version : ℕ) (dims : List Dim) (ws : List Word) (d : Dim) → dim_line version dims ws ≡ Ok d → DimAgain version dims d
 dim_read version dims ws d h =
-    name_then ws _ d h (λ n named h. free_then _ _ _ d h (λ fresh h. free_then _ _ _ d h (λ room h.
+    name_then ws _ d h (λ n named _ h. free_then _ _ _ d h (λ fresh h. free_then _ _ _ d h (λ room h.
     word_then (length_of_text version) _ n.1 _ d h (λ len w told h. free_then _ _ _ d h (λ one h. end_then len.1 _ d h (λ none h.
     subst (DimAgain version dims) (same_ok (record { name = n.0; len = len.0 }) d h) (dim_told version dims n.0 len.0 named fresh room (length_again version w len.0 told) one)))))))
 
@@ -142,7 +142,7 @@ pub record HeadAgain (version : ℕ) (names : List (List ℕ)) (t : NcType) (n :
 
 pub head_read : (version : ℕ) (names : List (List ℕ)) (ws : List Word) (r : (NcType × List ℕ) × List Word) → var_head version names ws ≡ Ok r → HeadAgain version names r.0.0 r.0.1
 head_read version names ws r h =
-    step_then (reads_as (type_of version) kind.UnknownWord ws) _ r h (λ t typed h. name_then t.1 _ r h (λ n named h. free_then _ _ _ r h (λ fresh h. free_then _ _ _ r h (λ room h.
+    step_then (reads_as (type_of version) kind.UnknownWord ws) _ r h (λ t typed h. name_then t.1 _ r h (λ n named _ h. free_then _ _ _ r h (λ fresh h. free_then _ _ _ r h (λ room h.
     subst (λ (x : (NcType × List ℕ) × List Word). HeadAgain version names x.0.0 x.0.1) (same_ok ((t.0, n.0), n.1) r h)
     (record { known = type_read version ws t typed; named = named; fresh = fresh; room = room })))))
 

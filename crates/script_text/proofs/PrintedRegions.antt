@@ -9,12 +9,15 @@ use Rattle.script_text.proofs.Steps.{went, go_on, same_ok, passed, faultless, re
 use Rattle.script_text.proofs.Lexing.{spelling, is_plain, is_good}
 use Rattle.script_text.proofs.Lines.{empty_list}
 use Rattle.script_text.proofs.Numerals.{decimal_word, below_bound, below_again, size_again, size_plain, is_size, list_bound, list_again, list_plain}
-use Rattle.script_text.proofs.PrintedValues.{plain_spelled, not_letters}
+use Rattle.script_text.proofs.PrintedValues.{is_read, plain_spelled, not_letters}
 use Rattle.script_spec.proofs.NumeralLaws.{size_read as size_bound}
 
--- what holds of each word holds of each that follows the one that is read
-pub kept : {A : Type 0} (p : Word → Bool) (f : List ℕ → Option A) (e : ScriptKind) (ws : List Word) (r : A × List Word) → reads_as f e ws ≡ Ok r → list_all p ws ≡ true → list_all p r.1 ≡ true
-kept p f e ws r h all = grind (arith, nat_tests, word_before, and_parts)
+-- what was read of the words was read of those that are left
+abbrev pub Kept : List Word → List Word → Type 0
+Kept ws rest = list_all is_read ws ≡ true → list_all is_read rest ≡ true
+
+pub kept : {A : Type 0} (f : List ℕ → Option A) (e : ScriptKind) (ws : List Word) (r : A × List Word) → reads_as f e ws ≡ Ok r → Kept ws r.1
+kept f e ws r h all = grind (arith, nat_tests, word_before, and_parts)
 
 -- ---- names
 
@@ -24,8 +27,8 @@ name_read ws r h =
     let k = cond_some (is_name w.0) w.0 r.0 w.1 in
     subst (λ x. is_name x ≡ true) k.1 k.0
 
-pub name_then : {B P : Type 0} (ws : List Word) (f : List ℕ × List Word → Result B ScriptKind) (y : B) → (name ws >>= f) ≡ Ok y → ((n : List ℕ × List Word) → is_name n.0 ≡ true → f n ≡ Ok y → P) → P
-name_then ws f y h k = step_then (name ws) f y h (λ n is. k n (name_read ws n is))
+pub name_then : {B P : Type 0} (ws : List Word) (f : List ℕ × List Word → Result B ScriptKind) (y : B) → (name ws >>= f) ≡ Ok y → ((n : List ℕ × List Word) → is_name n.0 ≡ true → Kept ws n.1 → f n ≡ Ok y → P) → P
+name_then ws f y h k = step_then (name ws) f y h (λ n is. k n (name_read ws n is) (kept name_of_text kind.BadName ws n is))
 
 pub name_again : (n : List ℕ) (more : List Word) → is_name n ≡ true → name (Plain n ∷ more) ≡ Ok (n, more)
 name_again n more h = word_read name_of_text kind.BadName n n more (cond-true _ _ _ h)
@@ -41,17 +44,12 @@ size_word n more h = word_read size_of_text kind.BadNumber (decimal n) n more (s
 abbrev pub are_sizes : List ℕ → Bool
 are_sizes ns = list_all is_size ns
 
-list_read : (ws : List Word) (r : List ℕ × List Word) → list ws ≡ Ok r → are_sizes r.0 ≡ true
-list_read ws r h = let w = read_word list_of_text kind.BadNumber ws r h in list_bound w.0 r.0 w.1
-
 list_word : (ns : List ℕ) (more : List Word) → are_sizes ns ≡ true → list (Plain (size_list ns) ∷ more) ≡ Ok (ns, more)
 list_word ns more h = word_read list_of_text kind.BadNumber (size_list ns) ns more (list_again ns h)
 
-list_kept : (p : Word → Bool) (ws : List Word) (r : List ℕ × List Word) → list ws ≡ Ok r → list_all p ws ≡ true → list_all p r.1 ≡ true
-list_kept p ws r h all = kept p list_of_text kind.BadNumber ws r h all
-
-list_then : {B P : Type 0} (ws : List Word) (f : List ℕ × List Word → Result B ScriptKind) (y : B) → (list ws >>= f) ≡ Ok y → ((s : List ℕ × List Word) → are_sizes s.0 ≡ true → f s ≡ Ok y → P) → P
-list_then ws f y h k = step_then (list ws) f y h (λ s is. k s (list_read ws s is))
+list_then : {B P : Type 0} (ws : List Word) (f : List ℕ × List Word → Result B ScriptKind) (y : B) → (list ws >>= f) ≡ Ok y → ((s : List ℕ × List Word) → are_sizes s.0 ≡ true → Kept ws s.1 → f s ≡ Ok y → P) → P
+list_then ws f y h k =
+    step_then (list ws) f y h (λ s is. let w = read_word list_of_text kind.BadNumber ws s is in k s (list_bound w.0 s.0 w.1) (kept list_of_text kind.BadNumber ws s is))
 
 -- ---- parts
 
@@ -61,12 +59,14 @@ part_tokens p = Plain (size_list p.start) ∷ Plain (size_list p.count) ∷ []
 abbrev is_part : Part → Bool
 is_part p = are_sizes p.start && are_sizes p.count
 
-part_read : (ws : List Word) (r : Part × List Word) → part ws ≡ Ok r → is_part r.0 ≡ true
-part_read ws r h =
-    list_then ws _ r h (λ s hs h. list_then s.1 _ r h (λ c hc h. subst (λ (x : Part × List Word). is_part x.0 ≡ true) (same_ok (record { start = s.0; count = c.0 }, c.1) r h) (and_from _ _ hs hc)))
+record PartRead (ws : List Word) (r : Part × List Word) : Type 0 where
+  sized : is_part r.0 ≡ true
+  rest : Kept ws r.1
 
-part_kept : (p : Word → Bool) (ws : List Word) (r : Part × List Word) → part ws ≡ Ok r → list_all p ws ≡ true → list_all p r.1 ≡ true
-part_kept p ws r h all = grind (arith, nat_tests, went, same_ok, list_kept)
+part_read : (ws : List Word) (r : Part × List Word) → part ws ≡ Ok r → PartRead ws r
+part_read ws r h =
+    list_then ws _ r h (λ s hs ks h. list_then s.1 _ r h (λ c hc kc h.
+    subst (PartRead ws) (same_ok (record { start = s.0; count = c.0 }, c.1) r h) (record { sized = and_from _ _ hs hc; rest = λ a. kc (ks a) })))
 
 part_again : (p : Part) (more : List Word) → is_part p ≡ true → part (Plain (size_list p.start) ∷ Plain (size_list p.count) ∷ more) ≡ Ok (p, more)
 part_again p more h = grind (arith, nat_tests, and_parts, go_on, list_word)
@@ -74,18 +74,18 @@ part_again p more h = grind (arith, nat_tests, and_parts, go_on, list_word)
 part_pushed : (found : List Part) (p : Part) → list_all is_part found ≡ true → is_part p ≡ true → list_all is_part (found ++ p ∷ []) ≡ true
 part_pushed found p a b = all_joined is_part found (p ∷ []) a (and_from _ _ b refl)
 
-parts_read : (n : ℕ) (found : List Part) (ws : List Word) (r : List Part × List Word) → list_all is_part found ≡ true → part_list n found ws ≡ Ok r → (list_all is_part r.0 ≡ true) × (length found + n ≡ length r.0)
-parts_read zero found ws r h e = grind (arith, nat_tests, same_ok)
+record PartsRead (long : ℕ) (ws : List Word) (r : List Part × List Word) : Type 0 where
+  sized : list_all is_part r.0 ≡ true
+  all : long ≡ length r.0
+  rest : Kept ws r.1
+
+parts_read : (n : ℕ) (found : List Part) (ws : List Word) (r : List Part × List Word) → list_all is_part found ≡ true → part_list n found ws ≡ Ok r → PartsRead (length found + n) ws r
+parts_read zero found ws r h e = subst (PartsRead (length found + 0) ws) (same_ok (found, ws) r e) (record { sized = h; all = omega arith; rest = λ a. a })
 parts_read (suc n) found ws r h e =
     let a = carried (part ws) (λ p. part_list n (found ++ p.0 ∷ []) p.1) r e in
-    let more = parts_read n (found ++ a.value.0 ∷ []) a.value.1 r (part_pushed found a.value.0 h (part_read ws a.value a.first)) a.rest in
-    (more.0, omega (arith, more.1, length-append found (a.value.0 ∷ [])))
-
-parts_kept : (p : Word → Bool) (n : ℕ) (found : List Part) (ws : List Word) (r : List Part × List Word) → part_list n found ws ≡ Ok r → list_all p ws ≡ true → list_all p r.1 ≡ true
-parts_kept p zero found ws r e all = subst (λ xs. list_all p xs ≡ true) (ap (λ (x : List Part × List Word). x.1) (same_ok (found, ws) r e)) all
-parts_kept p (suc n) found ws r e all =
-    let a = carried (part ws) (λ q. part_list n (found ++ q.0 ∷ []) q.1) r e in
-    parts_kept p n (found ++ a.value.0 ∷ []) a.value.1 r a.rest (part_kept p ws a.value a.first all)
+    let one = part_read ws a.value a.first in
+    let more = parts_read n (found ++ a.value.0 ∷ []) a.value.1 r (part_pushed found a.value.0 h one.sized) a.rest in
+    record { sized = more.sized; all = omega (arith, more.all, length-append found (a.value.0 ∷ [])); rest = λ b. more.rest (one.rest b) }
 
 parts_again : (ps found : List Part) (more : List Word) → list_all is_part ps ≡ true → part_list (length ps) found (flat_map part_tokens ps ++ more) ≡ Ok (found ++ ps, more)
 parts_again [] found more h = ap (λ (xs : List Part). Ok (xs, more)) (sym (append-nil found))
@@ -113,56 +113,50 @@ region_tokens form.Varn g = Plain (decimal (length g.parts)) ∷ flat_map part_t
 pub region_spelled : (f : Form) (g : Given) → map spelling (region_tokens f g) ≡ form_words f g
 region_spelled f g = grind (arith, nat_tests, decimal, parts_spelled)
 
-pub record RegionAgain (f : Form) (g : Given) : Type 0 where
-  pub same_form : f ≡ g.form
-  pub good : list_all is_good (region_tokens f g) ≡ true
-  pub again : (more : List Word) → region f (region_tokens f g ++ more) ≡ Ok (g, more)
+pub record RegionAgain (g : Given) : Type 0 where
+  pub good : list_all is_good (region_tokens g.form g) ≡ true
+  pub again : (more : List Word) → region g.form (region_tokens g.form g ++ more) ≡ Ok (g, more)
 
-var1_again : (s : List ℕ) → are_sizes s ≡ true → RegionAgain form.Var1 (given_of form.Var1 s [] [] [])
+var1_again : (s : List ℕ) → are_sizes s ≡ true → RegionAgain (given_of form.Var1 s [] [] [])
 var1_again s hs = grind (arith, nat_tests, and_from, list_plain, go_on, list_word)
 
-vara_again : (s c : List ℕ) → are_sizes s ≡ true → are_sizes c ≡ true → RegionAgain form.Vara (given_of form.Vara s c [] [])
+vara_again : (s c : List ℕ) → are_sizes s ≡ true → are_sizes c ≡ true → RegionAgain (given_of form.Vara s c [] [])
 vara_again s c hs hc = grind (arith, nat_tests, and_from, list_plain, go_on, list_word)
 
-vars_again : (s c d : List ℕ) → are_sizes s ≡ true → are_sizes c ≡ true → are_sizes d ≡ true → RegionAgain form.Vars (given_of form.Vars s c d [])
+vars_again : (s c d : List ℕ) → are_sizes s ≡ true → are_sizes c ≡ true → are_sizes d ≡ true → RegionAgain (given_of form.Vars s c d [])
 vars_again s c d hs hc hd = grind (arith, nat_tests, and_from, list_plain, go_on, list_word)
 
-varm_again : (s c d m : List ℕ) → are_sizes s ≡ true → are_sizes c ≡ true → are_sizes d ≡ true → are_sizes m ≡ true → RegionAgain form.Varm (given_of form.Varm s c d m)
+varm_again : (s c d m : List ℕ) → are_sizes s ≡ true → are_sizes c ≡ true → are_sizes d ≡ true → are_sizes m ≡ true → RegionAgain (given_of form.Varm s c d m)
 varm_again s c d m hs hc hd hm = grind (arith, nat_tests, and_from, list_plain, go_on, list_word)
 
-varn_again : (ps : List Part) → list_all is_part ps ≡ true → (length ps == 0) ≡ false → nat_lt most_parts (length ps) ≡ false → RegionAgain form.Varn (given_parts ps)
+varn_again : (ps : List Part) → list_all is_part ps ≡ true → (length ps == 0) ≡ false → nat_lt most_parts (length ps) ≡ false → RegionAgain (given_parts ps)
 varn_again ps h some few = grind (arith, nat_tests, ltb-false, and_from, size_plain, parts_good, go_on, decimal, flat_map, size_word, passed, nat_lt, parts_again)
 
-given : {x y : Given × List Word} (f : Form) → x ≡ y → RegionAgain f x.0 → RegionAgain f y.0
-given f e h = subst (λ (z : Given × List Word). RegionAgain f z.0) e h
+-- a region that is read, and the words that are left
+pub record RegionRead (ws : List Word) (r : Given × List Word) : Type 0 where
+  pub same : RegionAgain r.0
+  pub rest : Kept ws r.1
 
-left : {x y : Given × List Word} (p : Word → Bool) → x ≡ y → list_all p x.1 ≡ true → list_all p y.1 ≡ true
-left p e h = subst (λ (z : Given × List Word). list_all p z.1 ≡ true) e h
+given : {ws : List Word} (x y : Given × List Word) → ◌≡◌ {A = Result (Given × List Word) ScriptKind} (Ok x) (Ok y) → RegionAgain x.0 → Kept ws x.1 → RegionRead ws y
+given {ws} x y e h k = subst (RegionRead ws) (same_ok x y e) (record { same = h; rest = k })
 
-pub region_again : (f : Form) (ws : List Word) (r : Given × List Word) → region f ws ≡ Ok r → RegionAgain f r.0
-region_again form.Var ws r h = grind (arith, nat_tests, given, same_ok)
-region_again form.Var1 ws r h = list_then ws _ r h (λ s hs h. given form.Var1 (same_ok (given_of form.Var1 s.0 [] [] [], s.1) r h) (var1_again s.0 hs))
-region_again form.Vara ws r h =
-    list_then ws _ r h (λ s hs h. list_then s.1 _ r h (λ c hc h. given form.Vara (same_ok (given_of form.Vara s.0 c.0 [] [], c.1) r h) (vara_again s.0 c.0 hs hc)))
-region_again form.Vars ws r h =
-    list_then ws _ r h (λ s hs h. list_then s.1 _ r h (λ c hc h. list_then c.1 _ r h (λ d hd h.
-    given form.Vars (same_ok (given_of form.Vars s.0 c.0 d.0 [], d.1) r h) (vars_again s.0 c.0 d.0 hs hc hd))))
-region_again form.Varm ws r h =
-    list_then ws _ r h (λ s hs h. list_then s.1 _ r h (λ c hc h. list_then c.1 _ r h (λ d hd h. list_then d.1 _ r h (λ m hm h.
-    given form.Varm (same_ok (given_of form.Varm s.0 c.0 d.0 m.0, m.1) r h) (varm_again s.0 c.0 d.0 m.0 hs hc hd hm)))))
-region_again form.Varn ws r h =
+pub region_read : (f : Form) (ws : List Word) (r : Given × List Word) → region f ws ≡ Ok r → RegionRead ws r
+region_read form.Var ws r h = given (given_of form.Var [] [] [] [], ws) r h (record { good = refl; again = λ more. refl }) (λ a. a)
+region_read form.Var1 ws r h = list_then ws _ r h (λ s hs ks h. given (given_of form.Var1 s.0 [] [] [], s.1) r h (var1_again s.0 hs) ks)
+region_read form.Vara ws r h =
+    list_then ws _ r h (λ s hs ks h. list_then s.1 _ r h (λ c hc kc h. given (given_of form.Vara s.0 c.0 [] [], c.1) r h (vara_again s.0 c.0 hs hc) (λ a. kc (ks a))))
+region_read form.Vars ws r h =
+    list_then ws _ r h (λ s hs ks h. list_then s.1 _ r h (λ c hc kc h. list_then c.1 _ r h (λ d hd kd h.
+    given (given_of form.Vars s.0 c.0 d.0 [], d.1) r h (vars_again s.0 c.0 d.0 hs hc hd) (λ a. kd (kc (ks a))))))
+region_read form.Varm ws r h =
+    list_then ws _ r h (λ s hs ks h. list_then s.1 _ r h (λ c hc kc h. list_then c.1 _ r h (λ d hd kd h. list_then d.1 _ r h (λ m hm km h.
+    given (given_of form.Varm s.0 c.0 d.0 m.0, m.1) r h (varm_again s.0 c.0 d.0 m.0 hs hc hd hm) (λ a. km (kd (kc (ks a))))))))
+region_read form.Varn ws r h =
     step_then (size ws) _ r h (λ n is h. free_then _ _ _ r h (λ some h. free_then _ _ _ r h (λ few h. step_then (part_list n.0 [] n.1) _ r h (λ ps told h.
     let parts = parts_read n.0 [] n.1 ps refl told in
-    let long : n.0 ≡ length ps.0 = omega (arith, parts.1) in
-    given form.Varn (same_ok (given_parts ps.0, ps.1) r h) (varn_again ps.0 parts.0 (subst (λ m. (m == 0) ≡ false) long some) (subst (λ m. nat_lt most_parts m ≡ false) long few))))))
-
-pub region_kept : (p : Word → Bool) (f : Form) (ws : List Word) (r : Given × List Word) → region f ws ≡ Ok r → list_all p ws ≡ true → list_all p r.1 ≡ true
-region_kept p form.Var ws r h all = left p (same_ok (given_of form.Var [] [] [] [], ws) r h) all
-region_kept p form.Var1 ws r h all = grind (arith, nat_tests, went, left, same_ok, list_kept)
-region_kept p form.Vara ws r h all = grind (arith, nat_tests, went, left, same_ok, list_kept)
-region_kept p form.Vars ws r h all = grind (arith, nat_tests, went, left, same_ok, list_kept)
-region_kept p form.Varm ws r h all = grind (arith, nat_tests, went, left, same_ok, list_kept)
-region_kept p form.Varn ws r h all = grind (arith, nat_tests, went, nat_lt, left, same_ok, parts_kept, kept)
+    let long : n.0 ≡ length ps.0 = omega (arith, parts.all) in
+    given (given_parts ps.0, ps.1) r h (varn_again ps.0 parts.sized (subst (λ m. (m == 0) ≡ false) long some) (subst (λ m. nat_lt most_parts m ≡ false) long few))
+    (λ a. parts.rest (kept size_of_text kind.BadNumber ws n is a))))))
 
 -- ---- a region that has just the lists of its form
 
@@ -176,7 +170,7 @@ no_lists : (c d m : List ℕ) (ps : List Part) → (is_empty c && is_empty d && 
 no_lists c d m ps h = grind (arith, nat_tests, and_parts, empty_list)
 
 region_by : (f : Form) (s c d m : List ℕ) (ps : List Part) → has_lists_of f (region_with f s c d m ps) ≡ true → are_sizes s ≡ true → are_sizes c ≡ true → are_sizes d ≡ true → are_sizes m ≡ true → list_all is_part ps ≡ true
-    → length ps ≤ most_parts → RegionAgain f (region_with f s c d m ps)
+    → length ps ≤ most_parts → RegionAgain (region_with f s c d m ps)
 region_by form.Var s c d m ps lists hs hc hd hm hp few = grind (arith, nat_tests, and_parts, same_region, empty_list)
 region_by form.Var1 s c d m ps lists hs hc hd hm hp few = let e = no_lists c d m ps lists in rw (e.0, e.1, e.2, e.3) (var1_again s hs)
 region_by form.Vara s c d m ps lists hs hc hd hm hp few = let e = no_lists [] d m ps lists in rw (e.1, e.2, e.3) (vara_again s c hs hc)
@@ -192,7 +186,7 @@ region_by form.Varn s c d m ps lists hs hc hd hm hp few =
     some_parts [] h = absurd (cc)
     some_parts (p ∷ ps) h = ne_eqb (length (p ∷ ps)) 0 (omega arith)
 
-pub region_told : (g : Given) → is_given g ≡ true → RegionAgain g.form g
+pub region_told : (g : Given) → is_given g ≡ true → RegionAgain g
 region_told g h =
     let a = and_parts _ (nat_le (length g.parts) most_parts) h in
     let b = and_parts _ (list_all is_part g.parts) a.0 in

@@ -5,15 +5,15 @@ use borrow.Author.Tests.{leb-true, le-ltb, ltb-false}
 use Rattle.nc_base.specs.declared.errors.ScriptKind.TheVariants as kind
 use Rattle.nc_base.specs.declared.errors.LimitName.TheVariants as limit
 use Rattle.script_text.proofs.Steps.{go_on, same_ok, word_read, step_then}
-use Rattle.script_text.proofs.Lines.{is_line, spelled, body, numbered, lines_again, significant_lines, valid_lines, valid_bytes}
+use Rattle.script_text.proofs.Lines.{is_line, spelled, body, numbered, lead_lines, lines_again, significant_lines, valid_lines, valid_bytes}
 use Rattle.script_text.proofs.Numerals.{size_again, size_plain}
 use Rattle.script_text.proofs.PrintedDefinitions.{is_value_of, ranks_again, within_plain}
-use Rattle.script_text.proofs.CallLines.{Chains, count_all, Holds, DataEnd, are_read, data_holds, call_lines, calls_are_lines, data_again, line_ok}
-use Rattle.script_text.proofs.AddedLines.{Leads, Runs, runs_on, run_again, Replay, replay_runs, replay_lines, extra_line}
+use Rattle.script_text.proofs.CallLines.{Chains, count_all, Holds, DataEnd, are_read, data_holds, call_lines, Calls, all_calls_run, data_again, line_ok}
+use Rattle.script_text.proofs.AddedLines.{Leads, Runs, runs_on, run_again, Replay, replay_runs, extra_line}
 use Rattle.script_text.proofs.DefinedChains.{DefinedOk}
-use Rattle.script_text.proofs.DefinedLines.{at_state, leads_by, definition_lines, told_again, nothing_but, definitions_run, definitions_are_lines}
+use Rattle.script_text.proofs.DefinedLines.{at_state, define_on, definition_lines, told_again, nothing_but, definitions_run}
 use Rattle.script_text.proofs.ReadWords.{significant_read}
-use Rattle.script_text.proofs.KnownLines.{hint_tokens, all_given, hints_again, HintsFit, hints_fit, with_hints, hints_run, hints_are_lines, What, nothing_ok, definitions_read}
+use Rattle.script_text.proofs.KnownLines.{hint_tokens, all_given, hints_again, HintsFit, hints_fit, with_hints, hints_run, What, nothing_ok, definitions_read}
 use Rattle.script_text.proofs.ScriptLines.{ranks_words, fill_lines, before_data, from_data, head_words, all_lines, script_with, all_spelled}
 
 -- ---- what is known at `data` is known again
@@ -21,8 +21,13 @@ use Rattle.script_text.proofs.ScriptLines.{ranks_words, fill_lines, before_data,
 abbrev with_ranks : ℕ → Known
 with_ranks n = record nothing_known { ranks = Some n }
 
-ranks_lead : (version n : ℕ) → is_value_of (Within 1 64 1) n ≡ true → Leads version nothing_known (ranks_words n) (with_ranks n)
-ranks_lead version n h = (refl, go_on (ranks_line None (Plain (decimal n) ∷ [])) (λ x. Ok (record nothing_known { ranks = Some x })) n (with_ranks n) (ranks_again n h) refl)
+-- the number of ranks and the hints, and the lines that follow
+opening_run : (version n : ℕ) (h : Hints) (wss : List (List Word)) (last : Known) → is_value_of (Within 1 64 1) n ≡ true → HintsFit h
+    → Runs version (with_hints (with_ranks n) (all_given h)) wss last → Runs version nothing_known (ranks_words n ∷ (hint_tokens h ++ wss)) last
+opening_run version n h wss last r fit more =
+    let k = with_ranks n in
+    let read = go_on (ranks_line None (Plain (decimal n) ∷ [])) (λ x. Ok (record nothing_known { ranks = Some x })) n k (ranks_again n r) refl in
+    (k, and_from _ _ (within_plain 1 64 1 n r (omega arith)) refl, (refl, read), runs_on version k _ last (hint_tokens h) wss (hints_run version k h fit) more)
 
 pub record KnownAgain (version n : ℕ) (h : Hints) (es : List Extra) (d : Defined) (values : ℕ) : Type 0 where
   pub last : Known
@@ -30,53 +35,34 @@ pub record KnownAgain (version n : ℕ) (h : Hints) (es : List Extra) (d : Defin
   pub ranks : last.ranks ≡ Some n
   pub counted : last.values ≡ values
   pub same : (calls : List (List Call)) → script_of version n last calls ≡ script_with version n h d es calls
-  pub lines : list_all is_line (before_data n h es d) ≡ true
 
 fill_run : (version : ℕ) (k : Known) (filled : Bool) → (version == 0) ≡ false → Runs version (at_state k (nothing_but false) 0) (fill_lines filled) (at_state k (nothing_but filled) 0)
 fill_run version k false new = refl
-fill_run version k true new = (at_state k (nothing_but true) 0, leads_by version (at_state k (nothing_but false) 0) (codes "fill") [] (0, nothing_but true) new refl refl refl refl, refl)
-
-fill_are_lines : (filled : Bool) → list_all is_line (fill_lines filled) ≡ true
-fill_are_lines true = refl
-fill_are_lines false = refl
-
-before_are_lines : (n : ℕ) (h : Hints) (es : List Extra) (d : Defined) → is_value_of (Within 1 64 1) n ≡ true → HintsFit h → list_all is_line (map extra_line es) ≡ true → list_all is_line (definition_lines d) ≡ true
-    → list_all is_line (before_data n h es d) ≡ true
-before_are_lines n h es d r fit a b =
-    let plain = within_plain 1 64 1 n r (omega arith) in
-    and_from _ _ (and_from _ _ plain refl)
-    (all_joined is_line (hint_tokens h) (fill_lines d.filled ++ (map extra_line es ++ definition_lines d)) (hints_are_lines h fit)
-    (all_joined is_line (fill_lines d.filled) (map extra_line es ++ definition_lines d) (fill_are_lines d.filled) (all_joined is_line (map extra_line es) (definition_lines d) a b)))
+fill_run version k true new = define_on version k (nothing_but false) 0 (codes "fill") [] (0, nothing_but true) [] _ new refl refl refl refl refl refl
 
 open_again : (n values : ℕ) (h : Hints) (added : Added) → is_value_of (Within 1 64 1) n ≡ true → HintsFit h → Replay 0 nothing_added added.extras values added → KnownAgain 0 n h added.extras no_definition values
 open_again n values h added r fit replay =
-    let k = with_ranks n in
-    let k2 = with_hints k (all_given h) in
+    let k2 = with_hints (with_ranks n) (all_given h) in
     let last : Known = record k2 { added = added; values = values } in
-    let extras = replay_runs 0 values nothing_added added added.extras k2 replay in
     record {
       last = last;
-      run = (k, ranks_lead 0 n r, runs_on 0 k k2 last (hint_tokens h) _ (hints_run 0 k h fit) (runs_on 0 k2 last last (map extra_line added.extras) [] extras refl));
+      run = opening_run 0 n h _ last r fit (runs_on 0 k2 last last (map extra_line added.extras) [] (replay_runs 0 values nothing_added added added.extras k2 replay) refl);
       ranks = refl;
       counted = refl;
       same = λ calls. ap (λ (x : Hints). script_with 0 n x no_definition added.extras calls) (hints_again n h);
-      lines = before_are_lines n h added.extras no_definition r fit (replay_lines 0 values nothing_added added added.extras replay) refl;
     }
 
 pub create_again : (version n values : ℕ) (h : Hints) (d : Defined) → (version == 0) ≡ false → is_value_of (Within 1 64 1) n ≡ true → HintsFit h → DefinedOk version values d → values ≤ most_values → KnownAgain version n h [] d values
 create_again version n values h d new r fit ok few =
-    let k = with_ranks n in
-    let k2 = with_hints k (all_given h) in
-    let k3 = at_state k2 (nothing_but d.filled) 0 in
+    let k2 = with_hints (with_ranks n) (all_given h) in
     let last : Known = at_state k2 (told_again d) values in
     let defined = definitions_run version values k2 d new ok.dims ok.vars ok.attrs ok.own ok.counted few in
     record {
       last = last;
-      run = (k, ranks_lead version n r, runs_on version k k2 last (hint_tokens h) _ (hints_run version k h fit) (runs_on version k2 k3 last (fill_lines d.filled) _ (fill_run version k2 d.filled new) defined));
+      run = opening_run version n h _ last r fit (runs_on version k2 (at_state k2 (nothing_but d.filled) 0) last (fill_lines d.filled) _ (fill_run version k2 d.filled new) defined);
       ranks = refl;
       counted = refl;
       same = λ calls. ap (λ (x : Hints). script_with version n x d [] calls) (hints_again n h);
-      lines = before_are_lines n h [] d r fit refl (definitions_are_lines version d ok.dims ok.vars ok.attrs ok.own);
     }
 
 -- ---- the head
@@ -172,11 +158,12 @@ told_again_after past version n values h es d calls small again end agree =
 pub whole_from : (version n values : ℕ) (h : Hints) (es : List Extra) (d : Defined) (calls : List (List Call)) → HeadIs version → n ≤ 64 → KnownAgain version n h es d values → DataEnd n values calls
     → mismatch (map (λ own. kinds own) calls) ≡ None → Whole (script_with version n h d es calls)
 whole_from version n values h es d calls first small again end agree =
-    let call_text = calls_are_lines n 0 calls (omega (arith, end.long)) end.chains in
+    let before = lead_lines (Leads version) nothing_known again.last (before_data n h es d) again.run in
+    let call_text = lead_lines Calls _ _ (call_lines 0 calls) (all_calls_run n values calls small end) in
     record {
       drafted = all_lines first.existing version n h es d calls;
       lines = and_from _ _ (head_is_line first.existing version first.told)
-          (all_joined is_line (before_data n h es d) (from_data calls) again.lines (all_joined is_line (call_lines 0 calls) ((Plain (codes "end") ∷ []) ∷ []) call_text refl));
+          (all_joined is_line (before_data n h es d) (from_data calls) before (all_joined is_line (call_lines 0 calls) ((Plain (codes "end") ∷ []) ∷ []) call_text refl));
       text = all_spelled first.existing version n h es d calls first.test;
       again = λ past. head_again first.existing past version (before_data n h es d ++ from_data calls) (script_with version n h d es calls) first.told
           (told_again_after past version n values h es d calls small again end agree);
