@@ -91,25 +91,26 @@ fresh_pushed titles owner names m h n none = grind (arith, nat_tests, or_parts, 
 abbrev titles_of : List ℕ → List Attr → List Title
 titles_of owner list = map (λ (a : Attr). (owner, a.name)) list
 
+-- attributes of one owner, which are read in turn where one is
+atts_run : (version : ℕ) (k : Known) (owner : List ℕ) (now : List Attr → List Title → Defined) (list : List Attr) (names : List (List ℕ)) (front : List Attr) (titles : List Title) (v : ℕ) → (version == 0) ≡ false → is_plain owner ≡ true
+    → ((done : List Attr) (told : List Title) (u : ℕ) (a : Attr) → AttrAgain version a → list_any (same_title (owner, a.name)) told ≡ false → u + a.count ≤ most_values
+    → att_line version u (now done told) (Plain owner ∷ attr_tokens a) ≡ Ok (a.count, now (done ++ a ∷ []) (told ++ (owner, a.name) ∷ [])))
+    → AttrChain version names list → FreshOwner titles owner names → v + count_attrs list ≤ most_values
+    → Runs version (at_state k (now front titles) v) (map (line_of_att owner) list) (at_state k (now (front ++ list) (titles ++ titles_of owner list)) (v + count_attrs list))
+atts_run version k owner now [] names front titles v new plain one h fresh few = let none : v + 0 ≡ v = omega arith in rw (append-nil front, append-nil titles, none)
+atts_run version k owner now (a ∷ list) names front titles v new plain one h fresh few =
+    let next = titles ++ (owner, a.name) ∷ [] in
+    let more = atts_run version k owner now list (names ++ a.name ∷ []) (front ++ a ∷ []) next (v + a.count) new plain one h.2 (fresh_pushed titles owner names a.name fresh) (omega arith) in
+    let total : (v + a.count) + count_attrs list ≡ v + (a.count + count_attrs list) = omega arith in
+    define_on version k (now front titles) v (codes "att") (Plain owner ∷ attr_tokens a) (a.count, now (front ++ a ∷ []) next) _ _ new (and_from _ _ plain h.0.good) refl refl refl
+    (one front titles v a h.0 (fresh a.name h.1) (omega arith)) (rw (append_assoc front (a ∷ []) list, append_assoc titles ((owner, a.name) ∷ []) (titles_of owner list), total) at more)
+
 abbrev with_atts : Defined → List Attr → List Title → Defined
 with_atts d list titles = record d { attrs = list; titles = titles }
 
 att_dataset_again : (version : ℕ) (d : Defined) (v : ℕ) (a : Attr) → AttrAgain version a → list_any (same_title (codes ":", a.name)) d.titles ≡ false → v + a.count ≤ most_values
     → att_line version v d (Plain (codes ":") ∷ attr_tokens a) ≡ Ok (a.count, with_title (codes ":") a.name (with_attr_of_owner None a d))
 att_dataset_again version d v a again fresh few = grind (arith, nat_tests, codes, go_on, word_read)
-
-dataset_run : (version : ℕ) (k : Known) (d : Defined) (list : List Attr) (names : List (List ℕ)) (front : List Attr) (titles : List Title) (v : ℕ) → (version == 0) ≡ false → AttrChain version names list → FreshOwner titles (codes ":") names → v + count_attrs list ≤ most_values
-    → Runs version (at_state k (with_atts d front titles) v) (map (line_of_att (codes ":")) list) (at_state k (with_atts d (front ++ list) (titles ++ titles_of (codes ":") list)) (v + count_attrs list))
-dataset_run version k d [] names front titles v new h fresh few = grind (arith, nat_tests, append-nil)
-dataset_run version k d (a ∷ list) names front titles v new h fresh few =
-    let owner = codes ":" in
-    let here = with_atts d front titles in
-    let next_titles = titles ++ (owner, a.name) ∷ [] in
-    let next = with_atts d (front ++ a ∷ []) next_titles in
-    let more = dataset_run version k d list (names ++ a.name ∷ []) (front ++ a ∷ []) next_titles (v + a.count) new h.2 (fresh_pushed titles owner names a.name fresh) (omega arith) in
-    let total : (v + a.count) + count_attrs list ≡ v + (a.count + count_attrs list) = omega arith in
-    define_on version k here v (codes "att") (Plain owner ∷ attr_tokens a) (a.count, next) _ _ new h.0.good refl refl refl
-    (att_dataset_again version here v a h.0 (fresh a.name h.1) (omega arith)) (rw (append_assoc front (a ∷ []) list, append_assoc titles ((owner, a.name) ∷ []) (titles_of owner list), total) at more)
 
 -- ---- attributes of the variables
 
@@ -140,19 +141,6 @@ att_own_again : (version : ℕ) (d : Defined) (front back : List Var) (w : Var) 
 att_own_again version d front back w titles v a named fresh again new few =
     grind (arith, nat_tests, pushes, push_at, go_on, word_read, owner_again, no_colon, place_again)
 
-own_run : (version : ℕ) (k : Known) (d : Defined) (front back : List Var) (list : List Attr) (names : List (List ℕ)) (w : Var) (titles : List Title) (v : ℕ) → (version == 0) ≡ false
-    → is_name w.name ≡ true → is_among w.name (var_names front) ≡ false → AttrChain version names list → FreshOwner titles w.name names → v + count_attrs list ≤ most_values
-    → Runs version (at_state k (with_vars d (front ++ w ∷ back) titles) v) (map (line_of_att w.name) list) (at_state k (with_vars d (front ++ with_list w (w.attrs ++ list) ∷ back) (titles ++ titles_of w.name list)) (v + count_attrs list))
-own_run version k d front back [] names w titles v new named alone h fresh few = let none : v + 0 ≡ v = omega arith in rw (append-nil w.attrs, append-nil titles, none)
-own_run version k d front back (a ∷ list) names w titles v new named alone h fresh few =
-    let here = with_vars d (front ++ w ∷ back) titles in
-    let next_titles = titles ++ (w.name, a.name) ∷ [] in
-    let next = with_vars d (front ++ with_own a w ∷ back) next_titles in
-    let more = own_run version k d front back list (names ++ a.name ∷ []) (with_own a w) next_titles (v + a.count) new named alone h.2 (fresh_pushed titles w.name names a.name fresh) (omega arith) in
-    let total : (v + a.count) + count_attrs list ≡ v + (a.count + count_attrs list) = omega arith in
-    define_on version k here v (codes "att") (Plain w.name ∷ attr_tokens a) (a.count, next) _ _ new (and_from _ _ (name_plain w.name named) h.0.good) refl refl refl
-    (att_own_again version d front back w titles v a named alone h.0 (fresh a.name h.1) (omega arith)) (rw (append_assoc w.attrs (a ∷ []) list, append_assoc titles ((w.name, a.name) ∷ []) (titles_of w.name list), total) at more)
-
 -- the titles are of owners of these names, or of the dataset
 abbrev Apart : List Title → List (List ℕ) → Type 0
 Apart titles names = (owner : List ℕ) → bytes_eq owner (codes ":") ≡ false → is_among owner names ≡ false → (n : List ℕ) → list_any (same_title (owner, n)) titles ≡ false
@@ -180,7 +168,9 @@ all_own_run version k d old names (x ∷ vs) done titles v new h own same apart 
     let named = h.0.head.named in
     let alone : is_among x.name (var_names done) ≡ false = rw same h.0.head.fresh in
     let fresh : FreshOwner titles x.name [] = λ n none. apart x.name (no_colon x.name named) h.0.head.fresh n in
-    let first = own_run version k d done (map bare vs) x.attrs [] (bare x) titles v new named alone own.0 fresh (omega arith) in
+    let first =
+    atts_run version k x.name (λ (front : List Attr) (ts : List Title). with_vars d (done ++ with_list (bare x) front ∷ map bare vs) ts) x.attrs [] [] titles v new (name_plain x.name named)
+    (λ front ts u a. att_own_again version d done (map bare vs) (with_list (bare x) front) ts u a named alone) own.0 fresh (omega arith) in
     let rest = all_own_run version k d old (names ++ x.name ∷ []) vs (done ++ full x ∷ []) (titles ++ titles_of x.name x.attrs) (v + count_attrs x.attrs) new h.1 own.2 (rw joined_vars (rw same))
     (apart_pushed titles names x.name x.attrs apart) (omega arith) in
     let total : (v + count_attrs x.attrs) + count_own vs ≡ v + (count_attrs x.attrs + count_own vs) = omega arith in
@@ -213,7 +203,9 @@ definitions_run version v k d new hd hv ha ho counted few =
     let set_titles = titles_of (codes ":") d.attrs in
     let three = with_atts two d.attrs set_titles in
     let apart : Apart set_titles [] = λ owner colon none n. other_titles owner (codes ":") n d.attrs colon in
-    let all_atts = dataset_run version k two d.attrs [] [] [] 0 new ha (λ n none. refl) (omega arith) in
+    let all_atts =
+    atts_run version k (codes ":") (λ (front : List Attr) (ts : List Title). with_atts two front ts) d.attrs [] [] [] 0 new refl
+    (λ front ts u a. att_dataset_again version (with_atts two front ts) u a) ha (λ n none. refl) (omega arith) in
     let all_own = all_own_run version k three d.titles [] d.vars [] set_titles (count_attrs d.attrs) new hv ho refl apart (omega arith) in
     let zero_more : 0 + count_attrs d.attrs ≡ count_attrs d.attrs = omega arith in
     runs_on version (at_state k empty 0) (at_state k one 0) (at_state k (told_again d) v) (map line_of_dim d.dims) _ (dims_run version k empty d.dims [] new hd)
