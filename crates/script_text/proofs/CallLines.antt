@@ -1,8 +1,7 @@
 -- The calls of all ranks, printed rank by rank, are read as the same calls.
-use Rattle.script_text.proofs.Words.{◌≡◌, ◌∙◌, ℕ, zero, suc, ◌+◌, ◌≤◌, ◌<◌, List, [], ◌∷◌, ◌++◌, map, length, replicate, Bool, true, false, not, nat_lt, slice_set, Result, Ok, Err, refl, sym, ap, subst, append_assoc, append-nil, length-append, arith, bytes_eq, codes, decimal, list_all, enumerate_from, and_parts, and_from, cond-true, ne_eqb, set_at, ScriptKind, ScriptErr, Call, most_values, values_in_call, call_word, line, shown_call, Word, Plain, Line, is_comment, is_digit, bare, next, Called, calls_of, rank_of_text, with_call, call_line, call_of, called_after, at_line, call_step, data_part, flat_map-append, all_joined, nat_tests, length-set, length-replicate}
+use Rattle.script_text.proofs.Words.{◌≡◌, ◌∙◌, ℕ, zero, suc, ◌+◌, ◌≤◌, ◌<◌, List, [], ◌∷◌, ◌++◌, map, length, replicate, Bool, true, false, not, nat_lt, slice_set, Result, Ok, Err, refl, sym, ap, subst, append_assoc, append-nil, length-append, arith, bytes_eq, codes, decimal, list_all, enumerate_from, and_parts, and_from, cond-true, ne_eqb, set_at, ScriptKind, ScriptErr, Call, most_values, values_in_call, call_word, shown_call, Word, Plain, Line, is_comment, is_digit, bare, next, Called, calls_of, rank_of_text, with_call, call_line, call_of, called_after, at_line, call_step, data_part, flat_map-append, nat_tests, length-set, length-replicate}
 use Rattle.std.proofs.Common.{flat_map}
 use borrow.Author.Tests.{ltb-true, lt-ltb}
-use Rattle.nc_base.specs.declared.errors.ScriptKind.TheVariants as kind
 use Rattle.script_text.proofs.Steps.{went, go_on, same_ok, whole_value, by_false, tested, carried, step_then}
 use Rattle.script_text.proofs.Lines.{is_line, spelled, numbered, Lead, lead_on}
 use Rattle.script_text.proofs.Numerals.{decimal_numeral, decimal_plain, decimal_word}

@@ -1,6 +1,5 @@
 -- The words of a call that is printed.
-use Rattle.script_text.proofs.Words.{◌≡◌, ◌∙◌, ℕ, ◌+◌, List, [], ◌∷◌, ◌++◌, map, Bool, true, Option, Some, None, refl, ap, codes, decimal, Values, Form, Given, PostKind, Call, call_word, form_word, kind_word, with_all, call_words, region_words, shown_values, words_behind, Word, Plain, posted, put_call, get_call, post_call, call_of, Family, Requests, Size, Name, Record, Nothing, Behind, CallRow, in_row, of_behind, HasNoRegion, IsRow, made_behind, arith, nat_tests}
-use Rattle.nc_base.specs.declared.request.Form.TheVariants as form
+use Rattle.script_text.proofs.Words.{◌≡◌, ◌∙◌, ℕ, List, [], ◌∷◌, ◌++◌, map, Bool, true, Option, Some, None, refl, ap, codes, decimal, Values, Form, Given, PostKind, Call, call_word, form_word, kind_word, with_all, call_words, region_words, shown_values, words_behind, Word, Plain, posted, put_call, get_call, post_call, call_of, Family, Requests, Size, Name, Record, Nothing, Behind, CallRow, in_row, of_behind, HasNoRegion, IsRow, made_behind, arith, nat_tests}
 use Rattle.nc_base.specs.declared.request.Call.TheVariants as call
 use Rattle.script_spec.specs.CallTable.{row_of}
 use Rattle.script_text.proofs.Lexing.{spelling, is_plain}

@@ -1,7 +1,5 @@
 -- The definitions of a new dataset, printed in their canonical order, are read as the same definitions.
-use Rattle.script_text.proofs.Words.{◌≡◌, ℕ, suc, ◌+◌, ◌≤◌, List, [], ◌∷◌, ◌++◌, map, position, length, Bool, true, false, nat_lt, ◌==◌, Some, None, Ok, refl, sym, ap, append_assoc, append-nil, arith, bytes_eq, codes, list_all, list_any, and_parts, and_from, and_left, and_right, or_from, or_parts, ne_eqb, list_any-append, Dim, Attr, Var, most_values, type_word, bracketed, Word, Plain, is_name, is_among, var_names, dim_line, var_line, owner_place, Title, same_title, Defined, with_var, with_title, with_attr_of_owner, att_line, definition, Known, all_joined, nat_tests}
-use Rattle.nc_base.specs.declared.errors.ScriptKind.TheVariants as kind
-use Rattle.nc_base.specs.declared.errors.LimitName.TheVariants as limit
+use Rattle.script_text.proofs.Words.{◌≡◌, ℕ, suc, ◌+◌, ◌≤◌, List, [], ◌∷◌, ◌++◌, map, position, length, Bool, true, false, nat_lt, ◌==◌, Some, None, Ok, refl, sym, ap, append_assoc, append-nil, arith, bytes_eq, codes, list_any, and_parts, and_from, and_left, and_right, or_from, or_parts, ne_eqb, list_any-append, Dim, Attr, Var, most_values, type_word, bracketed, Word, Plain, is_name, is_among, var_names, dim_line, var_line, owner_place, Title, same_title, Defined, with_var, with_title, with_attr_of_owner, att_line, definition, Known, nat_tests}
 use Rattle.script_text.proofs.Steps.{go_on, passed, faultless, word_read, by_false}
 use Rattle.script_text.proofs.Lexing.{is_plain}
 use Rattle.script_text.proofs.Lines.{is_line}

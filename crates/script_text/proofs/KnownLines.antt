@@ -1,8 +1,8 @@
 -- The number of ranks and the hints, and what is known before `data` as a whole.
-use Rattle.script_text.proofs.Words.{◌≡◌, ◌∙◌, ℕ, ◌+◌, ◌^◌, ◌≤◌, ◌<◌, min, List, [], ◌∷◌, ◌++◌, map, Bool, true, false, ◌==◌, Option, Some, None, is_some, slice_set, Result, Ok, refl, ap, subst, arith, bytes_eq, codes, decimal, list_all, and_parts, and_from, faultless_some, ScriptKind, Hints, OverlapRule, Refuse, Serial, most_values, shown_hint, shown_hints, Word, Plain, Line, ◌>>=◌, or_fault, bare, Within, HintForm, HintRow, flag, rule_number, rule_of, off_or_on, refuse_or_serial, hint_table, hint_of_text, hint_form, shown_value, none_given, hint_in, hints_of, number_within, hint_value, hint_line, ranks_line, no_definition, definition, nothing_added, addition, Known, nothing_known, known_after, at_line, data_line, definition_step, definitions, nat_tests, take, drop}
+use Rattle.script_text.proofs.Words.{◌≡◌, ◌∙◌, ℕ, ◌+◌, ◌^◌, ◌≤◌, ◌<◌, min, List, [], ◌∷◌, ◌++◌, map, Bool, true, false, ◌==◌, Option, Some, None, is_some, slice_set, Result, Ok, refl, ap, subst, arith, bytes_eq, codes, decimal, list_all, and_parts, and_from, faultless_some, ScriptKind, Hints, OverlapRule, Refuse, Serial, most_values, shown_hint, shown_hints, Word, Plain, Line, ◌>>=◌, or_fault, bare, Within, HintForm, HintRow, flag, rule_number, rule_of, off_or_on, refuse_or_serial, hint_table, hint_of_text, hint_form, shown_value, none_given, hint_in, hints_of, number_within, hint_value, hint_line, ranks_line, Defined, no_definition, definition, Added, nothing_added, addition, Known, nothing_known, known_after, at_line, data_line, definition_step, definitions, nat_tests, take, drop}
 use Rattle.std.proofs.Common.{flat_map}
 use Rattle.nc_base.specs.declared.errors.ScriptKind.TheVariants as kind
-use Rattle.script_text.proofs.Steps.{went, same_ok, word_read, whole_value, tested, looked, carried}
+use Rattle.script_text.proofs.Steps.{went, same_ok, word_read, whole_value, tested, looked, carried, step_then}
 use Rattle.script_text.proofs.Lexing.{is_plain}
 use Rattle.script_text.proofs.Lines.{spelled}
 use Rattle.script_text.proofs.PrintedValues.{is_read}
@@ -130,64 +130,53 @@ ranks_ok None = true
 ranks_ok (Some n) = is_value_of (Within 1 64 1) n
 
 -- what is added to an existing dataset, or what is defined of a new one
-abbrev pub What : Bool → ℕ → Known → Type 0
-What true version k = (k.defined ≡ no_definition) × Replay 0 nothing_added k.added.extras k.values k.added
-What false version k = (k.added ≡ nothing_added) × DefinedOk version k.values k.defined
+abbrev pub What : Bool → ℕ → Defined → Added → ℕ → Type 0
+What true version d a values = (d ≡ no_definition) × Replay 0 nothing_added a.extras values a
+What false version d a values = (a ≡ nothing_added) × DefinedOk version values d
 
-pub record KnownOk (version : ℕ) (k : Known) : Type 0 where
+-- of an existing dataset, or of a new one
+pub record KnownAs (existing : Bool) (version : ℕ) (k : Known) : Type 0 where
   pub ranks : ranks_ok k.ranks ≡ true
   pub hints : are_hints hint_table k.hints ≡ true
   pub few : k.values ≤ most_values
-  pub what : What (version == 0) version k
+  pub what : What existing version k.defined k.added k.values
 
-what_ranks : (b : Bool) (version n : ℕ) (k : Known) → What b version k → What b version (record k { ranks = Some n })
-what_ranks true version n k h = h
-what_ranks false version n k h = h
+abbrev pub KnownOk : ℕ → Known → Type 0
+KnownOk version k = KnownAs (version == 0) version k
 
-what_hints : (b : Bool) (version : ℕ) (hints : List (Option ℕ)) (k : Known) → What b version k → What b version (record k { hints = hints })
-what_hints true version hints k h = h
-what_hints false version hints k h = h
-
-what_nothing : (b : Bool) (version : ℕ) → What b version nothing_known
+what_nothing : (b : Bool) (version : ℕ) → What b version no_definition nothing_added 0
 what_nothing true version = (refl, (refl, refl))
 what_nothing false version = (refl, record { dims = tt; vars = tt; attrs = tt; has_titles = refl; own = tt; counted = refl })
 
 pub nothing_ok : (version : ℕ) → KnownOk version nothing_known
 nothing_ok version = record { ranks = refl; hints = refl; few = omega arith; what = what_nothing (version == 0) version }
 
-abbrev IsOn : Bool → ℕ → Known → Known → Type 0
-IsOn b version k next = (ranks_ok next.ranks ≡ true) × (are_hints hint_table next.hints ≡ true) × (next.values ≤ most_values) × What b version next
-
-content_on : (b : Bool) (version : ℕ) (k next : Known) (first : List ℕ) (ws : List Word) → list_all is_read ws ≡ true → KnownOk version k → What b version k
+content_on : (b : Bool) (version : ℕ) (k next : Known) (first : List ℕ) (ws : List Word) → list_all is_read ws ≡ true → KnownAs b version k
     → elim b as (λ x. Result Known ScriptKind) [
       | true ↦ (addition k.values k.added first ws >>= λ x. Ok (record k { added = x.1; values = k.values + x.0 }))
       | false ↦ (definition version k.values k.defined first ws >>= λ x. Ok (record k { defined = x.1; values = k.values + x.0 }))
-    ] ≡ Ok next → IsOn b version k next
-content_on true version k next first ws read ok what h =
-    let a = went (addition k.values k.added first ws) (λ x. Ok (record k { added = x.1; values = k.values + x.0 })) next h in
-    let by = addition_read k.values k.added first ws a.value ok.few read a.first in
-    subst (IsOn true version k) (same_ok (record k { added = a.value.1; values = k.values + a.value.0 }) next a.rest)
-    (ok.ranks, ok.hints, by.few, (what.0, replay_on 0 k.values nothing_added k.added a.value what.1 by))
-content_on false version k next first ws read ok what h =
-    let a = went (definition version k.values k.defined first ws) (λ x. Ok (record k { defined = x.1; values = k.values + x.0 })) next h in
-    let by = definition_read version k.values k.defined first ws a.value ok.few read what.1 a.first in
-    subst (IsOn false version k) (same_ok (record k { defined = a.value.1; values = k.values + a.value.0 }) next a.rest)
-    (ok.ranks, ok.hints, by.few, (what.0, by.same))
+    ] ≡ Ok next → KnownAs b version next
+content_on true version k next first ws read ok h =
+    step_then (addition k.values k.added first ws) _ next h (λ a told h.
+    let by = addition_read k.values k.added first ws a ok.few read told in
+    subst (KnownAs true version) (same_ok (record k { added = a.1; values = k.values + a.0 }) next h)
+    (record { ranks = ok.ranks; hints = ok.hints; few = by.few; what = (ok.what.0, replay_on 0 k.values nothing_added k.added a ok.what.1 by) }))
+content_on false version k next first ws read ok h =
+    step_then (definition version k.values k.defined first ws) _ next h (λ a told h.
+    let by = definition_read version k.values k.defined first ws a ok.few read ok.what.1 told in
+    subst (KnownAs false version) (same_ok (record k { defined = a.1; values = k.values + a.0 }) next h)
+    (record { ranks = ok.ranks; hints = ok.hints; few = by.few; what = (ok.what.0, by.same) }))
 
 known_on : (version : ℕ) (k next : Known) (first : List ℕ) (ws : List Word) → list_all is_read ws ≡ true → KnownOk version k → known_after version k first ws ≡ Ok next → KnownOk version next
 known_on version k next first ws read ok h =
     tested (bytes_eq first (codes "ranks")) _ _ _ h
-    (λ i e.
-    let a = went (ranks_line k.ranks ws) _ next e in
-    subst (KnownOk version) (same_ok (record k { ranks = Some a.value }) next a.rest)
-    (record { ranks = ranks_read k.ranks ws a.value a.first; hints = ok.hints; few = ok.few; what = what_ranks (version == 0) version a.value k ok.what }))
+    (λ i e. step_then (ranks_line k.ranks ws) _ next e (λ n told e.
+    subst (KnownOk version) (same_ok (record k { ranks = Some n }) next e) (record { ranks = ranks_read k.ranks ws n told; hints = ok.hints; few = ok.few; what = ok.what })))
     (λ i e. tested (bytes_eq first (codes "hint")) _ _ _ e
-    (λ j l.
-    let a = went (hint_line k.hints ws) _ next l in
-    let hints = slice_set k.hints a.value.0 (Some a.value.1) in
-    subst (KnownOk version) (same_ok (record k { hints = hints }) next a.rest)
-    (record { ranks = ok.ranks; hints = hint_read k.hints ws a.value ok.hints a.first; few = ok.few; what = what_hints (version == 0) version hints k ok.what }))
-    (λ j l. let c = content_on (version == 0) version k next first ws read ok ok.what l in record { ranks = c.0; hints = c.1; few = c.2; what = c.3 }))
+    (λ j l. step_then (hint_line k.hints ws) _ next l (λ v told l.
+    subst (KnownOk version) (same_ok (record k { hints = slice_set k.hints v.0 (Some v.1) }) next l)
+    (record { ranks = ok.ranks; hints = hint_read k.hints ws v ok.hints told; few = ok.few; what = ok.what })))
+    (λ j. content_on (version == 0) version k next first ws read ok))
 
 -- ---- the definitions as a whole
 

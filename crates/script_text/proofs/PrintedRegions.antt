@@ -3,7 +3,6 @@ use Rattle.script_text.proofs.Words.{◌≡◌, ◌∙◌, ℕ, zero, suc, ◌+�
 use Rattle.std.proofs.Common.{flat_map}
 use borrow.Author.Tests.{ltb-true, ltb-false, lt-ltb, le-ltb, leb-true}
 use Rattle.nc_base.specs.declared.errors.ScriptKind.TheVariants as kind
-use Rattle.nc_base.specs.declared.errors.LimitName.TheVariants as limit
 use Rattle.nc_base.specs.declared.request.Form.TheVariants as form
 use Rattle.script_text.proofs.Steps.{went, go_on, same_ok, passed, faultless, read_word, word_read, word_before, whole_value, carried, carry_on, by_false, tested, step_then, free_then}
 use Rattle.script_text.proofs.Lexing.{spelling, is_plain, is_good}

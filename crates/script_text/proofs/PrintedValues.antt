@@ -2,7 +2,6 @@
 use Rattle.script_text.proofs.Words.{◌≡◌, ◌∙◌, ℕ, suc, ◌+◌, ◌^◌, ◌≤◌, ◌<◌, List, [], ◌∷◌, ◌++◌, map, length, Bool, true, false, not, cond, nat_lt, ◌&&◌, Option, Some, None, is_some, Ok, ℤ, unsigned_abs, refl, sym, ap, subst, append_assoc, append-nil, length-append, arith, bytes_eq, codes, signed_decimal, list_all, and_parts, and_from, and_left, cond-true, ne_eqb, sixteens, faultless_some, NcType, Values, Numbers, Text, Bits, Class, most_elements, most_values, count_of, hex, shown_values, Word, Plain, Quoted, Broken, number_of_text, bits_of_text, or_fault, bare, size, within_limits, are_numbers, are_patterns, are_text, may_be, may_have, number_for, pattern_for, one_value, each_value, sequence_count, sequence, is_term, term, numbers_between, pattern_sequence, pattern_term, patterns_between, seq_values, seqx_values, pattern_values, text_values, number_values, bits_values, begins_x, listed_kind, listed_values, values, nat_tests, cond_some, all_joined}
 use borrow.Author.Tests.{ltb-true, lt-ltb, not-false}
 use Rattle.nc_base.specs.declared.errors.ScriptKind.TheVariants as kind
-use Rattle.nc_base.specs.declared.errors.LimitName.TheVariants as limit
 use Rattle.nc_base.specs.declared.request.Value.TheVariants as value
 use Rattle.serial_spec.specs.ExternalForm as class
 use Rattle.script_text.proofs.Steps.{went, go_on, same_ok, passed, faultless, carried, carry_on, by_false, tested, looked, step_then, free_then, word_then, end_then}

@@ -1,5 +1,5 @@
 -- A script as its lines, which spell what is shown of it.
-use Rattle.script_text.proofs.Words.{◌≡◌, ◌∙◌, ℕ, ◌+◌, List, [], ◌∷◌, ◌++◌, map, Bool, true, false, not, cond, ◌==◌, refl, sym, ap, append_assoc, append-nil, codes, decimal, enumerate_from, Header, Var, Hints, Extra, Script, Call, line, shown, shown_hints, shown_extra, shown_dim, shown_var, shown_attr, shown_call, Word, Plain, Defined, header_of, flat_map-append, arith, nat_tests}
+use Rattle.script_text.proofs.Words.{◌≡◌, ◌∙◌, ℕ, List, [], ◌∷◌, ◌++◌, map, Bool, true, false, not, cond, ◌==◌, refl, sym, ap, append_assoc, append-nil, codes, decimal, enumerate_from, Header, Var, Hints, Extra, Script, Call, line, shown, shown_hints, shown_extra, shown_dim, shown_var, shown_attr, shown_call, Word, Plain, Defined, header_of, flat_map-append, arith, nat_tests}
 use Rattle.std.proofs.Common.{flat_map}
 use Rattle.script_text.proofs.Lines.{spelled}
 use Rattle.script_text.proofs.CallLines.{call_lines, calls_spelled}
