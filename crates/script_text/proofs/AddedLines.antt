@@ -6,7 +6,7 @@ use Rattle.nc_base.specs.declared.errors.LimitName.TheVariants as limit
 use Rattle.nc_base.specs.declared.script.Extra.TheVariants as extra
 use Rattle.script_text.proofs.Steps.{went, go_on, same_ok, passed, read_word, word_read, by_false, tested, decided, step_then, free_then, end_then}
 use Rattle.script_text.proofs.Lexing.{is_plain, is_good}
-use Rattle.script_text.proofs.Lines.{is_line, spelled, numbered, Lead, lead_on}
+use Rattle.script_text.proofs.Lines.{is_line, spelled, numbered, Lead}
 use Rattle.script_text.proofs.Numerals.{name_plain}
 use Rattle.script_text.proofs.PrintedValues.{is_read}
 use Rattle.script_text.proofs.PrintedRegions.{kept}
@@ -24,9 +24,6 @@ Leads version known (Broken ∷ ws) after = ⊥
 
 abbrev pub Runs : ℕ → Known → List (List Word) → Known → Type 0
 Runs version known wss after = Lead (Leads version) known wss after
-
-pub runs_on : (version : ℕ) (k x y : Known) (a b : List (List Word)) → Runs version k a x → Runs version x b y → Runs version k (a ++ b) y
-runs_on version k x y a b h j = lead_on (Leads version) k x y a b h j
 
 abbrev pub defined_by : ℕ → ℕ → List Line → Result (Option ℕ × Known) ScriptErr → Result (ℕ × (Known × List Line)) ScriptErr
 defined_by past version lines r = elim r [ Err e ↦ Err e | Ok s ↦ elim s.0 [ Some ranks ↦ Ok (ranks, (s.1, lines)) | None ↦ definitions past version s.1 lines ] ]

@@ -2,11 +2,11 @@
 use Rattle.script_text.proofs.Words.{◌≡◌, ℕ, suc, ◌+◌, ◌≤◌, List, [], ◌∷◌, ◌++◌, map, position, length, Bool, true, false, nat_lt, ◌==◌, Some, None, Ok, refl, sym, ap, append_assoc, append-nil, arith, bytes_eq, codes, list_any, and_parts, and_from, and_left, and_right, or_from, or_parts, ne_eqb, list_any-append, Dim, Attr, Var, most_values, type_word, bracketed, Word, Plain, is_name, is_among, var_names, dim_line, var_line, owner_place, Title, same_title, Defined, with_var, with_title, with_attr_of_owner, att_line, definition, Known, nat_tests}
 use Rattle.script_text.proofs.Steps.{go_on, passed, faultless, word_read, by_false}
 use Rattle.script_text.proofs.Lexing.{is_plain}
-use Rattle.script_text.proofs.Lines.{is_line}
+use Rattle.script_text.proofs.Lines.{is_line, lead_on}
 use Rattle.script_text.proofs.Numerals.{name_plain}
 use Rattle.script_text.proofs.PrintedAttributes.{type_plain, attr_tokens, AttrAgain}
 use Rattle.script_text.proofs.PrintedDefinitions.{dim_tokens, head_again, names_plain, names_again}
-use Rattle.script_text.proofs.AddedLines.{Leads, Runs, runs_on, owner_again}
+use Rattle.script_text.proofs.AddedLines.{Leads, Runs, owner_again}
 use Rattle.script_text.proofs.Places.{name_at, names_shown, place_of_new}
 use Rattle.script_text.proofs.DefinedChains.{DimChain, VarOk, VarChain, AttrChain, OwnChains, with_own, push_attr, pushes, count_attrs, count_own}
 
@@ -172,7 +172,7 @@ all_own_run version k d old names (x ∷ vs) done titles v new h own same apart 
     let rest = all_own_run version k d old (names ++ x.name ∷ []) vs (done ++ full x ∷ []) (titles ++ titles_of x.name x.attrs) (v + count_attrs x.attrs) new h.1 own.2 (rw joined_vars (rw same))
     (apart_pushed titles names x.name x.attrs apart) (omega arith) in
     let total : (v + count_attrs x.attrs) + count_own vs ≡ v + (count_attrs x.attrs + count_own vs) = omega arith in
-    runs_on version _ (at_state k (with_vars d (done ++ full x ∷ map bare vs) (titles ++ titles_of x.name x.attrs)) (v + count_attrs x.attrs)) _ (map (line_of_att x.name) x.attrs) (lines_of_own vs) first
+    lead_on (Leads version) _ (at_state k (with_vars d (done ++ full x ∷ map bare vs) (titles ++ titles_of x.name x.attrs)) (v + count_attrs x.attrs)) _ (map (line_of_att x.name) x.attrs) (lines_of_own vs) first
     (rw (append_assoc done (full x ∷ []) (map bare vs), append_assoc done (full x ∷ []) (map full vs), total) at rest)
 
 full_again : (version : ℕ) (dims : List Dim) (names : List (List ℕ)) (vs : List Var) → VarChain version dims names vs → map full vs ≡ vs
@@ -206,7 +206,7 @@ definitions_run version v k d new hd hv ha ho counted few =
     (λ front ts u a. att_dataset_again version (with_atts two front ts) u a) ha (λ n none. refl) (omega arith) in
     let all_own = all_own_run version k three d.titles [] d.vars [] set_titles (count_attrs d.attrs) new hv ho refl apart (omega arith) in
     let zero_more : 0 + count_attrs d.attrs ≡ count_attrs d.attrs = omega arith in
-    runs_on version (at_state k empty 0) (at_state k one 0) (at_state k (told_again d) v) (map line_of_dim d.dims) _ (dims_run version k empty d.dims [] new hd)
-    (runs_on version (at_state k one 0) (at_state k two 0) (at_state k (told_again d) v) (map (line_of_var d.dims) d.vars) _ (vars_run version k one [] d.vars [] new hv refl)
-    (runs_on version (at_state k two 0) (at_state k three (count_attrs d.attrs)) (at_state k (told_again d) v) (map (line_of_att (codes ":")) d.attrs) _ (rw zero_more at all_atts)
+    lead_on (Leads version) (at_state k empty 0) (at_state k one 0) (at_state k (told_again d) v) (map line_of_dim d.dims) _ (dims_run version k empty d.dims [] new hd)
+    (lead_on (Leads version) (at_state k one 0) (at_state k two 0) (at_state k (told_again d) v) (map (line_of_var d.dims) d.vars) _ (vars_run version k one [] d.vars [] new hv refl)
+    (lead_on (Leads version) (at_state k two 0) (at_state k three (count_attrs d.attrs)) (at_state k (told_again d) v) (map (line_of_att (codes ":")) d.attrs) _ (rw zero_more at all_atts)
     (rw (full_again version d.dims [] d.vars hv, ← counted) at all_own)))

@@ -34,10 +34,7 @@ put_same ranks r own all n g before vs hn hg hv =
     let rest = region_tokens g.form g ++ value_tokens vs in
     record {
       good = and_from _ _ (name_plain n hn) (all_joined is_good (region_tokens g.form g) (value_tokens vs) hg.good (values_good None vs hv.are));
-      again = λ now low. put_word ranks r own now (Plain n ∷ rest) all g.form
-          ∙ go_on (name (Plain n ∷ rest)) _ (n, rest) (call.Put all n g vs) (name_again n rest hn)
-          (go_on (region g.form rest) _ (g, value_tokens vs) (call.Put all n g vs) (hg.again (value_tokens vs))
-          (go_on (values None now (value_tokens vs)) _ vs (call.Put all n g vs) (values_again None now vs (fitting_at vs before now hv low)) refl));
+      again = λ now low. grind (arith, nat_tests, put_word ranks r own now (Plain n ∷ rest) all g.form, go_on, name_again n rest hn, hg.again (value_tokens vs), values_again None now vs (fitting_at vs before now hv low));
     }
 
 put_read : (ranks r : ℕ) (own : List Call) (all : Bool) (f : Form) (before : ℕ) (ws : List Word) (c : Call)
@@ -49,14 +46,10 @@ put_read ranks r own all f before ws c low read h =
     subst (CallRead ranks r own before) (same_ok (call.Put all n.0 g.0 vs) c h) (record { same = put_same ranks r own all n.0 g.0 before vs named place.same fit; few = fit.room.all }))))
 
 pub get_same : (ranks r : ℕ) (own : List Call) (all : Bool) (n : List ℕ) (g : Given) → is_name n ≡ true → RegionAgain g → CallAgain ranks r own (call.Get all n g)
-get_same ranks r own all n g hn hg =
-    let rest = region_tokens g.form g in
-    record {
-      good = and_from _ _ (name_plain n hn) hg.good;
-      again = λ now low. get_word ranks r own now (Plain n ∷ rest) all g.form
-          ∙ go_on (name (Plain n ∷ rest)) _ (n, rest) (call.Get all n g) (name_again n rest hn)
-          (go_on (region g.form rest) _ (g, []) (call.Get all n g) (ap (region g.form) (sym (append-nil rest)) ∙ hg.again []) refl);
-    }
+get_same ranks r own all n g hn hg = record {
+  good = and_from _ _ (name_plain n hn) hg.good;
+  again = λ now low. grind (arith, nat_tests, get_word ranks r own now (Plain n ∷ region_tokens g.form g) all g.form, go_on, name_again n (region_tokens g.form g) hn, hg.again [], append-nil);
+}
 
 get_read : (ranks r : ℕ) (own : List Call) (before : ℕ) (low : before ≤ most_values) (all : Bool) (f : Form) (ws : List Word) (c : Call) → get_call all f ws ≡ Ok c → CallRead ranks r own before c
 get_read ranks r own before low all f ws c h =
@@ -84,16 +77,11 @@ pub post_same : (ranks r : ℕ) (own : List Call) (k : PostKind) (id : ℕ) (n :
     → id < 2 ^ 32 → is_posted id (posted own) ≡ false → is_name n ≡ true → RegionAgain g → PostedAgain k before vs → CallAgain ranks r own (call.Post id k n g vs)
 post_same ranks r own k id n g before vs low fresh hn hg hv =
     let rest = region_tokens g.form g ++ value_tokens vs in
-    let c = call.Post id k n g vs in
+    let words = Plain n ∷ rest in
+    let read = word_read id_of_text kind.BadNumber (decimal id) id words (id_again id low) in
     record {
       good = and_from _ _ (id_plain id low) (and_from _ _ (name_plain n hn) (all_joined is_good (region_tokens g.form g) (value_tokens vs) hg.good hv.good));
-      again = λ now few. post_word ranks r own now (Plain (decimal id) ∷ Plain n ∷ rest) k g.form
-          ∙ go_on (new_id (posted own) (Plain (decimal id) ∷ Plain n ∷ rest)) _ (id, Plain n ∷ rest) c
-          (go_on (reads_as id_of_text kind.BadNumber (Plain (decimal id) ∷ Plain n ∷ rest)) _ (id, Plain n ∷ rest) (id, Plain n ∷ rest) (word_read id_of_text kind.BadNumber (decimal id) id (Plain n ∷ rest) (id_again id low))
-          (go_on (refuse_if (is_posted id (posted own)) kind.TwiceNamed) _ tt (id, Plain n ∷ rest) (passed _ _ fresh) refl))
-          (go_on (name (Plain n ∷ rest)) _ (n, rest) c (name_again n rest hn)
-          (go_on (region g.form rest) _ (g, value_tokens vs) c (hg.again (value_tokens vs))
-          (go_on (post_values k now (value_tokens vs)) _ vs c (hv.again now few) refl)));
+      again = λ now few. grind (arith, nat_tests, post_word ranks r own now (Plain (decimal id) ∷ words) k g.form, go_on, passed, read, fresh, name_again n rest hn, hg.again (value_tokens vs), hv.again now few);
     }
 
 new_id_read : (own : List Call) (ws : List Word) (i : ℕ × List Word) → list_all is_read ws ≡ true → new_id (posted own) ws ≡ Ok i → (i.0 < 2 ^ 32) × (is_posted i.0 (posted own) ≡ false) × (list_all is_read i.1 ≡ true)

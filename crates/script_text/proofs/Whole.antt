@@ -3,11 +3,11 @@ use Rattle.script_text.proofs.Words.{◌≡◌, ◌∙◌, ℕ, zero, suc, ◌+�
 use Rattle.std.proofs.Common.{flat_map}
 use borrow.Author.Tests.{leb-true, le-ltb, ltb-false}
 use Rattle.script_text.proofs.Steps.{go_on, same_ok, word_read, step_then}
-use Rattle.script_text.proofs.Lines.{is_line, spelled, body, numbered, lead_lines, lines_again, significant_lines, valid_lines, valid_bytes}
+use Rattle.script_text.proofs.Lines.{is_line, spelled, body, numbered, lead_on, lead_lines, lines_again, significant_lines, valid_lines, valid_bytes}
 use Rattle.script_text.proofs.Numerals.{size_again, size_plain}
 use Rattle.script_text.proofs.PrintedDefinitions.{is_value_of, ranks_again, within_plain}
 use Rattle.script_text.proofs.CallLines.{Chains, count_all, Holds, DataEnd, are_read, data_holds, call_lines, Calls, all_calls_run, data_again, line_ok}
-use Rattle.script_text.proofs.AddedLines.{Leads, Runs, runs_on, run_again, Replay, replay_runs, extra_line}
+use Rattle.script_text.proofs.AddedLines.{Leads, Runs, run_again, Replay, replay_runs, extra_line}
 use Rattle.script_text.proofs.DefinedChains.{DefinedOk}
 use Rattle.script_text.proofs.DefinedLines.{at_state, define_on, told_again, nothing_but, definitions_run}
 use Rattle.script_text.proofs.ReadWords.{significant_read}
@@ -25,7 +25,7 @@ opening_run : (version n : ℕ) (h : Hints) (wss : List (List Word)) (last : Kno
 opening_run version n h wss last r fit more =
     let k = with_ranks n in
     let read = go_on (ranks_line None (Plain (decimal n) ∷ [])) (λ x. Ok (record nothing_known { ranks = Some x })) n k (ranks_again n r) refl in
-    (k, and_from _ _ (within_plain 1 64 1 n r (omega arith)) refl, (refl, read), runs_on version k _ last (hint_tokens h) wss (hints_run version k h fit) more)
+    (k, and_from _ _ (within_plain 1 64 1 n r (omega arith)) refl, (refl, read), lead_on (Leads version) k _ last (hint_tokens h) wss (hints_run version k h fit) more)
 
 pub record KnownAgain (version n : ℕ) (h : Hints) (es : List Extra) (d : Defined) (values : ℕ) : Type 0 where
   pub last : Known
@@ -44,7 +44,7 @@ open_again n values h added r fit replay =
     let last : Known = record k2 { added = added; values = values } in
     record {
       last = last;
-      run = opening_run 0 n h _ last r fit (runs_on 0 k2 last last (map extra_line added.extras) [] (replay_runs 0 values nothing_added added added.extras k2 replay) refl);
+      run = opening_run 0 n h _ last r fit (lead_on (Leads 0) k2 last last (map extra_line added.extras) [] (replay_runs 0 values nothing_added added added.extras k2 replay) refl);
       ranks = refl;
       counted = refl;
       same = λ calls. ap (λ (x : Hints). script_with 0 n x no_definition added.extras calls) (hints_again n h);
@@ -57,7 +57,7 @@ create_again version n values h d new r fit ok few =
     let defined = definitions_run version values k2 d new ok.dims ok.vars ok.attrs ok.own ok.counted few in
     record {
       last = last;
-      run = opening_run version n h _ last r fit (runs_on version k2 (at_state k2 (nothing_but d.filled) 0) last (fill_lines d.filled) _ (fill_run version k2 d.filled new) defined);
+      run = opening_run version n h _ last r fit (lead_on (Leads version) k2 (at_state k2 (nothing_but d.filled) 0) last (fill_lines d.filled) _ (fill_run version k2 d.filled new) defined);
       ranks = refl;
       counted = refl;
       same = λ calls. ap (λ (x : Hints). script_with version n x d [] calls) (hints_again n h);
