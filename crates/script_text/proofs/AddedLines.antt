@@ -113,11 +113,7 @@ var_added values d ws r low h =
       what = extra.Var t n ns;
       extras = refl;
       good = and_from _ _ (type_plain t) (and_from _ _ (name_plain n head.named) (and_from _ _ (names_plain ns l.0) refl));
-      again = go_on (var_head 5 d.vars (Plain (type_word t) ∷ Plain n ∷ rest)) _ ((t, n), rest) (0, next) (head_again 5 d.vars t n rest head)
-          (go_on (added_shape d.dims rest) _ (ns, []) (0, next)
-          (go_on (name_list rest) _ (ns, []) (ns, []) (names_again ns [] l.0)
-          (go_on (refuse_if (nat_lt most_dims_of_var (length ns)) (kind.Limit limit.VarDims)) _ tt (ns, []) (passed _ _ l.1)
-          (go_on (refuse_if (list_any (is_added_record d.dims) (drop 1 ns)) kind.BadShape) _ tt (ns, []) (passed _ _ l.2) refl))) refl);
+      again = grind (arith, nat_tests, go_on, head_again 5 d.vars t n rest head, names_again ns [] l.0, passed, l.1, l.2);
       few = omega arith;
     }))))
 

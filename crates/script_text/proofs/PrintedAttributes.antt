@@ -146,17 +146,13 @@ pub record AttrRead (version : ℕ) (titles : List Title) (before : ℕ) (owner 
 
 attr_same : (version : ℕ) (n : List ℕ) (t : NcType) (vs : Values) → is_name n ≡ true → type_of version (type_word t) ≡ Some t → AttrShown n t vs → AttrAgain version (attr_of n t vs)
 attr_same version n t vs hn ht hv =
-    let a = attr_of n t vs in
-    let rest = value_tokens (attr_values a) in
+    let rest = value_tokens (attr_values (attr_of n t vs)) in
     record {
       good = and_from _ _ (name_plain n hn) (and_from _ _ (type_plain t) hv.good);
       again = λ titles before owner fresh few.
           let r = hv.again before few in
-          go_on (attribute_name titles owner (Plain n ∷ Plain (type_word t) ∷ rest)) _ (n, Plain (type_word t) ∷ rest) a
-          (go_on (name (Plain n ∷ Plain (type_word t) ∷ rest)) _ (n, Plain (type_word t) ∷ rest) (n, Plain (type_word t) ∷ rest) (name_again n (Plain (type_word t) ∷ rest) hn)
-          (go_on (refuse_if (list_any (same_title (owner, n)) titles) kind.TwiceNamed) _ tt (n, Plain (type_word t) ∷ rest) (passed _ _ fresh) refl))
-          (go_on (reads_as (type_of version) kind.UnknownWord (Plain (type_word t) ∷ rest)) _ (t, rest) a (type_word_again version t rest ht)
-          (go_on (values (Some t) before rest) _ r.0 a r.1 (ap (λ (x : Attr). Ok x) r.2)));
+          let typed = type_word_again version t rest ht in
+          grind (arith, nat_tests, go_on, name_again n (Plain (type_word t) ∷ rest) hn, passed, fresh, typed, r.1, r.2);
     }
 
 attribute_name_read : (titles : List Title) (owner : List ℕ) (ws : List Word) (n : List ℕ × List Word) → list_all is_read ws ≡ true → attribute_name titles owner ws ≡ Ok n

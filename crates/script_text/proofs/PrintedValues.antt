@@ -227,10 +227,9 @@ numbers_again t before (z ∷ zs) fit =
     let few = ltb-true (unsigned_abs z) (10 ^ 20) (and_parts _ _ (and_parts (is_fit_number t z) _ fit.are.0).0).0 in
     let n = number_word z few in
     let each = each_again (number_for t) (is_fit_number t) signed_decimal (number_for_again t) t before (z ∷ zs) [] fit.are.0 (less_room t before (0 + suc (length zs)) (suc (length zs)) (omega arith) fit.room) in
-    by_false (bytes_eq w (codes "seq")) _ _ (not_letters w 115 (101 ∷ 113 ∷ []) n (omega arith))
-    ∙ (by_false (bytes_eq w (codes "seqx")) _ _ (not_letters w 115 (101 ∷ 113 ∷ 120 ∷ []) n (omega arith))
-    ∙ (listed_number t before w ws (no_x w n) (fit.are.1 (omega arith))
-    ∙ go_on (each_value (number_for t) t before [] ws) (λ ys. Ok (Numbers ys)) (z ∷ zs) (Numbers (z ∷ zs)) each refl))
+    let no_seq = not_letters w 115 (101 ∷ 113 ∷ []) n (omega arith) in
+    let no_seqx = not_letters w 115 (101 ∷ 113 ∷ 120 ∷ []) n (omega arith) in
+    grind (arith, nat_tests, no_seq, no_seqx, listed_number t before w ws (no_x w n) (fit.are.1 (omega arith)), each, go_on)
 
 bits_values_again : (t : Option NcType) (before : ℕ) (ns : List ℕ) → Fitting t before (Bits ns) → values t before (value_tokens (Bits ns)) ≡ Ok (Bits ns)
 bits_values_again t before [] fit = absurd (omega (arith, fit.are.1))
