@@ -158,16 +158,12 @@ call_again_step : (ranks : ℕ) (front : List (List Call)) (own : List Call) (ba
 call_again_step ranks front own back v r c e small long again few =
     let d = at_rank front own back v in
     let ws = Plain (call_word c) ∷ call_tokens c in
-    let next_d = at_rank front (own ++ c ∷ []) back (v + values_in_call c) in
     let low : r < length d.calls = omega (arith, length-append front (own ∷ back)) in
     let read : call_line d r ws ≡ Ok c =
     ap (λ (n : ℕ). call_of n r (calls_of r d.calls) v (call_word c) (call_tokens c)) long
     ∙ (ap (λ (x : List Call). call_of ranks r x v (call_word c) (call_tokens c)) (own_at front own back r e) ∙ again.again v few) in
-    let after : called_after d (decimal r) ws ≡ Ok next_d =
-    go_on (rank_of_text (length d.calls) (decimal r)) _ r next_d (rank_again (length d.calls) r low small)
-    (go_on (call_line d r ws) _ c next_d read (ap (λ x. Ok x) (with_call_at front own back v r c e))) in
-    by_false (bytes_eq (decimal r) (codes "end")) _ _ (not_letters (decimal r) 101 (110 ∷ 100 ∷ []) (decimal_word r (omega arith)) (omega arith))
-    ∙ go_on (called_after d (decimal r) ws) (λ more. Ok (false, more)) next_d (false, next_d) after refl
+    let no_end = not_letters (decimal r) 101 (110 ∷ 100 ∷ []) (decimal_word r (omega arith)) (omega arith) in
+    grind (arith, nat_tests, no_end, rank_again (length d.calls) r low small, read, with_call_at front own back v r c e, go_on)
 
 data_on : (past n : ℕ) (d e : Called) (w : Word) (ws : List Word) (lines : List Line) → call_step d w ws ≡ Ok (false, e)
     → data_part past d (record { number = n; first = w; rest = ws } ∷ lines) ≡ data_part past e lines

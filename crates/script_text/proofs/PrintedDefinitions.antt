@@ -1,5 +1,5 @@
 -- Hints, dimensions and variables that are printed are read again.
-use Rattle.script_text.proofs.Words.{◌≡◌, ◌⊎◌, ◌∙◌, ℕ, zero, suc, ◌%◌, ◌^◌, ◌<◌, List, [], ◌∷◌, length, Bool, true, false, not, cond, nat_le, ◌==◌, ◌&&◌, ◌||◌, Option, Some, None, is_some, slice_get, slice_set, unwrap_or, Ok, refl, sym, ap, subst, ⊎_elim, arith, bytes_eq, codes, decimal, list_all, list_any, and_parts, and_from, cond-true, cond-false, NcType, Dim, most_dims, most_vars, record_limit, type_word, bracketed, Word, Plain, is_name, size_of_text, between_brackets, parts, reads_as, HintForm, Within, Either, HintRow, hint_table, hint_of_text, hint_form, hint_in, no_row, number_within, one_of_two, hint_value, hint_line, ranks_line, type_of, is_among, length_of_text, is_unlimited, dim_names, dim_line, var_head, name_list, size_read, nat_tests}
+use Rattle.script_text.proofs.Words.{◌≡◌, ◌⊎◌, ◌∙◌, ℕ, zero, suc, ◌%◌, ◌^◌, ◌<◌, List, [], ◌∷◌, length, Bool, true, false, not, cond, nat_le, ◌==◌, ◌&&◌, ◌||◌, Option, Some, None, is_some, slice_get, slice_set, unwrap_or, Ok, refl, sym, ap, subst, inl, inr, arith, bytes_eq, codes, decimal, list_all, list_any, and_parts, and_from, cond-true, cond-false, NcType, Dim, most_dims, most_vars, record_limit, type_word, bracketed, Word, Plain, is_name, size_of_text, between_brackets, parts, reads_as, HintForm, Within, Either, HintRow, hint_table, hint_of_text, hint_form, hint_in, no_row, number_within, one_of_two, hint_value, hint_line, ranks_line, type_of, is_among, length_of_text, is_unlimited, dim_names, dim_line, var_head, name_list, size_read, nat_tests}
 use borrow.Author.Tests.{leb-true, not-false}
 use Rattle.nc_base.specs.declared.errors.ScriptKind.TheVariants as kind
 use Rattle.script_text.proofs.Steps.{go_on, same_ok, passed, read_word, word_read, step_then, free_then, word_then, end_then}
@@ -101,17 +101,11 @@ pub record LengthAgain (version n : ℕ) : Type 0 where
   pub again : length_of_text version (length_word n) ≡ Some n
 
 pub length_told : (version n : ℕ) → (n ≡ 0) ⊎ (((n == 0) ≡ false) × (n < record_limit version) × (n < 2 ^ 63)) → LengthAgain version n
-length_told version n h = ⊎_elim
-    (λ (e : n ≡ 0). subst (LengthAgain version) (sym e) (record { plain = refl; again = refl }))
-    (λ (k : ((n == 0) ≡ false) × (n < record_limit version) × (n < 2 ^ 63)).
-    let word : length_word n ≡ decimal n = cond-false _ _ _ k.0 in
+length_told version n (inl e) = subst (LengthAgain version) (sym e) (record { plain = refl; again = refl })
+length_told version n (inr k) =
     let letters = not_letters (decimal n) 117 (110 ∷ 108 ∷ 105 ∷ 109 ∷ 105 ∷ 116 ∷ 101 ∷ 100 ∷ []) (decimal_word n (omega (arith, k.2))) (omega arith) in
     let small = below_again (record_limit version) (size_of_text (decimal n)) n (size_again n k.2) k.1 in
-    record {
-      plain = ap is_plain word ∙ size_plain n k.2;
-      again = ap (length_of_text version) word ∙ (cond-false _ _ _ letters ∙ (ap length_by small ∙ cond-false _ _ _ k.0));
-    })
-    h
+    grind (arith, nat_tests, letters, small, size_plain n k.2, cond-false, k.0)
 
 length_again : (version : ℕ) (w : List ℕ) (n : ℕ) → length_of_text version w ≡ Some n → LengthAgain version n
 length_again version w n h = length_told version n (length_is version w n h)

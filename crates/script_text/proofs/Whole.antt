@@ -149,9 +149,7 @@ told_again_after past version n values h es d calls small again end agree =
     let called : data_part past (no_calls n k2) lines ≡ Ok (final.0, (record { calls = calls; values = values + count_all calls }, [])) =
     ap (λ (v : ℕ). data_part past (record { calls = replicate n []; values = v }) lines) again.counted ∙ final.1 in
     let same : script_of version n k2 calls ≡ script_with version n h d es calls = again.same calls in
-    go_on (definitions past version nothing_known (numbered 2 (before_data n h es d ++ from_data calls))) _ (n, (k2, lines)) (script_with version n h d es calls) defined
-    (go_on (data_part past (no_calls n k2) lines) _ (final.0, (record { calls = calls; values = values + count_all calls }, [])) (script_with version n h d es calls) called
-    (go_on (finish final.0 calls []) _ tt (script_with version n h d es calls) (ap (finish_by final.0) agree) (ap (λ (s : Script). Ok s) same)))
+    grind (arith, nat_tests, defined, called, agree, same, go_on)
 
 pub whole_from : (version n values : ℕ) (h : Hints) (es : List Extra) (d : Defined) (calls : List (List Call)) → HeadIs version → n ≤ 64 → KnownAgain version n h es d values → DataEnd n values calls
     → mismatch (map (λ own. kinds own) calls) ≡ None → Whole (script_with version n h d es calls)
