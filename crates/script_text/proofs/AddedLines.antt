@@ -150,9 +150,7 @@ att_added values d ws r low read h =
       what = extra.Att (owner_name o) a;
       extras = refl;
       good = ap (list_all is_good) words ∙ and_from _ _ (owner_again o owner).0 k.same.good;
-      again = ap (λ (xs : List Word). att_addition values d xs) words
-          ∙ go_on (reads_as owner_of_text kind.BadName (Plain o ∷ attr_tokens a)) _ (o, attr_tokens a) (a.count, next) (word_read owner_of_text kind.BadName o o (attr_tokens a) (owner_again o owner).1)
-          (go_on (attribute 5 d.titles values o (attr_tokens a)) _ a (a.count, next) (k.same.again d.titles values o k.fresh k.few) refl);
+      again = grind (arith, nat_tests, words, word_read owner_of_text kind.BadName o o (attr_tokens a) (owner_again o owner).1, k.same.again d.titles values o k.fresh k.few, go_on);
       few = k.few;
     })
 

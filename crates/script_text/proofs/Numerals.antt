@@ -246,12 +246,7 @@ name_item (c ∷ cs) h = grind (arith, nat_tests, and_parts, nat_lt, all_more, i
 
 pub name_plain : (n : List ℕ) → is_name n ≡ true → is_plain n ≡ true
 name_plain [] h = absurd (cc)
-name_plain (c ∷ cs) h =
-    let all = item_graphic (c ∷ cs) (name_item (c ∷ cs) h) in
-    let first = and_parts (is_item_byte c) (list_all is_item_byte cs) (name_item (c ∷ cs) h) in
-    let both = and_parts _ _ (and_parts (starts_name c && list_all in_name cs) (nat_lt (length cs) 256) h).0 in
-    let b = in_name_bounds c (starts_in c both.0) in
-    and_from _ _ (ap not (ne_eqb c 34 (omega arith))) all
+name_plain (c ∷ cs) h = grind (arith, nat_tests, name_item (c ∷ cs) h, item_graphic (c ∷ cs) (name_item (c ∷ cs) h), and_parts, in_name_bounds c, starts_in c, ne_eqb)
 
 pub decimal_word : (n : ℕ) → n < 10 ^ 64 → IsNumberWord (decimal n)
 decimal_word n h = let d = decimal_numeral n h in digits_word (decimal n) d.some d.digits

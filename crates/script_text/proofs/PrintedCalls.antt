@@ -137,14 +137,10 @@ behind_told Nothing u h sized = nothing_behind u
 
 pub plain_same : (ranks r : ℕ) (own : List Call) (row : CallRow) → IsRow row → (b : Behind row.family) → BehindAgain row.family b → CallAgain ranks r own (row.made ranks r b)
 plain_same ranks r own row is b k =
-    let c = row.made ranks r b in
     let tokens = made_tokens row is ranks r b in
     record {
       good = subst (λ (ws : List Word). list_all is_good ws ≡ true) (sym tokens) k.good;
-      again = λ now few. ap (λ (w : List ℕ). call_of ranks r own now w (call_tokens c)) (made_word row is ranks r b)
-          ∙ (ap (λ (ws : List Word). call_of ranks r own now row.word ws) tokens
-          ∙ (is.is_read ranks r own now (tokens_behind row.family b)
-          ∙ go_on (behind row.family (tokens_behind row.family b)) (λ x. Ok (row.made ranks r x)) b c k.again refl));
+      again = λ now few. grind (arith, nat_tests, made_word row is ranks r b, tokens, is.is_read ranks r own now (tokens_behind row.family b), k.again, go_on);
     }
 
 plain_read : (ranks r : ℕ) (own : List Call) (before : ℕ) (low : before ≤ most_values) (w : List ℕ) (ws : List Word) (c : Call) → plain_call ranks r w ws ≡ Ok c → CallRead ranks r own before c
