@@ -1,8 +1,7 @@
 -- Runs of lines of the definitions, and what is added to a dataset that is opened: each line, printed, is read in the state in which it was read before.
-use Rattle.script_text.proofs.Words.{◌≡◌, ◌⊎◌, ◌∙◌, ℕ, ◌+◌, ◌≤◌, List, [], ◌∷◌, ◌++◌, map, length, drop, true, false, nat_lt, Option, Some, None, Result, Ok, Err, refl, sym, ap, subst, inl, inr, arith, bytes_eq, codes, list_all, list_any, and_from, cond-true, cond-false, bytes_eq-Decides, ScriptErr, Attr, Extra, most_dims_of_var, most_values, type_word, line, bracketed, shown_extra, shown_attr, Word, Plain, Quoted, Broken, Line, is_name, refuse_if, reads_as, dim_line, var_head, name_list, owner_of_text, owner_name, attribute, Added, is_added_record, added_shape, dim_addition, var_addition, att_addition, addition, Known, known_after, definition_step, definitions, nat_tests, cond_some, same_Some, Dim}
+use Rattle.script_text.proofs.Words.{◌≡◌, ◌⊎◌, ◌∙◌, ℕ, ◌+◌, ◌≤◌, List, [], ◌∷◌, ◌++◌, map, length, drop, true, false, nat_lt, Option, Some, None, Result, Ok, Err, refl, sym, ap, subst, inl, inr, arith, bytes_eq, codes, list_all, list_any, and_from, cond-true, cond-false, bytes_eq-Decides, ScriptErr, Attr, Extra, most_dims_of_var, most_values, type_word, line, bracketed, shown_extra, shown_attr, Word, Plain, Quoted, Broken, Line, is_name, reads_as, dim_line, var_head, name_list, owner_of_text, owner_name, attribute, Added, is_added_record, added_shape, dim_addition, var_addition, att_addition, addition, Known, known_after, definition_step, definitions, nat_tests, cond_some, same_Some, Dim}
 use Rattle.std.proofs.Common.{flat_map}
 use Rattle.nc_base.specs.declared.errors.ScriptKind.TheVariants as kind
-use Rattle.nc_base.specs.declared.errors.LimitName.TheVariants as limit
 use Rattle.nc_base.specs.declared.script.Extra.TheVariants as extra
 use Rattle.script_text.proofs.Steps.{went, go_on, same_ok, passed, read_word, word_read, by_false, tested, decided, step_then, free_then, end_then}
 use Rattle.script_text.proofs.Lexing.{is_plain, is_good}

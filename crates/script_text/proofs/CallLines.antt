@@ -2,7 +2,7 @@
 use Rattle.script_text.proofs.Words.{◌≡◌, ◌∙◌, ℕ, zero, suc, ◌+◌, ◌≤◌, ◌<◌, List, [], ◌∷◌, ◌++◌, map, length, replicate, Bool, true, false, not, nat_lt, slice_set, Result, Ok, Err, refl, sym, ap, subst, append_assoc, append-nil, length-append, arith, bytes_eq, codes, decimal, list_all, enumerate_from, and_parts, and_from, cond-true, ne_eqb, set_at, ScriptKind, ScriptErr, Call, most_values, values_in_call, call_word, shown_call, Word, Plain, Line, is_comment, is_digit, bare, next, Called, calls_of, rank_of_text, with_call, call_line, call_of, called_after, at_line, call_step, data_part, flat_map-append, nat_tests, length-set, length-replicate}
 use Rattle.std.proofs.Common.{flat_map}
 use borrow.Author.Tests.{ltb-true, lt-ltb}
-use Rattle.script_text.proofs.Steps.{went, go_on, same_ok, whole_value, by_false, tested, carried, step_then}
+use Rattle.script_text.proofs.Steps.{went, go_on, same_ok, whole_value, tested, carried, step_then}
 use Rattle.script_text.proofs.Lines.{is_line, spelled, numbered, Lead, lead_on}
 use Rattle.script_text.proofs.Numerals.{decimal_numeral, decimal_plain, decimal_word}
 use Rattle.script_text.proofs.PrintedValues.{is_read, not_letters}
@@ -94,11 +94,10 @@ data_by past l lines r = elim r [ Err e ↦ Err e | Ok s ↦ elim s.0 [ true ↦
 
 step_holds : (ranks v : ℕ) (d : Called) (w : Word) (ws : List Word) (s : Bool × Called) → Holds ranks v d → list_all is_read ws ≡ true → call_step d w ws ≡ Ok s → Holds ranks v s.1
 step_holds ranks v d w ws s holds read h =
-    let a = went (bare w) _ s h in
-    tested (bytes_eq a.value (codes "end")) _ _ _ a.rest (λ i k. subst (λ (x : Bool × Called). Holds ranks v x.1) (whole_value ((true, d), ws) s k).0 holds)
-    (λ i k.
-    let b = went (called_after d a.value ws) _ s k in
-    subst (λ (x : Bool × Called). Holds ranks v x.1) (same_ok (false, b.value) s b.rest) (holds_on ranks v d b.value a.value ws holds read b.first))
+    step_then (bare w) _ s h (λ first is h. tested (bytes_eq first (codes "end")) _ _ _ h
+    (λ i k. subst (λ (x : Bool × Called). Holds ranks v x.1) (whole_value ((true, d), ws) s k).0 holds)
+    (λ i k. step_then (called_after d first ws) _ s k (λ e told k.
+    subst (λ (x : Bool × Called). Holds ranks v x.1) (same_ok (false, e) s k) (holds_on ranks v d e first ws holds read told))))
 
 pub data_holds : (ranks v past : ℕ) (lines : List Line) (d : Called) (r : ℕ × (Called × List Line)) → Holds ranks v d → are_read lines ≡ true → data_part past d lines ≡ Ok r → Holds ranks v r.1.0
 data_holds ranks v past [] d r holds read h = absurd (cc)

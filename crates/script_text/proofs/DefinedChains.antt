@@ -1,5 +1,5 @@
 -- What is known of the definitions of a new dataset once they are read: each dimension, variable and attribute, printed after those before it, is read again.
-use Rattle.script_text.proofs.Words.{cases_Bool, ◌≡◌, ◌∙◌, ℕ, zero, suc, ◌+◌, ◌≤◌, List, [], ◌∷◌, ◌++◌, map, position, length, drop, Bool, true, false, nat_lt, Option, Some, None, slice_get, slice_set, Ok, refl, sym, ap, subst, ⊎_elim, append_assoc, append-nil, arith, bytes_eq, codes, list_all, list_any, and_parts, and_from, or_from, or_left, or_right, list_any-append, faultless_some, NcType, Dim, Attr, Var, most_dims_of_var, most_values, Word, is_name, or_fault, reads_as, is_among, dim_line, var_head, name_list, dim_ids, is_record_dim, var_names, shape, var_line, owner_of_text, owner_place, Title, same_title, attribute, Defined, with_dim, with_var, with_attr_at, with_title, with_attr_of_owner, att_line, dim_definition, var_definition, fill_line, definition, all_joined, nat_tests}
+use Rattle.script_text.proofs.Words.{◌≡◌, cases_Bool, ◌∙◌, ℕ, zero, suc, ◌+◌, ◌≤◌, List, [], ◌∷◌, ◌++◌, map, position, length, drop, Bool, true, false, nat_lt, Option, Some, None, slice_get, slice_set, Ok, refl, sym, ap, subst, ⊎_elim, append_assoc, append-nil, arith, bytes_eq, codes, list_all, list_any, and_parts, and_from, or_left, or_right, list_any-append, faultless_some, NcType, Dim, Attr, Var, most_dims_of_var, most_values, Word, is_name, or_fault, reads_as, is_among, dim_line, var_head, name_list, dim_ids, is_record_dim, var_names, shape, var_line, owner_of_text, owner_place, Title, same_title, attribute, Defined, with_dim, with_var, with_attr_at, with_title, with_attr_of_owner, att_line, dim_definition, var_definition, fill_line, definition, all_joined, nat_tests}
 use Rattle.nc_base.specs.declared.errors.ScriptKind.TheVariants as kind
 use Rattle.script_text.proofs.Steps.{went, same_ok, tested, step_then, free_then, end_then}
 use Rattle.script_text.proofs.Lines.{all_more}

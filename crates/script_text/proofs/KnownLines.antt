@@ -2,7 +2,7 @@
 use Rattle.script_text.proofs.Words.{◌≡◌, ◌∙◌, ℕ, ◌+◌, ◌^◌, ◌≤◌, ◌<◌, min, List, [], ◌∷◌, ◌++◌, map, Bool, true, false, ◌==◌, Option, Some, None, is_some, slice_set, Result, Ok, refl, ap, subst, arith, bytes_eq, codes, decimal, list_all, and_parts, and_from, faultless_some, ScriptKind, Hints, OverlapRule, Refuse, Serial, most_values, shown_hint, shown_hints, Word, Plain, Line, ◌>>=◌, or_fault, bare, Within, HintForm, HintRow, flag, rule_number, rule_of, off_or_on, refuse_or_serial, hint_table, hint_of_text, hint_form, shown_value, none_given, hint_in, hints_of, number_within, hint_value, hint_line, ranks_line, Defined, no_definition, definition, Added, nothing_added, addition, Known, nothing_known, known_after, at_line, data_line, definition_step, definitions, nat_tests, take, drop}
 use Rattle.std.proofs.Common.{flat_map}
 use Rattle.nc_base.specs.declared.errors.ScriptKind.TheVariants as kind
-use Rattle.script_text.proofs.Steps.{went, same_ok, word_read, whole_value, tested, looked, carried, step_then}
+use Rattle.script_text.proofs.Steps.{same_ok, word_read, whole_value, tested, looked, carried, step_then}
 use Rattle.script_text.proofs.Lexing.{is_plain}
 use Rattle.script_text.proofs.Lines.{spelled}
 use Rattle.script_text.proofs.PrintedValues.{is_read}
@@ -192,16 +192,11 @@ StepOk version (Some n, k) = KnownOk version k × (k.ranks ≡ Some n)
 
 step_ok : (version : ℕ) (k : Known) (w : Word) (ws : List Word) (s : Option ℕ × Known) → list_all is_read ws ≡ true → KnownOk version k → definition_step version k w ws ≡ Ok s → StepOk version s
 step_ok version k w ws s read ok h =
-    let a = went (bare w) _ s h in
-    tested (bytes_eq a.value (codes "data")) _ _ _ a.rest
-    (λ i e.
-    let b = went (data_line k ws) _ s e in
-    let c = went (or_fault kind.MissingWord k.ranks) _ b.value b.first in
-    let n = (whole_value (c.value, ws) b.value c.rest).0 in
-    subst (StepOk version) (same_ok (Some b.value, k) s b.rest) (ok, faultless_some kind.MissingWord k.ranks c.value c.first ∙ ap (λ (x : ℕ). Some x) n))
-    (λ i e.
-    let b = went (known_after version k a.value ws) _ s e in
-    subst (StepOk version) (same_ok (None, b.value) s b.rest) (known_on version k b.value a.value ws read ok b.first))
+    step_then (bare w) _ s h (λ first is h. tested (bytes_eq first (codes "data")) _ _ _ h
+    (λ i e. step_then (data_line k ws) _ s e (λ n told e. step_then (or_fault kind.MissingWord k.ranks) _ n told (λ m there z.
+    subst (StepOk version) (same_ok (Some n, k) s e) (ok, faultless_some kind.MissingWord k.ranks m there ∙ ap (λ (x : ℕ). Some x) (whole_value (m, ws) n z).0))))
+    (λ i e. step_then (known_after version k first ws) _ s e (λ next told e.
+    subst (StepOk version) (same_ok (None, next) s e) (known_on version k next first ws read ok told))))
 
 pub definitions_read : (past version : ℕ) (lines : List Line) (k : Known) (r : ℕ × (Known × List Line)) → are_read lines ≡ true → KnownOk version k → definitions past version k lines ≡ Ok r → AtData version r
 definitions_read past version [] k r read ok h = absurd (cc)

@@ -78,11 +78,9 @@ byte_bound c h = grind (arith, common_steps)
 text_again : (text tail : List ℕ) → list_all is_byte text ≡ true → text_from Between ((flat_map text_char text ++ 34 ∷ []) ++ tail) ≡ Some (text, tail)
 text_again [] tail h = refl
 text_again (c ∷ text) tail h =
-    let both = and_parts _ _ h in
-    let last = flat_map text_char text ++ 34 ∷ [] in
-    let same : ((text_char c ++ flat_map text_char text) ++ 34 ∷ []) ++ tail ≡ text_char c ++ (last ++ tail) =
-    ap (λ (cs : List ℕ). cs ++ tail) (append_assoc (text_char c) (flat_map text_char text) (34 ∷ [])) ∙ append_assoc (text_char c) last tail in
-    ap (text_from Between) same ∙ char_again (last ++ tail) text tail (text_again text tail both.1) c (byte_bound c both.0)
+    let both = and_parts (is_byte c) (list_all is_byte text) h in
+    let rest = (flat_map text_char text ++ 34 ∷ []) ++ tail in
+    grind (arith, nat_tests, append_assoc, char_again rest text tail (text_again text tail both.1) c (byte_bound c both.0))
 
 -- ---- a word, with what follows it on its line
 
@@ -100,10 +98,8 @@ up_to_blank : (cs tail : List ℕ) → list_all is_graphic cs ≡ true → begin
 up_to_blank [] [] h blank = refl
 up_to_blank [] (c ∷ tail) h blank = ap (λ (b : Bool). cond (not b) (1 + position_or_len is_blank tail) 0) blank
 up_to_blank (c ∷ cs) tail h blank =
-    let both = and_parts _ _ h in
-    let seen : is_blank c ≡ false = not_blank c (graphic_bounds c both.0).0 in
-    let more = up_to_blank cs tail both.1 blank in
-    ap (λ (b : Bool). cond (not b) (1 + position_or_len is_blank (cs ++ tail)) 0) seen ∙ omega arith
+    let both = and_parts (is_graphic c) (list_all is_graphic cs) h in
+    grind (arith, nat_tests, not_blank c (graphic_bounds c both.0).0, up_to_blank cs tail both.1 blank)
 
 plain_again : (c : ℕ) (cs tail : List ℕ) → (c == 34) ≡ false → list_all is_graphic cs ≡ true → begins_blank tail ≡ true → first_word c (cs ++ tail) ≡ (Plain (c ∷ cs), tail)
 plain_again c cs tail a h blank = grind (arith, nat_tests, up_to_blank, take_at, drop_at)

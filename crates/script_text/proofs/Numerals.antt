@@ -1,5 +1,5 @@
 -- Numbers, bits, lists and names that are printed are read as themselves, and what is read of them is within its range.
-use Rattle.script_text.proofs.Words.{◌≡◌, ◌∙◌, ℕ, zero, suc, ◌+◌, ◌-◌, ◌*◌, ◌/◌, ◌%◌, ◌^◌, ◌≤◌, ◌<◌, List, [], ◌∷◌, ◌++◌, map, length, get_or, fold, Bool, true, false, not, nat_lt, nat_le, ◌==◌, ◌&&◌, ◌||◌, Option, Some, None, option_map, option_and_then, ℤ, pos, negsuc, neg_ℤ, unsigned_abs, refl, ap, subst, length-append, arith, decimal, signed_decimal, list_all, slice_split, All, and_parts, and_from, ne_eqb, eq-eqb, cond-true, cond-false, le-leb, lt-ltb, not-true, decimal_by_steps_wide, length-decimal-le_wide, common_steps, take_at, get_or_at, fold_push, AllPass-from_list_all, slice_split_at, slice_split_none, digit_bounds, natural_small, no_sum, sixteens-le, sixteens, size_read, hex, hex_digit, joined, bracketed, size_list, is_digit, digits_value, is_digits, natural_of, below, size_of_text, number_of_text, hex_sum, hex_value, bits_of_text, starts_name, in_name, is_name, between_brackets, is_comma, parts, all_some, list_of_text, all_joined, nat_tests}
+use Rattle.script_text.proofs.Words.{◌≡◌, ◌∙◌, ℕ, zero, suc, ◌+◌, ◌-◌, ◌*◌, ◌/◌, ◌%◌, ◌^◌, ◌≤◌, ◌<◌, List, [], ◌∷◌, ◌++◌, map, length, get_or, fold, Bool, true, false, not, nat_lt, nat_le, ◌==◌, ◌&&◌, ◌||◌, Option, Some, None, option_map, option_and_then, ℤ, pos, negsuc, neg_ℤ, unsigned_abs, refl, ap, subst, length-append, arith, decimal, signed_decimal, list_all, slice_split, All, and_parts, and_from, ne_eqb, eq-eqb, cond-true, cond-false, le-leb, lt-ltb, not-true, decimal_by_steps_wide, length-decimal-le_wide, common_steps, take_at, get_or_at, fold_push, AllPass-from_list_all, slice_split_at, slice_split_none, digit_bounds, natural_small, no_sum, sixteens-le, sixteens, size_read, hex, hex_digit, joined, bracketed, size_list, is_digit, digits_value, natural_of, below, size_of_text, number_of_text, hex_sum, hex_value, bits_of_text, starts_name, in_name, is_name, between_brackets, is_comma, parts, all_some, list_of_text, all_joined, nat_tests}
 use native.Mathlib.Nat.{mul-le-mul_right}
 use Rattle.script_text.proofs.Lexing.{is_graphic, is_plain, hex_again}
 use Rattle.script_text.proofs.Lines.{all_more}
@@ -34,8 +34,7 @@ pub natural_again : (n : ℕ) → n < 10 ^ 20 → natural_of (decimal n) ≡ Som
 natural_again n h =
     let d = decimal_numeral n (omega arith) in
     let short : length (decimal n) ≤ 20 = length-decimal-le_wide 20 n (omega arith) h (omega arith) in
-    let all : is_digits (decimal n) ≡ true = and_from _ _ (and_from _ _ (lt-ltb 0 (length (decimal n)) d.some) (le-leb (length (decimal n)) 20 short)) d.digits in
-    cond-true _ _ _ all ∙ ap (λ (x : ℕ). Some x) d.value
+    grind (arith, nat_tests, d.some, d.digits, d.value, short)
 
 digits_plain : (ds : List ℕ) → 0 < length ds → list_all is_digit ds ≡ true → is_plain ds ≡ true
 digits_plain ds some h = grind (arith, nat_tests, digit_bounds, and_parts, and_from, not, ne_eqb, all_more, digit_graphic)

@@ -1,5 +1,5 @@
 -- Types and attributes that are printed are read again.
-use Rattle.script_text.proofs.Words.{◌≡◌, ◌∙◌, ℕ, ◌+◌, ◌≤◌, ◌<◌, List, [], ◌∷◌, map, find, length, Bool, true, false, cond, nat_le, Option, Some, None, Ok, ℤ, refl, ap, subst, arith, bytes_eq, list_all, list_any, and_parts, and_from, cond-true, take_at, drop_at, NcType, Attr, Value, Values, Numbers, Text, Bits, Class, class_of, size_of, ext, val, fits, types, number_of, last_type, most_values, count_of, number_in, code_in, gathered, val-ext, ext_long, type_word, pieces, attr_values, shown_values, Word, Plain, is_name, refuse_if, reads_as, name, name_of_text, are_numbers, are_patterns, are_text, values, type_of, Title, same_title, external_bytes, attr_of, attribute_name, attribute, nat_tests}
+use Rattle.script_text.proofs.Words.{◌≡◌, ◌∙◌, ℕ, ◌+◌, ◌≤◌, ◌<◌, List, [], ◌∷◌, map, find, length, Bool, true, false, cond, nat_le, Option, Some, None, Ok, ℤ, refl, ap, subst, arith, bytes_eq, list_all, list_any, and_parts, and_from, cond-true, take_at, drop_at, NcType, Attr, Value, Values, Numbers, Text, Bits, Class, class_of, size_of, ext, val, fits, types, number_of, last_type, most_values, count_of, number_in, code_in, gathered, val-ext, ext_long, type_word, pieces, attr_values, shown_values, Word, Plain, is_name, reads_as, name, name_of_text, are_numbers, are_patterns, are_text, values, type_of, Title, same_title, external_bytes, attr_of, attribute_name, attribute, nat_tests}
 use Rattle.std.proofs.Common.{flat_map}
 use Rattle.nc_base.specs.declared.errors.ScriptKind.TheVariants as kind
 use Rattle.nc_base.specs.declared.request.Value.TheVariants as value

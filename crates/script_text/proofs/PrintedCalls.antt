@@ -1,5 +1,5 @@
 -- A call that is printed is read as the same call.
-use Rattle.script_text.proofs.Words.{◌≡◌, ◌∙◌, ℕ, ◌+◌, ◌^◌, ◌≤◌, ◌<◌, List, [], ◌∷◌, ◌++◌, Bool, true, false, None, Ok, refl, sym, ap, subst, append-nil, arith, codes, decimal, list_all, and_from, ltb-true, Values, Numbers, Form, Given, PostKind, Iput, Iget, Bput, Choice, Call, most_values, values_in_call, count_of, call_word, Word, Plain, is_name, refuse_if, or_fault, reads_as, size, name, whole, values, after_prefix, form_of_text, form_and_all, region, id_of_text, posted, is_posted, new_id, put_call, get_call, post_values, post_call, behind, plain_call, post_of_text, call_of, Family, Requests, Size, Name, Record, Nothing, Behind, CallRow, row_of_text, faultless_some, is_sized, IsRow, found_row, made_word, made_no_values, is_expressible_behind, all_joined, nat_tests}
+use Rattle.script_text.proofs.Words.{◌≡◌, ℕ, ◌+◌, ◌^◌, ◌≤◌, ◌<◌, List, [], ◌∷◌, ◌++◌, Bool, true, false, None, Ok, refl, sym, subst, append-nil, arith, codes, decimal, list_all, and_from, ltb-true, Values, Numbers, Form, Given, PostKind, Iput, Iget, Bput, Choice, Call, most_values, values_in_call, count_of, call_word, Word, Plain, is_name, or_fault, size, name, whole, values, after_prefix, form_of_text, form_and_all, region, id_of_text, posted, is_posted, new_id, put_call, get_call, post_values, post_call, behind, plain_call, post_of_text, call_of, Family, Requests, Size, Name, Record, Nothing, Behind, CallRow, row_of_text, faultless_some, is_sized, IsRow, found_row, made_word, made_no_values, is_expressible_behind, all_joined, nat_tests}
 use Rattle.nc_base.specs.declared.errors.ScriptKind.TheVariants as kind
 use Rattle.nc_base.specs.declared.request.Call.TheVariants as call
 use Rattle.script_text.proofs.Steps.{went, go_on, same_ok, passed, read_word, word_read, whole_value, looked, step_then, free_then, end_then}

@@ -4,7 +4,7 @@ use borrow.Author.Tests.{ltb-true, lt-ltb, not-false}
 use Rattle.nc_base.specs.declared.errors.ScriptKind.TheVariants as kind
 use Rattle.nc_base.specs.declared.request.Value.TheVariants as value
 use Rattle.serial_spec.specs.ExternalForm as class
-use Rattle.script_text.proofs.Steps.{went, go_on, same_ok, passed, faultless, carried, carry_on, by_false, tested, looked, step_then, free_then, word_then, end_then}
+use Rattle.script_text.proofs.Steps.{went, go_on, same_ok, passed, faultless, carried, carry_on, tested, looked, step_then, free_then, word_then, end_then}
 use Rattle.script_text.proofs.Lexing.{spelling, is_byte, is_good}
 use Rattle.script_text.proofs.Numerals.{IsNumberWord, number_word, number_again, number_bound, bits_again, bits_bound, hex_graphic}
 use Rattle.script_text.proofs.Sequences.{is_fit_number, is_fit_pattern, numbers_fit, length-sequence, patterns_fit, length-pattern_sequence}

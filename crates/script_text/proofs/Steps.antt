@@ -1,5 +1,5 @@
 -- Steps from word to word, forwards and backwards.
-use Rattle.script_text.proofs.Words.{◌≡◌, ◌∙◌, ℕ, List, [], ◌∷◌, Bool, true, false, Option, Some, None, Result, Ok, Err, refl, ap, faultless_some, ScriptKind, Word, Plain, ◌>>=◌, refuse_if, or_fault, bare, next, reads_as, ended, whole, arith, nat_tests, cond}
+use Rattle.script_text.proofs.Words.{◌≡◌, ◌∙◌, ℕ, List, [], ◌∷◌, Bool, true, false, Option, Some, None, Result, Ok, Err, refl, ap, faultless_some, ScriptKind, Word, Plain, ◌>>=◌, refuse_if, or_fault, reads_as, ended, whole, arith, nat_tests, cond}
 
 -- ---- what a step that gave something says of its parts
 
@@ -54,13 +54,7 @@ whole_value p x h = grind (arith, nat_tests, went, same_ok, is_end)
 -- the words after a word that is read
 pub word_before : {A : Type 0} (f : List ℕ → Option A) (e : ScriptKind) (ws : List Word) (r : A × List Word) → reads_as f e ws ≡ Ok r → (w : Word) × (ws ≡ w ∷ r.1)
 word_before f e [] r h = absurd (cc)
-word_before f e (w ∷ ws) r h =
-    let a = went (next (w ∷ ws)) _ r h in
-    let b = went (or_fault e (f a.value.0)) _ r a.rest in
-    let last = ap (λ (p : _ × List Word). p.1) (same_ok (b.value, a.value.1) r b.rest) in
-    let c = went (bare w) (λ x. Ok (x, ws)) a.value a.first in
-    let behind = ap (λ (p : List ℕ × List Word). p.1) (same_ok (c.value, ws) a.value c.rest) in
-    (w, ap (λ (more : List Word). w ∷ more) (behind ∙ last))
+word_before f e (w ∷ ws) r h = (w, grind (arith, nat_tests, went, same_ok))
 
 -- ---- from step to step, with what each says
 
