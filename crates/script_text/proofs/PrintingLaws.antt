@@ -1,5 +1,5 @@
 -- What is pushed of a script.
-use Rattle.script_text.proofs.Words.{◌≡◌, ◌<◌, ◌+◌, ◌*◌, ℕ, zero, suc, List, [], ◌∷◌, ◌++◌, map, length, take, drop, get_or, Bool, true, Some, ℤ, pos, refl, sym, ap, ◌∙◌, arith, enumerate_from, flat_map, list_all, signed_decimal, w8, w16, w32, w64, from_be_bytes, cast_signed, eqb-true, flat_map-append, list_all_at, length-enumerate_from, get_or-enumerate_from, Attr, NcType, Byte, Char, Short, Int, Float, Double, UByte, UShort, UInt, Int64, UInt64, Values, class_of, size_of, val, is_whole_attr, code_in, gathered, number_in, attr_values, pieces, shown_values, hex, joined, quoted, spaced, all_pushed, item_words, joined_spaced, next_pushed, spaced_one, value_word, nat_tests, subst}
+use Rattle.script_text.proofs.Words.{◌≡◌, ◌<◌, ◌+◌, ◌*◌, ℕ, zero, suc, List, [], ◌∷◌, ◌++◌, map, length, take, drop, get_or, Bool, true, Some, ℤ, pos, refl, sym, ap, ◌∙◌, arith, enumerate_from, flat_map, list_all, signed_decimal, w8, w16, w32, w64, from_be_bytes, cast_signed, eqb-true, flat_map-append, list_all_at, length-enumerate_from, get_or-enumerate_from, Attr, NcType, Byte, Char, Short, Int, Float, Double, UByte, UShort, UInt, Int64, UInt64, Values, class_of, size_of, val, is_whole_attr, code_in, gathered, number_in, attr_values, pieces, shown_values, hex, joined, quoted, spaced, all_pushed, next_pushed, spaced_one, value_word, nat_tests, subst}
 use Rattle.std.proofs.lemmas.List.{append-nil, append_assoc}
 use Rattle.nc_base.specs.declared.request.Value.TheVariants as value
 
@@ -18,17 +18,6 @@ spaced_parts f [] = refl
 spaced_parts f (x ∷ xs) = ap (λ (t : List ℕ). spaced (f x) ++ t) (spaced_parts f xs) ∙ sym (flat_map-append (λ w. 32 ∷ w) (f x) (flat_map f xs))
 
 -- ---- lines
-
-regroup : (a b c d e : List ℕ) → (((a ++ b) ++ c) ++ d) ++ e ≡ a ++ (b ++ (c ++ (d ++ e)))
-regroup a b c d e = simp append_assoc
-
--- an attribute's words
-pub attr_words : (a b c d : List ℕ) (ws : List (List ℕ)) → (((a ++ 32 ∷ b) ++ 32 ∷ c) ++ 32 ∷ d) ++ spaced ws ≡ joined 32 (a ∷ b ∷ c ∷ d ∷ ws)
-attr_words a b c d ws = regroup a (32 ∷ b) (32 ∷ c) (32 ∷ d) (spaced ws) ∙ sym (joined_spaced a (b ∷ c ∷ d ∷ ws))
-
--- a call's words
-pub line_words : (r c : List ℕ) (ws : List (List ℕ)) → ((r ++ 32 ∷ []) ++ c) ++ spaced ws ≡ joined 32 (r ∷ c ∷ ws)
-line_words r c ws = ap (λ (t : List ℕ). t ++ spaced ws) (append_assoc r (32 ∷ []) c) ∙ item_words r c ws
 
 -- a variable's type and name, and its dimensions
 pub title_then : (t n b : List ℕ) → ((t ++ 32 ∷ n) ++ 32 ∷ []) ++ b ≡ t ++ 32 ∷ (n ++ 32 ∷ b)
