@@ -1,6 +1,14 @@
 -- How long the lines are that are printed.
 use Rattle.script_text.proofs.Words.{◌≡◌, ℕ, suc, ◌+◌, ◌*◌, ◌^◌, ◌≤◌, ◌<◌, List, [], ◌∷◌, ◌++◌, map, length, Bool, true, ℤ, pos, negsuc, unsigned_abs, length-append, arith, decimal, signed_decimal, list_all, and_parts, decimal_nonempty, length-decimal-le_wide, joined, line, size_list}
 
+-- least and most
+pub record Between (low high n : ℕ) : Type 0 where
+  pub least : low ≤ n
+  pub most : n ≤ high
+
+pub both_long : (low high a b c d : ℕ) (x y : List ℕ) → Between a b (length x) → Between c d (length y) → low ≤ a + c → b + d ≤ high → Between low high (length (x ++ y))
+both_long low high a b c d x y one two under over = record { least = omega (arith, length-append x y); most = omega (arith, length-append x y) }
+
 -- the bytes of words, and one behind each
 abbrev pub words_size : List (List ℕ) → ℕ
 words_size [] = 0
@@ -22,13 +30,9 @@ words_joined (x ∷ xs) ys = omega (arith, words_joined xs ys)
 pub small_long : (n : ℕ) → n < 10 ^ 3 → length (decimal n) ≤ 3
 small_long n h = length-decimal-le_wide 3 n (omega arith) h (omega arith)
 
-pub number_long : (z : ℤ) → unsigned_abs z < 10 ^ 5 → length (signed_decimal z) ≤ 6
-number_long (pos n) h = let d = length-decimal-le_wide 5 n (omega arith) h (omega arith) in omega arith
-number_long (negsuc n) h = let d = length-decimal-le_wide 5 (suc n) (omega arith) h (omega arith) in omega arith
-
-pub number_some : (z : ℤ) → unsigned_abs z < 10 ^ 5 → 1 ≤ length (signed_decimal z)
-number_some (pos n) h = decimal_nonempty n (omega arith)
-number_some (negsuc n) h = omega arith
+pub number_long : (z : ℤ) → unsigned_abs z < 10 ^ 5 → Between 1 6 (length (signed_decimal z))
+number_long (pos n) h = let d = length-decimal-le_wide 5 n (omega arith) h (omega arith) in record { least = decimal_nonempty n (omega arith); most = omega arith }
+number_long (negsuc n) h = let d = length-decimal-le_wide 5 (suc n) (omega arith) h (omega arith) in record { least = omega arith; most = omega arith }
 
 -- three sizes below a thousand
 pub sizes_long : (a b c : ℕ) → a < 10 ^ 3 → b < 10 ^ 3 → c < 10 ^ 3 → length (size_list (a ∷ b ∷ c ∷ [])) ≤ 13
@@ -38,16 +42,11 @@ sizes_long a b c ha hb hc =
 
 -- ---- many words
 
-pub words_most : {A : Type 0} (f : A → List ℕ) (test : A → Bool) (m : ℕ) → ((x : A) → test x ≡ true → length (f x) ≤ m) → (xs : List A) → list_all test xs ≡ true → words_size (map f xs) ≤ length xs * (m + 1)
-words_most f test m each [] h = omega arith
-words_most f test m each (x ∷ xs) h =
+pub words_between : {A : Type 0} (f : A → List ℕ) (test : A → Bool) (low high : ℕ) → ((x : A) → test x ≡ true → Between low high (length (f x)))
+    → (xs : List A) → list_all test xs ≡ true → Between (length xs * (low + 1)) (length xs * (high + 1)) (words_size (map f xs))
+words_between f test low high each [] h = record { least = omega arith; most = omega arith }
+words_between f test low high each (x ∷ xs) h =
     let both = and_parts (test x) (list_all test xs) h in
-    let more = words_most f test m each xs both.1 in
-    omega (arith, each x both.0, more)
-
-pub words_least : {A : Type 0} (f : A → List ℕ) (test : A → Bool) (m : ℕ) → ((x : A) → test x ≡ true → m ≤ length (f x)) → (xs : List A) → list_all test xs ≡ true → length xs * (m + 1) ≤ words_size (map f xs)
-words_least f test m each [] h = omega arith
-words_least f test m each (x ∷ xs) h =
-    let both = and_parts (test x) (list_all test xs) h in
-    let more = words_least f test m each xs both.1 in
-    omega (arith, each x both.0, more)
+    let one = each x both.0 in
+    let more = words_between f test low high each xs both.1 in
+    record { least = omega arith; most = omega arith }

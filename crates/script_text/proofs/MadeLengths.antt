@@ -3,7 +3,7 @@ use Rattle.script_text.proofs.Words.{◌≡◌, ◌∙◌, ℕ, zero, suc, ◌+�
 use Rattle.script_text.proofs.Numerals.{length-hex}
 use Rattle.std.specs.Prelude.{ℤ, pos, negsuc, unsigned_abs}
 use Rattle.nc_base.specs.declared.request.Call.TheVariants as call
-use Rattle.script_text.proofs.LineLengths.{line_long, number_long, number_some, sizes_long, small_long, words_joined, words_least, words_most, words_size}
+use Rattle.script_text.proofs.LineLengths.{Between, both_long, line_long, number_long, sizes_long, small_long, words_between, words_joined, words_size}
 
 -- ---- the values of a rank's rows
 
@@ -98,28 +98,18 @@ column_region size r s h =
     let count = sizes_long size 180 1 (omega arith) (omega arith) (omega arith) in
     omega (arith, start, count)
 
--- least and most
-pub record Between (low high n : ℕ) : Type 0 where
-  pub least : low ≤ n
-  pub most : n ≤ high
-
 temp_words : (seed r t : ℕ) → r < 8 → Between 142560 149040 (words_size (shown_values (Bits (temp_band seed r t))))
 temp_words seed r t h =
-    let word = λ (n : ℕ). 120 ∷ hex 16 n in
     let long = temps_long seed r t h in
-    let each : (n : ℕ) → length (word n) ≡ 17 = λ n. omega (arith, length-hex 16 n) in
-    record {
-      least = let least = words_least word (λ n. nat_lt n (2 ^ 64)) 17 (λ n k. omega (arith, each n)) (temp_band seed r t) (temps_fit seed r t) in omega (arith, least, long.0);
-      most = let most = words_most word (λ n. nat_lt n (2 ^ 64)) 17 (λ n k. omega (arith, each n)) (temp_band seed r t) (temps_fit seed r t) in omega (arith, most, long.1);
-    }
+    let each : (n : ℕ) → nat_lt n (2 ^ 64) ≡ true → Between 17 17 (length (120 ∷ hex 16 n)) = λ n k. record { least = omega (arith, length-hex 16 n); most = omega (arith, length-hex 16 n) } in
+    let all = words_between (λ n. 120 ∷ hex 16 n) (λ n. nat_lt n (2 ^ 64)) 17 17 each (temp_band seed r t) (temps_fit seed r t) in
+    record { least = omega (arith, long.0); most = omega (arith, long.1) }
 
 precip_words : (seed r t : ℕ) → r < 8 → Between 15840 57960 (words_size (shown_values (Numbers (precip_band seed r t))))
 precip_words seed r t h =
     let long = precips_long seed r t h in
-    record {
-      least = let least = words_least signed_decimal is_depth 1 (λ z k. number_some z (ltb-true _ _ k)) (precip_band seed r t) (depths_fit seed r t) in omega (arith, least, long.0);
-      most = let most = words_most signed_decimal is_depth 6 (λ z k. number_long z (ltb-true _ _ k)) (precip_band seed r t) (depths_fit seed r t) in omega (arith, most, long.1);
-    }
+    let all = words_between signed_decimal is_depth 1 6 (λ z k. number_long z (ltb-true _ _ k)) (precip_band seed r t) (depths_fit seed r t) in
+    record { least = omega (arith, long.0); most = omega (arith, long.1) }
 
 -- a post's line: what comes before its values, and these
 post_line : (r id low high : ℕ) (name : List ℕ) (g : Given) (vs : List (List ℕ)) → r < 8 → id < 10 ^ 3 → length name ≤ 6 → region_size g ≤ 28 → Between low high (words_size vs)
@@ -144,8 +134,10 @@ unfolding region_of_band
 precip_line seed r t h l = post_line r (2 * t + 1) 15840 57960 (codes "precip") (region_of_band r t) (shown_values (Numbers (precip_band seed r t))) h (omega arith) (omega arith) (band_region r t h l) (precip_words seed r t h)
 
 -- a line of few words
-few_words : (r : ℕ) (c : Call) → r < 8 → words_size (call_word c ∷ call_words c) ≤ 60 → length (shown_call r c) ≤ 64
-few_words r c h few = let rank = small_long r (omega arith) in omega (arith, line_long (decimal r) (call_word c ∷ call_words c), few, rank)
+few_words : (r : ℕ) (c : Call) → r < 8 → words_size (call_word c ∷ call_words c) ≤ 60 → Between 0 64 (length (shown_call r c))
+few_words r c h few =
+    let rank = small_long r (omega arith) in
+    record { least = omega arith; most = omega (arith, line_long (decimal r) (call_word c ∷ call_words c), few, rank) }
 
 wait_words : words_size (call_word (call.Wait true Every) ∷ call_words (call.Wait true Every)) ≤ 60
 wait_words = omega arith
@@ -155,63 +147,51 @@ shown_calls r cs = flat_map (shown_call r) cs
 
 record_long : (seed r t : ℕ) → r < 8 → t < 64 → Between 158400 207200 (length (shown_calls r (calls_of_record seed r t)))
 record_long seed r t h l =
-    let temp = shown_call r (temp_post seed r t) in
     let precip = shown_call r (precip_post seed r t) in
     let wait = shown_call r (call.Wait true Every) in
-    let one = temp_line seed r t h l in
-    let two = precip_line seed r t h l in
-    let three = few_words r (call.Wait true Every) h wait_words in
-    let all : length (temp ++ (precip ++ (wait ++ []))) ≡ length temp + length precip + length wait =
-    omega (arith, length-append temp (precip ++ (wait ++ [])), length-append precip (wait ++ []), length-append wait []) in
+    let three = both_long 0 64 0 64 0 0 wait [] (few_words r (call.Wait true Every) h wait_words) (record { least = omega arith; most = omega arith }) (omega arith) (omega arith) in
+    let two = both_long 15840 58084 _ _ _ _ precip (wait ++ []) (precip_line seed r t h l) three (omega arith) (omega arith) in
     subst (λ (cs : List Call). Between 158400 207200 (length (shown_calls r cs))) (record_is seed r t (temp_post seed r t) (precip_post seed r t) refl refl)
-    (record { least = omega (arith, all, one.least, two.least); most = omega (arith, all, one.most, two.most, three) })
+    (both_long _ _ _ _ _ _ (shown_call r (temp_post seed r t)) (precip ++ (wait ++ [])) (temp_line seed r t h l) two (omega arith) (omega arith))
+
+-- a call's text after another's
+calls_joined : (r low high a b c d : ℕ) (xs ys : List Call) → Between a b (length (shown_calls r xs)) → Between c d (length (shown_calls r ys)) → low ≤ a + c → b + d ≤ high → Between low high (length (shown_calls r (xs ++ ys)))
+calls_joined r low high a b c d xs ys one two under over = rw flat_map-append (both_long low high a b c d (shown_calls r xs) (shown_calls r ys) one two under over)
 
 records_long : (seed r t n : ℕ) → r < 8 → t + n ≤ 64 → Between (n * 158400) (n * 207200) (length (shown_calls r (records_of seed r t n)))
 records_long seed r t zero h l = record { least = omega arith; most = omega arith }
 records_long seed r t (suc n) h l =
-    let one = record_long seed r t h (omega arith) in
-    let more = records_long seed r (t + 1) n h (omega arith) in
-    let first = calls_of_record seed r t in
-    let rest = records_of seed r (t + 1) n in
-    let all : length (shown_calls r (first ++ rest)) ≡ length (shown_calls r first) + length (shown_calls r rest) =
-    ap (λ (text : List ℕ). length text) (flat_map-append (shown_call r) first rest) ∙ length-append (shown_calls r first) (shown_calls r rest) in
-    record { least = omega (arith, all, one.least, more.least); most = omega (arith, all, one.most, more.most) }
+    calls_joined r _ _ _ _ _ _ (calls_of_record seed r t) (records_of seed r (t + 1) n) (record_long seed r t h (omega arith)) (records_long seed r (t + 1) n h (omega arith)) (omega arith) (omega arith)
 
-get_line : (size r : ℕ) (name : List ℕ) → size ≤ 64 → r < 8 → length name ≤ 6 → length (shown_call r (column_get name size r)) ≤ 64
+get_line : (size r : ℕ) (name : List ℕ) → size ≤ 64 → r < 8 → length name ≤ 6 → Between 0 64 (length (shown_call r (column_get name size r)))
 unfolding columns_of
 get_line size r name s h short =
     let region = column_region size r s h in
     let word : length (call_word (column_get name size r)) ≡ 12 = refl in
     few_words r (column_get name size r) h (omega (arith, region, short, word))
 
-attach_line : (r : ℕ) → r < 8 → length (shown_call r (call.Attach 65536)) ≤ 64
+attach_line : (r : ℕ) → r < 8 → Between 0 64 (length (shown_call r (call.Attach 65536)))
 attach_line r h =
     let word : length (call_word (call.Attach 65536)) ≡ 13 = refl in
     let size = length-decimal-le_wide 5 65536 (omega arith) (omega arith) (omega arith) in
     few_words r (call.Attach 65536) h (omega (arith, word, size))
 
-detach_line : (r : ℕ) → r < 8 → length (shown_call r call.Detach) ≤ 64
+detach_line : (r : ℕ) → r < 8 → Between 0 64 (length (shown_call r call.Detach))
 detach_line r h = let word : length (call_word call.Detach) ≡ 13 = refl in few_words r call.Detach h (omega (arith, word))
 
 pub rank_text : (seed size r : ℕ) → size ≤ 64 → r < 8 → Between (size * 158400) (size * 207200 + 256) (length (shown_calls r (calls_of_rank seed size r)))
 rank_text seed size r s h =
     let temps = column_get (codes "temp") size r in
     let precips = column_get (codes "precip") size r in
-    let attach = shown_call r (call.Attach 65536) in
-    let records = records_of seed r 0 size in
-    let reads = shown_call r temps ++ (shown_call r precips ++ (shown_call r call.Detach ++ [])) in
-    let middle = records_long seed r 0 size h (omega arith) in
-    let all : length (attach ++ shown_calls r (records ++ temps ∷ precips ∷ call.Detach ∷ [])) ≡ length attach + length (shown_calls r records) + length reads =
-    length-append attach (shown_calls r (records ++ temps ∷ precips ∷ call.Detach ∷ []))
-    ∙ (ap (λ (text : List ℕ). length attach + length text) (flat_map-append (shown_call r) records (temps ∷ precips ∷ call.Detach ∷ []))
-    ∙ omega (arith, length-append (shown_calls r records) reads)) in
-    let last : length reads ≡ length (shown_call r temps) + length (shown_call r precips) + length (shown_call r call.Detach) =
-    omega (arith, length-append (shown_call r temps) (shown_call r precips ++ (shown_call r call.Detach ++ [])), length-append (shown_call r precips) (shown_call r call.Detach ++ []), length-append (shown_call r call.Detach) []) in
+    let reads = temps ∷ precips ∷ call.Detach ∷ [] in
+    let get = λ (name : List ℕ) (short : length name ≤ 6). get_line size r name s h short in
+    let none : Between 0 0 (length (shown_calls r [])) = record { least = omega arith; most = omega arith } in
+    let last = both_long 0 64 _ _ _ _ (shown_call r call.Detach) [] (detach_line r h) none (omega arith) (omega arith) in
+    let two = both_long 0 128 _ _ _ _ (shown_call r precips) (shown_calls r (call.Detach ∷ [])) (get (codes "precip") (omega arith)) last (omega arith) (omega arith) in
+    let three = both_long 0 192 _ _ _ _ (shown_call r temps) (shown_calls r (precips ∷ call.Detach ∷ [])) (get (codes "temp") (omega arith)) two (omega arith) (omega arith) in
+    let rest = calls_joined r (size * 158400) (size * 207200 + 192) _ _ _ _ (records_of seed r 0 size) reads (records_long seed r 0 size h (omega arith)) three (omega arith) (omega arith) in
     subst (λ (cs : List Call). Between (size * 158400) (size * 207200 + 256) (length (shown_calls r cs))) (rank_is seed size r temps precips refl refl)
-    (record {
-      least = omega (arith, all, middle.least);
-      most = omega (arith, all, last, middle.most, attach_line r h, get_line size r (codes "temp") s h (omega arith), get_line size r (codes "precip") s h (omega arith), detach_line r h);
-    })
+    (both_long _ _ _ _ _ _ (shown_call r (call.Attach 65536)) (shown_calls r (records_of seed r 0 size ++ reads)) (attach_line r h) rest (omega arith) (omega arith))
 
 -- ---- the calls of all ranks
 
@@ -221,8 +201,5 @@ ranks_text ranks = flat_map (λ p. flat_map (shown_call p.0) p.1) ranks
 pub ranks_long : (seed size a n : ℕ) → size ≤ 64 → a + n ≤ 8 → Between (n * (size * 158400)) (n * (size * 207200 + 256)) (length (ranks_text (enumerate_from a (map (λ r. calls_of_rank seed size r) (range_with_len a n)))))
 ranks_long seed size a zero s h = record { least = omega arith; most = omega arith }
 ranks_long seed size a (suc n) s h =
-    let one = rank_text seed size a s (omega arith) in
-    let more = ranks_long seed size (a + 1) n s (omega arith) in
-    let first = shown_calls a (calls_of_rank seed size a) in
-    let rest = ranks_text (enumerate_from (a + 1) (map (λ r. calls_of_rank seed size r) (range_with_len (a + 1) n))) in
-    record { least = omega (arith, length-append first rest, one.least, more.least); most = omega (arith, length-append first rest, one.most, more.most) }
+    both_long _ _ _ _ _ _ (shown_calls a (calls_of_rank seed size a)) (ranks_text (enumerate_from (a + 1) (map (λ r. calls_of_rank seed size r) (range_with_len (a + 1) n))))
+    (rank_text seed size a s (omega arith)) (ranks_long seed size (a + 1) n s (omega arith)) (omega arith) (omega arith)
