@@ -1,5 +1,5 @@
 -- The bytes that entries have.
-use Rattle.aggregator_rounds.proofs.Words.{◌≡◌, ℕ, ◌<◌, ◌≤◌, ◌⊎◌, inl, inr, refl, sym, subst, List, [], ◌∷◌, ◌++◌, arith, ◌+◌, ◌-◌, length, Bool, true, false, range_with_len, Owned, In, ranges, IsAscending, extents, EndBelow, in_left, in_right, in_either, in_flat, flat_in, in_range, range_low, range_high, IsCovered, IsPast, BeginBefore, in_extents, nat_lt, nat_tests}
+use Rattle.aggregator_rounds.proofs.Words.{◌≡◌, ℕ, ◌<◌, ◌≤◌, ◌⊎◌, inl, inr, refl, sym, subst, List, [], ◌∷◌, ◌++◌, arith, ◌+◌, ◌-◌, length, Bool, true, false, range_with_len, Owned, In, ranges, IsAscending, extents, EndBelow, in_left, in_right, in_either, in_flat, flat_in, in_range, range_low, range_high, IsCovered, IsPast, BeginBefore, in_extents, cases_lt, nat_tests}
 use Rattle.aggregator_rounds.proofs.PastSteps.{past_in, past_kept}
 use borrow.Author.Tests.{ltb-true, ltb-false}
 
@@ -60,24 +60,9 @@ within_short (x ∷ xs) a e h k =
 pub hole_short : (xs : List ℕ) (a e y : ℕ) → IsAscending xs → ((x : ℕ) → In xs x → (a ≤ x) × (x < e)) → a ≤ y → y < e → (In xs y → ⊥) → length xs + 1 ≤ e - a
 hole_short [] a e y h k l m n = omega arith
 hole_short (x ∷ xs) a e y h k l m n =
-    by_test
-    (λ g. hole_short xs (x + 1) e y h.1 (λ z i. let low = h.0 z i in let r = k z (inr i) in let high = r.1 in (omega arith, omega arith)) (omega arith) m (λ i. n (inr i)))
-    (nat_lt y x) refl
-  where
-    after : (z : ℕ) → y < x → In (x ∷ xs) z → y + 1 ≤ z
-    after z g (inl e) = omega arith
-    after z g (inr i) = let low = h.0 z i in omega arith
-
-    apart : (t : Bool) → nat_lt x y ≡ t → x ≤ y → x < y
-    apart true f g = ltb-true _ _ f
-    apart false f g = let high : y ≤ x = ltb-false _ _ f in let same : x ≡ y = omega arith in absurd (n (inl same))
-
-    by_test : (x < y → length xs + 1 ≤ e - (x + 1)) → (t : Bool) → nat_lt y x ≡ t → length (x ∷ xs) + 1 ≤ e - a
-    by_test rest true f =
-        let g : y < x = ltb-true _ _ f in
-        let short = within_short (x ∷ xs) (y + 1) e h (λ z i. let r = k z i in (after z g i, r.1)) in
-        omega arith
-    by_test rest false f =
-        let low : x ≤ y = ltb-false _ _ f in
-        let past : x < y = apart (nat_lt x y) refl low in
-        omega (arith, rest past, (k x (inl refl)).0)
+    elim (cases_lt y x) [
+      | inl g ↦ (let short = within_short (x ∷ xs) (y + 1) e h (λ z i. (grind (arith, nat_tests, h.0 z), (k z i).1)) in omega arith)
+      | inr low ↦ (let apart : x ≡ y → ⊥ = λ s. n (inl s) in let past : x < y = omega arith in
+          let rest = hole_short xs (x + 1) e y h.1 (λ z i. let g = h.0 z i in let r = k z (inr i) in let high = r.1 in (omega arith, omega arith)) (omega arith) m (λ i. n (inr i)) in
+          omega (arith, (k x (inl refl)).0))
+    ]

@@ -1,5 +1,5 @@
 -- Entries as cells: what they say, and where they lie.
-use Rattle.aggregator_rounds.proofs.Words.{◌≡◌, ℕ, ◌+◌, ◌-◌, ◌<◌, ◌≤◌, inl, inr, refl, sym, ◌∙◌, ap, subst, List, [], ◌∷◌, ◌++◌, length, take, drop, get_or, Option, Some, None, arith, map-append, length-take, length-drop, map, enumerate_from, option_or, said_below, said_past, said_inside, said_append, neither_some, second_counts, first_counts, Owned, Cell, said_at, said_by, IsFrom, IsWithin, clips, HasPlace, In, Source, cell_of, AreFound, clips_in, said_joined, IsCovered, nat_tests}
+use Rattle.aggregator_rounds.proofs.Words.{◌≡◌, ℕ, ◌+◌, ◌-◌, ◌<◌, ◌≤◌, inl, inr, refl, sym, ◌∙◌, ap, subst, List, [], ◌∷◌, ◌++◌, length, take, drop, get_or, Option, Some, None, arith, map-append, length-take, length-drop, map, enumerate_from, option_or, said_below, said_past, said_inside, said_append, neither_some, second_counts, first_counts, Owned, Cell, said_at, said_by, IsFrom, IsWithin, clips, HasPlace, In, Source, cell_of, AreFound, clips_in, said_joined, IsCovered, some_or_none, nat_tests}
 use borrow.Author.Tests.{ltb-true, ltb-false}
 use Rattle.aggregator_rounds.proofs.CoveredBytes.{covered_right}
 
@@ -30,29 +30,17 @@ said_of : (source : Source) (list : List Owned) (x : ℕ) (o : Owned) → AreFou
     → HasPlace (entry_cells source list) x
 said_of source [] x o f m l h = absurd m
 said_of source (p ∷ list) x o f (inr m) l h = grind (arith, nat_tests, said_of source list x o f.1 m l h, said_append, first_counts)
-said_of source (p ∷ list) x o f (inl e) l h = by_rest (said_at (said_by (entry_cells source list)) x) refl
-  where
-    low : p.extent.at ≤ x
-    low = subst (λ (z : Owned). z.extent.at ≤ x) (sym e) l
-
-    high : x < p.extent.at + length (take p.extent.len (drop p.from (source p.rank p.slot)))
-    high =
-        let k : x < p.extent.at + p.extent.len = subst (λ (z : Owned). x < z.extent.at + z.extent.len) (sym e) h in
-        let room = f.0 in
-        omega (arith, length-take p.extent.len (drop p.from (source p.rank p.slot)), length-drop p.from (source p.rank p.slot))
-
-    by_rest : (r : Option ℕ) → said_at (said_by (entry_cells source list)) x ≡ r → HasPlace (entry_cells source (p ∷ list)) x
-    by_rest (Some v) g = (
-      v,
-      said_append (enumerate_from p.extent.at (take p.extent.len (drop p.from (source p.rank p.slot)))) (said_by (entry_cells source list)) x
-          ∙ first_counts (said_at (said_by (entry_cells source list)) x) _ v g,
-    )
-    by_rest None g = (
-      get_or (take p.extent.len (drop p.from (source p.rank p.slot))) (x - p.extent.at) 0,
-      said_append (enumerate_from p.extent.at (take p.extent.len (drop p.from (source p.rank p.slot)))) (said_by (entry_cells source list)) x
-          ∙ second_counts (said_at (said_by (entry_cells source list)) x) _ g
-          ∙ said_inside p.extent.at (take p.extent.len (drop p.from (source p.rank p.slot))) x 0 low high,
-    )
+said_of source (p ∷ list) x o f (inl e) l h =
+    let taken = take p.extent.len (drop p.from (source p.rank p.slot)) in
+    let low : p.extent.at ≤ x = subst (λ (z : Owned). z.extent.at ≤ x) (sym e) l in
+    let k : x < p.extent.at + p.extent.len = subst (λ (z : Owned). x < z.extent.at + z.extent.len) (sym e) h in
+    let room = f.0 in
+    let high : x < p.extent.at + length taken = omega (arith, length-take p.extent.len (drop p.from (source p.rank p.slot)), length-drop p.from (source p.rank p.slot)) in
+    let joined = said_append (enumerate_from p.extent.at taken) (said_by (entry_cells source list)) x in
+    elim (some_or_none (said_at (said_by (entry_cells source list)) x)) [
+      | inl g ↦ (get_or taken (x - p.extent.at) 0, joined ∙ second_counts _ _ g ∙ said_inside p.extent.at taken x 0 low high)
+      | inr (v, g) ↦ (v, joined ∙ first_counts _ _ v g)
+    ]
 
 -- a covered byte has a place in the cells of a window that has it
 pub covered_place : (source : Source) (list : List Owned) (lo hi x : ℕ) → AreFound source list → lo ≤ x → x < hi → IsCovered list x

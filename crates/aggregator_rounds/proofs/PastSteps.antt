@@ -24,11 +24,10 @@ pub past_twice : (p q : ℕ) (whole left later : List Owned) → p ≤ q → IsP
 past_twice p q [] left later l h k = subst (λ (list : List Owned). IsPast q list later) h k
 past_twice p q (o ∷ whole) left later l (inl h) k = let end = h.0 in inl (omega arith, past_twice p q whole left later l h.1 k)
 past_twice p q (o ∷ whole) left later l (inr h) k =
-    further (λ rest g. past_twice p q whole h.0 rest l h.2 g) (subst (λ (list : List Owned). IsPast q list later) h.1 k)
-  where
-    further : ((rest : List Owned) → IsPast q h.0 rest → IsPast q whole rest) → IsPast q (o ∷ h.0) later → IsPast q (o ∷ whole) later
-    further f (inl g) = inl (g.0, f later g.1)
-    further f (inr g) = inr (g.0, g.1, f g.0 g.2)
+    elim (subst (λ (list : List Owned). IsPast q list later) h.1 k) [
+      | inl g ↦ inl (g.0, past_twice p q whole h.0 later l h.2 g.1)
+      | inr g ↦ inr (g.0, g.1, past_twice p q whole h.0 g.0 l h.2 g.2)
+    ]
 
 pub past_later : (p q : ℕ) (whole left : List Owned) → p ≤ q → IsPast p whole left → IsPast q whole left
 past_later p q whole left l h = past_twice p q whole left left l h (past_none q left)

@@ -44,9 +44,7 @@ first_begins (p ∷ list) first o h e (inr m) = grind (arith, nat_tests, same_So
 pub before_or_later : (list : List Owned) (i : ℕ) (d p : Owned) → i < length list → IsByPlace (extents list) → In list p
     → In (take i list) p ⊎ ((get_or list i d).extent.at ≤ p.extent.at)
 before_or_later [] i d p l h m = absurd m
-before_or_later (o ∷ list) zero d p l h (inl e) =
-    let same : o.extent.at ≡ p.extent.at = ap (λ (q : Owned). q.extent.at) e in
-    inr (omega arith)
+before_or_later (o ∷ list) zero d p l h (inl e) = inr (omega (arith, ap (λ (q : Owned). q.extent.at) e))
 before_or_later (o ∷ list) zero d p l h (inr m) = inr (h.0 p.extent (in_extents list p m))
 before_or_later (o ∷ list) (suc i) d p l h (inl e) = inl (inl e)
 before_or_later (o ∷ list) (suc i) d p l h (inr m) =

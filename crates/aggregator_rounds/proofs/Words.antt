@@ -1,6 +1,7 @@
 -- The words of this crate's proofs, from where they stand.
 pub use Rattle.std.proofs.Common.{Bool, List, None, Option, Some, [], ap, append_assoc, arith, cond, drop, false, get_or, inl, inr, length, min, refl, rules, set, slice_get, subst, suc, sym, take, true, zero, ℕ, ◌++◌, ◌+◌, ◌-◌, ◌<◌, ◌^◌, ◌∙◌, ◌∷◌, ◌≡◌, ◌≤◌, ◌⊎◌}
 pub use Rattle.std.proofs.Math.Seq.{take-append_seam}
+pub use Rattle.std.proofs.lemmas.Bool.{cases_lt}
 pub use Rattle.std.proofs.lemmas.Bool.Decides.{nat_tests}
 pub use Rattle.std.proofs.lemmas.Fn.{filter_same}
 pub use Rattle.std.proofs.lemmas.List.{drop-drop, get_or_default, length-drop, length-take, map-append, take-append-drop, take-take, take_all}
@@ -11,7 +12,7 @@ pub use Rattle.std.specs.Prelude.{IfSome, filter, if◌then◌else◌, map, nat_
 pub use Rattle.aggregator_rounds.specs.EntryParts.{IsCovered, blob_at, buffer_cell, bytes_of_post, got_cells, part_at, part_in, places_of, source_of}
 pub use Rattle.aggregator_rounds.specs.Left.{BeginBefore, IsPast, entries_left, filter_past}
 pub use Rattle.file_domains.proofs.CoverParts.{get_is}
-pub use Rattle.list_laws.proofs.Optional.{first_counts, neither_some, no_none_some, second_counts}
+pub use Rattle.list_laws.proofs.Optional.{first_counts, neither_some, no_none_some, second_counts, some_or_none}
 pub use Rattle.nc_base.specs.declared.plan.Extent.{Extent}
 pub use Rattle.nc_base.specs.declared.plan.Owned.{Owned}
 pub use Rattle.nc_base.specs.declared.plan.Post.{Post}
