@@ -58,36 +58,23 @@ pub collected_read : (held : Option (List ℕ)) (base : ℕ) (buf : List ℕ) (l
     → IfSome held (λ file. HasGotPart (lo, lo + n) base file list old now)
 collected_read held base buf lo n list old now h e g = grind (arith, nat_tests, buffer_cells)
 
-pub told_step : (held : Option (List ℕ)) (P Q R : List ℕ → Type 0) → ((file : List ℕ) → P file → Q file → R file) → IfSome held P → IfSome held Q → IfSome held R
-told_step None P Q R f p q = tt
-told_step (Some file) P Q R f p q = f file p q
-
-pub told_one : (held : Option (List ℕ)) (P Q : List ℕ → Type 0) → ((file : List ℕ) → P file → Q file) → IfSome held P → IfSome held Q
-told_one None P Q f p = tt
-told_one (Some file) P Q f p = f file p
-
-pub told_all : (held : Option (List ℕ)) (P : List ℕ → Type 0) → ((file : List ℕ) → P file) → IfSome held P
-told_all None P f = tt
-told_all (Some file) P f = f file
-
 -- blobs that were filled up to a window, and from it
 pub got_more : (held here : Option (List ℕ)) (base there n : ℕ) (list left : List Owned) (place size : ℕ) (w : Window) (served : List Owned) (stop : ℕ)
     (old mid now : List (List ℕ)) → here ≡ held → there ≡ base → LieOn base n list → HaveOnePlace list → FitBlobs old list → IsPast place list left
     → IsNext left place size w served stop → IfSome held (λ file. HasGotPart (0, place) base file list old mid)
     → IfSome here (λ file. HasGotPart (w.hull.at, w.hull.at + w.hull.len) there file served mid now) → IfSome held (λ file. HasGotPart (0, stop) base file list old now)
-got_more held here base there n list left place size w served stop old mid now same begin on once fit p k got read =
-    told_step held (λ file. HasGotPart (0, place) base file list old mid) (λ file. HasGotPart (w.hull.at, w.hull.at + w.hull.len) base file served mid now)
-    (λ file. HasGotPart (0, stop) base file list old now)
-    (λ file g h. got_step base file list left place size w served stop old mid now (λ o m. (on o m).0) once fit p k g h)
-    got
-    (subst (λ (b : ℕ). IfSome held (λ file. HasGotPart (w.hull.at, w.hull.at + w.hull.len) b file served mid now)) begin
+got_more None here base there n list left place size w served stop old mid now same begin on once fit p k got read = tt
+got_more (Some file) here base there n list left place size w served stop old mid now same begin on once fit p k got read =
+    got_step base file list left place size w served stop old mid now (λ o m. (on o m).0) once fit p k got
+    (subst (λ (b : ℕ). HasGotPart (w.hull.at, w.hull.at + w.hull.len) b file served mid now) begin
     (subst (λ (m : Option (List ℕ)). IfSome m (λ file. HasGotPart (w.hull.at, w.hull.at + w.hull.len) there file served mid now)) same read))
 
 pub got_all : (held : Option (List ℕ)) (base : ℕ) (list left : List Owned) (place : ℕ) (old now : List (List ℕ)) → left ≡ [] → IsPast place list left
     → IfSome held (λ file. HasGotPart (0, place) base file list old now) → IfSome held (λ file. HasGot base file list old now)
-got_all held base list left place old now none p got = grind (arith, nat_tests, told_one, got_end)
+got_all None base list left place old now none p got = tt
+got_all (Some file) base list left place old now none p got = got_end base file list left place old now none p got
 
 pub got_none : (held : Option (List ℕ)) (base n : ℕ) (list : List Owned) (blobs : List (List ℕ)) → LieOn base n list → FitBlobs blobs list
     → IfSome held (λ file. HasGotPart (0, 0) base file list blobs blobs)
-got_none held base n list blobs on fit =
-    told_all held (λ file. HasGotPart (0, 0) base file list blobs blobs) (λ file. got_begin base file list blobs (λ o m. (on o m).0) fit)
+got_none None base n list blobs on fit = tt
+got_none (Some file) base n list blobs on fit = got_begin base file list blobs (λ o m. (on o m).0) fit

@@ -1,6 +1,6 @@
 -- Entries that are read window by window, each into its blob: before the first window, one window more, after the last.
-use Rattle.data_sieving.proofs.Words.{◌≡◌, ℕ, ◌+◌, ◌<◌, ◌≤◌, inl, inr, refl, sym, ◌∙◌, ap, subst, List, [], ◌++◌, length, Bool, true, false, Option, Some, None, arith, fold-append, nat_lt, ◌==◌, in_filter, filter_in, equal_true, Owned, Window, written, said_at, said_by, Says, IsOneValued, write_cells, In, same_said, said_is, said_in_any_order, append_within, said_by_joined, says_left, says_right, says_cases, in_either, of_slot, HasGot, FitBlobs, HaveOnePlace, got_cells, blob_at, places_of, IsCovered, IsPast, IsNext, HasGotPart, past_covered, past_all, past_kept, parts_got, IsRead, got_says, says_got, read_as, read_once, parts_within, whole_parts, nat_tests}
-use borrow.Author.Tests.{ltb-true, ltb-false, eqb-true}
+use Rattle.data_sieving.proofs.Words.{◌≡◌, ℕ, ◌+◌, ◌<◌, ◌≤◌, inl, inr, sym, ◌∙◌, ap, subst, List, [], ◌++◌, length, None, arith, fold-append, cases_lt, some_or_none, ◌⊎◌, ◌==◌, in_filter, filter_in, equal_true, Owned, Window, written, said_at, said_by, Says, IsOneValued, write_cells, In, same_said, said_is, said_in_any_order, append_within, said_by_joined, says_left, says_right, says_cases, in_either, of_slot, HasGot, FitBlobs, HaveOnePlace, got_cells, blob_at, places_of, IsCovered, IsPast, IsNext, HasGotPart, past_covered, past_all, past_kept, parts_got, IsRead, got_says, says_got, read_as, read_once, parts_within, whole_parts, nat_tests}
+use borrow.Author.Tests.{eqb-true}
 use Rattle.data_sieving.proofs.ReachSteps.{served_in}
 
 -- ---- the entries of a slot
@@ -34,10 +34,7 @@ slot_said base file k list left place size w served stop y on once p n =
 
     is_served : (r : Owned) (x : ℕ) → In list r → place ≤ x → x < stop → r.extent.at ≤ x → x < r.extent.at + r.extent.len → In served r
     is_served r x m l h b e =
-        elim (in_either served n.front.rest r (subst (λ (q : List Owned). In q r) n.front.joined (past_kept place list left r p m (omega arith)))) [
-          | inl i ↦ i
-          | inr i ↦ (let f = n.front.later r i in absurd (omega arith))
-        ]
+        grind (arith, nat_tests, in_either served n.front.rest r, n.front.joined, past_kept place list left r p m, n.front.later r)
 
     in_window : (x v : ℕ) (r : IsRead base file 0 stop (of_slot k list) x v) → place ≤ r.place → IsRead base file w.hull.at (w.hull.at + w.hull.len) (of_slot k served) x v
     in_window x v r l =
@@ -51,20 +48,20 @@ slot_said base file k list left place size w served stop y on once p n =
     earlier : (x v : ℕ) (r : IsRead base file 0 stop (of_slot k list) x v) → r.place < place → IsRead base file 0 place (of_slot k list) x v
     earlier x v r l = read_as base file 0 stop 0 place (of_slot k list) (of_slot k list) x v r (omega arith) l r.inside
 
-    there_by : (x v : ℕ) (r : IsRead base file 0 stop (of_slot k list) x v) (t : Bool) → nat_lt r.place place ≡ t
+    there_by : (x v : ℕ) (r : IsRead base file 0 stop (of_slot k list) x v) → (r.place < place) ⊎ (place ≤ r.place)
         → Says (said_by (parts_got base file 0 place (of_slot k list)) ++ said_by (parts_got base file w.hull.at (w.hull.at + w.hull.len) (of_slot k served))) x v
-    there_by x v r true e =
+    there_by x v r (inl e) =
         says_left (said_by (parts_got base file 0 place (of_slot k list))) (said_by (parts_got base file w.hull.at (w.hull.at + w.hull.len) (of_slot k served))) x v
-        (says_got base file 0 place (of_slot k list) x v slot_on (earlier x v r (ltb-true _ _ e)))
-    there_by x v r false e =
+        (says_got base file 0 place (of_slot k list) x v slot_on (earlier x v r e))
+    there_by x v r (inr e) =
         says_right (said_by (parts_got base file 0 place (of_slot k list))) (said_by (parts_got base file w.hull.at (w.hull.at + w.hull.len) (of_slot k served))) x v
-        (says_got base file w.hull.at (w.hull.at + w.hull.len) (of_slot k served) x v served_on (in_window x v r (ltb-false _ _ e)))
+        (says_got base file w.hull.at (w.hull.at + w.hull.len) (of_slot k served) x v served_on (in_window x v r e))
 
     there : (x v : ℕ) → Says (said_by (parts_got base file 0 stop (of_slot k list))) x v
         → Says (said_by (parts_got base file 0 place (of_slot k list) ++ parts_got base file w.hull.at (w.hull.at + w.hull.len) (of_slot k served))) x v
     there x v h =
         let r = got_says base file 0 stop (of_slot k list) x v slot_on h in
-        subst (λ ps. Says ps x v) (sym joined) (there_by x v r (nat_lt r.place place) refl)
+        subst (λ ps. Says ps x v) (sym joined) (there_by x v r (cases_lt r.place place))
 
     back : (x v : ℕ) → Says (said_by (parts_got base file 0 place (of_slot k list) ++ parts_got base file w.hull.at (w.hull.at + w.hull.len) (of_slot k served))) x v
         → Says (said_by (parts_got base file 0 stop (of_slot k list))) x v
@@ -113,11 +110,7 @@ got_step base file list left place size w served stop old mid now on once fit p 
 -- ---- before the first window, and after the last
 
 said_none : (ps : List (ℕ × ℕ)) (x : ℕ) → ((v : ℕ) → Says ps x v → ⊥) → said_at ps x ≡ None
-said_none ps x h = by_said (said_at ps x) refl
-  where
-    by_said : (o : Option ℕ) → said_at ps x ≡ o → said_at ps x ≡ None
-    by_said None e = e
-    by_said (Some v) e = absurd (h v (said_is ps x v e))
+said_none ps x h = elim (some_or_none (said_at ps x)) [ inl e ↦ e | inr (v, e) ↦ absurd (h v (said_is ps x v e)) ]
 
 pub got_begin : (base : ℕ) (file : List ℕ) (list : List Owned) (blobs : List (List ℕ)) → ((o : Owned) → In list o → base ≤ o.extent.at) → FitBlobs blobs list
     → HasGotPart (0, 0) base file list blobs blobs

@@ -1,5 +1,5 @@
 -- The hull of entries, entry by entry.
-use Rattle.data_sieving.proofs.Words.{◌≡◌, ℕ, ◌+◌, ◌-◌, ◌<◌, ◌≤◌, ◌⊎◌, inl, inr, refl, sym, ◌∙◌, ap, subst, List, [], ◌∷◌, ◌++◌, append_assoc, length, take, get_or, Bool, true, false, min, max, Some, slice_get, arith, take_more, take_all, nat_lt, slice_get-get_or, entry_in, Owned, Window, In, extents, IsByPlace, in_either, in_left, in_right, AreFilled, IsCovered, IsHull, Reach, covered_left, before_or_later, nat_tests}
+use Rattle.data_sieving.proofs.Words.{◌≡◌, ℕ, ◌+◌, ◌-◌, ◌<◌, ◌≤◌, ◌⊎◌, inl, inr, refl, sym, ◌∙◌, ap, subst, List, [], ◌∷◌, ◌++◌, append_assoc, length, take, get_or, Bool, true, false, min, max, Some, slice_get, arith, take_more, take_all, slice_get-get_or, entry_in, Owned, Window, In, extents, IsByPlace, in_either, in_left, in_right, AreFilled, cases_lt, IsCovered, IsHull, Reach, covered_left, before_or_later, nat_tests}
 use borrow.Author.Tests.{ltb-true, ltb-false}
 
 -- the entries seen so far reach up to a place, with a hole before it or not
@@ -31,42 +31,28 @@ scan : (at stop end next count : ℕ) (solid more_solid : Bool) (whole seen more
 scan at stop end next count solid more_solid whole seen more o e apart filled begin first room n keeps breaks h = record {
   low = (let l = h.low in omega arith);
   high = (let l = h.high in omega arith);
-  some = λ g. some_by (nat_lt 0 count) refl;
+  some = λ g. elim (cases_lt 0 count) [
+    | inl f ↦ (let l = h.some f in omega arith)
+    | inr f ↦ (let l = first (omega arith) in omega arith)
+  ];
   reach = λ p m. elim (more_in seen more o p e m) [
     | inl g ↦ (let r = h.reach p g in omega arith)
     | inr g ↦ subst (λ (z : Owned). min stop (z.extent.at + z.extent.len) ≤ next) g (omega arith)
   ];
-  last = λ l. last_by l (nat_lt end (min (o.extent.at + o.extent.len) stop)) refl;
-  full = λ s x l m. full_by s x l m (nat_lt x end) refl;
+  last = λ l. elim (cases_lt end (min (o.extent.at + o.extent.len) stop)) [
+    | inl past ↦ more_by seen more o (next - 1) e (omega arith) (omega arith)
+    | inr within ↦ (let same : end ≡ next = omega arith in more_seen seen more o (next - 1) e (subst (λ (k : ℕ). IsCovered seen (k - 1)) same (h.last (omega arith))))
+  ];
+  full = λ s x l m. elim (cases_lt x end) [
+    | inl f ↦ more_seen seen more o x e (h.full (keeps s).0 x l f)
+    | inr f ↦ (let near = (keeps s).1 in more_by seen more o x e (omega arith) (omega arith))
+  ];
   hole = λ s. elim (breaks s) [
     | inl g ↦ (let r = h.hole g in let m = r.2 in (r.0, r.1, omega arith, r.3))
     | inr g ↦ (end, h.low, omega arith, (λ c. gap g c))
   ];
 }
   where
-    some_by : (t : Bool) → nat_lt 0 count ≡ t → at < next
-    some_by true f = let l = h.some (ltb-true _ _ f) in omega arith
-    some_by false f =
-        let none : count ≤ 0 = ltb-false _ _ f in
-        let l = first (omega arith) in
-        omega arith
-
-    last_by : at < next → (t : Bool) → nat_lt end (min (o.extent.at + o.extent.len) stop) ≡ t → IsCovered more (next - 1)
-    last_by l true f =
-        let past : end < min (o.extent.at + o.extent.len) stop = ltb-true _ _ f in
-        more_by seen more o (next - 1) e (omega arith) (omega arith)
-    last_by l false f =
-        let within : min (o.extent.at + o.extent.len) stop ≤ end = ltb-false _ _ f in
-        let same : end ≡ next = omega arith in
-        more_seen seen more o (next - 1) e (subst (λ (k : ℕ). IsCovered seen (k - 1)) same (h.last (omega arith)))
-
-    full_by : more_solid ≡ true → (x : ℕ) → at ≤ x → x < next → (t : Bool) → nat_lt x end ≡ t → IsCovered more x
-    full_by s x l m true f = more_seen seen more o x e (h.full (keeps s).0 x l (ltb-true _ _ f))
-    full_by s x l m false f =
-        let past : end ≤ x = ltb-false _ _ f in
-        let near = (keeps s).1 in
-        more_by seen more o x e (omega arith) (omega arith)
-
     gap : end < o.extent.at → IsCovered whole end → ⊥
     gap g c =
         let low = c.low in
@@ -97,14 +83,7 @@ scanned_more at stop end next i solid more_solid carried fresh o d l e sorted fi
     inside = subst (λ (p : Owned). In fresh p) (sym e) (entry_in fresh i d l)
 
     apart : (p : Owned) → In (carried ++ fresh) p → In (carried ++ take i fresh) p ⊎ (o.extent.at ≤ p.extent.at)
-    apart p m =
-        elim (in_either carried fresh p m) [
-          | inl g ↦ inl (in_left carried (take i fresh) p g)
-          | inr g ↦ elim (subst (λ (q : Owned). In (take i fresh) p ⊎ (q.extent.at ≤ p.extent.at)) (sym e) (before_or_later fresh i d p l sorted g)) [
-            | inl f ↦ inl (in_right carried (take i fresh) p f)
-            | inr f ↦ inr f
-          ]
-        ]
+    apart p m = grind (arith, nat_tests, in_either carried fresh p m, in_left, in_right, before_or_later fresh i d p l sorted)
 
     begin : (list : List Owned) → length list + i ≡ 0 → slice_get (list ++ fresh) 0 ≡ Some o
     begin [] z = let none : 0 ≡ i = omega arith in ap (λ (k : ℕ). slice_get fresh k) none ∙ slice_get-get_or fresh i d l ∙ ap Some (sym e)

@@ -1,8 +1,8 @@
 -- One window of a loop over all windows.
-use Rattle.data_sieving.proofs.Words.{Bool, ◌≡◌, ℕ, ◌+◌, ◌^◌, ◌≤◌, ◌∙◌, ap, subst, List, [], ◌++◌, length, Option, arith, IfSome, flat_map, at_in, In, Owned, Post, DiskCall, Window, after, with_end, BothTold, overlays, write_cells, moved_down, told_of, clips, extents, IsByPlace, EndBelow, IsBetween, IsBegun, store_calls, told_window, source_of, AreFilled, put_cells, entry_windows, LieOn, IsPast, AreLeft, LieAcross, IsNext, HasDone, windows_from, entries_from, entries_within, nat_tests}
+use Rattle.data_sieving.proofs.Words.{Bool, ◌≡◌, ℕ, ◌+◌, ◌^◌, ◌≤◌, ◌∙◌, ap, subst, List, [], ◌++◌, length, Option, Some, None, refl, arith, IfSome, flat_map, at_in, In, Owned, Post, DiskCall, Window, after, with_end, BothTold, overlays, write_cells, moved_down, told_of, clips, extents, IsByPlace, EndBelow, IsBetween, IsBegun, store_calls, told_window, source_of, AreFilled, put_cells, entry_windows, LieOn, IsPast, AreLeft, LieAcross, IsNext, HasDone, windows_from, entries_from, entries_within, nat_tests}
 use Rattle.data_sieving.proofs.WindowSteps.{window_bytes, next_told, windows_next, all_windows, no_window}
 use Rattle.data_sieving.proofs.CallSteps.{none_done, done_more, all_done, done_begun}
-use Rattle.data_sieving.proofs.PutSteps.{AreCells, file_to, file_step, to_begin, to_end, mixed_to, held_same, held_begin, held_twice, held_refused}
+use Rattle.data_sieving.proofs.PutSteps.{AreCells, file_to, file_step, to_begin, to_end, mixed_to, held_refused}
 use Rattle.data_sieving.proofs.ReachSteps.{hull_low, hull_high}
 
 -- ---- the walk
@@ -51,22 +51,20 @@ are_cells posts list base n on = record {
 
 pub put_begin : (held : Option (List ℕ)) (posts : List Post) (list : List Owned) (base n : ℕ) → IfSome held (λ b. length b ≡ n) → LieOn base n list
     → held ≡ after (λ file. file_to base 0 (put_cells posts list) file) held
-put_begin held posts list base n told on =
-    held_begin held n (λ file. file_to base 0 (put_cells posts list) file) told (λ file e. to_begin base n (put_cells posts list) file (are_cells posts list base n on) e)
+put_begin None posts list base n told on = refl
+put_begin (Some file) posts list base n told on = ap Some (to_begin base n (put_cells posts list) file (are_cells posts list base n on) told)
 
 pub put_more : (held mid now : Option (List ℕ)) (posts : List Post) (list left : List Owned) (place size : ℕ) (w : Window) (served : List Owned) (stop base here n : ℕ)
     → IfSome held (λ b. length b ≡ n) → LieOn base n list → here ≡ base → IsPast place list left → IsNext left place size w served stop
     → mid ≡ after (λ file. file_to base place (put_cells posts list) file) held
     → now ≡ after (λ file. write_cells file (moved_down here (clips w.hull.at (w.hull.at + w.hull.len) (put_cells posts served)))) mid
     → now ≡ after (λ file. file_to base stop (put_cells posts list) file) held
-put_more held mid now posts list left place size w served stop base here n told on same p k e f =
-    held_twice held mid now n (λ file. file_to base place (put_cells posts list) file)
-    (λ file. write_cells file (moved_down base (clips w.hull.at (w.hull.at + w.hull.len) (put_cells posts served))))
-    (λ file. file_to base stop (put_cells posts list) file) told
-    (λ file long. file_step (source_of posts) list left place size w served stop base n file p k (are_cells posts list base n on)
-    (hull_low list left place size w served stop base n on p k) (hull_high list left place size w served stop base n on p k) long)
-    e
-    (subst (λ (b : ℕ). now ≡ after (λ file. write_cells file (moved_down b (clips w.hull.at (w.hull.at + w.hull.len) (put_cells posts served)))) mid) same f)
+put_more None mid now posts list left place size w served stop base here n told on same p k e f =
+    f ∙ ap (λ (m : Option (List ℕ)). after (λ file. write_cells file (moved_down here (clips w.hull.at (w.hull.at + w.hull.len) (put_cells posts served)))) m) e
+put_more (Some old) mid now posts list left place size w served stop base here n told on same p k e f =
+    f ∙ (λ i. after (λ file. write_cells file (moved_down (same i) (clips w.hull.at (w.hull.at + w.hull.len) (put_cells posts served)))) (e i))
+    ∙ ap Some (file_step (source_of posts) list left place size w served stop base n old p k (are_cells posts list base n on)
+    (hull_low list left place size w served stop base n on p k) (hull_high list left place size w served stop base n on p k) told)
 
 pub put_refused : (held mid now : Option (List ℕ)) (posts : List Post) (list left : List Owned) (place size : ℕ) (w : Window) (served : List Owned) (stop base here n : ℕ)
     → IfSome held (λ b. length b ≡ n) → LieOn base n list → here ≡ base → IsPast place list left → IsNext left place size w served stop
@@ -87,6 +85,6 @@ put_refused held mid now posts list left place size w served stop base here n to
 pub put_end : (held now : Option (List ℕ)) (posts : List Post) (list left : List Owned) (place base n : ℕ) → IfSome held (λ b. length b ≡ n) → LieOn base n list
     → left ≡ [] → IsPast place list left → now ≡ after (λ file. file_to base place (put_cells posts list) file) held
     → now ≡ after (λ file. write_cells file (moved_down base (put_cells posts list))) held
-put_end held now posts list left place base n told on none p e =
-    e ∙ held_same held n (λ file. file_to base place (put_cells posts list) file) (λ file. write_cells file (moved_down base (put_cells posts list))) told
-    (λ file long. to_end (source_of posts) list left base place n file (are_cells posts list base n on) long none p)
+put_end None now posts list left place base n told on none p e = e
+put_end (Some file) now posts list left place base n told on none p e =
+    e ∙ ap Some (to_end (source_of posts) list left base place n file (are_cells posts list base n on) told none p)

@@ -1,7 +1,7 @@
 -- The words of this crate's proofs, from where they stand.
-pub use Rattle.std.proofs.Common.{Bool, List, None, Option, Some, [], ap, append_assoc, arith, cond, drop, false, get_or, inl, inr, length, map, max, min, refl, rules, set, slice_get, subst, sym, take, true, ℕ, ◌++◌, ◌+◌, ◌-◌, ◌<◌, ◌^◌, ◌∙◌, ◌∷◌, ◌≡◌, ◌≢◌, ◌≤◌, ◌⊎◌}
+pub use Rattle.std.proofs.Common.{Bool, List, None, Option, Some, [], ap, append_assoc, arith, cond, drop, false, get_or, inl, inr, length, map, max, min, refl, rules, set, slice_get, subst, sym, take, true, ℕ, ◌++◌, ◌+◌, ◌-◌, ◌<◌, ◌^◌, ◌∙◌, ◌∷◌, ◌≡◌, ◌≢◌, ◌≤◌, ◌&&◌, ◌⊎◌}
 pub use Rattle.std.proofs.Math.Seq.{take-add, take-append_seam}
-pub use Rattle.std.proofs.lemmas.Bool.{le-leb, leb-true, lt-leb, lt-ltb}
+pub use Rattle.std.proofs.lemmas.Bool.{cases_lt, le-leb, leb-true, lt-leb, lt-ltb}
 pub use Rattle.std.proofs.lemmas.Bool.Decides.{nat_tests}
 pub use Rattle.std.proofs.lemmas.Grind.{common_steps, fold-append}
 pub use Rattle.std.proofs.lemmas.List.{append-nil, drop_at, get_or-set_other, get_or-set_same, length-append, length-drop, length-set, length-take, map-append, take-append-le, take_all, take_at, take_min, take_more}
@@ -26,7 +26,7 @@ pub use Rattle.data_sieving.specs.Walked.{AreLeft, HasDone, HasGotPart, IsHull, 
 pub use Rattle.file_domains.proofs.WalkSteps.{walked_enough}
 pub use Rattle.file_domains.specs.declared.walk.Window.{Window}
 pub use Rattle.list_laws.proofs.Maps.{filter_at_most}
-pub use Rattle.list_laws.proofs.Optional.{second_counts}
+pub use Rattle.list_laws.proofs.Optional.{first_counts, second_counts, some_or_none}
 pub use Rattle.list_laws.proofs.Results.{on_err}
 pub use Rattle.list_laws.proofs.Truth.{equal_below, equal_true}
 pub use Rattle.nc_base.specs.declared.plan.Extent.{Extent}
