@@ -1,6 +1,5 @@
 -- What is left of a cover from a place on, by how many extents begin before the place.
-use Rattle.file_domains.proofs.Words.{◌≡◌, ℕ, zero, suc, ◌+◌, ◌-◌, ◌<◌, ◌≤◌, refl, sym, ◌∙◌, ap, subst, inl, inr, List, [], ◌∷◌, ◌++◌, length, take, drop, get_or, length-drop, ◌^◌, Bool, true, false, cond, min, Some, slice_get, arith, take_all, get_or_default, filter, nat_lt, nat_le, ◌==◌, range_with_len, AllWithin, IsPartitionedBy, same_Some, slice_get-get_or, le-leb, leb-true, leb-false, at_in, equal_above, no_none_some, Extent, In, EndBelow, below, IsCover, end_after, is_single, first_at, spans, range_above_none, IsLeft, filter-append, nat_tests, cases_lt}
-use borrow.Author.Tests.{ltb-true, ltb-false}
+use Rattle.file_domains.proofs.Words.{◌≡◌, ℕ, zero, suc, ◌+◌, ◌-◌, ◌<◌, ◌≤◌, refl, sym, ◌∙◌, ap, subst, inl, inr, List, [], ◌∷◌, ◌++◌, length, take, drop, get_or, length-drop, ◌^◌, true, false, min, Some, slice_get, arith, take_all, get_or_default, filter, nat_le, ◌==◌, range_with_len, AllWithin, IsPartitionedBy, same_Some, slice_get-get_or, le-leb, leb-true, leb-false, at_in, no_none_some, Extent, In, EndBelow, below, IsCover, end_after, is_single, first_at, spans, range_above_none, IsLeft, filter-append, nat_tests, cases_lt}
 
 pub in_dropped : {X : Type 0} (k : ℕ) (xs : List X) (e : X) → In (drop k xs) e → In xs e
 in_dropped zero xs e h = h
@@ -78,10 +77,10 @@ pub left_from_next : (count place : ℕ) (cover : List Extent) → IsCover cover
 left_from_next count place cover h ends last bound after =
     dropped count place cover h ends
     (λ i e l g.
-        let there = slice_get-get_or cover (count - 1) (record { at = 0; len = 0 }) (omega arith) in
-        let rise = ends_rise cover i (count - 1) e _ h (omega arith) g there in
-        let final = last _ (omega arith) there in
-        omega arith)
+    let there = slice_get-get_or cover (count - 1) (record { at = 0; len = 0 }) (omega arith) in
+    let rise = ends_rise cover i (count - 1) e _ h (omega arith) g there in
+    let final = last _ (omega arith) there in
+    omega arith)
     (λ e g. let low = after e g in let long = long_enough cover e h (at_in cover count e g) in omega arith)
 
 pub cover_rises : (cover : List Extent) (place i j : ℕ) (d : Extent) → IsCover cover → i ≤ j → j < length cover

@@ -1,6 +1,5 @@
 -- One window of a walk.
-use Rattle.file_domains.proofs.Words.{◌≡◌, ℕ, zero, suc, ◌+◌, ◌-◌, ◌/◌, ◌^◌, ◌<◌, ◌≤◌, refl, sym, ◌∙◌, ap, subst, inl, inr, List, [], ◌∷◌, length, Bool, true, false, ◌&&◌, cond, min, max, Some, None, slice_get, get_or, arith, nat_tests, filter, map, nat_lt, nat_le, ◌==◌, range_with_len, no_none_some, Extent, first_of, IsAscending, In, EndBelow, below, above, IsCover, end_after, is_single, first_at, told_of, walked, round_end, spans, filter_same, take_first, drop_first, windows_walked, filter_in, filter_at_most, filter_ascends, flat_in, range_high, range_low, in_either, filter_two, spans_below, spans_above, below_told, range_first, past_round, spans_below_none, spans_ascend, spans_past, triple_same, same_Some, slice_get-get_or, lt-ltb, le-ltb, le-leb, lt-leb, leb-true, leb-false, Window, window_told, round_windows, cases_lt, ◌⊎◌}
-use borrow.Author.Tests.{ltb-true, ltb-false}
+use Rattle.file_domains.proofs.Words.{◌≡◌, ℕ, zero, suc, ◌+◌, ◌-◌, ◌/◌, ◌^◌, ◌<◌, ◌≤◌, refl, sym, ◌∙◌, ap, subst, inl, inr, List, [], ◌∷◌, length, ◌&&◌, min, max, Some, None, slice_get, get_or, arith, nat_tests, filter, map, nat_lt, nat_le, ◌==◌, range_with_len, no_none_some, Extent, first_of, IsAscending, In, EndBelow, below, above, IsCover, end_after, is_single, first_at, told_of, walked, round_end, spans, filter_same, take_first, drop_first, windows_walked, filter_in, filter_at_most, filter_ascends, flat_in, range_high, range_low, in_either, filter_two, spans_below, spans_above, below_told, range_first, past_round, spans_below_none, spans_ascend, spans_past, triple_same, same_Some, slice_get-get_or, lt-ltb, lt-leb, Window, window_told, round_windows, cases_lt, ◌⊎◌}
 use Rattle.file_domains.proofs.CoverParts.{counted_below, ends_rise}
 
 -- ---- walks

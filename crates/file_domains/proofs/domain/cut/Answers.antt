@@ -1,5 +1,5 @@
 -- The bytes between the two borders.
-use Rattle.file_domains.proofs.Words.{◌≡◌, ℕ, ◌+◌, ◌-◌, ◌*◌, ◌^◌, ◌<◌, ◌≤◌, max, min, ap, arith, low_of, share_of, border}
+use Rattle.file_domains.proofs.Words.{◌≡◌, ℕ, ◌+◌, ◌-◌, ◌^◌, ap, arith, low_of, share_of}
 use Rattle.file_domains.proofs.DomainBytes.{in_cut, multiple_is}
 use Rattle.file_domains.proofs.domain.cut.Goals as goal
 

@@ -1,5 +1,5 @@
 -- The half that was tested goes with its extent.
-use Rattle.file_domains.proofs.Words.{◌+◌, ◌-◌, ◌/◌, ◌<◌, ◌≤◌, length, arith}
+use Rattle.file_domains.proofs.Words.{◌+◌, ◌-◌, ◌/◌, arith}
 use Rattle.file_domains.proofs.CoverParts.{half_front, half_left}
 use Rattle.file_domains.proofs.walk.begins_by.Goals as goal
 
