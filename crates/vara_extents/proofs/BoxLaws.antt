@@ -1,15 +1,11 @@
 -- Two boxes share an element exactly where their ranges meet in each dimension.
-use Rattle.vara_extents.proofs.Words.{◌≡◌, ℕ, zero, suc, ◌+◌, ◌*◌, ◌∙◌, ap, sym, refl, List, [], ◌∷◌, length, map, Bool, true, false, ltb, leb, eqb, ◌||◌, ◌&&◌, max, min, replicate, arith, flat_map, bytes_eq, list_any, range_with_len, ltb-true, list_any-append, map-append, any_map, coordinates, index_at, has_index, boxes_meet, nat_tests}
-
-same_bool : (a b : Bool) → (a ≡ true → b ≡ true) → (b ≡ true → a ≡ true) → a ≡ b
-same_bool a b f g = grind (arith, nat_tests)
+use Rattle.vara_extents.proofs.Words.{◌≡◌, ℕ, zero, suc, ◌+◌, ◌*◌, ◌∙◌, ap, sym, refl, List, [], ◌∷◌, length, map, Bool, true, false, ltb, leb, eqb, ◌||◌, ◌&&◌, max, min, replicate, arith, flat_map, bytes_eq, list_any, range_with_len, list_any-append, map-append, any_map, coordinates, index_at, has_index, boxes_meet, nat_tests}
 
 both_or : (a b x : Bool) → ((a && x) || (b && x)) ≡ ((a || b) && x)
 both_or a b x = grind (arith, nat_tests)
 
 neither : (x : Bool) → false ≡ (false && x)
-neither true = refl
-neither false = refl
+neither x = grind (arith, nat_tests)
 
 -- a box's indices
 abbrev pub box : List ℕ → List ℕ → List (List ℕ)
@@ -50,8 +46,7 @@ abbrev within : ℕ → ℕ → ℕ → Bool
 within t m x = leb t x && ltb x (t + m)
 
 ranges_meet : (s t m a n : ℕ) → list_any (λ i. within t m (s + i * 1)) (range_with_len a n) ≡ ltb (max (s + a) t) (min (s + a + n) (t + m))
-ranges_meet s t m a zero = same_bool false (ltb (max (s + a) t) (min (s + a + 0) (t + m))) (λ e. cc)
-    (λ e. let l = ltb-true (max (s + a) t) (min (s + a + 0) (t + m)) e in absurd (omega arith))
+ranges_meet s t m a zero = grind (arith, nat_tests)
 ranges_meet s t m a (suc n) = grind (arith, nat_tests, ranges_meet s t m (a + 1) n)
 
 -- ---- boxes
@@ -65,24 +60,20 @@ in_box _ _ _ = false
 has_is : (starts counts index : List ℕ) → length starts ≡ length counts → length index ≡ length counts → has_index (box starts counts) index ≡ in_box starts counts index
 has_is [] [] [] h k = refl
 has_is (t ∷ starts) (m ∷ counts) (x ∷ index) h k =
+    let plain : t + 0 ≡ t = omega arith in
     split_any (λ y. eqb y x) (λ i. bytes_eq i index) (λ i. bytes_eq i (x ∷ index)) (λ y ys. refl) t starts (replicate (length counts) 1) (coordinates counts) (range_with_len 0 m)
     ∙ (λ j. in_range t x 0 m j && has_is starts counts index (omega arith) (omega arith) j)
     ∙ ap (λ (n : ℕ). (leb n x && ltb x (n + m)) && in_box starts counts index) plain
-  where
-    plain : t + 0 ≡ t
-    plain = omega arith
 has_is _ _ _ h k = absurd (omega (arith, h, k))
 
 boxes_is : (starts counts others lengths : List ℕ) → length starts ≡ length counts → length others ≡ length counts → length lengths ≡ length counts
     → list_any (in_box others lengths) (box starts counts) ≡ boxes_meet starts counts others lengths
 boxes_is [] [] [] [] h k l = refl
 boxes_is (s ∷ starts) (n ∷ counts) (t ∷ others) (m ∷ lengths) h k l =
+    let plain : s + 0 ≡ s = omega arith in
     split_any (within t m) (in_box others lengths) (in_box (t ∷ others) (m ∷ lengths)) (λ y ys. refl) s starts (replicate (length counts) 1) (coordinates counts) (range_with_len 0 n)
     ∙ (λ j. ranges_meet s t m 0 n j && boxes_is starts counts others lengths (omega arith) (omega arith) (omega arith) j)
     ∙ ap (λ (x : ℕ). ltb (max x t) (min (x + n) (t + m)) && boxes_meet starts counts others lengths) plain
-  where
-    plain : s + 0 ≡ s
-    plain = omega arith
 boxes_is _ _ _ _ h k l = absurd (omega (arith, h, k, l))
 
 -- every index of a box has as many numbers as the box

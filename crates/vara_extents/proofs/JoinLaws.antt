@@ -41,27 +41,19 @@ join_far e d es h = grind (arith, nat_tests, join_first, join_apart)
 pub run_joined : (es : List Extent) (len k n at : ℕ) → ((i : ℕ) → i < suc n → slice_get es (k + i) ≡ Some (extent (at + i * len) len))
     → joined (drop k es) ≡ joined_to (extent at (suc n * len)) (joined (drop (k + suc n) es))
 run_joined es len k zero at h =
+    let one : len ≡ suc zero * len = omega arith in
+    let next : suc k ≡ k + suc zero = omega arith in
     ap joined (drop_at es k (extent at len) (ap (λ (m : ℕ). slice_get es m) (omega arith) ∙ h 0 (omega arith) ∙ ap Some (same_extent (at + 0 * len) at len len (omega arith) refl)))
     ∙ (λ i. joined_to (extent at (one i)) (joined (drop (next i) es)))
-  where
-    one : len ≡ suc zero * len
-    one = omega arith
-
-    next : suc k ≡ k + suc zero
-    next = omega arith
 run_joined es len k (suc n) at h =
+    let more : len + suc n * len ≡ suc (suc n) * len = omega arith in
+    let next : suc k + suc n ≡ k + suc (suc n) = omega arith in
     ap joined (drop_at es k (extent at len) (ap (λ (m : ℕ). slice_get es m) (omega arith) ∙ h 0 (omega arith) ∙ ap Some (same_extent (at + 0 * len) at len len (omega arith) refl)))
     ∙ ap (λ (es : List Extent). joined_to (extent at len) es)
     (run_joined es len (suc k) n (at + len) (λ i l.
     ap (λ (m : ℕ). slice_get es m) (omega arith) ∙ h (suc i) (omega arith) ∙ ap Some (same_extent (at + suc i * len) (at + len + i * len) len len (omega arith) refl)))
     ∙ join_two (extent at len) (extent (at + len) (suc n * len)) (joined (drop (suc k + suc n) es)) refl
     ∙ (λ i. joined_to (extent at (more i)) (joined (drop (next i) es)))
-  where
-    more : len + suc n * len ≡ suc (suc n) * len
-    more = omega arith
-
-    next : suc k + suc n ≡ k + suc (suc n)
-    next = omega arith
 
 -- ---- what joining keeps
 

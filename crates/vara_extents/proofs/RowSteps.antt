@@ -157,13 +157,14 @@ pub record_place_is : (header : Header) (v : Var) (g : Region) (number : ℕ) �
     + row_of header (rest v.dims) (rest g.start) (rest g.count) (rest g.stride) (number % product (rest g.count)) * size_of v.kind ≡ place header v (index_of g number)
 record_place_is header v g number e r = grind (arith, nat_tests, place_record)
 
--- an element of a record variable, where a block of a record has `inner` elements of the region
-pub record RecordStep (header : Header) (v : Var) (g : Region) (number inner : ℕ) (ids starts counts strides : List ℕ) : Type 0 where
+-- an element of a record variable, where a block of a record has `inner` elements of the region, and a record so many bytes
+pub record RecordStep (header : Header) (v : Var) (g : Region) (number inner wide : ℕ) (ids starts counts strides : List ℕ) : Type 0 where
   pub small : product (rest counts) ≤ 2 ^ 20
   pub some : 1 ≤ inner
   pub valid : IsIndex (lengths_of header (rest ids)) (index_at (rest starts) (rest strides) (coordinates_of (rest counts) (number % inner)))
   pub number_low : number % inner < product (rest counts)
-  pub whole : v.begin + (get_or starts 0 0 + number / inner * get_or strides 0 0) * recsize header
+  pub record_low : get_or starts 0 0 + number / inner * get_or strides 0 0 ≤ (get_or starts 0 0 + number / inner * get_or strides 0 0) * wide
+  pub whole : v.begin + (get_or starts 0 0 + number / inner * get_or strides 0 0) * wide
       + row_of header (rest ids) (rest starts) (rest counts) (rest strides) (number % inner) * size_of v.kind ≡ place header v (index_of g number)
 
 pub inner_small : (counts : List ℕ) (number : ℕ) → 1 ≤ length counts → number < product counts → product counts ≤ 2 ^ 20 → (1 ≤ product (rest counts)) × (product (rest counts) ≤ 2 ^ 20)
@@ -174,11 +175,11 @@ inner_small (n ∷ counts) number a b c =
     let same = ap product (rest_is n counts) in
     (omega (arith, some.1), omega arith)
 
-record_step_of : (header : Header) (v : Var) (g : Region) (number inner : ℕ) → is_record header v ≡ true
+record_step_of : (header : Header) (v : Var) (g : Region) (number inner : ℕ) → is_record header v ≡ true → 1 ≤ recsize header
     → 1 ≤ length v.dims → 1 ≤ length g.start → 1 ≤ length g.count → 1 ≤ length g.stride
     → IsElement header v (index_of g number) → number < product g.count → product g.count ≤ 2 ^ 20 → inner ≡ min (product (rest g.count)) (2 ^ 64 - 1)
-    → RecordStep header v g number inner v.dims g.start g.count g.stride
-record_step_of header v g number inner e a b c d valid below small is =
+    → RecordStep header v g number inner (recsize header) v.dims g.start g.count g.stride
+record_step_of header v g number inner e wide a b c d valid below small is =
     grind (
       arith,
       nat_tests,
@@ -187,16 +188,19 @@ record_step_of header v g number inner e a b c d valid below small is =
       index_record header v (index_of g number) e valid,
       mod_below number (product (rest g.count)) (inner_small g.count number c below small).0,
       record_place_is header v g number e (record_row header v.dims g.start g.count g.stride number e a b c d),
+      mul-le-mul_left (get_or g.start 0 0 + number / inner * get_or g.stride 0 0) wide,
       transport,
     )
 
-pub record_step : (header : Header) (v : Var) (g : Region) (number inner : ℕ) (ids starts counts strides : List ℕ) → ids ≡ v.dims → starts ≡ g.start → counts ≡ g.count → strides ≡ g.stride
-    → is_record header v ≡ true → 1 ≤ length ids → 1 ≤ length starts → 1 ≤ length counts → 1 ≤ length strides
+pub record_step : (header : Header) (v : Var) (g : Region) (number inner wide : ℕ) (ids starts counts strides : List ℕ)
+    → wide ≡ recsize header → ids ≡ v.dims → starts ≡ g.start → counts ≡ g.count → strides ≡ g.stride
+    → is_record header v ≡ true → 1 ≤ wide → 1 ≤ length ids → 1 ≤ length starts → 1 ≤ length counts → 1 ≤ length strides
     → IsElement header v (index_of g number) → number < product g.count → product g.count ≤ 2 ^ 20 → inner ≡ min (product (rest counts)) (2 ^ 64 - 1)
-    → RecordStep header v g number inner ids starts counts strides
-record_step header v g number inner ids starts counts strides p q r t e a b c d valid below small is =
+    → RecordStep header v g number inner wide ids starts counts strides
+record_step header v g number inner wide ids starts counts strides w p q r t e some a b c d valid below small is =
     transport (λ i. 1 ≤ length (sym p i) → 1 ≤ length (sym q i) → 1 ≤ length (sym r i) → 1 ≤ length (sym t i) → inner ≡ min (product (rest (sym r i))) (2 ^ 64 - 1)
-    → RecordStep header v g number inner (sym p i) (sym q i) (sym r i) (sym t i)) (λ a b c d is. record_step_of header v g number inner e a b c d valid below small is) a b c d is
+    → RecordStep header v g number inner (sym w i) (sym p i) (sym q i) (sym r i) (sym t i))
+    (λ a b c d is. record_step_of header v g number inner e (omega arith) a b c d valid below small is) a b c d is
 
 record_entries : (starts counts strides : List ℕ) (number : ℕ) → HasRecord (index_at starts strides (coordinates_of counts number)) → (1 ≤ length starts) × (1 ≤ length counts) × (1 ≤ length strides)
 record_entries [] counts strides number h = absurd h

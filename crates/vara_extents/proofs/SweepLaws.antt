@@ -121,48 +121,29 @@ none_meet (x ∷ xs) h =
     λ k. none_meets x xs (λ j d l. h 0 (suc j) d (omega arith) (omega (arith, l)) (λ p. omega (arith, p))) k
     || none_meet xs (λ i j d l m n. h (suc i) (suc j) d (omega (arith, l)) (omega (arith, m)) (λ p. n (omega (arith, p)))) k
 
+-- where an entry of a list with two entries swapped came from
+abbrev CameFrom : ℕ → ℕ → ℕ → ℕ → Type 0
+CameFrom a b k from = ((k ≡ a) × (from ≡ b)) ⊎ (((k ≡ b) × (from ≡ a)) ⊎ ((k ≡ a → ⊥) × (k ≡ b → ⊥) × (from ≡ k)))
+
+from_one : (a b i j from to : ℕ) → CameFrom a b i from → CameFrom a b j to → from ≡ to → i ≡ j
+from_one a b i j from to x y e = grind (arith, nat_tests)
+
 swapped_apart : (xs : List Region) (a b : ℕ) → a < length xs → b < length xs → AllApart xs → AllApart (swap xs a b)
-swapped_apart xs a b p q h i j d l m n = by_place (place i) (place j)
+swapped_apart xs a b p q h i j d l m n =
+    let x = origin i l in
+    let y = origin j m in
+    (λ k. boxes_meet (x.1 k).start (x.1 k).count (y.1 k).start (y.1 k).count) ∙ h x.0 y.0 d x.2 y.2 (λ e. n (from_one a b i j x.0 y.0 x.3 y.3 e))
   where
-    ys : List Region
-    ys = swap xs a b
-
-    long : length ys ≡ length xs
-    long = length-swap xs a b
-
-    moved : (get_or ys a d ≡ get_or xs b d) × (get_or ys b d ≡ get_or xs a d) × ((k : ℕ) → (k ≡ a → ⊥) → (k ≡ b → ⊥) → get_or ys k d ≡ get_or xs k d)
-    moved = swapped_from_swap xs ys a b d p q refl
-
-    place : (k : ℕ) → (k ≡ a) ⊎ ((k ≡ b) ⊎ ((k ≡ a → ⊥) × (k ≡ b → ⊥)))
-    place k = by_case (cases_eq k a) (cases_eq k b)
-      where
-        by_case : (k ≡ a) ⊎ (k ≡ a → ⊥) → (k ≡ b) ⊎ (k ≡ b → ⊥) → (k ≡ a) ⊎ ((k ≡ b) ⊎ ((k ≡ a → ⊥) × (k ≡ b → ⊥)))
-        by_case (inl e) f = inl e
-        by_case (inr e) (inl f) = inr (inl f)
-        by_case (inr e) (inr f) = inr (inr (e, f))
-
-    from : (i' j' : ℕ) → get_or ys i d ≡ get_or xs i' d → get_or ys j d ≡ get_or xs j' d → i' < length xs → j' < length xs → (i' ≡ j' → ⊥) → Apart (get_or ys i d) (get_or ys j d)
-    from i' j' e f l' m' n' = (λ k. boxes_meet (e k).start (e k).count (f k).start (f k).count) ∙ h i' j' d l' m' n'
-
-    at_a : (k : ℕ) → k ≡ a → get_or ys k d ≡ get_or xs b d
-    at_a k e = ap (λ (x : ℕ). get_or ys x d) e ∙ moved.0
-
-    at_b : (k : ℕ) → k ≡ b → get_or ys k d ≡ get_or xs a d
-    at_b k e = ap (λ (x : ℕ). get_or ys x d) e ∙ moved.1
-
-    low : (k : ℕ) → k < length ys → k < length xs
-    low k g = omega (arith, g, long)
-
-    by_place : (i ≡ a) ⊎ ((i ≡ b) ⊎ ((i ≡ a → ⊥) × (i ≡ b → ⊥))) → (j ≡ a) ⊎ ((j ≡ b) ⊎ ((j ≡ a → ⊥) × (j ≡ b → ⊥))) → Apart (get_or ys i d) (get_or ys j d)
-    by_place (inl e) (inl f) = absurd (n (e ∙ sym f))
-    by_place (inl e) (inr (inl f)) = from b a (at_a i e) (at_b j f) q p (λ g. n (e ∙ sym g ∙ sym f))
-    by_place (inl e) (inr (inr f)) = from b j (at_a i e) (moved.2 j f.0 f.1) q (low j m) (λ g. f.1 (sym g))
-    by_place (inr (inl e)) (inl f) = from a b (at_b i e) (at_a j f) p q (λ g. n (e ∙ sym g ∙ sym f))
-    by_place (inr (inl e)) (inr (inl f)) = absurd (n (e ∙ sym f))
-    by_place (inr (inl e)) (inr (inr f)) = from a j (at_b i e) (moved.2 j f.0 f.1) p (low j m) (λ g. f.0 (sym g))
-    by_place (inr (inr e)) (inl f) = from i b (moved.2 i e.0 e.1) (at_a j f) (low i l) q e.1
-    by_place (inr (inr e)) (inr (inl f)) = from i a (moved.2 i e.0 e.1) (at_b j f) (low i l) p e.0
-    by_place (inr (inr e)) (inr (inr f)) = from i j (moved.2 i e.0 e.1) (moved.2 j f.0 f.1) (low i l) (low j m) n
+    origin : (k : ℕ) → k < length (swap xs a b) → (from : ℕ) × (get_or (swap xs a b) k d ≡ get_or xs from d) × (from < length xs) × CameFrom a b k from
+    origin k g =
+        let moved = swapped_from_swap xs (swap xs a b) a b d p q refl in
+        elim (cases_eq k a) [
+          | inl e ↦ (b, ap (λ (x : ℕ). get_or (swap xs a b) x d) e ∙ moved.0, q, inl (e, refl))
+          | inr e ↦ elim (cases_eq k b) [
+            | inl f ↦ (a, ap (λ (x : ℕ). get_or (swap xs a b) x d) f ∙ moved.1, p, inr (inl (f, refl)))
+            | inr f ↦ (k, moved.2 k e f, omega (arith, g, length-swap xs a b), inr (inr (e, f, refl)))
+          ]
+        ]
 
 same_false : (a b : Bool) → (a ≡ false → b ≡ false) → (b ≡ false → a ≡ false) → a ≡ b
 same_false a b f g = grind (arith, nat_tests)
