@@ -5,7 +5,7 @@ use Rattle.nc_base.specs.declared.step.OfferKind.TheVariants as offer
 use Rattle.nc_base.specs.declared.step.Want.TheVariants as want
 use Rattle.join_laws.proofs.WholeLaws.{get_map as mapped_from}
 use Rattle.whole_run_laws.proofs.Courses.{AreOn, first_on, goes_number, heard_by, hears_then, meets, meets_number, met_on, solo_on, steps}
-use Rattle.whole_run_laws.proofs.ToldLaws.{answers_after, answers_of, IsLastTold, known_mark, meeting_told, solo_told}
+use Rattle.whole_run_laws.proofs.ToldLaws.{answers_after, answers_of, IsLastTold, along_at, alone_told, known_mark, met_told}
 use Rattle.whole_run_laws.proofs.AnswersStay.{answers_stay}
 
 -- ---- the number of a meeting's call
@@ -80,11 +80,11 @@ met_placed : (s : Setting) (calls : List (List Call)) (ranks j : ℕ) (rest : Li
 met_placed s calls ranks j rest c goings a = record {
   met = suc a.met;
   kinds_left = drop 1 a.kinds_left;
-  on = met_on s c ranks a.met j a.kinds_left rest goings a.on;
+  on = met_on s c a.on;
   placed = record {
     each = λ r g own e f i.
-        let h = heard_by s c ranks a.met j r a.kinds_left rest goings g a.on e in
-        let at = meets s.header ranks a.met j r a.kinds_left rest goings h.before a.on h.was in
+        let h = heard_by s c a.on r g e in
+        let at = meets s.header a.on r h.before h.was in
         let b = h.before in
         let p = advance s.header b in
         let places = places_at (length b.answers) b.calls p at.asks.offer (offer.Meet at.kind) (go_places s.header b.calls b.rank b.answers) at.asks.is_offer at.of_kind in
@@ -102,8 +102,8 @@ solo_placed s calls ranks r n rest c goings l a =
     grind (
       arith,
       nat_tests,
-      steps s c ranks a.met r n a.kinds_left rest goings l a.on,
-      solo_on s c ranks a.met r n a.kinds_left rest goings l a.on,
+      steps s c l a.on,
+      solo_on s c l a.on,
       places_at,
       go_places,
       heard_more,
@@ -138,12 +138,7 @@ first_placed script header order lawful legal = record {
 }
   where
     begins : (own : List Call) (j : ℕ) → meeting_call (0 + j) own ≡ 0 + meeting_call j own
-    begins own j =
-        let z : 0 + j ≡ j = omega arith in
-        ap (λ (k : ℕ). meeting_call k own) z ∙ zero_more (meeting_call j own)
-      where
-        zero_more : (n : ℕ) → n ≡ 0 + n
-        zero_more n = omega arith
+    begins own j = let z : 0 + j ≡ j = omega arith in grind (arith, z)
 
 placed_at : (script : Script) (header : Header) (file : List ℕ) (before later : List Mark) → is_lawful script ≡ true → IsLegal script (before ++ later)
     → AlongPlaced script.calls script.ranks later (state_after script header file before).1
@@ -162,12 +157,12 @@ met_long_is s calls ranks k r rest c goings own many a f =
     let below = slice_get_within calls r own f in
     let long = a.on.long in
     let b = entry_below goings r (omega arith) in
-    let g = hears_then s c ranks a.met k r a.kinds_left rest goings b.0 a.on b.1 in
+    let g = hears_then s c a.on r b.0 b.1 in
     let h = g.1.1 in
-    let at = meets s.header ranks a.met k r a.kinds_left rest goings h.before a.on h.was in
+    let at = meets s.header a.on r h.before h.was in
     let p = advance s.header h.before in
     let places = places_at (length h.before.answers) h.before.calls p at.asks.offer (offer.Meet at.kind) (go_places s.header h.before.calls h.before.rank h.before.answers) at.asks.is_offer at.of_kind in
-    let number = meets_number s.header ranks a.met k r a.kinds_left rest goings h.before a.on h.was in
+    let number = meets_number s.header a.on r h.before h.was in
     let none : a.met + 0 ≡ k = omega arith in
     let call : length p.0.answers ≡ meeting_call k own =
     sym places.0 ∙ sym (a.placed.each r h.before own h.was f 0) ∙ ap (λ (j : ℕ). meeting_call j own) none in
@@ -177,11 +172,11 @@ met_long_is s calls ranks k r rest c goings own many a f =
 solo_long_is : (s : Setting) (calls : List (List Call)) (ranks r n : ℕ) (rest : List Mark) (c : Counted) (goings : List Going) → r < ranks → AlongPlaced calls ranks (Solo r n ∷ rest) goings
     → length (answers_of (slice_get (after_solo s r c goings).1 r)) ≡ suc n
 solo_long_is s calls ranks r n rest c goings l a =
-    let st = steps s c ranks a.met r n a.kinds_left rest goings l a.on in
+    let st = steps s c l a.on in
     let p = advance s.header st.before in
     let y = (solo s r st.at.asks.offer c).1 in
     let next = hears s.header p.0 y in
-    let call = goes_number s.header ranks a.met r n a.kinds_left rest goings st.before a.on st.was in
+    let call = goes_number s.header a.on st.before st.was in
     ap (λ (z : Counted × List Going). length (answers_of (slice_get z.1 r))) st.state
     ∙ answers_long (set goings r next) r (suc n) next (entry_set goings r st.before next st.was) (hear_length s.header p.0 y ∙ ap (λ (k : ℕ). suc k) call)
 
@@ -206,6 +201,18 @@ stays script header file before later m r answers lawful legal e =
     answers_stay script header file (before ++ m ∷ []) later r answers lawful (subst (IsLegal script) (joined before later m) legal)
     (ap (λ (order : List Mark). slice_get (serial_from script header file order).answers r) (sym (joined before later m)) ∙ e)
 
+-- what is told when a mark is done stands at its number in the answers at the end
+mark_answer : (script : Script) (header : Header) (file : List ℕ) (before later : List Mark) (m : Mark) (r n : ℕ) (answers : List Answer)
+    → is_lawful script ≡ true → IsLegal script (before ++ m ∷ later)
+    → IsLastTold (answers_of (slice_get (after_mark (setting_of script header) (state_after script header file before) m).1 r)) (told_at script header file before m)
+    → length (answers_of (slice_get (after_mark (setting_of script header) (state_after script header file before) m).1 r)) ≡ suc n
+    → slice_get (serial_from script header file (before ++ m ∷ later)).answers r ≡ Some answers → IsToldAt answers n (told_at script header file before m)
+mark_answer script header file before later m r n answers lawful legal last long e =
+    told_end (answers_after script header file (before ++ m ∷ []) r) answers n (told_at script header file before m)
+    (subst (λ (z : Counted × List Going). IsLastTold (answers_of (slice_get z.1 r)) (told_at script header file before m)) (sym (state_more script header file before m)) last)
+    (ap (λ (z : Counted × List Going). length (answers_of (slice_get z.1 r))) (state_more script header file before m) ∙ long)
+    (stays script header file before later m r answers lawful legal e)
+
 pub meeting_answer : (script : Script) (header : Header) (file : List ℕ) (before later : List Mark) (k r : ℕ) (own : List Call) (answers : List Answer)
     → is_lawful script ≡ true → IsLegal script (before ++ Meet k ∷ later) → slice_get script.calls r ≡ Some own
     → slice_get (serial_from script header file (before ++ Meet k ∷ later)).answers r ≡ Some answers
@@ -215,11 +222,9 @@ meeting_answer script header file before later k r own answers lawful legal f e 
     let state = state_after script header file before in
     let many = (ranks_lawful script lawful).one_each in
     let below = slice_get_within script.calls r own f in
-    let long : length (answers_after script header file (before ++ Meet k ∷ []) r) ≡ suc (meeting_call k own) =
-    ap (λ (z : Counted × List Going). length (answers_of (slice_get z.1 r))) (state_more script header file before (Meet k))
-    ∙ met_long_is s script.calls script.ranks k r later state.0 state.1 own many (placed_at script header file before (Meet k ∷ later) lawful legal) f in
-    told_end (answers_after script header file (before ++ Meet k ∷ []) r) answers (meeting_call k own) (told_at script header file before (Meet k))
-    (meeting_told script header file before later k r lawful legal (omega arith)) long (stays script header file before later (Meet k) r answers lawful legal e)
+    mark_answer script header file before later (Meet k) r (meeting_call k own) answers lawful legal
+    (met_told s script.ranks k r later state.0 state.1 (along_at script header file before (Meet k ∷ later) lawful legal) (omega arith))
+    (met_long_is s script.calls script.ranks k r later state.0 state.1 own many (placed_at script header file before (Meet k ∷ later) lawful legal) f) e
 
 pub solo_answer : (script : Script) (header : Header) (file : List ℕ) (before later : List Mark) (r c : ℕ) (answers : List Answer)
     → is_lawful script ≡ true → IsLegal script (before ++ Solo r c ∷ later)
@@ -229,8 +234,6 @@ solo_answer script header file before later r c answers lawful legal e =
     let s = setting_of script header in
     let state = state_after script header file before in
     let low = ltb-true r script.ranks (known_mark script.ranks before later (Solo r c) legal.known_ranks) in
-    let long : length (answers_after script header file (before ++ Solo r c ∷ []) r) ≡ suc c =
-    ap (λ (z : Counted × List Going). length (answers_of (slice_get z.1 r))) (state_more script header file before (Solo r c))
-    ∙ solo_long_is s script.calls script.ranks r c later state.0 state.1 low (placed_at script header file before (Solo r c ∷ later) lawful legal) in
-    told_end (answers_after script header file (before ++ Solo r c ∷ []) r) answers c (told_at script header file before (Solo r c))
-    (solo_told script header file before later r c lawful legal) long (stays script header file before later (Solo r c) r answers lawful legal e)
+    mark_answer script header file before later (Solo r c) r c answers lawful legal
+    (alone_told s script.ranks r c later state.0 state.1 (along_at script header file before (Solo r c ∷ later) lawful legal) low)
+    (solo_long_is s script.calls script.ranks r c later state.0 state.1 low (placed_at script header file before (Solo r c ∷ later) lawful legal)) e

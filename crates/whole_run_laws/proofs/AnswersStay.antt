@@ -38,7 +38,7 @@ heard_begins header g y =
 mark_begins : (s : Setting) (ranks r : ℕ) (m : Mark) (rest : List Mark) (c : Counted) (goings : List Going) → is_of_rank_below ranks m ≡ true
     → AreAlong ranks (m ∷ rest) goings → (b : Going) → slice_get goings r ≡ Some b → (g : Going) × ((slice_get (after_mark s (c, goings) m).1 r ≡ Some g) × BeginsWith b.answers g.answers)
 mark_begins s ranks r (Meet j) rest c goings known a b e =
-    let g = hears_then s c ranks a.met j r a.kinds_left rest goings b a.on e in
+    let g = hears_then s c a.on r b e in
     let h = g.1.1 in
     let same : h.before ≡ b = same_Some h.before b (sym h.was ∙ e) in (
       g.0,
@@ -49,7 +49,7 @@ mark_begins s ranks r (Meet j) rest c goings known a b e =
       ),
     )
 mark_begins s ranks r (Solo q n) rest c goings known a b e =
-    let st = steps s c ranks a.met q n a.kinds_left rest goings (ltb-true q ranks known) a.on in
+    let st = steps s c (ltb-true q ranks known) a.on in
     let next = hears s.header (advance s.header st.before).0 (solo s q st.at.asks.offer c).1 in
     subst (λ (z : Counted × List Going). (g : Going) × ((slice_get z.1 r ≡ Some g) × BeginsWith b.answers g.answers)) (sym st.state)
     (by next st.before (heard_begins s.header st.before (solo s q st.at.asks.offer c).1) st.was (eqb_tells q r))

@@ -1,8 +1,8 @@
 -- The record count of a run: the greater of the old one and the greatest that a completed put needed.
-use Rattle.whole_run_laws.proofs.Words.{◌≡◌, ℕ, zero, suc, ◌≤◌, refl, sym, ◌∙◌, ap, subst, inl, inr, ◌⊎◌, List, [], ◌∷◌, ◌++◌, map, set, max, true, false, Option, Some, arith, map-append, slice_get_within, same_Some, eqb_tells, fold, slice_get, ◌==◌, list_all, entry_below, entry_set, entry_set_other, and_first, and_second, Pair, Header, Call, Script, Mark, Meet, Solo, MeetKind, Offer, Counted, meeting, needs, Setting, solo, told, is_of_rank_below, IsLegal, is_lawful, greatest, needed_by, advance, after_mark, after_meeting, closed, first_going, first_state, Going, hears, offers_of, rank_offer, serial_from, setting_of, Puts, go_went, hear_known, Went, meeting_within, completed, completed_from, completed_puts, puts_asked, puts_at, puts_met, unless_told, set_cases, same_le, greatest_joined, raised_records, nat_tests}
+use Rattle.whole_run_laws.proofs.Words.{◌≡◌, ℕ, zero, suc, ◌≤◌, refl, sym, ◌∙◌, ap, subst, inl, inr, ◌⊎◌, List, [], ◌∷◌, ◌++◌, map, set, max, true, false, Option, Some, arith, map-append, same_Some, eqb_tells, fold, slice_get, ◌==◌, list_all, entry_set, entry_set_other, and_first, and_second, Pair, Header, Call, Script, Mark, Meet, Solo, MeetKind, Offer, Counted, meeting, needs, Setting, solo, told, is_of_rank_below, IsLegal, is_lawful, greatest, needed_by, advance, after_mark, after_meeting, closed, first_going, first_state, Going, hears, offers_of, rank_offer, serial_from, setting_of, Puts, go_went, hear_known, Went, meeting_within, completed, completed_from, completed_puts, puts_asked, puts_at, puts_met, unless_told, set_cases, same_le, greatest_joined, raised_records, nat_tests}
 use borrow.Author.Tests.{ltb-true}
 use Rattle.join_laws.proofs.WholeLaws.{get_map as mapped_from}
-use Rattle.whole_run_laws.proofs.Courses.{AreAlong, AreOn, first_along, Heard, heard_by, hears_then, mark_along, meets, offer_met, offers_met_long, Stepped, steps}
+use Rattle.whole_run_laws.proofs.Courses.{AreAlong, AreOn, first_along, Heard, heard_by, hears_then, mark_along, meets, offered, offered_alone, Stepped, steps}
 
 -- ---- counts
 
@@ -42,13 +42,7 @@ module _ (s : Setting) (ranks k j n : ℕ) (ks : List MeetKind) (rest : List Mar
   asked = needs s (puts_met offers) (told s (puts_met offers))
 
   offers_within : (q : ℕ) (o : Offer) → slice_get offers q ≡ Some o → o.known ≤ n
-  offers_within q o e =
-      let long = offers_met_long s.header ranks k j ks rest goings on in
-      let below = slice_get_within offers q o e in
-      let g = entry_below goings q (omega arith) in
-      let at = meets s.header ranks k j q ks rest goings g.0 on g.1 in
-      let same : at.asks.offer ≡ o = same_Some at.asks.offer o (sym (offer_met s.header ranks k j q ks rest goings g.0 on g.1) ∙ e) in
-      same_le o.known g.0.rank.known n (sym (ap (λ (z : Offer). z.known) same) ∙ at.asks.told) (counts.known q g.0 g.1)
+  offers_within q o e = let w = offered s.header on q o e in same_le o.known w.going.rank.known n w.known (counts.known q w.going w.was)
 
   met_most : (meeting s offers c).0.records ≤ max n asked
   met_most = meeting_within s offers c n counts.count offers_within
@@ -57,18 +51,18 @@ module _ (s : Setting) (ranks k j n : ℕ) (ks : List MeetKind) (rest : List Mar
   met_least = grind (arith, nat_tests, raised_records)
 
   heard_known : (q : ℕ) (g : Going) (h : Heard s c goings q g) → g.rank.known ≡ max h.before.rank.known (meeting s offers c).0.records
-  heard_known q g h = grind (arith, nat_tests, meets s.header ranks k j q ks rest goings h.before on h.was, hear_known)
+  heard_known q g h = grind (arith, nat_tests, meets s.header on q h.before h.was, hear_known)
 
   met_counts : Counts (max n asked) (meeting s offers c).0 (after_meeting s (c, goings)).1
   met_counts = record {
     count = met_most;
     known = λ q g e.
-        let h = heard_by s c ranks k j q ks rest goings g on e in
+        let h = heard_by s c on q g e in
         within g.rank.known h.before.rank.known (meeting s offers c).0.records asked (heard_known q g h) (counts.known q h.before h.was) met_most;
     reached =
         let later = greatest (known_of (after_meeting s (c, goings)).1) in
         let grew : greatest (known_of goings) ≤ later = known_below goings later (λ q b e.
-        let g = hears_then s c ranks k j q ks rest goings b on e in
+        let g = hears_then s c on q b e in
         let same : g.1.1.before ≡ b = same_Some g.1.1.before b (sym g.1.1.was ∙ e) in
         rose b.rank.known g.1.1.before.rank.known (meeting s offers c).0.records g.0.rank.known later (ap (λ (z : Going). z.rank.known) same)
         (heard_known q g.0 g.1.1) (known_at (after_meeting s (c, goings)).1 q g.0 g.1.0)) in
@@ -137,9 +131,6 @@ module _ (s : Setting) (ranks k r n : ℕ) (ks : List MeetKind) (rest : List Mar
       reaches : (a b later asked was now : ℕ) → n ≤ max a b → b ≤ later → now ≡ max was (max was asked) → now ≤ later → max n asked ≤ max a later
       reaches a b later asked was now h i e l = omega arith
 
-  puts_alone : puts_asked r (rank_offer s goings r) ≡ puts_asked r (Some own)
-  puts_alone = grind (arith, nat_tests)
-
 -- ---- a run
 
 mark_counts : (s : Setting) (ranks n : ℕ) (m : Mark) (rest : List Mark) (c : Counted) (goings : List Going) → is_of_rank_below ranks m ≡ true
@@ -148,10 +139,10 @@ mark_counts : (s : Setting) (ranks n : ℕ) (m : Mark) (rest : List Mark) (c : C
 mark_counts s ranks n (Meet j) rest c goings known a counts =
     grind (arith, nat_tests, met_counts s ranks a.met j n a.kinds_left rest c goings a.on counts, completed_needs)
 mark_counts s ranks n (Solo r i) rest c goings known a counts =
-    let st = steps s c ranks a.met r i a.kinds_left rest goings (ltb-true r ranks known) a.on in
+    let st = steps s c (ltb-true r ranks known) a.on in
     let puts = puts_asked r (Some st.at.asks.offer) in
     let asked : needed_by s.header (completed s (puts_asked r (rank_offer s goings r))) ≡ needs s puts (told s puts) =
-    ap (λ (ps : Puts). needed_by s.header (completed s ps)) (puts_alone s ranks a.met r n a.kinds_left rest c goings counts st) ∙ completed_needs s puts (told s puts) in
+    ap (λ (ps : Puts). needed_by s.header (completed s ps)) (offered_alone st) ∙ completed_needs s puts (told s puts) in
     subst (λ (z : Counted × List Going). Counts (max n (needed_by s.header (completed s (puts_asked r (rank_offer s goings r))))) z.0 z.1) (sym st.state)
     (subst (λ (z : ℕ). Counts (max n z) (solo s r st.at.asks.offer c).0 (set goings r (hears s.header (advance s.header st.before).0 (solo s r st.at.asks.offer c).1))) (sym asked)
     (solo_counts s ranks a.met r n a.kinds_left rest c goings counts st))

@@ -1,5 +1,5 @@
 -- The ranks along a legal order: at each mark they stand at the offers of its step.
-use Rattle.whole_run_laws.proofs.Words.{◌≡◌, ℕ, zero, suc, ◌<◌, refl, sym, ◌∙◌, ap, subst, inl, inr, ◌⊎◌, List, [], ◌∷◌, ◌++◌, length, map, set, drop, Bool, true, false, cond, Option, Some, None, arith, length-map, length-set, same_Some, slice_get_within, fold, slice_get, filter, ◌==◌, list_all, entry_below, and_first, and_second, equal_itself, Header, Call, Script, Mark, Meet, Solo, MeetKind, Offer, Reply, Open, concerns, is_of_rank_below, IsLegal, kinds, marks_from, is_lawful, Counted, Setting, meeting, solo, Going, advance, after_mark, after_meeting, after_solo, first_going, hears, offers_of, set_cases, kinds_of, own_lawful, ranks_lawful, solo_goes, Went, Kinded, at_meeting, at_solo, go_went, hear_mode, hear_length, going_after, goings_long, replied, solo_of_is, entry_map, cons_rest, nil_cons, nat_tests}
+use Rattle.whole_run_laws.proofs.Words.{◌≡◌, ℕ, zero, suc, ◌<◌, refl, sym, ◌∙◌, ap, subst, inl, inr, ◌⊎◌, List, [], ◌∷◌, ◌++◌, length, map, set, drop, Bool, true, false, cond, Option, Some, None, arith, length-map, length-set, same_Some, slice_get_within, fold, slice_get, filter, ◌==◌, list_all, entry_below, and_first, and_second, equal_itself, Header, Call, Script, Mark, Meet, Solo, MeetKind, Offer, Reply, Open, concerns, is_of_rank_below, IsLegal, kinds, marks_from, is_lawful, Counted, Setting, meeting, solo, Going, advance, after_mark, after_meeting, after_solo, first_going, hears, offers_of, puts_asked, rank_offer, puts_of, set_cases, kinds_of, own_lawful, ranks_lawful, solo_goes, Went, Kinded, at_meeting, at_solo, go_went, hear_mode, hear_length, going_after, goings_long, replied, solo_of_is, entry_map, cons_rest, nil_cons, nat_tests}
 use borrow.Author.Tests.{ltb-true}
 use Rattle.nc_base.specs.declared.step.OfferKind.TheVariants as offer
 use Rattle.join_laws.proofs.WholeLaws.{get_map as mapped_from}
@@ -92,28 +92,26 @@ pub record AreOn (ranks k : ℕ) (ks : List MeetKind) (rest : List Mark) (goings
   pub long : length goings ≡ ranks
   pub each : (q : ℕ) (g : Going) → slice_get goings q ≡ Some g → OnCourse q k ks rest g
 
-pub meets : (header : Header) (ranks k j q : ℕ) (ks : List MeetKind) (rest : List Mark) (goings : List Going) (g : Going) → AreOn ranks k ks (Meet j ∷ rest) goings
-    → slice_get goings q ≡ Some g → AtMeeting q k g.rank.known ks rest (advance header g)
-meets header ranks k j q ks rest goings g on e =
-    let own = on.each q g e in
-    to_meeting q k g.rank.known j (kinds g.calls) ks (marks_from q (length g.answers) k g.rank.independent g.calls) rest (advance header g)
-    (go_went header q k g.rank g.answers g.calls) own.kinds own.marks
+module _ {ranks k j : ℕ} {ks : List MeetKind} {rest : List Mark} {goings : List Going} (header : Header) (on : AreOn ranks k ks (Meet j ∷ rest) goings) where
+  pub meets : (q : ℕ) (g : Going) → slice_get goings q ≡ Some g → AtMeeting q k g.rank.known ks rest (advance header g)
+  meets q g e =
+      let own = on.each q g e in
+      to_meeting q k g.rank.known j (kinds g.calls) ks (marks_from q (length g.answers) k g.rank.independent g.calls) rest (advance header g)
+      (go_went header q k g.rank g.answers g.calls) own.kinds own.marks
 
-pub goes_alone : (header : Header) (ranks k r c : ℕ) (ks : List MeetKind) (rest : List Mark) (goings : List Going) (g : Going) → AreOn ranks k ks (Solo r c ∷ rest) goings
-    → slice_get goings r ≡ Some g → AtSolo r k g.rank.known ks rest (advance header g)
-goes_alone header ranks k r c ks rest goings g on e =
-    let own = on.each r g e in
-    to_solo r k g.rank.known c (kinds g.calls) ks (marks_from r (length g.answers) k g.rank.independent g.calls) rest (advance header g)
-    (go_went header r k g.rank g.answers g.calls) own.kinds
-    (own.marks ∙ ap (λ (b : Bool). cond b (Solo r c ∷ filter (concerns r) rest) (filter (concerns r) rest)) (equal_itself r))
+  pub meets_number : (q : ℕ) (g : Going) → slice_get goings q ≡ Some g → k ≡ j
+  meets_number q g e = grind (arith, nat_tests, on.each q g e, go_went header q k g.rank g.answers g.calls, nil_cons, not_solo)
 
-pub meets_number : (header : Header) (ranks k j q : ℕ) (ks : List MeetKind) (rest : List Mark) (goings : List Going) (g : Going) → AreOn ranks k ks (Meet j ∷ rest) goings
-    → slice_get goings q ≡ Some g → k ≡ j
-meets_number header ranks k j q ks rest goings g on e = grind (arith, nat_tests, go_went header q k g.rank g.answers g.calls, nil_cons, not_solo)
+module _ {ranks k r c : ℕ} {ks : List MeetKind} {rest : List Mark} {goings : List Going} (header : Header) (on : AreOn ranks k ks (Solo r c ∷ rest) goings) where
+  pub goes_alone : (g : Going) → slice_get goings r ≡ Some g → AtSolo r k g.rank.known ks rest (advance header g)
+  goes_alone g e =
+      let own = on.each r g e in
+      to_solo r k g.rank.known c (kinds g.calls) ks (marks_from r (length g.answers) k g.rank.independent g.calls) rest (advance header g)
+      (go_went header r k g.rank g.answers g.calls) own.kinds
+      (own.marks ∙ ap (λ (b : Bool). cond b (Solo r c ∷ filter (concerns r) rest) (filter (concerns r) rest)) (equal_itself r))
 
-pub goes_number : (header : Header) (ranks k r c : ℕ) (ks : List MeetKind) (rest : List Mark) (goings : List Going) (g : Going) → AreOn ranks k ks (Solo r c ∷ rest) goings
-    → slice_get goings r ≡ Some g → length (advance header g).0.answers ≡ c
-goes_number header ranks k r c ks rest goings g on e = grind (arith, nat_tests, go_went header r k g.rank g.answers g.calls, equal_itself r, nil_cons, not_solo)
+  pub goes_number : (g : Going) → slice_get goings r ≡ Some g → length (advance header g).0.answers ≡ c
+  goes_number g e = grind (arith, nat_tests, on.each r g e, go_went header r k g.rank g.answers g.calls, equal_itself r, nil_cons, not_solo)
 
 -- ---- the offers of a meeting
 
@@ -135,22 +133,47 @@ offer_at ((g, None) ∷ ps) q p o f e h = no_offer (f 0 (g, None) refl)
 offer_at ((g, Some o') ∷ ps) zero p o f e h = grind (arith, nat_tests, same_Some)
 offer_at ((g, Some o') ∷ ps) (suc q) p o f e h = offer_at ps q p o (λ r z d. f (suc r) z d) e h
 
-pub all_ask : (header : Header) (ranks k j : ℕ) (ks : List MeetKind) (rest : List Mark) (goings : List Going) → AreOn ranks k ks (Meet j ∷ rest) goings
-    → AllAsk (map (advance header) goings)
-all_ask header ranks k j ks rest goings on q p e =
-    let g = mapped_from (advance header) goings q p e in
-    let at = meets header ranks k j q ks rest goings g.0 on g.1.0 in
-    (at.asks.offer, ap (λ (z : Going × Option Offer). z.1) g.1.1 ∙ at.asks.is_offer)
+-- an offer of a meeting is a rank's
+pub record IsOffered (header : Header) (goings : List Going) (ks : List MeetKind) (q : ℕ) (o : Offer) : Type 0 where
+  pub going : Going
+  pub was : slice_get goings q ≡ Some going
+  pub is : (advance header going).1 ≡ Some o
+  pub known : o.known ≡ going.rank.known
+  pub kind : MeetKind
+  pub others : List MeetKind
+  pub of_kind : o.kind ≡ offer.Meet kind
+  pub kinds : ks ≡ kind ∷ others
 
-pub offer_met : (header : Header) (ranks k j q : ℕ) (ks : List MeetKind) (rest : List Mark) (goings : List Going) (g : Going) (on : AreOn ranks k ks (Meet j ∷ rest) goings)
-    → (e : slice_get goings q ≡ Some g) → slice_get (offers_of (map (advance header) goings)) q ≡ Some (meets header ranks k j q ks rest goings g on e).asks.offer
-offer_met header ranks k j q ks rest goings g on e =
-    grind (arith, nat_tests, meets header ranks k j q ks rest goings g on e, all_ask header ranks k j ks rest goings on, entry_map (advance header) goings q g e, offer_at)
+module _ {ranks k j : ℕ} {ks : List MeetKind} {rest : List Mark} {goings : List Going} (header : Header) (on : AreOn ranks k ks (Meet j ∷ rest) goings) where
+  all_ask : AllAsk (map (advance header) goings)
+  all_ask q p e =
+      let g = mapped_from (advance header) goings q p e in
+      let at = meets header on q g.0 g.1.0 in
+      (at.asks.offer, ap (λ (z : Going × Option Offer). z.1) g.1.1 ∙ at.asks.is_offer)
 
-pub offers_met_long : (header : Header) (ranks k j : ℕ) (ks : List MeetKind) (rest : List Mark) (goings : List Going) → AreOn ranks k ks (Meet j ∷ rest) goings
-    → length (offers_of (map (advance header) goings)) ≡ length goings
-offers_met_long header ranks k j ks rest goings on =
-    offers_long (map (advance header) goings) (all_ask header ranks k j ks rest goings on) ∙ length-map goings (advance header)
+  pub offer_met : (q : ℕ) (g : Going) (e : slice_get goings q ≡ Some g) → slice_get (offers_of (map (advance header) goings)) q ≡ Some (meets header on q g e).asks.offer
+  offer_met q g e = offer_at (map (advance header) goings) q (advance header g) _ all_ask (entry_map (advance header) goings q g e) (meets header on q g e).asks.is_offer
+
+  pub offers_met_long : length (offers_of (map (advance header) goings)) ≡ length goings
+  offers_met_long = offers_long (map (advance header) goings) all_ask ∙ length-map goings (advance header)
+
+  pub offered : (q : ℕ) (o : Offer) → slice_get (offers_of (map (advance header) goings)) q ≡ Some o → IsOffered header goings ks q o
+  offered q o e =
+      let long = offers_met_long in
+      let below = slice_get_within (offers_of (map (advance header) goings)) q o e in
+      let g = entry_below goings q (omega arith) in
+      let at = meets header on q g.0 g.1 in
+      let same : at.asks.offer ≡ o = same_Some at.asks.offer o (sym (offer_met q g.0 g.1) ∙ e) in
+      record {
+        going = g.0;
+        was = g.1;
+        is = at.asks.is_offer ∙ ap (λ (z : Offer). Some z) same;
+        known = sym (ap (λ (z : Offer). z.known) same) ∙ at.asks.told;
+        kind = at.kind;
+        others = _;
+        of_kind = sym (ap (λ (z : Offer). z.kind) same) ∙ at.of_kind;
+        kinds = at.kinds;
+      }
 
 -- ---- after a meeting
 
@@ -163,41 +186,37 @@ pub record Heard (s : Setting) (c : Counted) (goings : List Going) (q : ℕ) (g 
   pub records : reply.records ≡ (meeting s (offers_of (map (advance s.header) goings)) c).0.records
   pub is : g ≡ hears s.header (advance s.header before).0 reply
 
--- a rank before it is one after it
-pub hears_then : (s : Setting) (c : Counted) (ranks k j q : ℕ) (ks : List MeetKind) (rest : List Mark) (goings : List Going) (b : Going) → AreOn ranks k ks (Meet j ∷ rest) goings
-    → slice_get goings q ≡ Some b → (g : Going) × ((slice_get (after_meeting s (c, goings)).1 q ≡ Some g) × Heard s c goings q g)
-hears_then s c ranks k j q ks rest goings b on e =
-    let offers = offers_of (map (advance s.header) goings) in
-    let y = replied s offers c q (meets s.header ranks k j q ks rest goings b on e).asks.offer (offer_met s.header ranks k j q ks rest goings b on e) in (
-      hears s.header (advance s.header b).0 y.reply,
-      (going_after s offers c goings q b y.reply e y.is, record { before = b; was = e; reply = y.reply; is_reply = y.is; records = y.records; is = refl }),
-    )
+module _ {ranks k j : ℕ} {ks : List MeetKind} {rest : List Mark} {goings : List Going} (s : Setting) (c : Counted) (on : AreOn ranks k ks (Meet j ∷ rest) goings) where
+  -- a rank before it is one after it
+  pub hears_then : (q : ℕ) (b : Going) → slice_get goings q ≡ Some b → (g : Going) × ((slice_get (after_meeting s (c, goings)).1 q ≡ Some g) × Heard s c goings q g)
+  hears_then q b e =
+      let offers = offers_of (map (advance s.header) goings) in
+      let y = replied s offers c q (meets s.header on q b e).asks.offer (offer_met s.header on q b e) in (
+        hears s.header (advance s.header b).0 y.reply,
+        (going_after s offers c goings q b y.reply e y.is, record { before = b; was = e; reply = y.reply; is_reply = y.is; records = y.records; is = refl }),
+      )
 
-pub met_long : (s : Setting) (c : Counted) (ranks k j : ℕ) (ks : List MeetKind) (rest : List Mark) (goings : List Going) → AreOn ranks k ks (Meet j ∷ rest) goings
-    → length (after_meeting s (c, goings)).1 ≡ length goings
-met_long s c ranks k j ks rest goings on =
-    goings_long s (offers_of (map (advance s.header) goings)) c goings (offers_met_long s.header ranks k j ks rest goings on)
+  pub met_long : length (after_meeting s (c, goings)).1 ≡ length goings
+  met_long = goings_long s (offers_of (map (advance s.header) goings)) c goings (offers_met_long s.header on)
 
-pub heard_by : (s : Setting) (c : Counted) (ranks k j q : ℕ) (ks : List MeetKind) (rest : List Mark) (goings : List Going) (g : Going) → AreOn ranks k ks (Meet j ∷ rest) goings
-    → slice_get (after_meeting s (c, goings)).1 q ≡ Some g → Heard s c goings q g
-heard_by s c ranks k j q ks rest goings g on e =
-    let long = met_long s c ranks k j ks rest goings on in
-    let below = slice_get_within (after_meeting s (c, goings)).1 q g e in
-    let b = entry_below goings q (omega arith) in
-    let h = hears_then s c ranks k j q ks rest goings b.0 on b.1 in
-    subst (λ (z : Going). Heard s c goings q z) (same_Some h.0 g (sym h.1.0 ∙ e)) h.1.1
+  pub heard_by : (q : ℕ) (g : Going) → slice_get (after_meeting s (c, goings)).1 q ≡ Some g → Heard s c goings q g
+  heard_by q g e =
+      let long = met_long in
+      let below = slice_get_within (after_meeting s (c, goings)).1 q g e in
+      let b = entry_below goings q (omega arith) in
+      let h = hears_then q b.0 b.1 in
+      subst (λ (z : Going). Heard s c goings q z) (same_Some h.0 g (sym h.1.0 ∙ e)) h.1.1
 
-pub met_on : (s : Setting) (c : Counted) (ranks k j : ℕ) (ks : List MeetKind) (rest : List Mark) (goings : List Going) → AreOn ranks k ks (Meet j ∷ rest) goings
-    → AreOn ranks (suc k) (drop 1 ks) rest (after_meeting s (c, goings)).1
-met_on s c ranks k j ks rest goings on = record {
-  long = met_long s c ranks k j ks rest goings on ∙ on.long;
-  each = λ q g e.
-      let h = heard_by s c ranks k j q ks rest goings g on e in
-      let at = meets s.header ranks k j q ks rest goings h.before on h.was in
-      subst (λ (z : Going). OnCourse q (suc k) (drop 1 ks) rest z) (sym h.is)
-      (heard_on s.header q (suc k) h.before.rank.known (drop 1 ks) rest (advance s.header h.before) h.reply at.asks
-      (sym (ap (λ (xs : List MeetKind). drop 1 xs) at.kinds)));
-}
+  pub met_on : AreOn ranks (suc k) (drop 1 ks) rest (after_meeting s (c, goings)).1
+  met_on = record {
+    long = met_long ∙ on.long;
+    each = λ q g e.
+        let h = heard_by q g e in
+        let at = meets s.header on q h.before h.was in
+        subst (λ (z : Going). OnCourse q (suc k) (drop 1 ks) rest z) (sym h.is)
+        (heard_on s.header q (suc k) h.before.rank.known (drop 1 ks) rest (advance s.header h.before) h.reply at.asks
+        (sym (ap (λ (xs : List MeetKind). drop 1 xs) at.kinds)));
+  }
 
 -- ---- after a step of one rank
 
@@ -208,35 +227,39 @@ pub record Stepped (s : Setting) (r : ℕ) (c : Counted) (goings : List Going) (
   pub at : AtSolo r k before.rank.known ks rest (advance s.header before)
   pub state : after_solo s r c goings ≡ ((solo s r at.asks.offer c).0, set goings r (hears s.header (advance s.header before).0 (solo s r at.asks.offer c).1))
 
-pub steps : (s : Setting) (c : Counted) (ranks k r n : ℕ) (ks : List MeetKind) (rest : List Mark) (goings : List Going) → r < ranks → AreOn ranks k ks (Solo r n ∷ rest) goings
-    → Stepped s r c goings k ks rest
-steps s c ranks k r n ks rest goings l on =
-    let long = on.long in
-    let b = entry_below goings r (omega arith) in
-    let at = goes_alone s.header ranks k r n ks rest goings b.0 on b.1 in
-    record {
-      before = b.0;
-      was = b.1;
-      at = at;
-      state = grind (arith, nat_tests, solo_goes s r c goings b.0 b.1, solo_of_is s r c (advance s.header b.0) at.asks.offer at.asks.is_offer, set);
-    }
+pub offered_alone : {s : Setting} {r k : ℕ} {c : Counted} {goings : List Going} {ks : List MeetKind} {rest : List Mark} (st : Stepped s r c goings k ks rest)
+    → puts_asked r (rank_offer s goings r) ≡ puts_of (r, st.at.asks.offer)
+offered_alone st = grind (arith, nat_tests)
 
-pub solo_on : (s : Setting) (c : Counted) (ranks k r n : ℕ) (ks : List MeetKind) (rest : List Mark) (goings : List Going) → r < ranks → AreOn ranks k ks (Solo r n ∷ rest) goings
-    → AreOn ranks k ks rest (after_solo s r c goings).1
-solo_on s c ranks k r n ks rest goings l on =
-    let st = steps s c ranks k r n ks rest goings l on in
-    let y = (solo s r st.at.asks.offer c).1 in
-    let next = hears s.header (advance s.header st.before).0 y in
-    let own : OnCourse r k ks rest next = heard_on s.header r k st.before.rank.known ks rest (advance s.header st.before) y st.at.asks (sym st.at.kinds) in
-    subst (λ (z : List Going). AreOn ranks k ks rest z) (sym (ap (λ (z : Counted × List Going). z.1) st.state))
-    (record {
-      long = length-set goings r next ∙ on.long;
-      each = λ q g e. by q g next own (set_cases goings r q next g e);
-    })
-  where
-    by : (q : ℕ) (g next : Going) → OnCourse r k ks rest next → ((q ≡ r) × (g ≡ next)) ⊎ (((r == q) ≡ false) × (slice_get goings q ≡ Some g)) → OnCourse q k ks rest g
-    by q g next own (inl (a, b)) = grind (arith, nat_tests)
-    by q g next own (inr (a, b)) = other_on q k r n ks rest g a (on.each q g b)
+module _ {ranks k r n : ℕ} {ks : List MeetKind} {rest : List Mark} {goings : List Going} (s : Setting) (c : Counted) (l : r < ranks)
+    (on : AreOn ranks k ks (Solo r n ∷ rest) goings) where
+  pub steps : Stepped s r c goings k ks rest
+  steps =
+      let long = on.long in
+      let b = entry_below goings r (omega arith) in
+      let at = goes_alone s.header on b.0 b.1 in
+      record {
+        before = b.0;
+        was = b.1;
+        at = at;
+        state = grind (arith, nat_tests, solo_goes s r c goings b.0 b.1, solo_of_is s r c (advance s.header b.0) at.asks.offer at.asks.is_offer, set);
+      }
+
+  pub solo_on : AreOn ranks k ks rest (after_solo s r c goings).1
+  solo_on =
+      let st = steps in
+      let y = (solo s r st.at.asks.offer c).1 in
+      let next = hears s.header (advance s.header st.before).0 y in
+      let own : OnCourse r k ks rest next = heard_on s.header r k st.before.rank.known ks rest (advance s.header st.before) y st.at.asks (sym st.at.kinds) in
+      subst (λ (z : List Going). AreOn ranks k ks rest z) (sym (ap (λ (z : Counted × List Going). z.1) st.state))
+      (record {
+        long = length-set goings r next ∙ on.long;
+        each = λ q g e. by q g next own (set_cases goings r q next g e);
+      })
+    where
+      by : (q : ℕ) (g next : Going) → OnCourse r k ks rest next → ((q ≡ r) × (g ≡ next)) ⊎ (((r == q) ≡ false) × (slice_get goings q ≡ Some g)) → OnCourse q k ks rest g
+      by q g next own (inl (a, b)) = grind (arith, nat_tests)
+      by q g next own (inr (a, b)) = other_on q k r n ks rest g a (on.each q g b)
 
 -- ---- along an order
 
@@ -247,9 +270,9 @@ pub record AreAlong (ranks : ℕ) (rest : List Mark) (goings : List Going) : Typ
 
 pub mark_along : (s : Setting) (ranks : ℕ) (m : Mark) (rest : List Mark) (state : Counted × List Going) → is_of_rank_below ranks m ≡ true → AreAlong ranks (m ∷ rest) state.1
     → AreAlong ranks rest (after_mark s state m).1
-mark_along s ranks (Meet j) rest (c, goings) known a = grind (arith, nat_tests, met_on s c ranks a.met j a.kinds_left rest goings a.on)
+mark_along s ranks (Meet j) rest (c, goings) known a = grind (arith, nat_tests, met_on s c a.on)
 mark_along s ranks (Solo r n) rest (c, goings) known a =
-    record { met = a.met; kinds_left = a.kinds_left; on = solo_on s c ranks a.met r n a.kinds_left rest goings (ltb-true r ranks known) a.on }
+    record { met = a.met; kinds_left = a.kinds_left; on = solo_on s c (ltb-true r ranks known) a.on }
 
 pub marks_along : (s : Setting) (ranks : ℕ) (order rest : List Mark) (state : Counted × List Going) → list_all (is_of_rank_below ranks) (order ++ rest) ≡ true
     → AreAlong ranks (order ++ rest) state.1 → AreAlong ranks rest (fold (after_mark s) state order).1
@@ -269,12 +292,7 @@ first_on script header order lawful legal = record {
   where
     begins : (q : ℕ) (own : List Call) → slice_get script.calls q ≡ Some own → OnCourse q 0 (kinds_of script) order (first_going header own)
     begins q own e =
-        let below = slice_get_within script.calls q own e in
-        let long = (ranks_lawful script lawful).one_each in
-        record {
-          marks = sym (ap (λ (m : Option (List Call)). elim m as (λ z. List Mark) [ None ↦ [] | Some calls ↦ marks_from q 0 0 false calls ]) e) ∙ sym (legal.each_rank q (omega arith));
-          kinds = (own_lawful script q own lawful e).agreed;
-        }
+        grind (arith, nat_tests, legal.each_rank q, own_lawful script q own lawful e, ranks_lawful script lawful, slice_get_within script.calls q own e)
 
 pub first_along : (script : Script) (header : Header) (order : List Mark) → is_lawful script ≡ true → IsLegal script order
     → AreAlong script.ranks order (map (first_going header) script.calls)

@@ -1,10 +1,9 @@
 -- The header's field has the record count wherever that grew, and is as it was where it didn't.
 use Rattle.whole_run_laws.proofs.Words.{◌≡◌, ℕ, ◌+◌, ◌<◌, ◌≤◌, refl, sym, subst, List, [], ◌∷◌, length, map, max, Bool, true, false, cond, Option, arith, fold, nat_lt, list_all, byte_len, and_first, and_second, any_in, Pair, Header, Script, Mark, Meet, Solo, read, written, after_puts, Counted, known_by, needs, puts_of, raised, Setting, told, count, count_width, is_sound, is_of_rank_below, IsLegal, is_lawful, greatest, with_records, advance, after_mark, first_state, Going, offers_of, serial_from, setting_of, covered, Puts, after_keeps, count_long, at-written_inside, canon_len, is_held, puts_at, puts_met, nat_tests}
 use borrow.Author.Tests.{ltb-true}
-use Rattle.whole_run_laws.proofs.Courses.{AreAlong, first_along, mark_along, steps}
+use Rattle.whole_run_laws.proofs.Courses.{AreAlong, first_along, mark_along, offered_alone, steps}
 use Rattle.whole_run_laws.proofs.FilledFile.{read_all, read_kept}
 use Rattle.whole_run_laws.proofs.PastLaws.{AllFit, AllPast, first_fits, mark_fit, mark_past}
-use Rattle.whole_run_laws.proofs.ToldLaws.{offered_alone}
 
 -- the field of a file that was opened with the header's count
 record FieldIs (header : Header) (file : List ℕ) (c : Counted) : Type 0 where
@@ -51,9 +50,9 @@ mark_field s ranks (Meet j) rest file c goings known a past f =
     raised_field s file (record { file = after_puts s puts pair c.file; records = c.records }) (max (needs s puts pair) (greatest (map (λ o. known_by o.kind o.known) offers)))
     (with_puts s puts pair file c past f)
 mark_field s ranks (Solo r n) rest file c goings known a past f =
-    let st = steps s c ranks a.met r n a.kinds_left rest goings (ltb-true r ranks known) a.on in
+    let st = steps s c (ltb-true r ranks known) a.on in
     let o = st.at.asks.offer in
-    let own : AllPast s.header (puts_of (r, o)) = subst (λ (ps : Puts). AllPast s.header ps) (offered_alone s r c goings a.met a.kinds_left rest st) past in
+    let own : AllPast s.header (puts_of (r, o)) = subst (λ (ps : Puts). AllPast s.header ps) (offered_alone st) past in
     subst (λ (z : Counted × List Going). FieldIs s.header file z.0) (sym st.state) (with_puts s (puts_of (r, o)) (told s (puts_of (r, o))) file c own f)
 
 order_field : (s : Setting) (ranks : ℕ) (order : List Mark) (file : List ℕ) (state : Counted × List Going) → is_sound s.header ≡ true → list_all (is_of_rank_below ranks) order ≡ true

@@ -1,11 +1,8 @@
 -- A meeting to which every rank comes to fill its share of a record.
-use Rattle.whole_run_laws.proofs.Words.{◌≡◌, ℕ, ◌≤◌, sym, ◌∙◌, ap, List, [], ◌∷◌, ◌++◌, length, map, true, Some, None, arith, slice_get_within, same_Some, slice_get, entry_below, Header, Var, Script, Mark, Meet, Offer, size_of, read, Counted, Setting, told, fill_bytes, is_sound, IsLegal, is_lawful, inner_lengths, is_record, IsIndex, place, find_var, look_fill, look_record, code_of_look, posts_of, advance, after_meeting, Going, offers_of, setting_of, state_after, state_more, comes_to_meeting, puts_at, puts_met, AllFill, filling, Fills, some_rank, nat_tests}
+use Rattle.whole_run_laws.proofs.Words.{◌≡◌, ℕ, ◌≤◌, sym, ◌∙◌, ap, List, [], ◌∷◌, ◌++◌, length, map, true, Some, None, arith, same_Some, slice_get, entry_below, Header, Var, Script, Mark, Meet, Offer, size_of, read, Counted, Setting, told, fill_bytes, is_sound, IsLegal, is_lawful, inner_lengths, is_record, IsIndex, place, find_var, look_fill, look_record, code_of_look, posts_of, advance, after_meeting, Going, offers_of, setting_of, state_after, state_more, comes_to_meeting, puts_at, puts_met, AllFill, filling, Fills, some_rank, nat_tests}
 use Rattle.nc_base.specs.declared.answer.Code.TheVariants as code
-use Rattle.nc_base.specs.declared.request.Call.TheVariants as call
-use Rattle.nc_base.specs.declared.step.MeetKind.TheVariants as meets_as
-use Rattle.nc_base.specs.declared.step.OfferKind.TheVariants as offer
 use Rattle.serial_spec.specs.Looks as looks
-use Rattle.whole_run_laws.proofs.Courses.{AreAlong, meets, offer_met, offers_met_long}
+use Rattle.whole_run_laws.proofs.Courses.{AreAlong, offered, offers_met_long}
 use Rattle.whole_run_laws.proofs.FilledRecord.{record_puts, record_reads}
 use Rattle.whole_run_laws.proofs.ToldLaws.{along_at}
 
@@ -29,7 +26,7 @@ module _ (s : Setting) (ranks j k number : ℕ) (name : List ℕ) (v : Var) (res
   all_offers = offers_of (map (advance s.header) goings)
 
   offers_each : length (offers_of (map (advance s.header) goings)) ≡ ranks
-  offers_each = offers_met_long s.header ranks along.met j along.kinds_left rest goings along.on ∙ along.on.long
+  offers_each = offers_met_long s.header along.on ∙ along.on.long
 
   accepted : (r : ℕ) (g : Going) → slice_get goings r ≡ Some g → code_of_look (look_record s.header k number r ranks v) ≡ code.Ok
   accepted r g e =
@@ -38,14 +35,10 @@ module _ (s : Setting) (ranks j k number : ℕ) (name : List ℕ) (v : Var) (res
   shares_put : AllFill s.header k v number (offers_of (map (advance s.header) goings))
   shares_put r o e =
       let each = offers_each in
-      let long = along.on.long in
-      let below = slice_get_within all_offers r o e in
-      let g = entry_below goings r (omega arith) in
-      let at = meets s.header ranks along.met j r along.kinds_left rest goings g.0 along.on g.1 in
-      let same : at.asks.offer ≡ o = same_Some at.asks.offer o (sym (offer_met s.header ranks along.met j r along.kinds_left rest goings g.0 along.on g.1) ∙ e) in
-      fill_offer s.header name number ranks r g.0 o (fill r g.0 g.1) (at.asks.is_offer ∙ ap (λ (z : Offer). Some z) same)
+      let w = offered s.header along.on r o e in
+      fill_offer s.header name number ranks r w.going o (fill r w.going w.was) w.is
       ∙ ap (λ (l : looks.Look). posts_of l) (look_is s.header name k number r ranks v found there)
-      ∙ record_puts s.header k number r ranks v (accepted r g.0 g.1)
+      ∙ record_puts s.header k number r ranks v (accepted r w.going w.was)
       ∙ ap (λ (n : ℕ). filling s.header k v number n r) (sym each)
 
   record_filled : (index : List ℕ) → is_sound s.header ≡ true → told s (puts_met (offers_of (map (advance s.header) goings))) ≡ None → IsIndex (inner_lengths s.header v) index

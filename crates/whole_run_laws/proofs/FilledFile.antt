@@ -23,12 +23,7 @@ module _ (e : Cell) (i : ℕ) (inside : i < length e.1) where
   some_or_that : (cells : List Cell) → ((d : Cell) → In cells d → IsOrApart e d)
       → (said_at (said_by cells) (e.0 + i) ≡ None) ⊎ (said_at (said_by cells) (e.0 + i) ≡ Some (get_or e.1 i 0))
   some_or_that [] f = inl refl
-  some_or_that (d ∷ cells) f = by (some_or_that cells (λ z h. f z (inr h))) (one d (f d (inl refl)))
-    where
-      by : (said_at (said_by cells) (e.0 + i) ≡ None) ⊎ (said_at (said_by cells) (e.0 + i) ≡ Some (get_or e.1 i 0))
-          → (said_at (enumerate_from d.0 d.1) (e.0 + i) ≡ None) ⊎ (said_at (enumerate_from d.0 d.1) (e.0 + i) ≡ Some (get_or e.1 i 0))
-          → (said_at (said_by (d ∷ cells)) (e.0 + i) ≡ None) ⊎ (said_at (said_by (d ∷ cells)) (e.0 + i) ≡ Some (get_or e.1 i 0))
-      by xs b = grind (arith, nat_tests, joined, first_counts, second_counts)
+  some_or_that (d ∷ cells) f = grind (arith, nat_tests, some_or_that cells (λ z h. f z (inr h)), one d (f d (inl refl)), joined, first_counts, second_counts)
 
   pub says_that : (cells : List Cell) → In cells e → ((d : Cell) → In cells d → IsOrApart e d) → said_at (said_by cells) (e.0 + i) ≡ Some (get_or e.1 i 0)
   says_that [] h f = absurd h
@@ -40,13 +35,7 @@ module _ (e : Cell) (i : ℕ) (inside : i < length e.1) where
 
 pub read_all : (file value : List ℕ) (p n : ℕ) → n ≡ length value → ((i : ℕ) → i < length value → at file (p + i) ≡ get_or value i 0) → read file p n ≡ value
 read_all file [] p zero e f = refl
-read_all file (v ∷ value) p (suc n) e f =
-    let here : p ≡ p + 0 = omega arith in
-    let first : at file p ≡ v = ap (λ (k : ℕ). at file k) here ∙ f 0 (omega arith) in
-    let rest : read file (p + 1) n ≡ value = read_all file value (p + 1) n (omega arith) (λ i l.
-    let next : p + 1 + i ≡ p + suc i = omega arith in
-    ap (λ (k : ℕ). at file k) next ∙ f (suc i) (omega arith)) in
-    λ t. first t ∷ rest t
+read_all file (v ∷ value) p (suc n) e f = grind (arith, nat_tests, f 0, read_all file value (p + 1) n (omega arith) (λ i l. grind (arith, nat_tests, f (suc i))))
 read_all file _ p _ e f = absurd (omega arith)
 
 -- ---- elements of a header
@@ -108,8 +97,7 @@ filled_apart header k v index sound e fixed h d m =
     (by number.0 w.0 j.0 number.1 other (eqb_tells number.0 k)))
   where
     not_so : (t : Bool) → not t ≡ true → t ≡ false
-    not_so true g = cc
-    not_so false g = refl
+    not_so t g = grind (arith, nat_tests)
 
     by : (n : ℕ) (w : Var) (j : List ℕ) → slice_get header.vars n ≡ Some w → IsIndex (inner_lengths header w) j
         → (((n == k) ≡ true) × (n ≡ k)) ⊎ (((n == k) ≡ false) × (n ≡ k → ⊥)) → ((n ≡ k) × (j ≡ index)) ⊎ (((k ≡ n) × (index ≡ j)) → ⊥)
@@ -140,13 +128,7 @@ past_count header x h = let whole = canon_len header in inr (omega arith)
 
 pub read_kept : (new old : List ℕ) (p n : ℕ) → ((i : ℕ) → i < n → at new (p + i) ≡ at old (p + i)) → read new p n ≡ read old p n
 read_kept new old p zero f = refl
-read_kept new old p (suc n) f =
-    let here : p ≡ p + 0 = omega arith in
-    let first : at new p ≡ at old p = ap (λ (k : ℕ). at new k) here ∙ f 0 (omega arith) ∙ ap (λ (k : ℕ). at old k) (sym here) in
-    let rest : read new (p + 1) n ≡ read old (p + 1) n = read_kept new old (p + 1) n (λ i l.
-    let next : p + 1 + i ≡ p + suc i = omega arith in
-    ap (λ (k : ℕ). at new k) next ∙ f (suc i) (omega arith) ∙ ap (λ (k : ℕ). at old k) (sym next)) in
-    λ t. first t ∷ rest t
+read_kept new old p (suc n) f = grind (arith, nat_tests, f 0, read_kept new old (p + 1) n (λ i l. grind (arith, nat_tests, f (suc i))))
 
 starts_filled : (script : Script) (header : Header) (file : List ℕ) → script.fresh ≡ true → script.filled ≡ true
     → start script header file ≡ filled header (longer (canon header) (end_for (setting_of script header) 0))

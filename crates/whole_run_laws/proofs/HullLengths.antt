@@ -72,24 +72,22 @@ meeting_short hints s offers c call l h =
     (λ w g. collective_short hints (flat_map (λ p. bytes_of s.header p) asked) w l g) k)
     h
 
+-- where no window of its puts is longer than that, and none of its gets
+solo_parts : (hints : Hints) (s : Setting) (r : ℕ) (o : Offer) (c : Counted) (n : ℕ) (call : DiskCall)
+    → ((w : List ℕ) → In (sieving_windows hints.wr_buffer (in_order (covered s.header (puts_of (r, o))))) w → hull_len w ≤ n)
+    → ((w : List ℕ) → In (sieving_windows hints.rd_buffer (get_bytes s (gets_of o))) w → hull_len w ≤ n) → In (solo_calls hints s r o c) call → transferred call ≤ n
+solo_parts hints s r o c n call puts gets h =
+    elim (in_either (put_calls s (sieving_windows hints.wr_buffer) (puts_of (r, o)) (length c.file)) (flat_map loads (sieving_windows hints.rd_buffer (get_bytes s (gets_of o)))) call h) [
+      | inl k ↦ put_short s (sieving_windows hints.wr_buffer) (puts_of (r, o)) (length c.file) n call puts k
+      | inr k ↦ get_short (sieving_windows hints.rd_buffer (get_bytes s (gets_of o))) n call gets k
+    ]
+
 pub solo_short : (hints : Hints) (s : Setting) (r : ℕ) (o : Offer) (c : Counted) (call : DiskCall) → 1 ≤ hints.wr_buffer → 1 ≤ hints.rd_buffer
     → In (solo_calls hints s r o c) call → transferred call ≤ max hints.wr_buffer hints.rd_buffer
 solo_short hints s r o c call l m h =
-    by (in_either (put_calls s (sieving_windows hints.wr_buffer) (puts_of (r, o)) (length c.file))
-    (flat_map loads (sieving_windows hints.rd_buffer (get_bytes s (gets_of o)))) call h)
-  where
-    by : In (put_calls s (sieving_windows hints.wr_buffer) (puts_of (r, o)) (length c.file)) call
-        ⊎ In (flat_map loads (sieving_windows hints.rd_buffer (get_bytes s (gets_of o)))) call → transferred call ≤ max hints.wr_buffer hints.rd_buffer
-    by (inl k) = le_two (transferred call) hints.wr_buffer _
-        (put_short s (sieving_windows hints.wr_buffer) (puts_of (r, o)) (length c.file) hints.wr_buffer call
-        (λ w g. sieving_short hints.wr_buffer (in_order (covered s.header (puts_of (r, o)))) w l g) k) (omega arith)
-    by (inr k) = le_two (transferred call) hints.rd_buffer _
-        (get_short (sieving_windows hints.rd_buffer (get_bytes s (gets_of o))) hints.rd_buffer call
-        (λ w g. sieving_short hints.rd_buffer (get_bytes s (gets_of o)) w m g) k) (omega arith)
-
--- a step without gets, and one without puts
-solo_parts : (n : ℕ) (a b : List DiskCall) (call : DiskCall) → (In a call → transferred call ≤ n) → (In b call → transferred call ≤ n) → In (a ++ b) call → transferred call ≤ n
-solo_parts n a b call f g h = elim (in_either a b call h) [ inl k ↦ f k | inr k ↦ g k ]
+    solo_parts hints s r o c (max hints.wr_buffer hints.rd_buffer) call
+    (λ w g. le_two (hull_len w) hints.wr_buffer _ (sieving_short hints.wr_buffer (in_order (covered s.header (puts_of (r, o)))) w l g) (omega arith))
+    (λ w g. le_two (hull_len w) hints.rd_buffer _ (sieving_short hints.rd_buffer (get_bytes s (gets_of o)) w m g) (omega arith)) h
 
 nothing_in : (ws : List (List ℕ)) (n : ℕ) (w : List ℕ) → ws ≡ [] → In ws w → hull_len w ≤ n
 nothing_in ws n w e h = absurd (subst (λ (vs : List (List ℕ)). In vs w) e h)
@@ -98,21 +96,14 @@ pub solo_puts_short : (hints : Hints) (s : Setting) (r : ℕ) (o : Offer) (c : C
     → In (solo_calls hints s r o c) call → transferred call ≤ hints.wr_buffer
 solo_puts_short hints s r o c call l e h =
     let none : sieving_windows hints.rd_buffer (get_bytes s (gets_of o)) ≡ [] = ap (λ (gets : List Post). sieving_windows hints.rd_buffer (get_bytes s gets)) e in
-    solo_parts hints.wr_buffer (put_calls s (sieving_windows hints.wr_buffer) (puts_of (r, o)) (length c.file)) (flat_map loads (sieving_windows hints.rd_buffer (get_bytes s (gets_of o)))) call
-    (λ k. put_short s (sieving_windows hints.wr_buffer) (puts_of (r, o)) (length c.file) hints.wr_buffer call
-    (λ w g. sieving_short hints.wr_buffer (in_order (covered s.header (puts_of (r, o)))) w l g) k)
-    (λ k. get_short (sieving_windows hints.rd_buffer (get_bytes s (gets_of o))) hints.wr_buffer call (λ w g. nothing_in _ hints.wr_buffer w none g) k)
-    h
+    solo_parts hints s r o c hints.wr_buffer call (λ w g. sieving_short hints.wr_buffer (in_order (covered s.header (puts_of (r, o)))) w l g) (λ w g. nothing_in _ hints.wr_buffer w none g) h
 
 pub solo_gets_short : (hints : Hints) (s : Setting) (r : ℕ) (o : Offer) (c : Counted) (call : DiskCall) → 1 ≤ hints.rd_buffer → o.batch.puts ≡ []
     → In (solo_calls hints s r o c) call → transferred call ≤ hints.rd_buffer
 solo_gets_short hints s r o c call l e h =
     let none : sieving_windows hints.wr_buffer (in_order (covered s.header (puts_of (r, o)))) ≡ [] =
     ap (λ (puts : List Post). sieving_windows hints.wr_buffer (in_order (covered s.header (map (λ (post : Post). let z : ℕ × Post = (r, post) in z) puts)))) e in
-    solo_parts hints.rd_buffer (put_calls s (sieving_windows hints.wr_buffer) (puts_of (r, o)) (length c.file)) (flat_map loads (sieving_windows hints.rd_buffer (get_bytes s (gets_of o)))) call
-    (λ k. put_short s (sieving_windows hints.wr_buffer) (puts_of (r, o)) (length c.file) hints.rd_buffer call (λ w g. nothing_in _ hints.rd_buffer w none g) k)
-    (λ k. get_short (sieving_windows hints.rd_buffer (get_bytes s (gets_of o))) hints.rd_buffer call (λ w g. sieving_short hints.rd_buffer (get_bytes s (gets_of o)) w l g) k)
-    h
+    solo_parts hints s r o c hints.rd_buffer call (λ w g. nothing_in _ hints.rd_buffer w none g) (λ w g. sieving_short hints.rd_buffer (get_bytes s (gets_of o)) w l g) h
 
 -- ---- the calls of a run
 
@@ -121,11 +112,7 @@ Short hints header call = (transferred call ≤ longest hints) ⊎ (is_count_sto
 
 mark_short : (hints : Hints) (s : Setting) (state : Counted × List Going) (m : Mark) (call : DiskCall) → 1 ≤ hints.cb_buffer → 1 ≤ hints.wr_buffer → 1 ≤ hints.rd_buffer
     → In (mark_calls hints s state m) call → Short hints s.header call
-mark_short hints s (c, goings) (Meet k) call a b d h = by (meeting_short hints s (offers_of (map (advance s.header) goings)) c call a h)
-  where
-    by : (transferred call ≤ hints.cb_buffer) ⊎ (is_count_store s.header call ≡ true) → Short hints s.header call
-    by (inl l) = inl (le_two (transferred call) hints.cb_buffer (longest hints) l (omega arith))
-    by (inr e) = inr e
+mark_short hints s (c, goings) (Meet k) call a b d h = grind (arith, nat_tests, meeting_short hints s (offers_of (map (advance s.header) goings)) c call a h)
 mark_short hints s (c, goings) (Solo r n) call a b d h = grind (arith, nat_tests, le_two, solo_short)
 
 calls_short : (hints : Hints) (s : Setting) (state : Counted × List Going) (order : List Mark) (call : DiskCall) → 1 ≤ hints.cb_buffer → 1 ≤ hints.wr_buffer → 1 ≤ hints.rd_buffer

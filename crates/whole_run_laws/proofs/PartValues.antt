@@ -1,5 +1,5 @@
 -- A get of many regions gives the values of gets of the regions, joined.
-use Rattle.whole_run_laws.proofs.Words.{◌≡◌, ℕ, ◌≤◌, refl, sym, ◌∙◌, ap, inl, ◌⊎◌, List, [], ◌∷◌, length, map, Bool, true, false, Option, Some, None, option_map, fold-append, flat_map, slice_get, Code, Pair, Header, Var, Post, Get, Varn, Given, Part, Counted, Setting, after_puts, end_for, find_var, look, look_at, code_of_look, posts_of, check_var, has_element, part_region, Going, longer-enough, outcome, outcome_posts, joined, last_values, makes, on_part, request_values, then_more, arith, nat_tests}
+use Rattle.whole_run_laws.proofs.Words.{◌≡◌, ℕ, ◌≤◌, refl, sym, ◌∙◌, ap, ◌⊎◌, List, [], ◌∷◌, length, map, true, false, Option, None, option_map, fold-append, flat_map, Pair, Header, Post, Varn, Given, Part, Counted, Setting, after_puts, end_for, look, code_of_look, posts_of, Going, longer-enough, outcome, outcome_posts, joined, last_values, makes, on_part, request_values, then_more, arith, nat_tests}
 use Rattle.nc_base.specs.declared.answer.Code.TheVariants as code
 use Rattle.nc_base.specs.declared.request.Call.TheVariants as call
 use Rattle.serial_spec.specs.Looks as looks
@@ -22,26 +22,7 @@ values_joined s file id f one [] = refl
 values_joined s file id f one (x ∷ xs) = grind (arith, nat_tests, values_joined s file id f one xs, first_value)
 
 part_one : (header : Header) (known id : ℕ) (name : List ℕ) (p : Part) → IsOneAtMost (posts_of (look header known id name (on_part p) None))
-part_one header known id name p = by (find_var header name)
-  where
-    by_outcome : (checked : Code) (some : Bool) (post : Post) (last : Code)
-        → (posts_of (outcome checked some (post ∷ []) last) ≡ []) ⊎ ((posts_of (outcome checked some (post ∷ []) last) ≡ post ∷ []) × (checked ≡ code.Ok) × (last ≡ code.Ok))
-        → IsOneAtMost (posts_of (outcome checked some (post ∷ []) last))
-    by_outcome checked some post last xs = grind (arith, nat_tests)
-
-    by_var : (k : ℕ) (v : Option Var) → IsOneAtMost (posts_of (look_at header known id k (on_part p) None v))
-    by_var k None = inl refl
-    by_var k (Some var) =
-        let g = part_region var p in
-        let post : Post = record { id = id; var = k; region = g; bytes = [] } in
-        by_outcome (check_var header var g known Get) (has_element g) post code.Ok (outcome_posts (check_var header var g known Get) (has_element g) (post ∷ []) code.Ok)
-
-    by : (o : Option ℕ) → IsOneAtMost (posts_of (elim o as (λ z. looks.Look) [
-      | None ↦ looks.Refused code.ENotVar
-      | Some k ↦ look_at header known id k (on_part p) None (slice_get header.vars k)
-    ]))
-    by None = inl refl
-    by (Some k) = by_var k (slice_get header.vars k)
+part_one header known id name p = grind (arith, nat_tests, outcome_posts, outcome)
 
 pub varn_values : (s : Setting) (file : List ℕ) (known id : ℕ) (name : List ℕ) (given : Given) → given.form ≡ Varn
     → code_of_look (look s.header known id name given None) ≡ code.Ok

@@ -1,11 +1,11 @@
 -- No completed put holds a byte of the header, so its bytes stay but for the record count.
-use Rattle.whole_run_laws.proofs.Words.{◌≡◌, ℕ, ◌<◌, ◌≤◌, refl, sym, ◌∙◌, ap, subst, inl, inr, ◌⊎◌, List, [], ◌∷◌, map, Bool, true, false, ◌||◌, Option, Some, None, arith, flat_map-append, same_Some, slice_get_within, slice_get, ◌==◌, list_all, range_with_len, fails_each, entry_below, and_first, and_second, or_first_false, any_in, flat_in, in_either, range_low, each_in, map_in, numbered_in, Header, Var, Post, Call, Script, Mark, Meet, Solo, Offer, Reply, refused, wrong_length, size_of, at, Counted, puts_of, Setting, solo, header_len, is_sound, is_of_rank_below, IsLegal, is_lawful, In, IsElementBelow, place, records_of, check_some, elements, places, advance, after_mark, first_going, first_state, Going, hears, offers_of, rank_offer, serial_from, setting_of, bytes_of, bytes_of_some, covered, Puts, accepted_elements, elements_past_header, Fit, good_first, heard_fits, most_posts_held, offer_fits, completed, completed_from, completed_puts, IsBesideCount, is_held, puts_asked, puts_at, puts_met, set_cases, nat_tests}
+use Rattle.whole_run_laws.proofs.Words.{◌≡◌, ℕ, ◌<◌, ◌≤◌, refl, sym, ◌∙◌, ap, subst, inl, inr, ◌⊎◌, List, [], ◌∷◌, map, Bool, true, false, ◌||◌, Option, Some, None, arith, flat_map-append, slice_get, ◌==◌, list_all, range_with_len, fails_each, and_first, and_second, or_first_false, any_in, flat_in, in_either, range_low, each_in, map_in, numbered_in, Header, Var, Post, Script, Mark, Meet, Solo, Offer, Reply, refused, wrong_length, size_of, at, Counted, puts_of, Setting, solo, header_len, is_sound, is_of_rank_below, IsLegal, is_lawful, In, IsElementBelow, place, records_of, check_some, elements, places, advance, after_mark, first_going, first_state, Going, hears, offers_of, serial_from, setting_of, bytes_of, bytes_of_some, covered, Puts, accepted_elements, elements_past_header, Fit, good_first, heard_fits, most_posts_held, offer_fits, completed, completed_from, completed_puts, IsBesideCount, is_held, puts_at, puts_met, set_cases, nat_tests}
 use borrow.Author.Tests.{ltb-true}
 use Rattle.nc_base.specs.declared.answer.Code.TheVariants as code
 use Rattle.nc_base.specs.declared.request.Direction.TheVariants as way
 use Rattle.join_laws.proofs.CountLaws.{passes_accepted as accepted}
 use Rattle.join_laws.proofs.WholeLaws.{get_map as mapped_from}
-use Rattle.whole_run_laws.proofs.Courses.{AreAlong, first_along, heard_by, mark_along, meets, offer_met, offers_met_long, steps}
+use Rattle.whole_run_laws.proofs.Courses.{AreAlong, first_along, heard_by, mark_along, meets, offered, offered_alone, steps}
 use Rattle.whole_run_laws.proofs.KeptLaws.{end_kept}
 
 -- ---- an accepted put
@@ -69,17 +69,11 @@ pub mark_past : (s : Setting) (ranks : ℕ) (m : Mark) (rest : List Mark) (c : C
     → AreAlong ranks (m ∷ rest) goings → AllFit s.header ranks goings → AllPast s.header (puts_at s (c, goings) m)
 mark_past s ranks (Meet j) rest c goings sound known a fit =
     met_past s.header (offers_of (map (advance s.header) goings)) (λ q o e.
-    let long = offers_met_long s.header ranks a.met j a.kinds_left rest goings a.on in
-    let below = slice_get_within (offers_of (map (advance s.header) goings)) q o e in
-    let g = entry_below goings q (omega arith) in
-    let at = meets s.header ranks a.met j q a.kinds_left rest goings g.0 a.on g.1 in
-    let same : at.asks.offer ≡ o = same_Some at.asks.offer o (sym (offer_met s.header ranks a.met j q a.kinds_left rest goings g.0 a.on g.1) ∙ e) in
-    offer_past s.header ranks g.0 o sound (fit q g.0 g.1) (at.asks.is_offer ∙ ap (λ (z : Offer). Some z) same))
+    let w = offered s.header a.on q o e in
+    offer_past s.header ranks w.going o sound (fit q w.going w.was) w.is)
 mark_past s ranks (Solo r n) rest c goings sound known a fit =
-    let st = steps s c ranks a.met r n a.kinds_left rest goings (ltb-true r ranks known) a.on in
-    let asked : puts_asked r (Some st.at.asks.offer) ≡ puts_asked r (rank_offer s goings r) = sym (ap (λ (m : Option Offer). puts_asked r m)
-    (ap (λ (m : Option Going). elim m as (λ z. Option Offer) [ None ↦ None | Some g ↦ (advance s.header g).1 ]) st.was ∙ st.at.asks.is_offer)) in
-    subst (AllPast s.header) asked (own_past s.header r st.at.asks.offer (offer_past s.header ranks st.before st.at.asks.offer sound (fit r st.before st.was) st.at.asks.is_offer))
+    let st = steps s c (ltb-true r ranks known) a.on in
+    subst (AllPast s.header) (sym (offered_alone st)) (own_past s.header r st.at.asks.offer (offer_past s.header ranks st.before st.at.asks.offer sound (fit r st.before st.was) st.at.asks.is_offer))
 
 heard_fit : (header : Header) (ranks : ℕ) (g next : Going) (o : Offer) (y : Reply) → is_sound header ≡ true → IsFit header ranks g → (advance header g).1 ≡ Some o
     → next ≡ hears header (advance header g).0 y → IsFit header ranks next
@@ -88,11 +82,11 @@ heard_fit header ranks g next o y sound f e h = grind (arith, nat_tests, heard_f
 pub mark_fit : (s : Setting) (ranks : ℕ) (m : Mark) (rest : List Mark) (c : Counted) (goings : List Going) → is_sound s.header ≡ true → is_of_rank_below ranks m ≡ true
     → AreAlong ranks (m ∷ rest) goings → AllFit s.header ranks goings → AllFit s.header ranks (after_mark s (c, goings) m).1
 mark_fit s ranks (Meet j) rest c goings sound known a fit = λ q g e.
-    let h = heard_by s c ranks a.met j q a.kinds_left rest goings g a.on e in
-    let at = meets s.header ranks a.met j q a.kinds_left rest goings h.before a.on h.was in
+    let h = heard_by s c a.on q g e in
+    let at = meets s.header a.on q h.before h.was in
     heard_fit s.header ranks h.before g at.asks.offer h.reply sound (fit q h.before h.was) at.asks.is_offer h.is
 mark_fit s ranks (Solo r n) rest c goings sound known a fit =
-    let st = steps s c ranks a.met r n a.kinds_left rest goings (ltb-true r ranks known) a.on in
+    let st = steps s c (ltb-true r ranks known) a.on in
     let y = (solo s r st.at.asks.offer c).1 in
     let next = hears s.header (advance s.header st.before).0 y in
     let own = heard_fit s.header ranks st.before next st.at.asks.offer y sound (fit r st.before st.was) st.at.asks.is_offer refl in
@@ -119,12 +113,10 @@ order_past s ranks (k ∷ order) state sound known a fit x m =
     ]
 
 pub first_fits : (script : Script) (header : Header) → is_lawful script ≡ true → AllFit header script.ranks (map (first_going header) script.calls)
-first_fits script header lawful q g e = by (mapped_from (first_going header) script.calls q g e)
-  where
-    by : ((own : List Call) × ((slice_get script.calls q ≡ Some own) × (g ≡ first_going header own))) → IsFit header script.ranks g
-    by own =
-        let good = good_first script header q own.0 lawful own.1.0 in
-        subst (IsFit header script.ranks) (sym own.1.1) (record { number = good.number; low = good.low; fit = good.fit })
+first_fits script header lawful q g e =
+    let own = mapped_from (first_going header) script.calls q g e in
+    let good = good_first script header q own.0 lawful own.1.0 in
+    subst (IsFit header script.ranks) (sym own.1.1) (record { number = good.number; low = good.low; fit = good.fit })
 
 pub all_past : (script : Script) (header : Header) (file : List ℕ) (order : List Mark) (x : ℕ) → is_sound header ≡ true → is_lawful script ≡ true → IsLegal script order
     → is_held header (completed_puts script header file order) x ≡ true → header_len header ≤ x

@@ -1,9 +1,8 @@
 -- What a step tells its ranks, and that a step with a pair changes nothing.
-use Rattle.whole_run_laws.proofs.Words.{◌≡◌, ℕ, suc, ◌+◌, ◌<◌, refl, sym, ◌∙◌, ap, subst, List, [], ◌∷◌, ◌++◌, map, set, Bool, true, false, Option, Some, None, arith, slice_get_within, same_Some, nat_tests, flat_map, slice_get, enumerate_from, list_all, entry_below, entry_set, and_first, and_second, in_at, Answer, Pair, Header, Post, Call, OverlapRule, Refuse, Script, Mark, Meet, Solo, MeetKind, Offer, OfferKind, Reply, Counted, get_post, known_by, meeting, puts_of, raises, Setting, solo, told, told_under, is_of_rank_below, IsLegal, is_lawful, greatest, In, Open, Rank, advance, after_mark, after_meeting, after_solo, first_state, go, Going, hears, offers_of, rank_offer, setting_of, state_after, holdings, IsSharedPair, IsUnshared, Puts, shared_pair, pair_found, pair_none, state_more, puts_asked, puts_at, puts_met, quiet_step, nil_cons}
+use Rattle.whole_run_laws.proofs.Words.{◌≡◌, ℕ, suc, ◌+◌, ◌<◌, refl, sym, ◌∙◌, ap, subst, List, [], ◌∷◌, ◌++◌, map, set, Bool, true, false, Option, Some, None, arith, same_Some, nat_tests, flat_map, slice_get, enumerate_from, list_all, entry_below, entry_set, and_first, and_second, in_at, Answer, Pair, Header, Post, Call, OverlapRule, Refuse, Script, Mark, Meet, Solo, MeetKind, Offer, OfferKind, Reply, Counted, get_post, known_by, meeting, puts_of, raises, Setting, solo, told, told_under, is_of_rank_below, IsLegal, is_lawful, greatest, In, Open, Rank, advance, after_mark, after_meeting, after_solo, first_state, go, Going, hears, offers_of, rank_offer, setting_of, state_after, holdings, IsSharedPair, IsUnshared, Puts, shared_pair, pair_found, pair_none, state_more, puts_asked, puts_at, puts_met, quiet_step, nil_cons}
 use borrow.Author.Tests.{ltb-true}
-use Rattle.nc_base.specs.declared.step.MeetKind.TheVariants as meets_as
 use Rattle.nc_base.specs.declared.step.OfferKind.TheVariants as offer
-use Rattle.whole_run_laws.proofs.Courses.{AreAlong, AreOn, first_along, hears_then, marks_along, meets, offer_met, offers_met_long, Stepped, steps}
+use Rattle.whole_run_laws.proofs.Courses.{AreAlong, AreOn, first_along, hears_then, marks_along, meets, offered, offered_alone, steps}
 use Rattle.join_laws.proofs.WholeLaws.{get_map as mapped_from}
 
 -- what rank r has answered when these marks are done
@@ -82,51 +81,24 @@ module _ (s : Setting) (ranks k j : ℕ) (ks : List MeetKind) (rest : List Mark)
   abbrev offers : List Offer
   offers = offers_of (map (advance s.header) goings)
 
-  -- an offer is one of a rank
-  pub record IsOffered (q : ℕ) (o : Offer) : Type 0 where
-    pub going : Going
-    pub was : slice_get goings q ≡ Some going
-    pub is : (advance s.header going).1 ≡ Some o
-    pub kind : MeetKind
-    pub others : List MeetKind
-    pub of_kind : o.kind ≡ offer.Meet kind
-    pub kinds : ks ≡ kind ∷ others
-
-  offered : (q : ℕ) (o : Offer) → slice_get offers q ≡ Some o → IsOffered q o
-  offered q o e =
-      let long = offers_met_long s.header ranks k j ks rest goings on in
-      let below = slice_get_within offers q o e in
-      let g = entry_below goings q (omega arith) in
-      let at = meets s.header ranks k j q ks rest goings g.0 on g.1 in
-      let same : at.asks.offer ≡ o = same_Some at.asks.offer o (sym (offer_met s.header ranks k j q ks rest goings g.0 on g.1) ∙ e) in
-      record {
-        going = g.0;
-        was = g.1;
-        is = at.asks.is_offer ∙ ap (λ (z : Offer). Some z) same;
-        kind = at.kind;
-        others = _;
-        of_kind = sym (ap (λ (z : Offer). z.kind) same) ∙ at.of_kind;
-        kinds = at.kinds;
-      }
-
   meeting_alike : (p : Pair) → told s (puts_met offers) ≡ Some p → (meeting s offers c).0 ≡ c
   meeting_alike p e = by_first ks refl
     where
       same_raises : (kind : MeetKind) (others : List MeetKind) → ks ≡ kind ∷ others → (q : ℕ) (o : Offer) → slice_get offers q ≡ Some o → raises o.kind ≡ raises (offer.Meet kind)
       same_raises kind others f q o h =
-          let w = offered q o h in
+          let w = offered s.header on q o h in
           ap (λ (z : OfferKind). raises z) w.of_kind ∙ ap (λ (z : MeetKind). raises (offer.Meet z)) (kind_left w.kind ks w.others kind others w.kinds f)
 
       by_kind : (kind : MeetKind) (others : List MeetKind) → ks ≡ kind ∷ others → (t : Bool) → raises (offer.Meet kind) ≡ t → (meeting s offers c).0 ≡ c
       by_kind kind others f true g =
           no_pair s p (sym (ap (λ (ps : Puts). told s ps) (none_asked offers 0 (λ q o h.
-          let w = offered q o h in
+          let w = offered s.header on q o h in
           quiet_go s.header o w.going.calls w.going.rank w.going.answers w.is (same_raises kind others f q o h ∙ g)))) ∙ e)
       by_kind kind others f false g = meeting_nothing s offers c p e (none_known offers (λ q o h. same_raises kind others f q o h ∙ g))
 
       -- where no kind is left there is no rank, and no put
       by_first : (xs : List MeetKind) → ks ≡ xs → (meeting s offers c).0 ≡ c
-      by_first [] f = meeting_nothing s offers c p e (none_known offers (λ q o h. nil_cons (offered q o h).kind _ (sym f ∙ (offered q o h).kinds)))
+      by_first [] f = meeting_nothing s offers c p e (none_known offers (λ q o h. nil_cons (offered s.header on q o h).kind _ (sym f ∙ (offered s.header on q o h).kinds)))
       by_first (kind ∷ others) f = by_kind kind others f (raises (offer.Meet kind)) refl
 
 -- the pair of the answer to a reply
@@ -142,14 +114,10 @@ pub known_mark : (ranks : ℕ) (before later : List Mark) (m : Mark) → list_al
 known_mark ranks [] later m h = and_first (is_of_rank_below ranks m) _ h
 known_mark ranks (x ∷ before) later m h = known_mark ranks before later m (and_second (is_of_rank_below ranks x) _ h)
 
-pub offered_alone : (s : Setting) (r : ℕ) (c : Counted) (goings : List Going) (k : ℕ) (ks : List MeetKind) (rest : List Mark) (st : Stepped s r c goings k ks rest)
-    → puts_asked r (rank_offer s goings r) ≡ puts_of (r, st.at.asks.offer)
-offered_alone s r c goings k ks rest st = grind (arith, nat_tests)
-
 step_nothing : (s : Setting) (ranks : ℕ) (m : Mark) (rest : List Mark) (c : Counted) (goings : List Going) (p : Pair) → is_of_rank_below ranks m ≡ true
     → AreAlong ranks (m ∷ rest) goings → told s (puts_at s (c, goings) m) ≡ Some p → (after_mark s (c, goings) m).0 ≡ c
 step_nothing s ranks (Meet j) rest c goings p known a e = meeting_alike s ranks a.met j a.kinds_left rest c goings a.on p e
-step_nothing s ranks (Solo r n) rest c goings p known a e = grind (arith, nat_tests, steps, ltb-true, offered_alone)
+step_nothing s ranks (Solo r n) rest c goings p known a e = grind (arith, nat_tests, steps s c (ltb-true r ranks known) a.on, offered_alone (steps s c (ltb-true r ranks known) a.on))
 
 pub mark_nothing : (script : Script) (header : Header) (file : List ℕ) (before later : List Mark) (m : Mark) (p : Pair)
     → is_lawful script ≡ true → IsLegal script (before ++ m ∷ later)
@@ -165,49 +133,28 @@ last_at : (goings : List Going) (q : ℕ) (g : Going) (pair : Option Pair) → s
     → IsLastTold (answers_of (slice_get goings q)) pair
 last_at goings q g pair e w = subst (λ (m : Option Going). IsLastTold (answers_of m) pair) (sym e) w
 
-met_told : (s : Setting) (ranks j r : ℕ) (rest : List Mark) (c : Counted) (goings : List Going) → AreAlong ranks (Meet j ∷ rest) goings → r < ranks
+pub met_told : (s : Setting) (ranks j r : ℕ) (rest : List Mark) (c : Counted) (goings : List Going) → AreAlong ranks (Meet j ∷ rest) goings → r < ranks
     → IsLastTold (answers_of (slice_get (after_meeting s (c, goings)).1 r)) (told s (puts_met (offers_of (map (advance s.header) goings))))
 met_told s ranks j r rest c goings a l =
     let offers = offers_of (map (advance s.header) goings) in
     let long = a.on.long in
     let b = entry_below goings r (omega arith) in
-    let g = hears_then s c ranks a.met j r a.kinds_left rest goings b.0 a.on b.1 in
+    let g = hears_then s c a.on r b.0 b.1 in
     let h = g.1.1 in
-    let at = meets s.header ranks a.met j r a.kinds_left rest goings h.before a.on h.was in
+    let at = meets s.header a.on r h.before h.was in
     let last : IsLastTold g.0.answers h.reply.pair =
     subst (λ (z : Going). IsLastTold z.answers h.reply.pair) (sym h.is) (heard_pair s.header (advance s.header h.before).0 h.reply at.asks.open_with at.asks.is_open) in
     last_at (after_meeting s (c, goings)).1 r g.0 (told s (puts_met offers)) g.1.0
     (subst (λ (pair : Option Pair). IsLastTold g.0.answers pair) (reply_told s offers c r h.reply h.is_reply) last)
 
-pub meeting_told : (script : Script) (header : Header) (file : List ℕ) (before later : List Mark) (k r : ℕ)
-    → is_lawful script ≡ true → IsLegal script (before ++ Meet k ∷ later) → r < script.ranks
-    → IsLastTold (answers_after script header file (before ++ Meet k ∷ []) r)
-    (told (setting_of script header) (puts_at (setting_of script header) (state_after script header file before) (Meet k)))
-meeting_told script header file before later k r lawful legal l =
-    let s = setting_of script header in
-    let state = state_after script header file before in
-    subst (λ (z : Counted × List Going). IsLastTold (answers_of (slice_get z.1 r)) (told s (puts_at s state (Meet k)))) (sym (state_more script header file before (Meet k)))
-    (met_told s script.ranks k r later state.0 state.1 (along_at script header file before (Meet k ∷ later) lawful legal) l)
-
-alone_told : (s : Setting) (ranks r n : ℕ) (rest : List Mark) (c : Counted) (goings : List Going) → AreAlong ranks (Solo r n ∷ rest) goings → r < ranks
+pub alone_told : (s : Setting) (ranks r n : ℕ) (rest : List Mark) (c : Counted) (goings : List Going) → AreAlong ranks (Solo r n ∷ rest) goings → r < ranks
     → IsLastTold (answers_of (slice_get (after_solo s r c goings).1 r)) (told s (puts_asked r (rank_offer s goings r)))
 alone_told s ranks r n rest c goings a l =
-    let st = steps s c ranks a.met r n a.kinds_left rest goings l a.on in
+    let st = steps s c l a.on in
     let o = st.at.asks.offer in
     let y = (solo s r o c).1 in
     let next = hears s.header (advance s.header st.before).0 y in
-    subst (λ (ps : Puts). IsLastTold (answers_of (slice_get (after_solo s r c goings).1 r)) (told s ps)) (sym (offered_alone s r c goings a.met a.kinds_left rest st))
+    subst (λ (ps : Puts). IsLastTold (answers_of (slice_get (after_solo s r c goings).1 r)) (told s ps)) (sym (offered_alone st))
     (subst (λ (z : Counted × List Going). IsLastTold (answers_of (slice_get z.1 r)) (told s (puts_of (r, o)))) (sym st.state)
     (last_at (set goings r next) r next (told s (puts_of (r, o))) (entry_set goings r st.before next st.was)
     (heard_pair s.header (advance s.header st.before).0 y st.at.asks.open_with st.at.asks.is_open)))
-
-pub solo_told : (script : Script) (header : Header) (file : List ℕ) (before later : List Mark) (r c : ℕ)
-    → is_lawful script ≡ true → IsLegal script (before ++ Solo r c ∷ later)
-    → IsLastTold (answers_after script header file (before ++ Solo r c ∷ []) r)
-    (told (setting_of script header) (puts_at (setting_of script header) (state_after script header file before) (Solo r c)))
-solo_told script header file before later r c lawful legal =
-    let s = setting_of script header in
-    let state = state_after script header file before in
-    subst (λ (z : Counted × List Going). IsLastTold (answers_of (slice_get z.1 r)) (told s (puts_at s state (Solo r c)))) (sym (state_more script header file before (Solo r c)))
-    (alone_told s script.ranks r c later state.0 state.1 (along_at script header file before (Solo r c ∷ later) lawful legal)
-    (ltb-true r script.ranks (known_mark script.ranks before later (Solo r c) legal.known_ranks)))
