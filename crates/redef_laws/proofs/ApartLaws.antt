@@ -67,13 +67,10 @@ old_two old extras i j v w b c sound l l' g f d e at at' =
     let second = old_at header n j w c f e l' at' in
     let low = old_first_low header n (i, v) (in_old header n i v g d (omega arith)) in
     let low' = old_first_low header n (j, w) (in_old header n j w f e l') in
-    moved v.begin w.begin (old_first header n) (first_place header n) (slab header v) (slab header w) (recsize old) (recsize header) first second low low' (omega arith)
-    (old_pair old extras i j v w sound (omega arith) l' g f d e (λ same. absurd (omega arith)))
-  where
-    moved : (x y least at n m size larger : ℕ) → b ≡ at + (x - least) → c ≡ at + (y - least) → least ≤ x → least ≤ y → size ≤ larger
-        → AreOrdered x n y m size → AreOrdered b n c m larger
-    moved x y least at n m size larger p q k k' s (inl (h, i)) = inl (omega arith, omega arith)
-    moved x y least at n m size larger p q k k' s (inr (h, i)) = inr (omega arith, omega arith)
+    elim (old_pair old extras i j v w sound (omega arith) l' g f d e (λ same. absurd (omega arith))) [
+      | inl h ↦ inl (omega arith, omega arith)
+      | inr h ↦ inr (omega arith, omega arith)
+    ]
 
 -- an old record variable and a new one
 old_then_new : (old : Header) (extras : List Extra) (i j : ℕ) (v w : Var) (b c : ℕ) → is_sound old ≡ true → i < length old.vars → length old.vars ≤ j
@@ -100,12 +97,14 @@ both_new header n i j v w b c l l' g f d e at at' =
     let second = new_at header n j w c f e (omega arith) at' in
     let below = slab_below header v in
     let below' = slab_below header w in
-    moved (new_from header n) (vsizes header (new_records header n)) (slab header v) (slab header w) (vsize header v) (vsize header w) (recsize header) first.low second.low first.high second.high
-    below below' (omega arith) (new_two header n i j v w b c g f d e l' (omega arith) (λ same. absurd (omega arith)) at at')
-  where
-    moved : (from all n m n' m' size : ℕ) → from ≤ b → from ≤ c → b + n' ≤ from + all → c + m' ≤ from + all → n ≤ n' → m ≤ m' → all ≤ size → AreApart b n' c m' → AreOrdered b n c m size
-    moved from all n m n' m' size p q r s k k' t (inl h) = inl (omega arith, omega arith)
-    moved from all n m n' m' size p q r s k k' t (inr h) = inr (omega arith, omega arith)
+    let low = first.low in
+    let high = first.high in
+    let low' = second.low in
+    let high' = second.high in
+    elim (new_two header n i j v w b c g f d e l' (omega arith) (λ same. absurd (omega arith)) at at') [
+      | inl h ↦ inl (omega arith, omega arith)
+      | inr h ↦ inr (omega arith, omega arith)
+    ]
 
 records_two : (old : Header) (extras : List Extra) (i j : ℕ) (v w : Var) (b c : ℕ) → is_sound old ≡ true → i < j → slice_get (added old extras).vars i ≡ Some v
     → slice_get (added old extras).vars j ≡ Some w → is_record (added old extras) v ≡ true → is_record (added old extras) w ≡ true

@@ -5,7 +5,7 @@
 --     fixed_begin, map_begin, record_begin      what is found for a variable of the list
 --     fixed_apart, record_apart                 two variables of the list stand apart
 use Rattle.redef_laws.proofs.Words.{◌≡◌, ℕ, zero, suc, ◌+◌, ◌≤◌, List, [], ◌∷◌, map, Bool, true, false, cond, Option, Some, None, refl, sym, ap, subst, ◌∙◌, inl, inr, arith, ◌==◌, filter, find, sum_by, slice_get, enumerate_from, AllByRecursion, sum_by-cons, leb-true, eqb-true, ne_eqb, equal_true, Header, Var, slab, vsize, AreApart, inserted_by, Numbered, begins_before, by_begin, begin_at, fixed_begins, front_after, record_begins, In, nat_tests}
-use Rattle.redef_laws.proofs.Ordered.{by_begin_same}
+use Rattle.redef_laws.proofs.Orders.{in_sorted}
 
 -- ---- members and numbers
 
@@ -31,7 +31,7 @@ each_by_begin P [] h = tt
 each_by_begin P (v ∷ vs) h = each_inserted P v (by_begin vs) h.0 (each_by_begin P vs h.1)
 
 pub in_by_begin : (vs : List Numbered) (x : Numbered) → In vs x → In (by_begin vs) x
-in_by_begin vs x h = (by_begin_same vs).1 x h
+in_by_begin vs x h = in_sorted begins_before vs x h
 
 abbrev pub Numbers : List Var → List Numbered → Type 0
 Numbers vars list = AllByRecursion (λ p. slice_get vars p.0 ≡ Some p.1) list

@@ -1,15 +1,7 @@
 -- Each element of an old variable lies in one of its slabs, as far from the slab's beginning in the new file as in the old one;
 -- and each byte of a slab is a byte of an element.
-use Rattle.redef_laws.proofs.Words.{◌≡◌, ℕ, zero, suc, ◌+◌, ◌*◌, ◌/◌, ◌%◌, ◌<◌, ◌≤◌, refl, sym, ◌∙◌, ap, subst, inl, inr, List, [], ◌∷◌, map, Bool, true, false, cond, Some, arith, row_fits, div-add-mod', div_below, mod_below, nat_tests, zip, slice_get, MatchBool, ◌==◌, range_with_len, some_factor, Header, Var, Slab, slabs, slabs_of, size_of, is_sound, product, lengths, starts_with_zero, without_record, is_record, inner_lengths, recsize, place, row, record_of, within_record, HasRecord, IsIndex, IsElementBelow, known_lengths, KeepsVars, Moves, row_below, known_of, index_is_element, In, in_flat, flat_in, in_range, range_high, first_slab, in_record, in_map, map_in, in_zip, zip_in}
-
--- ---- the slabs of one variable
-
-pub slabs_fixed : (old new : Header) (p : Var × Var) → is_record old p.0 ≡ false → slabs_of old new p ≡ first_slab old p ∷ []
-slabs_fixed old new p e = rw (e, slabs_of) refl
-
-pub slabs_record : (old new : Header) (p : Var × Var) → is_record old p.0 ≡ true
-    → slabs_of old new p ≡ map (λ r. in_record (recsize old) (recsize new) r (first_slab old p)) (range_with_len 0 old.records)
-slabs_record old new p e = rw (e, slabs_of) refl
+use Rattle.redef_laws.proofs.Words.{◌≡◌, ℕ, zero, suc, ◌+◌, ◌*◌, ◌/◌, ◌%◌, ◌<◌, ◌≤◌, refl, sym, ◌∙◌, ap, subst, inl, inr, List, [], ◌∷◌, map, Bool, true, false, cond, Some, arith, row_fits, div-add-mod', div_below, mod_below, nat_tests, zip, slice_get, MatchBool, ◌==◌, range_with_len, some_factor, Header, Var, Slab, slabs, slabs_of, size_of, is_sound, product, lengths, starts_with_zero, without_record, is_record, slab, inner_lengths, recsize, place, row, record_of, within_record, HasRecord, IsIndex, IsElementBelow, known_lengths, KeepsVars, Moves, row_below, known_of, index_is_element, In, in_flat, flat_in, in_range, range_high, first_slab, in_record, in_map, map_in, in_zip, zip_in}
+use Rattle.redef_laws.proofs.SlabLaws.{slab_in, slabs_fixed, slabs_record}
 
 -- ---- places
 
@@ -157,70 +149,48 @@ pub record IsElementByte (old new : Header) (x y : ℕ) : Type 0 where
 abbrev HasBytes : Header → Header → Slab → Type 0
 HasBytes old new s = (d : ℕ) → d < s.len → IsElementByte old new (s.from + d) (s.to + d)
 
-fixed_bytes : (old new : Header) (k : ℕ) (v w : Var) → slice_get old.vars k ≡ Some v → slice_get new.vars k ≡ Some w → IsKept old new v w
-    → is_record old v ≡ false → HasBytes old new (first_slab old (v, w))
-fixed_bytes old new k v w h g a e d l =
-    let size = size_of v.kind in
-    let some : 0 < size = some_factor (product (inner_lengths old v)) size d l in
-    let found = index_of_row (inner_lengths old v) (d / size) (div_below d size (product (inner_lengths old v)) some l) in
-    let one = fixed_place (lengths old v) v.begin (recsize old) size found.0 e in
-    let two = new_place old new v w found.0 a ∙ fixed_place (lengths old v) w.begin (recsize new) size found.0 e in
-    let whole = ap (λ (r : ℕ). r * size + d % size) found.2 ∙ div-add-mod' d size in
-    record {
-      from = place old v found.0;
-      to = place new w found.0;
-      size = size;
-      byte = d % size;
-      moves = (k, v, w, found.0, h, g, known_fixed old.records (lengths old v) found.0 e found.1, refl, refl, refl);
-      inside = mod_below d size some;
-      before = omega (arith, one, whole);
-      after = omega (arith, two, whole);
-    }
+-- a row of a record, or of a fixed variable, by its index
+record IsAtRow (lens : List ℕ) (known r q : ℕ) : Type 0 where
+  index : List ℕ
+  within : IsIndex (map (known_of known) lens) index
+  place : (begin step size : ℕ) → place_by lens begin step size index ≡ begin + r * step + q * size
 
-record_bytes : (old new : Header) (k : ℕ) (v w : Var) (r : ℕ) → slice_get old.vars k ≡ Some v → slice_get new.vars k ≡ Some w → IsKept old new v w
-    → is_record old v ≡ true → r < old.records → HasBytes old new (in_record (recsize old) (recsize new) r (first_slab old (v, w)))
-record_bytes old new k v w r h g a e b d l =
-    let size = size_of v.kind in
-    let some : 0 < size = some_factor (product (inner_lengths old v)) size d l in
-    let found = index_of_row (inner_lengths old v) (d / size) (div_below d size (product (inner_lengths old v)) some l) in
-    let index : List ℕ = r ∷ found.0 in
-    let one = record_place (lengths old v) v.begin (recsize old) size index e in
-    let two = new_place old new v w index a ∙ record_place (lengths old v) w.begin (recsize new) size index e in
-    let whole = ap (λ (q : ℕ). q * size + d % size) found.2 ∙ div-add-mod' d size in
-    record {
-      from = place old v index;
-      to = place new w index;
-      size = size;
-      byte = d % size;
-      moves = (k, v, w, index, h, g, known_record old.records (lengths old v) found.0 r e b found.1, refl, refl, refl);
-      inside = mod_below d size some;
-      before = omega (arith, one, whole);
-      after = omega (arith, two, whole);
+at_row : (lens : List ℕ) (known r q : ℕ) → (starts_with_zero lens ≡ false → r ≡ 0) → (starts_with_zero lens ≡ true → r < known) → q < product (without_record lens) → IsAtRow lens known r q
+at_row lens known r q once below l = by_kind (starts_with_zero lens) refl
+  where
+    found : (index : List ℕ) × IsIndex (without_record lens) index × (row (without_record lens) index ≡ q)
+    found = index_of_row (without_record lens) q l
+
+    by_kind : (t : Bool) → starts_with_zero lens ≡ t → IsAtRow lens known r q
+    by_kind false e = record {
+      index = found.0;
+      within = known_fixed known lens found.0 e found.1;
+      place = λ begin step size. omega (arith, fixed_place lens begin step size found.0 e, ap (λ (x : ℕ). x * step) (once e), ap (λ (x : ℕ). x * size) found.2);
+    }
+    by_kind true e = record {
+      index = r ∷ found.0;
+      within = known_record known lens found.0 r e (below e) found.1;
+      place = λ begin step size. record_place lens begin step size (r ∷ found.0) e ∙ ap (λ (x : ℕ). begin + r * step + x * size) found.2;
     }
 
 pub slab_bytes : (old new : Header) → KeepsVars old new → (s : Slab) → In (slabs old new) s → HasBytes old new s
-slab_bytes old new keeps s h = by_kind (is_record old p.0) refl
-  where
-    found : (p : Var × Var) × In (zip old.vars new.vars) p × In (slabs_of old new p) s
-    found = flat_in (slabs_of old new) (zip old.vars new.vars) s h
-
-    p : Var × Var
-    p = found.0
-
-    at : (k : ℕ) × (slice_get old.vars k ≡ Some p.0) × (slice_get new.vars k ≡ Some p.1)
-    at = zip_in old.vars new.vars p found.1
-
-    own : IsKept old new p.0 p.1
-    own = kept old new keeps at.0 p.0 p.1 at.1 at.2
-
-    by_kind : (t : Bool) → is_record old p.0 ≡ t → HasBytes old new s
-    by_kind false e =
-        only (subst (λ (ss : List Slab). In ss s) (slabs_fixed old new p e) found.2)
-      where
-        only : In (first_slab old p ∷ []) s → HasBytes old new s
-        only (inl q) = subst (HasBytes old new) q (fixed_bytes old new at.0 p.0 p.1 at.1 at.2 own e)
-        only (inr q) = absurd q
-    by_kind true e =
-        let each : ℕ → Slab = λ r. in_record (recsize old) (recsize new) r (first_slab old p) in
-        let one = map_in each (range_with_len 0 old.records) s (subst (λ (ss : List Slab). In ss s) (slabs_record old new p e) found.2) in
-        subst (HasBytes old new) one.2 (record_bytes old new at.0 p.0 p.1 one.0 at.1 at.2 own e (omega (arith, range_high 0 old.records one.0 one.1)))
+slab_bytes old new keeps s h d l =
+    let p = slab_in old new s keeps h in
+    let size = size_of p.was.kind in
+    let inside : d < slab old p.was = omega (arith, l, p.len) in
+    let some : 0 < size = some_factor (product (inner_lengths old p.was)) size d inside in
+    let e = at_row (lengths old p.was) old.records p.row (d / size) p.once p.below (div_below d size (product (inner_lengths old p.was)) some inside) in
+    let own = kept old new keeps p.number p.was p.now p.pair.at_old p.pair.at_new in
+    let whole = div-add-mod' d size in
+    let one = e.place p.was.begin (recsize old) size in
+    let two = new_place old new p.was p.now e.index own ∙ e.place p.now.begin (recsize new) size in
+    record {
+      from = place old p.was e.index;
+      to = place new p.now e.index;
+      size = size;
+      byte = d % size;
+      moves = (p.number, p.was, p.now, e.index, p.pair.at_old, p.pair.at_new, e.within, refl, refl, refl);
+      inside = mod_below d size some;
+      before = omega (arith, one, whole, p.from);
+      after = omega (arith, two, whole, p.to);
+    }

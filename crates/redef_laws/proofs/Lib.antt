@@ -1,4 +1,5 @@
 mod Words
+pub mod Orders
 mod FieldLaws
 pub mod OpenedLaws
 mod GrownLaws
@@ -13,7 +14,6 @@ mod ApartLaws
 pub mod WrittenLaws
 mod SoundVars
 mod RecordSizes
-mod Ordered
 mod PlacedLaws
 mod SlabLaws
 mod SlabOrder
@@ -21,9 +21,6 @@ mod ShiftLaws
 mod ElementSlabs
 pub mod MovedLaws
 mod ChainLaws
-mod SumLaws
-mod FallingLaws
 mod GapLaws
-mod OldBegins
 pub mod RisingLaws
 pub mod AppliedLaws

@@ -1,11 +1,21 @@
 -- Where the old variables begin in a redefined header: no lower than before, and in the same order.
-use Rattle.redef_laws.proofs.Words.{◌≡◌, ℕ, ◌+◌, ◌-◌, ◌<◌, ◌≤◌, refl, sym, ◌∙◌, ap, List, [], ◌∷◌, ◌++◌, map, Bool, true, false, Option, Some, arith, nat_tests, find-append, slice_get, find, not, nat_lt, ◌==◌, unwrap_or, enumerate_from, option_or, lt-ltb, Header, Var, is_record, slab, header_len, least, Numbered, fixed_of, old_of, new_of, by_begin, fixed_order, begin_at, fixed_begins, front_after, first_record, record_begins, begins_by_number, begin_of_number, In, in_filter, in_numbered}
+use Rattle.redef_laws.proofs.Words.{◌≡◌, ℕ, ◌+◌, ◌-◌, ◌<◌, ◌≤◌, refl, sym, ◌∙◌, ap, List, [], ◌∷◌, ◌++◌, map, Bool, true, false, Option, Some, arith, nat_tests, find-append, leb-true, leb-false, begins_before, slice_get, find, not, nat_lt, ◌==◌, unwrap_or, enumerate_from, option_or, lt-ltb, Header, Var, is_record, slab, header_len, least, Numbered, fixed_of, old_of, new_of, by_begin, fixed_order, begin_at, fixed_begins, front_after, first_record, record_begins, begins_by_number, begin_of_number, In, in_filter, in_numbered}
 use borrow.Author.Tests.{eqb-true}
-use Rattle.redef_laws.proofs.BeginLaws.{at_number, each_by_begin, each_filter, fixed_begin, found_is, head_begin, in_tail, mapped_begins, Numbers, numbers_of, same_var, tail_begin}
+use Rattle.redef_laws.proofs.BeginLaws.{at_number, in_by_begin, each_by_begin, each_filter, fixed_begin, found_is, head_begin, in_tail, mapped_begins, Numbers, numbers_of, same_var, tail_begin}
 use Rattle.redef_laws.proofs.PlaceLaws.{begin_is, first_of, first_place, fixed_end, fixed_place, in_old, new_from, new_records, numbered, old_first, old_first_low, old_place, old_place_of, old_records, placed_records}
-use Rattle.redef_laws.proofs.Ordered.{AreOrdered, by_begin_same, by_begin_ordered}
+use Rattle.redef_laws.proofs.Orders.{Orders, Pairwise, pairs_by_place, sorted_pairs}
 
 -- ---- fixed variables
+
+abbrev AreOrdered : List Numbered → Type 0
+AreOrdered vars = Pairwise (λ v w. v.1.begin ≤ w.1.begin) vars
+
+begins_order : Orders begins_before (λ v w. Unit {0}) (λ v w. v.1.begin ≤ w.1.begin)
+begins_order = record { passed = λ v w u e. leb-true v.1.begin w.1.begin e; failed = λ v w u e. (let l = leb-false v.1.begin w.1.begin e in omega arith); on = λ v w x l m. omega (arith, l, m) }
+
+by_begin_ordered : (vars : List Numbered) → AreOrdered (by_begin vars)
+by_begin_ordered vars =
+    sorted_pairs begins_before (λ v w. Unit {0}) (λ v w. v.1.begin ≤ w.1.begin) begins_order vars (pairs_by_place (λ v w. Unit {0}) vars (λ i j v w l e f. tt))
 
 -- The lower of two variables in order is placed lower.
 fixed_rise : (header : Header) (vars : List Var) (front : ℕ) (list : List Numbered) (k m : ℕ) (u x : Var) (b c : ℕ) → Numbers vars list → AreOrdered list
@@ -47,7 +57,7 @@ abbrev old_fixed : Header → ℕ → List Numbered
 old_fixed header n = old_of n (fixed_of header (enumerate_from 0 header.vars))
 
 fixed_is_old : (header : Header) (n k : ℕ) (v : Var) → slice_get header.vars k ≡ Some v → k < n → is_record header v ≡ false → In (by_begin (old_fixed header n)) (k, v)
-fixed_is_old header n k v h l e = grind (arith, nat_tests, by_begin_same (old_fixed header n), in_numbered header.vars k v h, lt-ltb k n l, in_filter)
+fixed_is_old header n k v h l e = grind (arith, nat_tests, in_by_begin, in_numbered header.vars k v h, lt-ltb k n l, in_filter)
 
 fixed_numbers : (header : Header) (n : ℕ) → Numbers header.vars (by_begin (old_fixed header n))
 fixed_numbers header n =
@@ -71,7 +81,7 @@ fixed_found header n k b h =
     (record_begins header (new_from header n) (new_records header n)) k (k, b) fixed)
 
 -- old fixed variables keep their order
-pub fixed_begins_rise : (header : Header) (n k m : ℕ) (v w : Var) → slice_get header.vars k ≡ Some v → slice_get header.vars m ≡ Some w → k < n → m < n
+fixed_begins_rise : (header : Header) (n k m : ℕ) (v w : Var) → slice_get header.vars k ≡ Some v → slice_get header.vars m ≡ Some w → k < n → m < n
     → is_record header v ≡ false → is_record header w ≡ false → v.begin < w.begin
     → begin_of_number (begins_by_number header n) k ≤ begin_of_number (begins_by_number header n) m
 fixed_begins_rise header n k m v w h g i j e f l =
@@ -105,7 +115,15 @@ begin_rises header n k v h l = by_kind (is_record header v) refl
         omega (arith, found, low, past)
 
 -- old record variables keep their distances
-pub record_begins_rise : (header : Header) (n k m : ℕ) (v w : Var) → slice_get header.vars k ≡ Some v → slice_get header.vars m ≡ Some w → k < n → m < n
+record_begins_rise : (header : Header) (n k m : ℕ) (v w : Var) → slice_get header.vars k ≡ Some v → slice_get header.vars m ≡ Some w → k < n → m < n
     → is_record header v ≡ true → is_record header w ≡ true → v.begin < w.begin
     → begin_of_number (begins_by_number header n) k ≤ begin_of_number (begins_by_number header n) m
 record_begins_rise header n k m v w h g i j e f l = grind (arith, nat_tests, record_begin_is header n k v h i e, record_begin_is header n m w g j f)
+
+pub begins_rise : (header : Header) (n k m : ℕ) (v w : Var) → slice_get header.vars k ≡ Some v → slice_get header.vars m ≡ Some w → k < n → m < n
+    → is_record header v ≡ is_record header w → v.begin < w.begin → begin_of_number (begins_by_number header n) k ≤ begin_of_number (begins_by_number header n) m
+begins_rise header n k m v w h g i j same l = by_kind (is_record header v) refl
+  where
+    by_kind : (t : Bool) → is_record header v ≡ t → begin_of_number (begins_by_number header n) k ≤ begin_of_number (begins_by_number header n) m
+    by_kind false e = fixed_begins_rise header n k m v w h g i j e (sym same ∙ e) l
+    by_kind true e = record_begins_rise header n k m v w h g i j e (sym same ∙ e) l

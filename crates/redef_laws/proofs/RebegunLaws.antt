@@ -26,7 +26,7 @@ rebegun_at found n (v ∷ vs) zero w h =
     (v, refl, ap (λ (m : ℕ). at_begin v (begin_of_number found m)) (let e : n + 0 ≡ n = omega arith in e) ∙ (let e : at_begin v (begin_of_number found n) ≡ w = cc in e))
 rebegun_at found n (v ∷ vs) (suc k) w h = grind (arith, nat_tests, rebegun_at found (n + 1) vs k w h, at_begin)
 
-rebegun_slabs : (header : Header) (found : List (ℕ × ℕ)) (n : ℕ) (vs : List Var)
+pub rebegun_slabs : (header : Header) (found : List (ℕ × ℕ)) (n : ℕ) (vs : List Var)
     → map (λ v. slab header v) (record_variables header (rebegun found n vs)) ≡ map (λ v. slab header v) (record_variables header vs)
 rebegun_slabs header found n [] = refl
 rebegun_slabs header found n (v ∷ vs) = grind (arith, nat_tests, rebegun_slabs header found (n + 1) vs, at_begin)

@@ -1,5 +1,5 @@
 -- The slabs of the old variables: what they are, and where each lies.
-use Rattle.redef_laws.proofs.Words.{subst, ◌≡◌, ℕ, ◌+◌, ◌-◌, ◌*◌, ◌<◌, ◌≤◌, refl, sym, ◌∙◌, ap, inl, inr, ◌⊎◌, List, [], ◌∷◌, map, Bool, true, false, Some, arith, mul-le, slice_get, zip, range_with_len, Header, Var, Slab, slabs, slabs_of, header_len, is_sound, is_record, slab, recsize, end_of_var, lengths, KeepsVars, end_holds, slab_below, slab_shared, some_record, In, flat_in, range_high, IsShifted, new_end, map_in, zip_in, nat_tests}
+use Rattle.redef_laws.proofs.Words.{subst, ◌≡◌, ℕ, ◌+◌, ◌*◌, ◌<◌, ◌≤◌, refl, sym, ◌∙◌, ap, inl, inr, List, [], ◌∷◌, map, Bool, true, false, true≢false, Some, arith, mul-le, slice_get, zip, range_with_len, Header, Var, Slab, slabs, slabs_of, header_len, is_sound, is_record, slab, recsize, end_of_var, lengths, KeepsVars, end_holds, slab_below, slab_shared, some_record, In, flat_in, range_high, IsShifted, new_end, map_in, zip_in, first_slab, in_record, nat_tests}
 use Rattle.redef_laws.proofs.RecordSizes.{same_slab, same_record, record_grows}
 use Rattle.redef_laws.proofs.SoundVars.{slab_holds, past_front}
 
@@ -21,24 +21,15 @@ pub record IsPair (old new : Header) (k : ℕ) (v w : Var) : Type 0 where
   pub size : slab new w ≡ slab old v
   pub kind : is_record new w ≡ is_record old v
 
-pub record IsFixedSlab (old new : Header) (s : Slab) : Type 0 where
+-- a slab of an old variable, which stands in row 0 where the variable is fixed
+pub record IsSlab (old new : Header) (s : Slab) : Type 0 where
   pub number : ℕ
   pub was : Var
   pub now : Var
   pub pair : IsPair old new number was now
-  pub kind : is_record old was ≡ false
-  pub from : s.from ≡ was.begin
-  pub to : s.to ≡ now.begin
-  pub len : s.len ≡ slab old was
-
-pub record IsRecordSlab (old new : Header) (s : Slab) : Type 0 where
-  pub number : ℕ
-  pub was : Var
-  pub now : Var
-  pub pair : IsPair old new number was now
-  pub kind : is_record old was ≡ true
   pub row : ℕ
-  pub below : row < old.records
+  pub once : is_record old was ≡ false → row ≡ 0
+  pub below : is_record old was ≡ true → row < old.records
   pub from : s.from ≡ was.begin + row * recsize old
   pub to : s.to ≡ now.begin + row * recsize new
   pub len : s.len ≡ slab old was
@@ -57,30 +48,62 @@ pair_at old new k v w keeps h g = by_found (keeps k v h)
           kind = ap (λ (x : Var). is_record new x) (sym same) ∙ same_record old new v y lens;
         }
 
-abbrev slabs_by : Header → Header → Var → Var → Bool → List Slab
-slabs_by old new v w t =
-    elim t [
-      | false ↦ record { from = v.begin; to = w.begin; len = slab old v } ∷ []
-      | true ↦ map (λ r. record { from = v.begin + r * recsize old; to = w.begin + r * recsize new; len = slab old v }) (range_with_len 0 old.records)
-    ]
+pub slabs_fixed : (old new : Header) (p : Var × Var) → is_record old p.0 ≡ false → slabs_of old new p ≡ first_slab old p ∷ []
+slabs_fixed old new p e = rw (e, slabs_of) refl
 
-pub slab_in : (old new : Header) (s : Slab) → KeepsVars old new → In (slabs old new) s → IsFixedSlab old new s ⊎ IsRecordSlab old new s
+pub slabs_record : (old new : Header) (p : Var × Var) → is_record old p.0 ≡ true
+    → slabs_of old new p ≡ map (λ r. in_record (recsize old) (recsize new) r (first_slab old p)) (range_with_len 0 old.records)
+slabs_record old new p e = rw (e, slabs_of) refl
+
+pub slab_of_pair : (old new : Header) (k : ℕ) (v w : Var) (s : Slab) → IsPair old new k v w → In (slabs_of old new (v, w)) s → (p : IsSlab old new s) × (p.number ≡ k)
+slab_of_pair old new k v w s pair h = by_kind (is_record old v) refl
+  where
+    by_kind : (t : Bool) → is_record old v ≡ t → (p : IsSlab old new s) × (p.number ≡ k)
+    by_kind false e = only (subst (λ (ss : List Slab). In ss s) (slabs_fixed old new (v, w) e) h)
+      where
+        only : In (first_slab old (v, w) ∷ []) s → (p : IsSlab old new s) × (p.number ≡ k)
+        only (inr g) = absurd g
+        only (inl g) =
+            let from = ap (λ (x : Slab). x.from) g in
+            let to = ap (λ (x : Slab). x.to) g in (
+              record {
+                number = k;
+                was = v;
+                now = w;
+                pair = pair;
+                row = 0;
+                once = λ f. refl;
+                below = λ f. absurd (true≢false (sym f ∙ e));
+                from = omega arith;
+                to = omega arith;
+                len = ap (λ (x : Slab). x.len) (sym g);
+              },
+              refl,
+            )
+    by_kind true e =
+        let each : ℕ → Slab = λ r. in_record (recsize old) (recsize new) r (first_slab old (v, w)) in
+        let at = map_in each (range_with_len 0 old.records) s (subst (λ (ss : List Slab). In ss s) (slabs_record old new (v, w) e) h) in
+        let high = range_high 0 old.records at.0 at.1 in (
+          record {
+            number = k;
+            was = v;
+            now = w;
+            pair = pair;
+            row = at.0;
+            once = λ f. absurd (true≢false (sym e ∙ f));
+            below = λ f. (let l : at.0 < old.records = omega arith in l);
+            from = ap (λ (x : Slab). x.from) (sym at.2);
+            to = ap (λ (x : Slab). x.to) (sym at.2);
+            len = ap (λ (x : Slab). x.len) (sym at.2);
+          },
+          refl,
+        )
+
+pub slab_in : (old new : Header) (s : Slab) → KeepsVars old new → In (slabs old new) s → IsSlab old new s
 slab_in old new s keeps h =
     let found = flat_in (slabs_of old new) (zip old.vars new.vars) s h in
     let at = zip_in old.vars new.vars found.0 found.1 in
-    by_kind at.0 found.0.0 found.0.1 (pair_at old new at.0 found.0.0 found.0.1 keeps at.1 at.2) (is_record old found.0.0) refl found.2
-  where
-    by_kind : (k : ℕ) (v w : Var) → IsPair old new k v w → (t : Bool) → is_record old v ≡ t → In (slabs_by old new v w t) s
-        → IsFixedSlab old new s ⊎ IsRecordSlab old new s
-    by_kind k v w pair false e (inl g) =
-        subst (λ (x : Slab). IsFixedSlab old new x ⊎ IsRecordSlab old new x) g
-        (inl (record { number = k; was = v; now = w; pair = pair; kind = e; from = refl; to = refl; len = refl }))
-    by_kind k v w pair false e (inr g) = absurd g
-    by_kind k v w pair true e g =
-        let at = map_in (λ r. record { from = v.begin + r * recsize old; to = w.begin + r * recsize new; len = slab old v }) (range_with_len 0 old.records) s g in
-        let high = range_high 0 old.records at.0 at.1 in
-        subst (λ (x : Slab). IsFixedSlab old new x ⊎ IsRecordSlab old new x) at.2
-        (inr (record { number = k; was = v; now = w; pair = pair; kind = e; row = at.0; below = omega arith; from = refl; to = refl; len = refl }))
+    (slab_of_pair old new at.0 found.0.0 found.0.1 s (pair_at old new at.0 found.0.0 found.0.1 keeps at.1 at.2) found.2).0
 
 -- ---- where a slab lies
 
@@ -90,29 +113,23 @@ fixed_ends header n v e = grind (arith, nat_tests, slab_below)
 record_ends : (header : Header) (n r : ℕ) (v : Var) → is_record header v ≡ true → r < n → v.begin + r * recsize header + slab header v ≤ end_of_var header n v
 record_ends header n r v e h = grind (arith, nat_tests, some_record, mul-le, slab_shared)
 
-fixed_lies : (old new : Header) → IsRaised old new → (s : Slab) → IsFixedSlab old new s → IsShifted (header_len old) (header_len new) (new_end old new) s
-fixed_lies old new raised s f =
-    let holds = slab_holds old f.number f.was raised.sound_old f.pair.at_old in
-    let before = past_front old f.number f.was raised.sound_old f.pair.at_old in
-    let after = past_front new f.number f.now raised.sound_new f.pair.at_new in
-    let up = raised.up f.number f.was f.now f.pair.at_old f.pair.at_new in
-    let own = fixed_ends new old.records f.now (f.pair.kind ∙ f.kind) in
-    let whole = end_holds new (header_len new) old.records f.number f.now f.pair.at_new in
-    record {
-      some = omega (arith, f.len, holds);
-      old_past = omega (arith, f.from, before);
-      up = omega (arith, f.from, f.to, up);
-      past = omega (arith, f.to, after);
-      inside = omega (arith, f.to, f.len, f.pair.size, own, whole);
-    }
+ends_in : (header : Header) (n r : ℕ) (v : Var) → (is_record header v ≡ false → r ≡ 0) → (is_record header v ≡ true → r < n) → v.begin + r * recsize header + slab header v ≤ end_of_var header n v
+ends_in header n r v once below = by_kind (is_record header v) refl
+  where
+    by_kind : (t : Bool) → is_record header v ≡ t → v.begin + r * recsize header + slab header v ≤ end_of_var header n v
+    by_kind true e = record_ends header n r v e (below e)
+    by_kind false e =
+        let first : r * recsize header ≡ 0 * recsize header = ap (λ (x : ℕ). x * recsize header) (once e) in
+        omega (arith, first, fixed_ends header n v e)
 
-record_lies : (old new : Header) → IsRaised old new → (s : Slab) → IsRecordSlab old new s → IsShifted (header_len old) (header_len new) (new_end old new) s
-record_lies old new raised s f =
+pub slab_lies : (old new : Header) → IsRaised old new → (s : Slab) → In (slabs old new) s → IsShifted (header_len old) (header_len new) (new_end old new) s
+slab_lies old new raised s h =
+    let f = slab_in old new s raised.keeps h in
     let holds = slab_holds old f.number f.was raised.sound_old f.pair.at_old in
     let before = past_front old f.number f.was raised.sound_old f.pair.at_old in
     let after = past_front new f.number f.now raised.sound_new f.pair.at_new in
     let up = raised.up f.number f.was f.now f.pair.at_old f.pair.at_new in
-    let own = record_ends new old.records f.row f.now (f.pair.kind ∙ f.kind) f.below in
+    let own = ends_in new old.records f.row f.now (λ e. f.once (sym f.pair.kind ∙ e)) (λ e. f.below (sym f.pair.kind ∙ e)) in
     let whole = end_holds new (header_len new) old.records f.number f.now f.pair.at_new in
     let rows = mul-le f.row (recsize old) f.row (recsize new) (omega arith) (record_grows old new raised.keeps) in
     record {
@@ -122,10 +139,3 @@ record_lies old new raised s f =
       past = omega (arith, f.to, after);
       inside = omega (arith, f.to, f.len, f.pair.size, own, whole);
     }
-
-pub slab_lies : (old new : Header) → IsRaised old new → (s : Slab) → In (slabs old new) s → IsShifted (header_len old) (header_len new) (new_end old new) s
-slab_lies old new raised s h =
-    elim (slab_in old new s raised.keeps h) [
-      | inl f ↦ fixed_lies old new raised s f
-      | inr f ↦ record_lies old new raised s f
-    ]

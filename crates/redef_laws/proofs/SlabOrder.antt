@@ -1,63 +1,86 @@
--- No slab of an old variable passes another.
-use Rattle.redef_laws.proofs.Words.{◌≡◌, ℕ, ◌+◌, ◌*◌, ◌<◌, ◌≤◌, sym, ◌∙◌, ap, inl, inr, ◌⊎◌, true, false, arith, cases_lt, cases_eq, row_fits, mul-le, Header, Var, Slab, slabs, header_len, is_sound, is_record, slab, recsize, slab_fits, IsLower, AreShifted, new_end, nat_tests}
+-- No slab of an old variable passes another, and none begins where another one does.
+use Rattle.redef_laws.proofs.Words.{◌≡◌, ℕ, zero, suc, ◌+◌, ◌*◌, ◌<◌, ◌≤◌, refl, sym, ◌∙◌, ap, inl, inr, ◌⊎◌, Bool, true, false, Some, subst, List, [], ◌∷◌, slice_get, zip, arith, cases_lt, cases_eq, row_fits, mul-le, range_with_len, Header, Var, Slab, slabs, slabs_of, header_len, is_sound, is_record, slab, recsize, slab_fits, IsLower, AreShifted, new_end, In, zip_in, first_slab, in_record, nat_tests}
 use Rattle.redef_laws.proofs.RecordSizes.{record_grows}
-use Rattle.redef_laws.proofs.SoundVars.{slab_holds, vars_apart, IsApart, InTurn, swapped}
-use Rattle.redef_laws.proofs.SlabLaws.{IsRaised, IsPair, IsFixedSlab, IsRecordSlab, slab_in, slab_lies}
+use Rattle.redef_laws.proofs.SoundVars.{slab_holds, vars_apart, IsApart, InTurn}
+use Rattle.redef_laws.proofs.SlabLaws.{IsRaised, IsPair, IsSlab, slabs_fixed, slabs_record, pair_at, slab_of_pair, slab_in, slab_lies}
+use Rattle.redef_laws.proofs.Orders.{Pairwise, pairs_weaker, pairs_map, pairs_range, pairs_flat, pairs_by_place}
 
--- ---- n bytes from a and m bytes from b, in records r and u of one size
+-- ---- n bytes from a and m bytes from b, in records of one size before and of another now, which begin x and y bytes, and x' and y' bytes, on
 
-abbrev Turns : ℕ → ℕ → ℕ → ℕ → ℕ → Type 0
-Turns size a n b m = InTurn size a n b m ⊎ InTurn size b m a n
+-- a record ends before the other begins, or they are the same
+abbrev Rows : ℕ → ℕ → ℕ → ℕ → ℕ → ℕ → Type 0
+Rows size size' x y x' y' = ((x + size ≤ y) × (x' + size' ≤ y')) ⊎ (((x ≡ y) × (x' ≡ y')) ⊎ ((y + size ≤ x) × (y' + size' ≤ x')))
 
-first_ends : (a n b m : ℕ) → 0 < m → a ≤ b → (a + n ≤ b) ⊎ (b + m ≤ a) → a + n ≤ b
-first_ends a n b m p l (inl h) = h
-first_ends a n b m p l (inr h) = omega arith
-
-turn_ends : (size a n b m : ℕ) → 0 < m → a ≤ b → Turns size a n b m → a + n ≤ b
-turn_ends size a n b m p l (inl t) = t.next
-turn_ends size a n b m p l (inr t) = let h = t.next in omega arith
-
--- an earlier record ends before a later one begins
-record_passed : (size a n b m r u : ℕ) → Turns size a n b m → r < u → a + r * size + n ≤ b + u * size
-record_passed size a n b m r u xs l = grind (arith, nat_tests, row_fits)
-
-same_row : (size r u : ℕ) → r ≤ u → u ≤ r → r * size ≡ u * size
-same_row size r u l h = let e : r ≡ u = omega arith in ap (λ (x : ℕ). x * size) e
-
--- what lies lower is in an earlier record, or lower in the same one
-lower_place : (size a n b m r u : ℕ) → 0 < m → Turns size a n b m → a + r * size < b + u * size → (r < u) ⊎ ((r ≡ u) × (a < b))
-lower_place size a n b m r u p t h = by_record (cases_lt r u) (cases_lt u r)
+rows_of : (size size' r u : ℕ) → Rows size size' (r * size) (u * size) (r * size') (u * size')
+rows_of size size' r u = by_order (cases_lt r u) (cases_lt u r)
   where
-    by_record : (r < u) ⊎ (u ≤ r) → (u < r) ⊎ (r ≤ u) → (r < u) ⊎ ((r ≡ u) × (a < b))
-    by_record (inl l) o = inl l
-    by_record (inr l) (inl k) = let passed = record_passed size b m a n u r (swapped t) k in absurd (omega arith)
-    by_record (inr l) (inr k) =
-        let rows = same_row size r u k l in
-        let number : r ≡ u = omega arith in
-        let low : a < b = omega arith in
-        inr (number, low)
+    by_order : (r < u) ⊎ (u ≤ r) → (u < r) ⊎ (r ≤ u) → Rows size size' (r * size) (u * size) (r * size') (u * size')
+    by_order (inl l) o = inl (row_fits r size u size l (omega arith), row_fits r size' u size' l (omega arith))
+    by_order (inr l) (inl k) = inr (inr (row_fits u size r size k (omega arith), row_fits u size' r size' k (omega arith)))
+    by_order (inr l) (inr k) = let e : r ≡ u = omega arith in inr (inl (ap (λ (z : ℕ). z * size) e, ap (λ (z : ℕ). z * size') e))
 
--- nothing lies where another does
-places_differ : (size a n b m r u : ℕ) → 0 < n → 0 < m → Turns size a n b m → a + r * size ≡ b + u * size → ⊥
-places_differ size a n b m r u p q t e = by_record (cases_lt r u) (cases_lt u r)
-  where
-    by_record : (r < u) ⊎ (u ≤ r) → (u < r) ⊎ (r ≤ u) → ⊥
-    by_record (inl l) o = let passed = record_passed size a n b m r u t l in absurd (omega arith)
-    by_record (inr l) (inl k) = let passed = record_passed size b m a n u r (swapped t) k in absurd (omega arith)
-    by_record (inr l) (inr k) =
-        let rows = same_row size r u k l in
-        absurd (omega (arith, turn_ends size a n b m q (omega arith) t))
+-- what is in no record is in the first one
+abbrev Once : Bool → ℕ → ℕ → Type 0
+Once t x x' = t ≡ false → (x ≡ 0) × (x' ≡ 0)
 
-own_place : (size n r u : ℕ) → n ≤ size → r < u → r * size + n ≤ u * size
-own_place size n r u fits l = let row : r * size + size ≤ u * size = row_fits r size u size l (omega arith) in omega arith
+-- of two variables
+abbrev Lower : ℕ → ℕ → ℕ → ℕ → ℕ → Type 0
+Lower n a b a' b' = (a + n ≤ b) × (a' + n ≤ b')
 
-own_lower : (size a r u : ℕ) → a + r * size < a + u * size → r < u
-own_lower size a r u h = grind (arith, nat_tests, cases_lt, mul-le)
+two_lower : (size size' a n b m a' b' x y x' y' : ℕ) (s t : Bool) → IsApart size a n b m s t → IsApart size' a' n b' m s t → 0 < m → Once s x x' → Once t y y'
+    → (s ≡ t → a < b → a' ≤ b') → Rows size size' x y x' y' → a + x < b + y → Lower n (a + x) (b + y) (a' + x') (b' + y')
+two_lower size size' a n b m a' b' x y x' y' false false p q some one two order rows h =
+    let i = one refl in
+    let j = two refl in
+    let before = p.both_fixed refl refl in
+    let now = q.both_fixed refl refl in
+    let up = order refl (omega (arith, i, j, h)) in
+    (omega (arith, i, j, before, h, some), omega (arith, i, j, now, up, some))
+two_lower size size' a n b m a' b' x y x' y' false true p q some one two order rows h =
+    let i = one refl in
+    let before = p.record_last refl refl in
+    let now = q.record_last refl refl in
+    (omega (arith, i, before), omega (arith, i, now))
+two_lower size size' a n b m a' b' x y x' y' true false p q some one two order rows h =
+    let j = two refl in
+    let before = p.record_first refl refl in
+    absurd (omega (arith, j, before, h))
+two_lower size size' a n b m a' b' x y x' y' true true p q some one two order (inl l) h =
+    let before = p.both_records refl refl in
+    let now = q.both_records refl refl in
+    (omega (arith, before, l), omega (arith, now, l))
+two_lower size size' a n b m a' b' x y x' y' true true p q some one two order (inr (inl e)) h =
+    let before = p.both_records refl refl in
+    let now = q.both_records refl refl in
+    let up = order refl (omega (arith, e, h)) in
+    (omega (arith, before, e, h, some), omega (arith, now, e, up, some))
+two_lower size size' a n b m a' b' x y x' y' true true p q some one two order (inr (inr l)) h =
+    let before = p.both_records refl refl in
+    absurd (omega (arith, before, l, h))
 
-own_same : (size a n r u : ℕ) → 0 < n → n ≤ size → a + r * size ≡ a + u * size → r ≡ u
-own_same size a n r u p fits e = grind (arith, nat_tests, cases_lt, own_place)
+pub begins_differ : (size size' a n b m x y x' y' : ℕ) (s t : Bool) → IsApart size a n b m s t → 0 < n → 0 < m → Once s x x' → Once t y y' → Rows size size' x y x' y' → a + x ≡ b + y → ⊥
+begins_differ size size' a n b m x y x' y' false false p some one i j rows h = let f = p.both_fixed refl refl in let k = i refl in let l = j refl in absurd (omega (arith, f, k, l, h, some, one))
+begins_differ size size' a n b m x y x' y' false true p some one i j rows h = let f = p.record_last refl refl in let k = i refl in absurd (omega (arith, f, k, h, some))
+begins_differ size size' a n b m x y x' y' true false p some one i j rows h = let f = p.record_first refl refl in let l = j refl in absurd (omega (arith, f, l, h, one))
+begins_differ size size' a n b m x y x' y' true true p some one i j rows h = let f = p.both_records refl refl in absurd (omega (arith, f, rows, h, some, one))
 
--- ---- two old variables
+-- of one variable
+one_lower : (size size' a n a' x y x' y' : ℕ) (t : Bool) → (t ≡ true → n ≤ size) → size ≤ size' → Once t x x' → Once t y y' → Rows size size' x y x' y' → a + x < a + y
+    → Lower n (a + x) (a + y) (a' + x') (a' + y')
+one_lower size size' a n a' x y x' y' false fits grows one two rows h = let i = one refl in let j = two refl in absurd (omega (arith, i, j, h))
+one_lower size size' a n a' x y x' y' true fits grows one two rows h = let f = fits refl in (omega (arith, f, rows, h), omega (arith, f, grows, rows, h))
+
+one_same : (size size' a n x y x' y' : ℕ) (t : Bool) → (t ≡ true → n ≤ size) → 0 < n → Once t x x' → Once t y y' → Rows size size' x y x' y' → a + x ≡ a + y → x' ≡ y'
+one_same size size' a n x y x' y' false fits some one two rows h = let i = one refl in let j = two refl in omega (arith, i, j)
+one_same size size' a n x y x' y' true fits some one two rows h = let f = fits refl in omega (arith, f, rows, h, some)
+
+-- ---- two slabs
+
+pub zip_at : {X Y : Type 0} (xs : List X) (ys : List Y) (k : ℕ) (p : X × Y) → slice_get (zip xs ys) k ≡ Some p → (slice_get xs k ≡ Some p.0) × (slice_get ys k ≡ Some p.1)
+zip_at [] ys k p h = absurd cc
+zip_at (x ∷ xs) [] k p h = absurd cc
+zip_at (x ∷ xs) (y ∷ ys) zero p h = grind (arith, nat_tests)
+zip_at (x ∷ xs) (y ∷ ys) (suc k) p h = zip_at xs ys k p h
 
 apart_now : (old new : Header) (k m : ℕ) (v w x y : Var) → is_sound new ≡ true → IsPair old new k v w → IsPair old new m x y → (k ≡ m → ⊥)
     → IsApart (recsize new) w.begin (slab old v) y.begin (slab old x) (is_record old v) (is_record old x)
@@ -69,145 +92,87 @@ same_var old new k m v w x y p q e = grind (arith, nat_tests)
 same_slab : (s t : Slab) → s.from ≡ t.from → s.to ≡ t.to → s.len ≡ t.len → s ≡ t
 same_slab s t from to len = λ i. record { from = from i; to = to i; len = len i }
 
-apart_before : (old new : Header) (k m : ℕ) (v w x y : Var) → is_sound old ≡ true → IsPair old new k v w → IsPair old new m x y → (k ≡ m → ⊥)
-    → IsApart (recsize old) v.begin (slab old v) x.begin (slab old x) (is_record old v) (is_record old x)
-apart_before old new k m v w x y sound p q differ = vars_apart old k m v x sound p.at_old q.at_old differ
+once : (old new : Header) (s : Slab) (p : IsSlab old new s) → Once (is_record old p.was) (p.row * recsize old) (p.row * recsize new)
+once old new s p e = let row = p.once e in (ap (λ (r : ℕ). r * recsize old) row ∙ omega arith, ap (λ (r : ℕ). r * recsize new) row ∙ omega arith)
 
--- ---- two slabs
+module _ (old new : Header) (raised : IsRaised old new) (s t : Slab) (p : IsSlab old new s) (q : IsSlab old new t) where
+  rows : Rows (recsize old) (recsize new) (p.row * recsize old) (q.row * recsize old) (p.row * recsize new) (q.row * recsize new)
+  rows = rows_of (recsize old) (recsize new) p.row q.row
 
-fixed_lower : (old new : Header) → IsRaised old new → (s t : Slab) → IsFixedSlab old new s → IsFixedSlab old new t → s.from < t.from → IsLower s t
-fixed_lower old new raised s t p q h = by_number (cases_eq p.number q.number)
-  where
-    by_number : (p.number ≡ q.number) ⊎ (p.number ≡ q.number → ⊥) → IsLower s t
-    by_number (inl e) =
-        let same : p.was.begin ≡ q.was.begin = ap (λ (v : Var). v.begin) (same_var old new p.number q.number p.was p.now q.was q.now p.pair q.pair e).0 in
-        absurd (omega (arith, h, p.from, q.from, same))
-    by_number (inr differ) =
-        let low : p.was.begin < q.was.begin = omega (arith, h, p.from, q.from) in
-        let order = raised.order p.number q.number p.was p.now q.was q.now p.pair.at_old p.pair.at_new q.pair.at_old q.pair.at_new (p.kind ∙ sym q.kind) low in
-        let holds = slab_holds old q.number q.was raised.sound_old q.pair.at_old in
-        let old_apart = (apart_before old new p.number q.number p.was p.now q.was q.now raised.sound_old p.pair q.pair differ).both_fixed p.kind q.kind in
-        let new_apart = (apart_now old new p.number q.number p.was p.now q.was q.now raised.sound_new p.pair q.pair differ).both_fixed p.kind q.kind in
-        let old_ends = first_ends p.was.begin (slab old p.was) q.was.begin (slab old q.was) holds (omega (arith, low)) old_apart in
-        let new_ends = first_ends p.now.begin (slab old p.was) q.now.begin (slab old q.was) holds order new_apart in
-        record { before = omega (arith, p.from, p.len, q.from, old_ends); after = omega (arith, p.to, p.len, q.to, new_ends) }
+  holds : (u : Slab) (r : IsSlab old new u) → 0 < slab old r.was
+  holds u r = slab_holds old r.number r.was raised.sound_old r.pair.at_old
 
--- every slab of a fixed variable comes before every one of a record variable
-record_last : (old new : Header) → IsRaised old new → (s t : Slab) → IsFixedSlab old new s → IsRecordSlab old new t → IsLower s t
-record_last old new raised s t p q =
-    let old_apart = (apart_before old new p.number q.number p.was p.now q.was q.now raised.sound_old p.pair q.pair differ).record_last p.kind q.kind in
-    let new_apart = (apart_now old new p.number q.number p.was p.now q.was q.now raised.sound_new p.pair q.pair differ).record_last p.kind q.kind in
-    record { before = omega (arith, p.from, p.len, q.from, old_apart); after = omega (arith, p.to, p.len, q.to, new_apart) }
-  where
-    differ : p.number ≡ q.number → ⊥
-    differ e =
-        let same = (same_var old new p.number q.number p.was p.now q.was q.now p.pair q.pair e).0 in
-        let contrary : false ≡ true = sym p.kind ∙ ap (λ (v : Var). is_record old v) same ∙ q.kind in
-        cc
+  apart_before : (p.number ≡ q.number → ⊥) → IsApart (recsize old) p.was.begin (slab old p.was) q.was.begin (slab old q.was) (is_record old p.was) (is_record old q.was)
+  apart_before differ = vars_apart old p.number q.number p.was q.was raised.sound_old p.pair.at_old q.pair.at_old differ
 
-one_lower : (old new : Header) → IsRaised old new → (s t : Slab) → (p : IsRecordSlab old new s) → (q : IsRecordSlab old new t) → p.was ≡ q.was → p.now ≡ q.now
-    → s.from < t.from → IsLower s t
-one_lower old new raised s t p q was now h =
-    let begin : p.was.begin ≡ q.was.begin = ap (λ (v : Var). v.begin) was in
-    let moved : p.now.begin ≡ q.now.begin = ap (λ (v : Var). v.begin) now in
-    let earlier = own_lower (recsize old) p.was.begin p.row q.row (omega (arith, h, p.from, q.from, begin)) in
-    let fits = slab_fits old p.number p.was p.pair.at_old p.kind in
-    let grows = record_grows old new raised.keeps in
-    let old_place = own_place (recsize old) (slab old p.was) p.row q.row fits earlier in
-    let new_place = own_place (recsize new) (slab old p.was) p.row q.row (omega (arith, fits, grows)) earlier in
-    record { before = omega (arith, p.from, p.len, q.from, begin, old_place); after = omega (arith, p.to, p.len, q.to, moved, new_place) }
-
-two_lower : (old new : Header) → IsRaised old new → (s t : Slab) → (p : IsRecordSlab old new s) → (q : IsRecordSlab old new t) → (p.number ≡ q.number → ⊥)
-    → s.from < t.from → IsLower s t
-two_lower old new raised s t p q differ h =
-    by_place (lower_place (recsize old) p.was.begin (slab old p.was) q.was.begin (slab old q.was) p.row q.row holds turns_before (omega (arith, h, p.from, q.from)))
-  where
-    holds : 0 < slab old q.was
-    holds = slab_holds old q.number q.was raised.sound_old q.pair.at_old
-
-    turns_before : Turns (recsize old) p.was.begin (slab old p.was) q.was.begin (slab old q.was)
-    turns_before = (apart_before old new p.number q.number p.was p.now q.was q.now raised.sound_old p.pair q.pair differ).both_records p.kind q.kind
-
-    turns_now : Turns (recsize new) p.now.begin (slab old p.was) q.now.begin (slab old q.was)
-    turns_now = (apart_now old new p.number q.number p.was p.now q.was q.now raised.sound_new p.pair q.pair differ).both_records p.kind q.kind
-
-    by_place : (p.row < q.row) ⊎ ((p.row ≡ q.row) × (p.was.begin < q.was.begin)) → IsLower s t
-    by_place (inl l) =
-        let old_passed = record_passed (recsize old) p.was.begin (slab old p.was) q.was.begin (slab old q.was) p.row q.row turns_before l in
-        let new_passed = record_passed (recsize new) p.now.begin (slab old p.was) q.now.begin (slab old q.was) p.row q.row turns_now l in
-        record { before = omega (arith, p.from, p.len, q.from, old_passed); after = omega (arith, p.to, p.len, q.to, new_passed) }
-    by_place (inr (row, low)) =
-        let order = raised.order p.number q.number p.was p.now q.was q.now p.pair.at_old p.pair.at_new q.pair.at_old q.pair.at_new (p.kind ∙ sym q.kind) low in
-        let old_ends = turn_ends (recsize old) p.was.begin (slab old p.was) q.was.begin (slab old q.was) holds (omega (arith, low)) turns_before in
-        let new_ends = turn_ends (recsize new) p.now.begin (slab old p.was) q.now.begin (slab old q.was) holds order turns_now in
-        let old_rows = ap (λ (r : ℕ). r * recsize old) row in
-        let new_rows = ap (λ (r : ℕ). r * recsize new) row in
-        record { before = omega (arith, p.from, p.len, q.from, old_ends, old_rows); after = omega (arith, p.to, p.len, q.to, new_ends, new_rows) }
-
-records_lower : (old new : Header) → IsRaised old new → (s t : Slab) → IsRecordSlab old new s → IsRecordSlab old new t → s.from < t.from → IsLower s t
-records_lower old new raised s t p q h = by_number (cases_eq p.number q.number)
-  where
-    by_number : (p.number ≡ q.number) ⊎ (p.number ≡ q.number → ⊥) → IsLower s t
-    by_number (inl e) =
+  lower : s.from < t.from → IsLower s t
+  lower h = elim (cases_eq p.number q.number) [
+    | inl e ↦
         let same = same_var old new p.number q.number p.was p.now q.was q.now p.pair q.pair e in
-        one_lower old new raised s t p q same.0 same.1 h
-    by_number (inr differ) = two_lower old new raised s t p q differ h
+        let begin = ap (λ (v : Var). v.begin) same.0 in
+        let moved = ap (λ (v : Var). v.begin) same.1 in
+        let two : Once (is_record old p.was) (q.row * recsize old) (q.row * recsize new) = λ f. once old new t q (ap (λ (v : Var). is_record old v) (sym same.0) ∙ f) in
+        let l = one_lower (recsize old) (recsize new) p.was.begin (slab old p.was) p.now.begin (p.row * recsize old) (q.row * recsize old) (p.row * recsize new) (q.row * recsize new) (is_record old p.was)
+        (slab_fits old p.number p.was p.pair.at_old) (record_grows old new raised.keeps) (once old new s p) two rows (omega (arith, h, p.from, q.from, begin)) in
+        record { before = omega (arith, l.0, p.from, p.len, q.from, begin); after = omega (arith, l.1, p.to, p.len, q.to, moved) }
+    | inr differ ↦
+        let l = two_lower (recsize old) (recsize new) p.was.begin (slab old p.was) q.was.begin (slab old q.was) p.now.begin q.now.begin (p.row * recsize old) (q.row * recsize old) (p.row * recsize new) (q.row * recsize new) (is_record old p.was) (is_record old q.was)
+        (apart_before differ) (apart_now old new p.number q.number p.was p.now q.was q.now raised.sound_new p.pair q.pair differ) (holds t q) (once old new s p) (once old new t q)
+        (raised.order p.number q.number p.was p.now q.was q.now p.pair.at_old p.pair.at_new q.pair.at_old q.pair.at_new) rows (omega (arith, h, p.from, q.from)) in
+        record { before = omega (arith, l.0, p.from, p.len, q.from); after = omega (arith, l.1, p.to, p.len, q.to) }
+  ]
 
-slabs_lower : (old new : Header) → IsRaised old new → (s t : Slab) → IsFixedSlab old new s ⊎ IsRecordSlab old new s → IsFixedSlab old new t ⊎ IsRecordSlab old new t
-    → s.from < t.from → IsLower s t
-slabs_lower old new raised s t (inl p) (inl q) h = fixed_lower old new raised s t p q h
-slabs_lower old new raised s t (inl p) (inr q) h = record_last old new raised s t p q
-slabs_lower old new raised s t (inr p) (inl q) h = let turned = (record_last old new raised t s q p).before in absurd (omega arith)
-slabs_lower old new raised s t (inr p) (inr q) h = records_lower old new raised s t p q h
+  pub differ_from : (p.number ≡ q.number → ⊥) → s.from ≡ t.from → ⊥
+  differ_from differ h =
+      begins_differ (recsize old) (recsize new) p.was.begin (slab old p.was) q.was.begin (slab old q.was) (p.row * recsize old) (q.row * recsize old) (p.row * recsize new) (q.row * recsize new) (is_record old p.was) (is_record old q.was)
+      (apart_before differ) (holds s p) (holds t q) (once old new s p) (once old new t q) rows (sym p.from ∙ h ∙ q.from)
 
--- ---- no two slabs are at one place
-
-fixed_same : (old new : Header) → IsRaised old new → (s t : Slab) → IsFixedSlab old new s → IsFixedSlab old new t → s.from ≡ t.from → s ≡ t
-fixed_same old new raised s t p q h = by_number (cases_eq p.number q.number)
-  where
-    by_number : (p.number ≡ q.number) ⊎ (p.number ≡ q.number → ⊥) → s ≡ t
-    by_number (inl e) =
+  same : s.from ≡ t.from → s ≡ t
+  same h = elim (cases_eq p.number q.number) [
+    | inr differ ↦ absurd (differ_from differ h)
+    | inl e ↦
         let same = same_var old new p.number q.number p.was p.now q.was q.now p.pair q.pair e in
-        same_slab s t h (p.to ∙ ap (λ (v : Var). v.begin) same.1 ∙ sym q.to) (p.len ∙ ap (λ (v : Var). slab old v) same.0 ∙ sym q.len)
-    by_number (inr differ) =
-        let one = slab_holds old p.number p.was raised.sound_old p.pair.at_old in
-        let two = slab_holds old q.number q.was raised.sound_old q.pair.at_old in
-        let apart = (apart_before old new p.number q.number p.was p.now q.was q.now raised.sound_old p.pair q.pair differ).both_fixed p.kind q.kind in
-        let same : p.was.begin ≡ q.was.begin = sym p.from ∙ h ∙ q.from in
-        let ends = first_ends p.was.begin (slab old p.was) q.was.begin (slab old q.was) two (omega (arith, same)) apart in
-        absurd (omega (arith, one, ends, same))
-
-records_same : (old new : Header) → IsRaised old new → (s t : Slab) → IsRecordSlab old new s → IsRecordSlab old new t → s.from ≡ t.from → s ≡ t
-records_same old new raised s t p q h = by_number (cases_eq p.number q.number)
-  where
-    holds : 0 < slab old p.was
-    holds = slab_holds old p.number p.was raised.sound_old p.pair.at_old
-
-    by_number : (p.number ≡ q.number) ⊎ (p.number ≡ q.number → ⊥) → s ≡ t
-    by_number (inl e) =
-        let same = same_var old new p.number q.number p.was p.now q.was q.now p.pair q.pair e in
-        let begin : p.was.begin ≡ q.was.begin = ap (λ (v : Var). v.begin) same.0 in
-        let row = own_same (recsize old) p.was.begin (slab old p.was) p.row q.row holds (slab_fits old p.number p.was p.pair.at_old p.kind)
-        (sym p.from ∙ h ∙ q.from ∙ ap (λ (n : ℕ). n + q.row * recsize old) (sym begin)) in
-        same_slab s t h (p.to ∙ (λ i. (same.1 i).begin + row i * recsize new) ∙ sym q.to) (p.len ∙ ap (λ (v : Var). slab old v) same.0 ∙ sym q.len)
-    by_number (inr differ) =
-        let two = slab_holds old q.number q.was raised.sound_old q.pair.at_old in
-        let turns = (apart_before old new p.number q.number p.was p.now q.was q.now raised.sound_old p.pair q.pair differ).both_records p.kind q.kind in
-        absurd (places_differ (recsize old) p.was.begin (slab old p.was) q.was.begin (slab old q.was) p.row q.row holds two turns (sym p.from ∙ h ∙ q.from))
-
-slabs_same : (old new : Header) → IsRaised old new → (s t : Slab) → IsFixedSlab old new s ⊎ IsRecordSlab old new s → IsFixedSlab old new t ⊎ IsRecordSlab old new t
-    → 0 < s.len → 0 < t.len → s.from ≡ t.from → s ≡ t
-slabs_same old new raised s t (inl p) (inl q) a b h = fixed_same old new raised s t p q h
-slabs_same old new raised s t (inl p) (inr q) a b h = let passed = (record_last old new raised s t p q).before in absurd (omega arith)
-slabs_same old new raised s t (inr p) (inl q) a b h = let passed = (record_last old new raised t s q p).before in absurd (omega arith)
-slabs_same old new raised s t (inr p) (inr q) a b h = records_same old new raised s t p q h
+        let begin = ap (λ (v : Var). v.begin) same.0 in
+        let moved = ap (λ (v : Var). v.begin) same.1 in
+        let two : Once (is_record old p.was) (q.row * recsize old) (q.row * recsize new) = λ f. once old new t q (ap (λ (v : Var). is_record old v) (sym same.0) ∙ f) in
+        let row = one_same (recsize old) (recsize new) p.was.begin (slab old p.was) (p.row * recsize old) (q.row * recsize old) (p.row * recsize new) (q.row * recsize new) (is_record old p.was) (slab_fits old p.number p.was p.pair.at_old) (holds s p)
+        (once old new s p) two rows (omega (arith, h, p.from, q.from, begin)) in
+        same_slab s t h (omega (arith, p.to, q.to, moved, row)) (p.len ∙ ap (λ (v : Var). slab old v) same.0 ∙ sym q.len)
+  ]
 
 pub raised_shifts : (old new : Header) → IsRaised old new → AreShifted (header_len old) (header_len new) (new_end old new) (slabs old new)
-raised_shifts old new raised =
-    record {
-      each = slab_lies old new raised;
-      lower = λ s t i j h. slabs_lower old new raised s t (slab_in old new s raised.keeps i) (slab_in old new t raised.keeps j) h;
-      same = λ s t i j h.
-          slabs_same old new raised s t (slab_in old new s raised.keeps i) (slab_in old new t raised.keeps j)
-          (slab_lies old new raised s i).some (slab_lies old new raised t j).some h;
-    }
+raised_shifts old new raised = record {
+  each = slab_lies old new raised;
+  lower = λ s t i j. lower old new raised s t (slab_in old new s raised.keeps i) (slab_in old new t raised.keeps j);
+  same = λ s t i j. same old new raised s t (slab_in old new s raised.keeps i) (slab_in old new t raised.keeps j);
+}
+
+-- ---- slabs of different places in the list
+
+abbrev pub Differ : Slab → Slab → Type 0
+Differ s t = s.from ≡ t.from → ⊥
+
+rows_differ : (old new : Header) (v w : Var) → 0 < slab old v → (is_record old v ≡ true → slab old v ≤ recsize old) → Pairwise Differ (slabs_of old new (v, w))
+rows_differ old new v w some fits = by_kind (is_record old v) refl
+  where
+    by_kind : (t : Bool) → is_record old v ≡ t → Pairwise Differ (slabs_of old new (v, w))
+    by_kind false e = subst (Pairwise Differ) (sym (slabs_fixed old new (v, w) e)) ((λ s m. absurd m), tt)
+    by_kind true e =
+        let each : ℕ → Slab = λ r. in_record (recsize old) (recsize new) r (first_slab old (v, w)) in
+        subst (Pairwise Differ) (sym (slabs_record old new (v, w) e))
+        (pairs_map Differ each (range_with_len 0 old.records)
+        (pairs_weaker (λ r q. r < q) (λ r q. Differ (each r) (each q)) (range_with_len 0 old.records)
+        (λ r q m n l h. let long = fits e in let row = row_fits r (recsize old) q (recsize old) l (omega arith) in absurd (omega arith)) (pairs_range 0 old.records)))
+
+pub slabs_differ : (old new : Header) → IsRaised old new → Pairwise Differ (slabs old new)
+slabs_differ old new raised =
+    pairs_flat Differ (slabs_of old new) (zip old.vars new.vars)
+    (λ p m. let at = zip_in old.vars new.vars p m in
+    rows_differ old new p.0 p.1 (slab_holds old at.0 p.0 raised.sound_old at.1) (slab_fits old at.0 p.0 at.1))
+    (pairs_by_place (λ p q. (s t : Slab) → In (slabs_of old new p) s → In (slabs_of old new q) t → Differ s t) (zip old.vars new.vars)
+    (λ i j p q l e f s t m n.
+    let a = zip_at old.vars new.vars i p e in
+    let b = zip_at old.vars new.vars j q f in
+    let x = slab_of_pair old new i p.0 p.1 s (pair_at old new i p.0 p.1 raised.keeps a.0 a.1) m in
+    let y = slab_of_pair old new j q.0 q.1 t (pair_at old new j q.0 q.1 raised.keeps b.0 b.1) n in
+    differ_from old new raised s t x.0 y.0 (λ g. absurd (omega (arith, g, x.1, y.1)))))

@@ -9,7 +9,7 @@ product_holds : (ns : List ℕ) → AllByRecursion (λ n. (n == 0) ≡ false) ns
 product_holds [] h = omega arith
 product_holds (n ∷ ns) h = grind (arith, nat_tests, product_holds ns h.1, not_zero n h.0, mul-le 1 1 n (product ns) (not_zero n h.0) (product_holds ns h.1))
 
-inner_holds : (ls : List ℕ) → AllByRecursion (λ n. (n == 0) ≡ false) (drop 1 ls) → 1 ≤ product (without_record ls)
+pub inner_holds : (ls : List ℕ) → AllByRecursion (λ n. (n == 0) ≡ false) (drop 1 ls) → 1 ≤ product (without_record ls)
 inner_holds [] h = omega arith
 inner_holds (zero ∷ ns) h = product_holds ns h
 inner_holds (suc n ∷ ns) h = grind (arith, nat_tests, product_holds, mul-le)
@@ -58,7 +58,7 @@ one_then_other size a n b m false h = inr (in_turn size b m a n h)
 unshared : (size a n b m : ℕ) (s t : Bool) → 0 < n → 0 < m → share_by size a n b m s t ≡ false → IsApart size a n b m s t
 unshared size a n b m s t p q h = grind (arith, nat_tests, meet_apart, other, ltb-false, one_then_other)
 
-pub swapped : {A B : Type 0} → A ⊎ B → B ⊎ A
+swapped : {A B : Type 0} → A ⊎ B → B ⊎ A
 swapped (inl x) = inr x
 swapped (inr y) = inl y
 
