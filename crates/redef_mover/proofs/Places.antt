@@ -1,278 +1,275 @@
--- The loops that place the variables.
-use Rattle.redef_mover.proofs.Words.{◌≡◌, ℕ, ◌+◌, ◌-◌, ◌^◌, ◌<◌, ◌≤◌, List, [], ◌∷◌, ◌++◌, length, take, get_or, map, min, fold, Bool, true, false, cond, Option, Some, refl, sym, ap, subst, ◌∙◌, arith, MatchOption, filter, not, nat_le, unwrap_or, enumerate_from, take_more, take_all, map-append, append-nil, get_or-map, length-map, sum_by_push, sum_by-cons, filter_more, filter-append, get_or-enumerate_from, length-enumerate_from, Header, Var, Byte, header_len, is_record, slab, vsize, least, inserted_by, Numbered, fixed_begins, front_after, begin_at, first_record, record_begins, begins_before, by_begin, fixed_order, begins_by_number, capped, capped_sum, capped_both, NumberedVar, Place, Side, Old, New, on_side, records_at, fixed_var, record_var, pairs, capped_pairs, vsizes, nat_tests}
-use Rattle.std.specs.Prelude.{◌&&◌}
-use Rattle.std.proofs.lemmas.List.{append_assoc}
+-- The loops that place the variables, of which some are left.
+use Rattle.redef_mover.proofs.Words.{◌≡◌, ℕ, ◌+◌, ◌-◌, ◌^◌, ◌<◌, ◌≤◌, List, [], ◌∷◌, ◌++◌, length, drop, get_or, map, min, fold, Bool, true, false, cond, Option, Some, None, refl, sym, ap, subst, ◌∙◌, arith, ◌&&◌, MatchOption, filter, not, unwrap_or, enumerate_from, append_assoc, drop_more, drop_all, map-append, append-nil, get_or-map, length-map, sum_by-cons, Header, Var, Byte, header_len, is_record, slab, vsize, least, Numbered, fixed_begins, front_after, begin_at, first_record, record_begins, by_begin, fixed_order, begins_by_number, capped, capped_sum, capped_both, NumberedVar, Place, Side, Old, New, on_side, records_at, fixed_var, record_var, pairs, capped_pairs, vsizes, nat_tests}
 
--- ---- the variables that two tests choose, among the first k
+-- ---- the variables that two tests choose, from number k on
 
-abbrev pub chosen : (Numbered → Bool) → (Numbered → Bool) → List Var → ℕ → List Numbered
-chosen p q vars k = filter q (filter p (take k (enumerate_from 0 vars)))
+abbrev pub left : (Numbered → Bool) → (Numbered → Bool) → List Var → ℕ → List Numbered
+left p q vars k = filter q (filter p (enumerate_from k (drop k vars)))
 
-numbered_at : (vars : List Var) (k : ℕ) (v : Var) → k < length vars → v ≡ get_or vars k v → get_or (enumerate_from 0 vars) k (k, v) ≡ (k, v)
-numbered_at vars k v h there = grind (arith, nat_tests, get_or-enumerate_from 0 vars k (k, v) h)
+left_by : (p q : Numbered → Bool) (vars : List Var) (k : ℕ) (v : Var) → k < length vars → v ≡ get_or vars k v
+    → left p q vars k ≡ filter q (cond (p (k, v)) ((k, v) ∷ filter p (enumerate_from (k + 1) (drop (k + 1) vars))) (filter p (enumerate_from (k + 1) (drop (k + 1) vars))))
+left_by p q vars k v h there =
+    ap (λ (vs : List Var). filter q (filter p (enumerate_from k vs))) (drop_more vars k v h ∙ ap (λ (w : Var). w ∷ drop (k + 1) vars) (sym there))
 
-chosen_by : (p q : Numbered → Bool) (vars : List Var) (k : ℕ) (v : Var) → k < length vars → v ≡ get_or vars k v
-    → chosen p q vars (k + 1) ≡ chosen p q vars k ++ filter q (cond (p (k, v)) ((k, v) ∷ []) [])
-chosen_by p q vars k v h there =
-    let long = length-enumerate_from 0 vars in
-    ap (λ xs. filter q xs)
-    (filter_more p (enumerate_from 0 vars) k (k, v) (omega arith)
-    ∙ ap (λ (x : Numbered). filter p (take k (enumerate_from 0 vars)) ++ cond (p x) (x ∷ []) []) (numbered_at vars k v h there))
-    ∙ filter-append q (filter p (take k (enumerate_from 0 vars))) (cond (p (k, v)) ((k, v) ∷ []) [])
+left_taken : (p q : Numbered → Bool) (vars : List Var) (k : ℕ) (v : Var) → k < length vars → v ≡ get_or vars k v → (p (k, v) && q (k, v)) ≡ true
+    → left p q vars k ≡ (k, v) ∷ left p q vars (k + 1)
+left_taken p q vars k v h there e = grind (arith, nat_tests, left_by p q vars k v h there)
 
-pub chosen_more : (p q : Numbered → Bool) (vars : List Var) (k : ℕ) (v : Var) → k < length vars → v ≡ get_or vars k v → (p (k, v) && q (k, v)) ≡ true
-    → chosen p q vars (k + 1) ≡ chosen p q vars k ++ (k, v) ∷ []
-chosen_more p q vars k v h there e = grind (arith, nat_tests, chosen_by p q vars k v h there)
+pub left_passed : (p q : Numbered → Bool) (vars : List Var) (k : ℕ) (v : Var) → k < length vars → v ≡ get_or vars k v → (p (k, v) && q (k, v)) ≡ false
+    → left p q vars k ≡ left p q vars (k + 1)
+left_passed p q vars k v h there e = grind (arith, nat_tests, left_by p q vars k v h there)
 
-pub chosen_same : (p q : Numbered → Bool) (vars : List Var) (k : ℕ) (v : Var) → k < length vars → v ≡ get_or vars k v → (p (k, v) && q (k, v)) ≡ false
-    → chosen p q vars (k + 1) ≡ chosen p q vars k
-chosen_same p q vars k v h there e = grind (arith, nat_tests, chosen_by p q vars k v h there, append-nil)
+pub left_none : (p q : Numbered → Bool) (vars : List Var) (k : ℕ) → length vars ≤ k → left p q vars k ≡ []
+left_none p q vars k h = ap (λ (vs : List Var). filter q (filter p (enumerate_from k vs))) (drop_all k vars h)
 
-pub chosen_all : (p q : Numbered → Bool) (vars : List Var) (k : ℕ) → length vars ≤ k → chosen p q vars k ≡ filter q (filter p (enumerate_from 0 vars))
-chosen_all p q vars k h =
-    let long = length-enumerate_from 0 vars in
-    ap (λ xs. filter q (filter p xs)) (take_all k (enumerate_from 0 vars) (omega arith))
+abbrev pub fixed_left : Header → ℕ → Side → ℕ → List Numbered
+fixed_left header n side k = left (λ v. not (is_record header v.1)) (on_side n side) header.vars k
 
-abbrev pub fixed_before : Header → ℕ → Side → ℕ → List Numbered
-fixed_before header n side k = chosen (λ v. not (is_record header v.1)) (on_side n side) header.vars k
+abbrev pub records_left : Header → ℕ → Side → ℕ → List Numbered
+records_left header n side k = left (λ v. is_record header v.1) (on_side n side) header.vars k
 
-abbrev pub records_before : Header → ℕ → Side → ℕ → List Numbered
-records_before header n side k = chosen (λ v. is_record header v.1) (on_side n side) header.vars k
+-- ---- what is pushed for each of them
 
--- ---- the order of the fixed variables
+module _ {A : Type 0} (f : Numbered → A) (p q : Numbered → Bool) (vars : List Var) (k : ℕ) where
+  pub pushed : (v : Var) (x : A) (now after whole : List A) → k < length vars → v ≡ get_or vars k v → (p (k, v) && q (k, v)) ≡ true → x ≡ f (k, v) → after ≡ now ++ x ∷ []
+      → now ++ map f (left p q vars k) ≡ whole → after ++ map f (left p q vars (k + 1)) ≡ whole
+  pushed v x now after whole h there test is push so_far =
+      ap (λ (xs : List A). xs ++ map f (left p q vars (k + 1))) push ∙ append_assoc now (x ∷ []) (map f (left p q vars (k + 1)))
+      ∙ ap (λ (y : A). now ++ y ∷ map f (left p q vars (k + 1))) is
+      ∙ ap (λ (xs : List Numbered). now ++ map f xs) (sym (left_taken p q vars k v h there test)) ∙ so_far
 
--- what one more is behind
-pub one_more : {A B : Type 0} (f : A → B) (front : List B) (xs : List A) (x : A) → (front ++ map f xs) ++ f x ∷ [] ≡ front ++ map f (xs ++ x ∷ [])
-one_more f front xs x = append_assoc front (map f xs) (f x ∷ []) ∙ ap (λ ys. front ++ ys) (sym (map-append f xs (x ∷ [])))
+  pub passed : (v : Var) (now after whole : List A) → k < length vars → v ≡ get_or vars k v → (p (k, v) && q (k, v)) ≡ false → after ≡ now
+      → now ++ map f (left p q vars k) ≡ whole → after ++ map f (left p q vars (k + 1)) ≡ whole
+  passed v now after whole h there test same so_far =
+      ap (λ (xs : List A). xs ++ map f (left p q vars (k + 1))) same ∙ ap (λ (xs : List Numbered). now ++ map f xs) (sym (left_passed p q vars k v h there test)) ∙ so_far
 
-pub fixed_pushed : (header : Header) (n k : ℕ) (side : Side) (v : Var) (len : ℕ) (old now after : List NumberedVar) → k < length header.vars → v ≡ get_or header.vars k v
-    → (not (is_record header v) && on_side n side (k, v)) ≡ true → len ≡ capped (slab header v)
-    → after ≡ now ++ record { number = k; begin = v.begin; len = len } ∷ []
-    → now ≡ old ++ map (fixed_var header) (fixed_before header n side k)
-    → after ≡ old ++ map (fixed_var header) (fixed_before header n side (k + 1))
-fixed_pushed header n k side v len old now after within there test long pushed so_far =
-    grind (arith, nat_tests, one_more (fixed_var header) old (fixed_before header n side k) (k, v), chosen_more)
+  pub all_pushed : (now whole : List A) → length vars ≤ k → now ++ map f (left p q vars k) ≡ whole → now ≡ whole
+  all_pushed now whole h so_far = sym (append-nil now) ∙ ap (λ (xs : List Numbered). now ++ map f xs) (sym (left_none p q vars k h)) ∙ so_far
 
-pub fixed_passed : (header : Header) (n k : ℕ) (side : Side) (v : Var) (old now : List NumberedVar) → k < length header.vars → v ≡ get_or header.vars k v
-    → (not (is_record header v) && on_side n side (k, v)) ≡ false
-    → now ≡ old ++ map (fixed_var header) (fixed_before header n side k)
-    → now ≡ old ++ map (fixed_var header) (fixed_before header n side (k + 1))
-fixed_passed header n k side v old now within there test so_far = grind (arith, nat_tests, chosen_same)
+-- ---- the least begin
 
-pub records_pushed : (header : Header) (n k : ℕ) (v : Var) (len : ℕ) (old now after : List NumberedVar) → k < length header.vars → v ≡ get_or header.vars k v
-    → (is_record header v && on_side n Old (k, v)) ≡ true → len ≡ capped (vsize header v)
-    → after ≡ now ++ record { number = k; begin = v.begin; len = len } ∷ []
-    → now ≡ old ++ map (record_var header) (records_before header n Old k)
-    → after ≡ old ++ map (record_var header) (records_before header n Old (k + 1))
-records_pushed header n k v len old now after within there test long pushed so_far =
-    grind (arith, nat_tests, one_more (record_var header) old (records_before header n Old k) (k, v), chosen_more)
+abbrev pub least_on : Option ℕ → List ℕ → Option ℕ
+least_on None ns = least ns
+least_on (Some n) ns = Some (fold (λ a b. min a b) n ns)
 
-pub records_passed : (header : Header) (n k : ℕ) (v : Var) (old now : List NumberedVar) → k < length header.vars → v ≡ get_or header.vars k v
-    → (is_record header v && on_side n Old (k, v)) ≡ false
-    → now ≡ old ++ map (record_var header) (records_before header n Old k)
-    → now ≡ old ++ map (record_var header) (records_before header n Old (k + 1))
-records_passed header n k v old now within there test so_far = grind (arith, nat_tests, chosen_same)
+abbrev pub begins : List Numbered → List ℕ
+begins vars = map (λ (w : Numbered). w.1.begin) vars
 
--- ---- placing the fixed variables
+lesser_next : (now : Option ℕ) (x n : ℕ) (ns : List ℕ) → MatchOption now (n ≡ x) (λ m. n ≡ min m x) → least_on (Some n) ns ≡ least_on now (x ∷ ns)
+lesser_next None x n ns h = ap (λ (m : ℕ). Some (fold (λ a b. min a b) m ns)) h
+lesser_next (Some a) x n ns h = ap (λ (m : ℕ). Some (fold (λ b c. min b c) m ns)) h
+
+pub least_next : (p q : Numbered → Bool) (vars : List Var) (k : ℕ) (v : Var) (now : Option ℕ) (n : ℕ) → k < length vars → v ≡ get_or vars k v → (p (k, v) && q (k, v)) ≡ true
+    → MatchOption now (n ≡ v.begin) (λ m. n ≡ min m v.begin) → least_on (Some n) (begins (left p q vars (k + 1))) ≡ least_on now (begins (left p q vars k))
+least_next p q vars k v now n h there test lesser =
+    lesser_next now v.begin n (begins (left p q vars (k + 1))) lesser ∙ ap (λ (ws : List Numbered). least_on now (begins ws)) (sym (left_taken p q vars k v h there test))
+
+pub least_whole : (now : Option ℕ) → least_on now [] ≡ now
+least_whole None = refl
+least_whole (Some n) = refl
+
+-- ---- places
 
 nobody : Numbered
 nobody = (0, record { name = []; dims = []; attrs = []; kind = Byte; begin = 0 })
 
-pairs_pushed : (places : List Place) (p : Place) → pairs (places ++ p ∷ []) ≡ pairs places ++ (p.number, p.begin) ∷ []
-pairs_pushed places p = map-append (λ (q : Place). (q.number, q.begin)) places (p ∷ [])
+-- one way to place variables: what begins they get from a number on, where they end, and what one of them takes
+pub record Placing : Type 0 where
+  pub begins : ℕ → List Numbered → List (ℕ × ℕ)
+  pub end : ℕ → List Numbered → ℕ
+  pub begin : ℕ → Numbered → ℕ
+  pub step : ℕ → Numbered → ℕ
+  pub none : (m : ℕ) → begins m [] ≡ []
+  pub same : (m : ℕ) → end m [] ≡ m
+  pub next : (m : ℕ) (v : Numbered) (vs : List Numbered) → begins m (v ∷ vs) ≡ (v.0, begin m v) ∷ begins (step m v) vs
+  pub on : (m : ℕ) (v : Numbered) (vs : List Numbered) → end m (v ∷ vs) ≡ end (step m v) vs
 
--- the pairs after one more
-pairs_more : (old now after : List Place) (p : Place) (found : List (ℕ × ℕ)) (begin : ℕ) → after ≡ now ++ p ∷ [] → p.begin ≡ capped begin
-    → pairs now ≡ pairs old ++ capped_pairs found → pairs after ≡ pairs old ++ capped_pairs (found ++ (p.number, begin) ∷ [])
-pairs_more old now after p found begin pushed is so_far = grind (arith, nat_tests, pairs_pushed now p, one_more)
+abbrev pub fixed_placing : Header → Placing
+fixed_placing header = record {
+  begins = fixed_begins header;
+  end = front_after header;
+  begin = λ m v. begin_at m v.1;
+  step = λ m v. begin_at m v.1 + slab header v.1;
+  none = λ m. refl;
+  same = λ m. refl;
+  next = λ m v vs. refl;
+  on = λ m v vs. refl;
+}
 
-begins_push : (header : Header) (front : ℕ) (vars : List Numbered) (v : Numbered)
-    → fixed_begins header front (vars ++ v ∷ []) ≡ fixed_begins header front vars ++ (v.0, begin_at (front_after header front vars) v.1) ∷ []
-begins_push header front [] v = refl
-begins_push header front (w ∷ vars) v = grind (arith, nat_tests, begins_push header (begin_at front w.1 + slab header w.1) vars v)
+pub sizes_none : (header : Header) (m : ℕ) → m + vsizes header [] ≡ m
+sizes_none header m = omega arith
 
-front_push : (header : Header) (front : ℕ) (vars : List Numbered) (v : Numbered)
-    → front_after header front (vars ++ v ∷ []) ≡ begin_at (front_after header front vars) v.1 + slab header v.1
-front_push header front [] v = refl
-front_push header front (w ∷ vars) v = front_push header (begin_at front w.1 + slab header w.1) vars v
+pub sizes_on : (header : Header) (m : ℕ) (v : Numbered) (vs : List Numbered) → m + vsizes header (v ∷ vs) ≡ m + vsize header v.1 + vsizes header vs
+sizes_on header m v vs = omega (arith, sum_by-cons (λ (w : Numbered). vsize header w.1) v vs)
 
--- after the first k of the order
+abbrev pub kept_apart : ℕ → ℕ → List Numbered → List (ℕ × ℕ)
+kept_apart m least vars = map (λ v. (v.0, m + (v.1.begin - least))) vars
+
+abbrev pub old_placing : Header → ℕ → ℕ → Placing
+old_placing header m least = record {
+  begins = λ e vs. kept_apart m least vs;
+  end = λ e vs. e + vsizes header vs;
+  begin = λ e v. m + (v.1.begin - least);
+  step = λ e v. e + vsize header v.1;
+  none = λ e. refl;
+  same = sizes_none header;
+  next = λ e v vs. refl;
+  on = sizes_on header;
+}
+
+abbrev pub new_placing : Header → Placing
+new_placing header = record {
+  begins = record_begins header;
+  end = λ e vs. e + vsizes header vs;
+  begin = λ e v. e;
+  step = λ e v. e + vsize header v.1;
+  none = λ e. refl;
+  same = sizes_none header;
+  next = λ e v vs. refl;
+  on = sizes_on header;
+}
+
+-- the places so far and those of the variables that are left are the whole
+pub record AreLeft (c : Placing) (left : List Numbered) (whole : List (ℕ × ℕ)) (last : ℕ) (now : List Place) (front : ℕ) : Type 0 where
+  pub at : ℕ
+  pub is : front ≡ capped at
+  pub places : pairs now ++ capped_pairs (c.begins at left) ≡ whole
+  pub ends : c.end at left ≡ last
+
+-- the first of them is placed
+place_next : (c : Placing) (left rest : List Numbered) (v : Numbered) (whole : List (ℕ × ℕ)) (last : ℕ) (now after : List Place) (p : Place) (front next : ℕ)
+    → left ≡ v ∷ rest → after ≡ now ++ p ∷ [] → p.number ≡ v.0 → ((m : ℕ) → front ≡ capped m → (p.begin ≡ capped (c.begin m v)) × (next ≡ capped (c.step m v)))
+    → AreLeft c left whole last now front → AreLeft c rest whole last after next
+place_next c left rest v whole last now after p front next e push number told l =
+    let t = told l.at l.is in
+    let others = capped_pairs (c.begins (c.step l.at v) rest) in
+    record {
+      at = c.step l.at v;
+      is = t.1;
+      places =
+          ap (λ (ps : List Place). pairs ps ++ others) push
+          ∙ ap (λ (ps : List (ℕ × ℕ)). ps ++ others) (map-append (λ (q : Place). (q.number, q.begin)) now (p ∷ []))
+          ∙ append_assoc (pairs now) ((p.number, p.begin) ∷ []) others
+          ∙ (λ i. pairs now ++ (number i, t.0 i) ∷ others)
+          ∙ ap (λ (bs : List (ℕ × ℕ)). pairs now ++ capped_pairs bs) (sym (ap (c.begins l.at) e ∙ c.next l.at v rest)) ∙ l.places;
+      ends = sym (ap (c.end l.at) e ∙ c.on l.at v rest) ∙ l.ends;
+    }
+
+place_whole : (c : Placing) (left : List Numbered) (whole : List (ℕ × ℕ)) (last : ℕ) (now : List Place) (front : ℕ) → left ≡ [] → AreLeft c left whole last now front
+    → (pairs now ≡ whole) × (front ≡ capped last)
+place_whole c left whole last now front e l = (
+  sym (append-nil (pairs now)) ∙ ap (λ (bs : List (ℕ × ℕ)). pairs now ++ capped_pairs bs) (sym (ap (c.begins l.at) e ∙ c.none l.at)) ∙ l.places,
+  l.is ∙ ap (λ (i : ℕ). capped i) (sym (ap (c.end l.at) e ∙ c.same l.at) ∙ l.ends),
+)
+
+-- the first of an order that is left
+record IsNext (vars : List Numbered) (k : ℕ) (v : Numbered) (x : NumberedVar) (y : NumberedVar) : Type 0 where
+  left : drop k vars ≡ v ∷ drop (k + 1) vars
+  is : x ≡ y
+
+next_of : (f : Numbered → NumberedVar) (order : List NumberedVar) (vars : List Numbered) (k : ℕ) (item : NumberedVar) → k < length order → item ≡ get_or order k item → order ≡ map f vars
+    → IsNext vars k (get_or vars k nobody) item (f (get_or vars k nobody))
+next_of f order vars k item within there e =
+    let long = ap (λ (vs : List NumberedVar). length vs) e ∙ length-map vars f in
+    record {
+      left = drop_more vars k nobody (omega arith);
+      is = there ∙ ap (λ (vs : List NumberedVar). get_or vs k item) e ∙ get_or-map f vars k nobody item (omega arith);
+    }
+
+none_left : (f : Numbered → NumberedVar) (order : List NumberedVar) (vars : List Numbered) (k : ℕ) → length order ≤ k → order ≡ map f vars → drop k vars ≡ []
+none_left f order vars k past e = let long = ap (λ (vs : List NumberedVar). length vs) e ∙ length-map vars f in drop_all k vars (omega arith)
+
+-- ---- the loops
+
 pub record PlacedSoFar (order : List NumberedVar) (first k : ℕ) (old now : List Place) (front : ℕ) : Type 0 where
   pub small : front ≤ 2 ^ 62
   pub placed : (header : Header) (vars : List Numbered) (n : ℕ) → order ≡ map (fixed_var header) vars → first ≡ capped n
-      → (pairs now ≡ pairs old ++ capped_pairs (fixed_begins header n (take k vars))) × (front ≡ capped (front_after header n (take k vars)))
+      → AreLeft (fixed_placing header) (drop k vars) (pairs old ++ capped_pairs (fixed_begins header n vars)) (front_after header n vars) now front
 
 pub placed_none : (order : List NumberedVar) (first : ℕ) (old : List Place) → first ≤ 2 ^ 62 → PlacedSoFar order first 0 old old first
-placed_none order first old h = record { small = h; placed = λ header vars n e f. (sym (append-nil (pairs old)), f) }
+placed_none order first old h = record { small = h; placed = λ header vars n e f. record { at = n; is = f; places = refl; ends = refl } }
 
 pub placed_next : (order : List NumberedVar) (first k : ℕ) (old now after : List Place) (front begin next : ℕ) (item : NumberedVar) → k < length order → item ≡ get_or order k item
     → ((m : ℕ) → front ≡ capped m → begin ≡ capped (first_record m (Some item.begin))) → next ≡ capped (begin + item.len)
     → after ≡ now ++ record { number = item.number; begin = begin } ∷ []
     → PlacedSoFar order first k old now front → PlacedSoFar order first (k + 1) old after next
-placed_next order first k old now after front begin next item within there at to pushed so_far = record { small = omega arith; placed = one_further }
-  where
-    one_further : (header : Header) (vars : List Numbered) (n : ℕ) → order ≡ map (fixed_var header) vars → first ≡ capped n
-        → (pairs after ≡ pairs old ++ capped_pairs (fixed_begins header n (take (k + 1) vars))) × (next ≡ capped (front_after header n (take (k + 1) vars)))
-    one_further header vars n e f =
-        let v = get_or vars k nobody in
-        let long = ap (λ (vs : List NumberedVar). length vs) e ∙ length-map vars (fixed_var header) in
-        let inside : k < length vars = omega arith in
-        let is = there ∙ ap (λ (vs : List NumberedVar). get_or vs k item) e ∙ get_or-map (fixed_var header) vars k nobody item inside in
-        let more = take_more vars k nobody inside in
-        let before = so_far.placed header vars n e f in
-        let begun : begin ≡ capped (begin_at (front_after header n (take k vars)) v.1) =
-        at (front_after header n (take k vars)) before.1 ∙ ap (λ (i : NumberedVar). capped (first_record (front_after header n (take k vars)) (Some i.begin))) is in
-        let numbered = ap (λ (i : NumberedVar). i.number) is in
-        let sized = ap (λ (i : NumberedVar). i.len) is in (
-          pairs_more old now after (record { number = item.number; begin = begin }) (fixed_begins header n (take k vars)) (begin_at (front_after header n (take k vars)) v.1) pushed begun before.0
-              ∙ ap (λ (i : ℕ). pairs old ++ capped_pairs (fixed_begins header n (take k vars) ++ (i, begin_at (front_after header n (take k vars)) v.1) ∷ [])) numbered
-              ∙ ap (λ bs. pairs old ++ capped_pairs bs) (sym (begins_push header n (take k vars) v) ∙ ap (λ vs. fixed_begins header n vs) (sym more)),
-          to ∙ ap (λ (i : ℕ). capped (i + item.len)) begun
-              ∙ ap (λ (i : ℕ). capped (capped (begin_at (front_after header n (take k vars)) v.1) + i)) sized
-              ∙ capped_both (begin_at (front_after header n (take k vars)) v.1) (slab header v.1)
-              ∙ ap (λ (i : ℕ). capped i) (sym (front_push header n (take k vars) v) ∙ ap (λ vs. front_after header n vs) (sym more)),
-        )
+placed_next order first k old now after front begin next item within there at to push so_far = record {
+  small = omega arith;
+  placed = λ header vars n e f.
+      let v = get_or vars k nobody in
+      let one = next_of (fixed_var header) order vars k item within there e in
+      place_next (fixed_placing header) (drop k vars) (drop (k + 1) vars) v _ _ now after (record { number = item.number; begin = begin }) front next one.left push
+      (ap (λ (i : NumberedVar). i.number) one.is)
+      (λ m g.
+      let begun : begin ≡ capped (begin_at m v.1) = at m g ∙ ap (λ (i : NumberedVar). capped (first_record m (Some i.begin))) one.is in
+      (begun, to ∙ (λ i. capped (begun i + (one.is i).len)) ∙ capped_both (begin_at m v.1) (slab header v.1)))
+      (so_far.placed header vars n e f);
+}
 
 pub placed_whole : (order : List NumberedVar) (first k : ℕ) (old now : List Place) (front : ℕ) → length order ≤ k → PlacedSoFar order first k old now front
     → (header : Header) (vars : List Numbered) (n : ℕ) → order ≡ map (fixed_var header) vars → first ≡ capped n
     → (pairs now ≡ pairs old ++ capped_pairs (fixed_begins header n vars)) × (front ≡ capped (front_after header n vars))
 placed_whole order first k old now front past so_far header vars n e f =
-    let long = ap (λ (vs : List NumberedVar). length vs) e ∙ length-map vars (fixed_var header) in
-    let all = take_all k vars (omega arith) in
-    let before = so_far.placed header vars n e f in
-    (before.0 ∙ ap (λ vs. pairs old ++ capped_pairs (fixed_begins header n vs)) all, before.1 ∙ ap (λ vs. capped (front_after header n vs)) all)
+    place_whole (fixed_placing header) (drop k vars) _ _ now front (none_left (fixed_var header) order vars k past e) (so_far.placed header vars n e f)
 
--- ---- the least begin
-
-fold_push : (x : ℕ) (xs : List ℕ) (y : ℕ) → fold (λ a b. min a b) x (xs ++ y ∷ []) ≡ min (fold (λ a b. min a b) x xs) y
-fold_push x [] y = refl
-fold_push x (z ∷ xs) y = fold_push (min x z) xs y
-
-least_push : (xs : List ℕ) (y n : ℕ) → MatchOption (least xs) (n ≡ y) (λ m. n ≡ min m y) → Some n ≡ least (xs ++ y ∷ [])
-least_push [] y n h = ap (λ m. Some m) h
-least_push (x ∷ xs) y n h = ap (λ m. Some m) (h ∙ sym (fold_push x xs y))
-
-pub least_more : (header : Header) (n k : ℕ) (v : Var) (now : Option ℕ) (begin : ℕ) → k < length header.vars → v ≡ get_or header.vars k v
-    → (is_record header v && on_side n Old (k, v)) ≡ true → MatchOption now (begin ≡ v.begin) (λ m. begin ≡ min m v.begin)
-    → now ≡ least (map (λ (w : Numbered). w.1.begin) (records_before header n Old k))
-    → Some begin ≡ least (map (λ (w : Numbered). w.1.begin) (records_before header n Old (k + 1)))
-least_more header n k v now begin within there test lesser so_far =
-    least_push (map (λ (w : Numbered). w.1.begin) (records_before header n Old k)) v.begin begin (subst (λ o. MatchOption o (begin ≡ v.begin) (λ m. begin ≡ min m v.begin)) so_far lesser)
-    ∙ ap (λ ns. least ns) (sym (map-append (λ (w : Numbered). w.1.begin) (records_before header n Old k) ((k, v) ∷ [])))
-    ∙ ap (λ ws. least (map (λ (w : Numbered). w.1.begin) ws)) (sym (chosen_more (λ w. is_record header w.1) (on_side n Old) header.vars k v within there test))
-
--- ---- placing the record variables
-
-abbrev pub kept_apart : ℕ → ℕ → List Numbered → List (ℕ × ℕ)
-kept_apart m least vars = map (λ v. (v.0, m + (v.1.begin - least))) vars
-
-end_more : (header : Header) (m : ℕ) (vars : List Numbered) (v : Numbered) (end next bytes : ℕ) → bytes ≡ capped (vsize header v.1) → next ≡ capped (end + bytes)
-    → end ≡ capped (m + vsizes header vars) → next ≡ capped (m + vsizes header (vars ++ v ∷ []))
-end_more header m vars v end next bytes e f g = grind (arith, nat_tests, capped_both (m + vsizes header vars) (vsize header v.1), sum_by_push)
-
--- after the first k of the order
 pub record OldSoFar (order : List NumberedVar) (first least k : ℕ) (old now : List Place) (end : ℕ) : Type 0 where
   pub placed : (header : Header) (vars : List Numbered) (m : ℕ) → order ≡ map (record_var header) vars → first ≡ capped m
-      → (pairs now ≡ pairs old ++ capped_pairs (kept_apart m least (take k vars))) × (end ≡ capped (m + vsizes header (take k vars)))
+      → AreLeft (old_placing header m least) (drop k vars) (pairs old ++ capped_pairs (kept_apart m least vars)) (m + vsizes header vars) now end
 
 pub old_none : (order : List NumberedVar) (first least : ℕ) (old : List Place) → OldSoFar order first least 0 old old first
-old_none order first least old = grind (arith, nat_tests, append-nil (pairs old))
+old_none order first least old = record { placed = λ header vars m e f. record { at = m; is = f; places = refl; ends = refl } }
 
 pub old_next : (order : List NumberedVar) (first least k : ℕ) (old now after : List Place) (end begin next : ℕ) (item : NumberedVar) → k < length order → item ≡ get_or order k item
     → begin ≡ capped (first + (item.begin - least)) → next ≡ capped (end + item.len)
     → after ≡ now ++ record { number = item.number; begin = begin } ∷ []
     → OldSoFar order first least k old now end → OldSoFar order first least (k + 1) old after next
-old_next order first least k old now after end begin next item within there at to pushed so_far = record { placed = one_further }
-  where
-    one_further : (header : Header) (vars : List Numbered) (m : ℕ) → order ≡ map (record_var header) vars → first ≡ capped m
-        → (pairs after ≡ pairs old ++ capped_pairs (kept_apart m least (take (k + 1) vars))) × (next ≡ capped (m + vsizes header (take (k + 1) vars)))
-    one_further header vars m e f =
-        let v = get_or vars k nobody in
-        let before_k = take k vars in
-        let long = ap (λ (vs : List NumberedVar). length vs) e ∙ length-map vars (record_var header) in
-        let inside : k < length vars = omega arith in
-        let is = there ∙ ap (λ (vs : List NumberedVar). get_or vs k item) e ∙ get_or-map (record_var header) vars k nobody item inside in
-        let more = take_more vars k nobody inside in
-        let before = so_far.placed header vars m e f in
-        let begun : begin ≡ capped (m + (v.1.begin - least)) =
-        at ∙ ap (λ (i : NumberedVar). capped (first + (i.begin - least))) is ∙ ap (λ (i : ℕ). capped (i + (v.1.begin - least))) f ∙ capped_sum m (v.1.begin - least) in
-        let numbered = ap (λ (i : NumberedVar). i.number) is in
-        let sized = ap (λ (i : NumberedVar). i.len) is in (
-          pairs_more old now after (record { number = item.number; begin = begin }) (kept_apart m least before_k) (m + (v.1.begin - least)) pushed begun before.0
-              ∙ ap (λ (i : ℕ). pairs old ++ capped_pairs (kept_apart m least before_k ++ (i, m + (v.1.begin - least)) ∷ [])) numbered
-              ∙ ap (λ bs. pairs old ++ capped_pairs bs)
-              (sym (map-append (λ (w : Numbered). (w.0, m + (w.1.begin - least))) before_k (v ∷ [])) ∙ ap (λ vs. kept_apart m least vs) (sym more)),
-          end_more header m before_k v end next item.len sized to before.1 ∙ ap (λ vs. capped (m + vsizes header vs)) (sym more),
-        )
+old_next order first least k old now after end begin next item within there at to push so_far = record {
+  placed = λ header vars m e f.
+      let v = get_or vars k nobody in
+      let one = next_of (record_var header) order vars k item within there e in
+      place_next (old_placing header m least) (drop k vars) (drop (k + 1) vars) v _ _ now after (record { number = item.number; begin = begin }) end next one.left push
+      (ap (λ (i : NumberedVar). i.number) one.is)
+      (λ x g. (at ∙ (λ i. capped (f i + ((one.is i).begin - least))) ∙ capped_sum m (v.1.begin - least), to ∙ (λ i. capped (g i + (one.is i).len)) ∙ capped_both x (vsize header v.1)))
+      (so_far.placed header vars m e f);
+}
 
 pub old_whole : (order : List NumberedVar) (first least k : ℕ) (old now : List Place) (end : ℕ) → length order ≤ k → OldSoFar order first least k old now end
     → (header : Header) (vars : List Numbered) (m : ℕ) → order ≡ map (record_var header) vars → first ≡ capped m
     → (pairs now ≡ pairs old ++ capped_pairs (kept_apart m least vars)) × (end ≡ capped (m + vsizes header vars))
 old_whole order first least k old now end past so_far header vars m e f =
-    let long = ap (λ (vs : List NumberedVar). length vs) e ∙ length-map vars (record_var header) in
-    let all = take_all k vars (omega arith) in
-    let before = so_far.placed header vars m e f in
-    (before.0 ∙ ap (λ vs. pairs old ++ capped_pairs (kept_apart m least vs)) all, before.1 ∙ ap (λ vs. capped (m + vsizes header vs)) all)
-
-shares_inserted : (header : Header) (v : Numbered) (vars : List Numbered) → vsizes header (inserted_by begins_before v vars) ≡ vsizes header (v ∷ vars)
-shares_inserted header v [] = refl
-shares_inserted header v (w ∷ vars) = by_test (shares_inserted header v vars) (nat_le v.1.begin w.1.begin)
-  where
-    by_test : vsizes header (inserted_by begins_before v vars) ≡ vsizes header (v ∷ vars) → (t : Bool)
-        → vsizes header (cond t (v ∷ w ∷ vars) (w ∷ inserted_by begins_before v vars)) ≡ vsizes header (v ∷ w ∷ vars)
-    by_test rest true = refl
-    by_test rest false =
-        let size = λ (x : Numbered). vsize header x.1 in
-        omega (arith, rest, sum_by-cons size w (inserted_by begins_before v vars), sum_by-cons size v vars, sum_by-cons size v (w ∷ vars), sum_by-cons size w vars)
-
--- the order in which variables stand takes nothing from their sum
-pub shares_sorted : (header : Header) (vars : List Numbered) → vsizes header (by_begin vars) ≡ vsizes header vars
-shares_sorted header [] = refl
-shares_sorted header (v ∷ vars) =
-    let size = λ (x : Numbered). vsize header x.1 in
-    let one = shares_inserted header v (by_begin vars) in
-    omega (arith, one, shares_sorted header vars, sum_by-cons size v (by_begin vars), sum_by-cons size v vars)
-
-record_push : (header : Header) (at : ℕ) (vars : List Numbered) (v : Numbered)
-    → record_begins header at (vars ++ v ∷ []) ≡ record_begins header at vars ++ (v.0, at + vsizes header vars) ∷ []
-record_push header at [] v = ap (λ (n : ℕ). (v.0, n) ∷ []) (let e : at ≡ at + 0 = omega arith in e)
-record_push header at (w ∷ vars) v =
-    ap (λ bs. (w.0, at) ∷ bs)
-    (record_push header (at + vsize header w.1) vars v
-    ∙ ap (λ (n : ℕ). record_begins header (at + vsize header w.1) vars ++ (v.0, n) ∷ [])
-    (let more = sum_by-cons (λ (x : Numbered). vsize header x.1) w vars in let e : at + vsize header w.1 + vsizes header vars ≡ at + vsizes header (w ∷ vars) = omega (arith, more) in e))
+    place_whole (old_placing header m least) (drop k vars) _ _ now end (none_left (record_var header) order vars k past e) (so_far.placed header vars m e f)
 
 pub record NewSoFar (header : Header) (n first k : ℕ) (old now : List Place) (begin : ℕ) : Type 0 where
   pub placed : (m : ℕ) → first ≡ capped m
-      → (pairs now ≡ pairs old ++ capped_pairs (record_begins header m (records_before header n New k))) × (begin ≡ capped (m + vsizes header (records_before header n New k)))
+      → AreLeft (new_placing header) (records_left header n New k) (pairs old ++ capped_pairs (record_begins header m (records_at header n New))) (m + vsizes header (records_at header n New)) now begin
 
 pub new_none : (header : Header) (n first : ℕ) (old : List Place) → NewSoFar header n first 0 old old first
-new_none header n first old = record { placed = λ m e. (sym (append-nil (pairs old)), e ∙ ap (λ (i : ℕ). capped i) (let z : m ≡ m + 0 = omega arith in z)) }
+new_none header n first old = record { placed = λ m e. record { at = m; is = e; places = refl; ends = refl } }
 
 pub new_next : (header : Header) (n first k : ℕ) (v : Var) (old now after : List Place) (begin next bytes : ℕ) → k < length header.vars → v ≡ get_or header.vars k v
     → (is_record header v && on_side n New (k, v)) ≡ true → bytes ≡ capped (vsize header v) → next ≡ capped (begin + bytes)
     → after ≡ now ++ record { number = k; begin = begin } ∷ []
     → NewSoFar header n first k old now begin → NewSoFar header n first (k + 1) old after next
-new_next header n first k v old now after begin next bytes within there test sized to pushed so_far = record {
+new_next header n first k v old now after begin next bytes within there test sized to push so_far = record {
   placed = λ m e.
-      let more = sym (chosen_more (λ w. is_record header w.1) (on_side n New) header.vars k v within there test) in
-      let before = so_far.placed m e in
-      let vars = records_before header n New k in (
-        pairs_more old now after (record { number = k; begin = begin }) (record_begins header m vars) (m + vsizes header vars) pushed before.1 before.0
-            ∙ ap (λ bs. pairs old ++ capped_pairs bs) (sym (record_push header m vars (k, v)))
-            ∙ ap (λ vs. pairs old ++ capped_pairs (record_begins header m vs)) more,
-        end_more header m vars (k, v) begin next bytes sized to before.1 ∙ ap (λ vs. capped (m + vsizes header vs)) more,
-      );
+      place_next (new_placing header) (records_left header n New k) (records_left header n New (k + 1)) (k, v) _ _ now after (record { number = k; begin = begin }) begin next
+      (left_taken (λ w. is_record header w.1) (on_side n New) header.vars k v within there test) push refl
+      (λ x g. (g, to ∙ (λ i. capped (g i + sized i)) ∙ capped_both x (vsize header v))) (so_far.placed m e);
 }
 
 pub new_passed : (header : Header) (n first k : ℕ) (v : Var) (old now : List Place) (begin : ℕ) → k < length header.vars → v ≡ get_or header.vars k v
     → (is_record header v && on_side n New (k, v)) ≡ false
     → NewSoFar header n first k old now begin → NewSoFar header n first (k + 1) old now begin
-new_passed header n first k v old now begin within there test so_far = grind (arith, nat_tests, chosen_same)
+new_passed header n first k v old now begin within there test so_far = record {
+  placed = λ m e.
+      subst (λ (vs : List Numbered). AreLeft (new_placing header) vs (pairs old ++ capped_pairs (record_begins header m (records_at header n New))) (m + vsizes header (records_at header n New)) now begin)
+      (left_passed (λ w. is_record header w.1) (on_side n New) header.vars k v within there test) (so_far.placed m e);
+}
 
 pub new_whole : (header : Header) (n first k : ℕ) (old now : List Place) (begin : ℕ) → length header.vars ≤ k → NewSoFar header n first k old now begin
     → (m : ℕ) → first ≡ capped m → pairs now ≡ pairs old ++ capped_pairs (record_begins header m (records_at header n New))
-new_whole header n first k old now begin past so_far m e = grind (arith, nat_tests, chosen_all)
+new_whole header n first k old now begin past so_far m e =
+    (place_whole (new_placing header) (records_left header n New k) _ _ now begin (left_none (λ w. is_record header w.1) (on_side n New) header.vars k past) (so_far.placed m e)).0
 
 -- ---- all of them
 
@@ -281,29 +278,13 @@ pub placed_all : (header : Header) (n : ℕ) (p q r s : List Place) (low : Optio
     → pairs r ≡ pairs q ++ capped_pairs (kept_apart (first_record (front_after header (header_len header) (fixed_order header n)) low) base (by_begin (records_at header n Old)))
     → pairs s ≡ pairs r ++ capped_pairs (record_begins header (first_record (front_after header (header_len header) (fixed_order header n)) low + vsizes header (records_at header n Old)) (records_at header n New))
     → pairs s ≡ capped_pairs (begins_by_number header n)
-placed_all header n p q r s low base none is unwrapped fixed old new = subst Whole is (by_low low base unwrapped old new)
-  where
-    Whole : Option ℕ → Type 0
-    Whole o =
-        pairs s
-        ≡ capped_pairs (fixed_begins header (header_len header) (fixed_order header n)
-        ++ kept_apart (first_record (front_after header (header_len header) (fixed_order header n)) o) (unwrap_or o 0) (by_begin (records_at header n Old))
-        ++ record_begins header (first_record (front_after header (header_len header) (fixed_order header n)) o + vsizes header (records_at header n Old)) (records_at header n New))
-
-    by_low : (o : Option ℕ) (b : ℕ) → b ≡ unwrap_or o 0
-        → pairs r ≡ pairs q ++ capped_pairs (kept_apart (first_record (front_after header (header_len header) (fixed_order header n)) o) b (by_begin (records_at header n Old)))
-        → pairs s ≡ pairs r ++ capped_pairs (record_begins header (first_record (front_after header (header_len header) (fixed_order header n)) o + vsizes header (records_at header n Old)) (records_at header n New))
-        → pairs s
-        ≡ capped_pairs (fixed_begins header (header_len header) (fixed_order header n)
-        ++ kept_apart (first_record (front_after header (header_len header) (fixed_order header n)) o) (unwrap_or o 0) (by_begin (records_at header n Old))
-        ++ record_begins header (first_record (front_after header (header_len header) (fixed_order header n)) o + vsizes header (records_at header n Old)) (records_at header n New))
-    by_low o b e f g =
-        let a = fixed_begins header (header_len header) (fixed_order header n) in
-        let m = first_record (front_after header (header_len header) (fixed_order header n)) o in
-        let x = kept_apart m (unwrap_or o 0) (by_begin (records_at header n Old)) in
-        let y = record_begins header (m + vsizes header (records_at header n Old)) (records_at header n New) in
-        let cap : ℕ × ℕ → ℕ × ℕ = λ z. (z.0, capped z.1) in
-        let start : pairs q ≡ capped_pairs a = fixed ∙ ap (λ ps. pairs ps ++ capped_pairs a) none in
-        let middle : pairs r ≡ capped_pairs a ++ capped_pairs x =
-        f ∙ ap (λ (i : ℕ). pairs q ++ capped_pairs (kept_apart m i (by_begin (records_at header n Old)))) e ∙ ap (λ ps. ps ++ capped_pairs x) start in
-        g ∙ ap (λ ps. ps ++ capped_pairs y) (middle ∙ sym (map-append cap a x)) ∙ sym (map-append cap (a ++ x) y)
+placed_all header n p q r s low base none is unwrapped fixed old new =
+    let cap : ℕ × ℕ → ℕ × ℕ = λ z. (z.0, capped z.1) in
+    let a = fixed_begins header (header_len header) (fixed_order header n) in
+    let m = λ (o : Option ℕ). first_record (front_after header (header_len header) (fixed_order header n)) o in
+    let x = λ (o : Option ℕ) (b : ℕ). kept_apart (m o) b (by_begin (records_at header n Old)) in
+    let y = λ (o : Option ℕ). record_begins header (m o + vsizes header (records_at header n Old)) (records_at header n New) in
+    new ∙ (λ i. old i ++ capped_pairs (y low)) ∙ (λ i. (fixed i ++ capped_pairs (x low base)) ++ capped_pairs (y low))
+    ∙ (λ i. ((pairs (none i) ++ capped_pairs a) ++ capped_pairs (x (is i) ((unwrapped ∙ ap (λ (o : Option ℕ). unwrap_or o 0) is) i))) ++ capped_pairs (y (is i)))
+    ∙ (λ i. sym (map-append cap a (x (least (begins (records_at header n Old))) (unwrap_or (least (begins (records_at header n Old))) 0))) i ++ capped_pairs (y (least (begins (records_at header n Old)))))
+    ∙ sym (map-append cap (a ++ x (least (begins (records_at header n Old))) (unwrap_or (least (begins (records_at header n Old))) 0)) (y (least (begins (records_at header n Old)))))

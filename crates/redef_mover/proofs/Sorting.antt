@@ -1,7 +1,10 @@
 -- A stable sort by a number leaves just one list: the one that insertion leaves.
-use Rattle.redef_mover.proofs.Words.{◌≡◌, ℕ, suc, ◌<◌, ◌≤◌, List, [], ◌∷◌, length, get_or, map, Bool, true, false, cond, refl, sym, ap, ◌∙◌, arith, inl, inr, ◌⊎◌, filter, nat_le, not, ◌==◌, list_all, IsNonDecreasingBy, IsStableByKey, ties, nat_cmp, is_lt, nat_tests, cases_lt, and_parts, filter_agree}
-use Rattle.std.specs.Prelude.{◌&&◌}
+use Rattle.redef_mover.proofs.Words.{◌≡◌, ℕ, ◌≤◌, List, [], ◌∷◌, map, Bool, true, false, cond, refl, sym, ap, subst, ◌∙◌, arith, inl, inr, filter, nat_le, not, ◌==◌, ◌&&◌, IsNonDecreasingBy, IsStableByKey, ties, nat_cmp, is_lt, nat_tests, filter_agree, get_or_from_slice_get, In}
+use Rattle.std.proofs.lemmas.Bool.{eqb-true, leb-true, leb-false}
+use Rattle.std.proofs.lemmas.Option.{slice_get_within}
+use Rattle.serial_spec.proofs.MemberLaws.{filter_in}
 use Rattle.serial_spec.specs.Lists.{inserted_by, sorted_by as in_order_by}
+use Rattle.redef_laws.proofs.Orders.{Orders, Pairwise, pairs_by_place, sorted_pairs}
 
 abbrev pub put_by : {A : Type 0} → (A → ℕ) → A → List A → List A
 put_by key x xs = inserted_by (λ a b. nat_le (key a) (key b)) x xs
@@ -13,12 +16,8 @@ sorted_by key xs = in_order_by (λ a b. nat_le (key a) (key b)) xs
 abbrev pub of_key : {A : Type 0} → (A → ℕ) → ℕ → List A → List A
 of_key key n xs = filter (λ x. key x == n) xs
 
-abbrev pub lies_below : {A : Type 0} → (A → ℕ) → ℕ → List A → Bool
-lies_below key n xs = list_all (λ x. nat_le n (key x)) xs
-
 abbrev pub Rises : {A : Type 0} → (A → ℕ) → List A → Type 0
-Rises key [] = Unit {0}
-Rises key (x ∷ xs) = (lies_below key (key x) xs ≡ true) × Rises key xs
+Rises key xs = Pairwise (λ x y. key x ≤ key y) xs
 
 -- ---- what insertion leaves
 
@@ -30,23 +29,12 @@ pub sorted_keeps : {A : Type 0} (key : A → ℕ) (n : ℕ) (xs : List A) → of
 sorted_keeps key n [] = refl
 sorted_keeps key n (x ∷ xs) = grind (arith, nat_tests, sorted_keeps key n xs, put_keeps key n x (sorted_by key xs))
 
-put_below : {A : Type 0} (key : A → ℕ) (n : ℕ) (x : A) (xs : List A) → n ≤ key x → lies_below key n xs ≡ true → lies_below key n (put_by key x xs) ≡ true
-put_below key n x [] h e = let first : nat_le n (key x) ≡ true = grind (arith, nat_tests) in ap (λ (t : Bool). t && true) first
-put_below key n x (y ∷ ys) h e =
-    grind (arith, nat_tests, put_below key n x ys h (and_parts (nat_le n (key y)) (lies_below key n ys) e).1, and_parts (nat_le n (key y)) (lies_below key n ys) e)
-
-lower : {A : Type 0} (key : A → ℕ) (n m : ℕ) (xs : List A) → n ≤ m → lies_below key m xs ≡ true → lies_below key n xs ≡ true
-lower key n m [] h e = refl
-lower key n m (x ∷ xs) h e =
-    grind (arith, nat_tests, lower key n m xs h (and_parts (nat_le m (key x)) (lies_below key m xs) e).1, and_parts (nat_le m (key x)) (lies_below key m xs) e)
-
-put_rises : {A : Type 0} (key : A → ℕ) (x : A) (xs : List A) → Rises key xs → Rises key (put_by key x xs)
-put_rises key x [] h = (refl, tt)
-put_rises key x (y ∷ ys) h = grind (arith, nat_tests, put_rises key x ys h.1, lower, put_below)
+by_key : {A : Type 0} (key : A → ℕ) → Orders (λ x y. nat_le (key x) (key y)) (λ x y. Unit {0}) (λ x y. key x ≤ key y)
+by_key key = record { passed = λ x y d e. leb-true (key x) (key y) e; failed = λ x y d e. (let l = leb-false (key x) (key y) e in omega arith); on = λ x y z l m. omega (arith, l, m) }
 
 pub sorted_rises : {A : Type 0} (key : A → ℕ) (xs : List A) → Rises key (sorted_by key xs)
-sorted_rises key [] = tt
-sorted_rises key (x ∷ xs) = put_rises key x (sorted_by key xs) (sorted_rises key xs)
+sorted_rises key xs =
+    sorted_pairs (λ x y. nat_le (key x) (key y)) (λ x y. Unit {0}) (λ x y. key x ≤ key y) (by_key key) xs (pairs_by_place (λ x y. Unit {0}) xs (λ i j x y l e f. tt))
 
 -- ---- there is one such list
 
@@ -56,27 +44,24 @@ own_key key x xs = ap (λ (t : Bool). cond t (x ∷ of_key key (key x) xs) (of_k
 other_key : {A : Type 0} (key : A → ℕ) (n : ℕ) (x : A) (xs : List A) → (key x == n) ≡ false → of_key key n (x ∷ xs) ≡ of_key key n xs
 other_key key n x xs e = ap (λ (t : Bool). cond t (x ∷ of_key key n xs) (of_key key n xs)) e
 
-none_lower : {A : Type 0} (key : A → ℕ) (n m : ℕ) (xs : List A) → n < m → lies_below key m xs ≡ true → of_key key n xs ≡ []
-none_lower key n m [] h e = refl
-none_lower key n m (x ∷ xs) h e =
-    grind (arith, nat_tests, none_lower key n m xs h (and_parts (nat_le m (key x)) (lies_below key m xs) e).1, and_parts (nat_le m (key x)) (lies_below key m xs) e, other_key)
-
-none_before : {A : Type 0} (key : A → ℕ) (n : ℕ) (x : A) (xs : List A) → n < key x → Rises key (x ∷ xs) → of_key key n (x ∷ xs) ≡ []
-none_before key n x xs h r = other_key key n x xs (let f : (key x == n) ≡ false = grind (arith, nat_tests) in f) ∙ none_lower key n (key x) xs h r.0
-
-not_lower : {A : Type 0} (key : A → ℕ) (x y : A) (xs ys : List A) → Rises key (y ∷ ys) → ((n : ℕ) → of_key key n (x ∷ xs) ≡ of_key key n (y ∷ ys)) → key x < key y → ⊥
-not_lower key x y xs ys r same h = grind (arith, nat_tests, own_key key x xs, none_before key (key x) y ys h r)
+-- a list that rises begins no higher than what it has
+low_of : {A : Type 0} (key : A → ℕ) (n : ℕ) (x y : A) (zs ys : List A) → Rises key (y ∷ ys) → of_key key n (y ∷ ys) ≡ x ∷ zs → key y ≤ n
+low_of {A} key n x y zs ys r e =
+    let found = filter_in (λ z. key z == n) (y ∷ ys) x (subst (λ (l : List A). In l x) (sym e) (inl refl)) in
+    let is = eqb-true (key x) n found.1 in
+    elim found.0 [ inl g ↦ omega (arith, is, ap key g) | inr m ↦ omega (arith, is, r.0 x m) ]
 
 pub one_sorted : {A : Type 0} (key : A → ℕ) (xs ys : List A) → Rises key xs → Rises key ys → ((n : ℕ) → of_key key n xs ≡ of_key key n ys) → xs ≡ ys
 one_sorted key [] [] r s same = refl
 one_sorted key [] (y ∷ ys) r s same = let e = same (key y) ∙ own_key key y ys in cc
 one_sorted key (x ∷ xs) [] r s same = let e = sym (own_key key x xs) ∙ same (key x) in cc
-one_sorted {A} key (x ∷ xs) (y ∷ ys) r s same = whole (first (key_of (cases_lt (key x) (key y)) (cases_lt (key y) (key x)))) (one_sorted key xs ys r.1 s.1)
+one_sorted {A} key (x ∷ xs) (y ∷ ys) r s same = whole (first equal) (one_sorted key xs ys r.1 s.1)
   where
-    key_of : (key x < key y) ⊎ (key y ≤ key x) → (key y < key x) ⊎ (key x ≤ key y) → key x ≡ key y
-    key_of (inl h) b = absurd (not_lower key x y xs ys s same h)
-    key_of (inr g) (inl h) = absurd (not_lower key y x ys xs r (λ n. sym (same n)) h)
-    key_of (inr g) (inr h) = omega arith
+    equal : key x ≡ key y
+    equal =
+        let one = low_of key (key x) x y (of_key key (key x) xs) ys s (sym (same (key x)) ∙ own_key key x xs) in
+        let two = low_of key (key y) y x (of_key key (key y) ys) xs r (same (key y) ∙ own_key key y ys) in
+        omega arith
 
     first : key x ≡ key y → (x ≡ y) × (of_key key (key x) xs ≡ of_key key (key x) ys)
     first e =
@@ -98,17 +83,9 @@ one_sorted {A} key (x ∷ xs) (y ∷ ys) r s same = whole (first (key_of (cases_
 
 -- ---- from what a sort ensures
 
-all_from : {A : Type 0} (key : A → ℕ) (n : ℕ) (d : A) (xs : List A) → ((j : ℕ) → j < length xs → n ≤ key (get_or xs j d)) → lies_below key n xs ≡ true
-all_from key n d [] h = refl
-all_from key n d (x ∷ xs) h =
-    let le = h 0 (omega arith) in
-    ap (λ (t : Bool). t && lies_below key n xs) (let e : nat_le n (key x) ≡ true = grind (arith, nat_tests) in e)
-    ∙ all_from key n d xs (λ j g. h (suc j) (omega arith))
-
 pub rises_from : {A : Type 0} (key : A → ℕ) (xs : List A) → IsNonDecreasingBy key xs → Rises key xs
-rises_from key [] h = tt
-rises_from key (x ∷ xs) h =
-    (all_from key (key x) x xs (λ j g. h 0 (suc j) x (omega arith) (omega arith)), rises_from key xs (λ i j d a b. h (suc i) (suc j) d (omega arith) (omega arith)))
+rises_from key xs h = pairs_by_place (λ x y. key x ≤ key y) xs (λ i j x y l e f.
+    omega (arith, ap key (get_or_from_slice_get xs i x x e), ap key (get_or_from_slice_get xs j y x f), h i j x (omega arith) (slice_get_within xs j y f)))
 
 pub sort_is : {A : Type 0} (key : A → ℕ) (xs ys : List A) → IsNonDecreasingBy key ys → ((n : ℕ) → of_key key n ys ≡ of_key key n xs) → ys ≡ sorted_by key xs
 sort_is key xs ys up stable = grind (arith, nat_tests, rises_from key ys up, sorted_rises key xs, one_sorted, sorted_keeps)
