@@ -1,5 +1,5 @@
 -- An order that a script's ranks have begun can be gone on with to one of its histories: the ranks meet as often, one as the other.
-use Rattle.join_laws.proofs.Words.{and_from, ◌≡◌, ℕ, zero, suc, ◌+◌, ◌-◌, ◌<◌, ◌≤◌, refl, sym, ◌∙◌, ap, subst, List, [], ◌∷◌, ◌++◌, length, Bool, true, false, cond, ◌&&◌, Option, Some, None, arith, append_assoc, filter-append, sum_by-cons, nat_tests, slice_get, ◌==◌, filter, is_some, nat_lt, list_all, cons_option, Call, Script, Mark, Meet, Solo, MeetKind, kinds, marks, marks_from, concerns, is_of_rank_below, kind_of_call, mode_after, is_collective, is_data, IsLegal, is_meeting, is_lawful, is_solo_of, meetings, kinds_of, own_lawful, ranks_lawful, and_first, and_second, equal_itself, others_filter, all_joined, append-nil}
+use Rattle.join_laws.proofs.Words.{and_from, ◌≡◌, ℕ, zero, suc, ◌+◌, ◌-◌, ◌<◌, ◌≤◌, refl, sym, ◌∙◌, ap, inl, inr, ◌⊎◌, subst, eqb_tells, List, [], ◌∷◌, ◌++◌, length, Bool, true, false, cond, ◌&&◌, Option, Some, None, arith, append_assoc, filter-append, sum_by-cons, nat_tests, slice_get, ◌==◌, filter, is_some, nat_lt, list_all, cons_option, Call, Script, Mark, Meet, Solo, MeetKind, kinds, marks, marks_from, concerns, is_of_rank_below, kind_of_call, mode_after, is_collective, is_data, IsLegal, is_meeting, is_lawful, is_solo_of, meetings, kinds_of, own_lawful, ranks_lawful, and_first, and_second, equal_itself, others_filter, all_joined, append-nil}
 use borrow.Author.Tests.{ltb-true, ltb-false, eqb-true}
 use Rattle.nc_base.specs.declared.request.Call.TheVariants as call
 
@@ -107,21 +107,16 @@ solos_of (suc m) ranks fronts h l = more (solos_of m ranks fronts h (omega arith
     more s = record {
       all = s.all ++ fronts m;
       known = all_joined (is_of_rank_below ranks) s.all (fronts m) s.known (own_known m ranks (fronts m) (omega arith) (h m));
-      own = λ r k. by_place r k (nat_lt r m) refl;
-      others = λ r k. filter-append (concerns r) s.all (fronts m) ∙ ap (λ (ys : List Mark). ys ++ filter (concerns r) (fronts m)) (s.others r (omega arith))
-          ∙ others_filter m r (fronts m) (λ e. absurd (omega arith)) (h m);
+      own = λ r k. by_place r k (eqb_tells r m);
+      others = λ r k. filter-append (concerns r) s.all (fronts m) ∙ (λ i. s.others r (omega arith) i ++ none r (λ e. absurd (omega arith)) i);
     }
       where
-        by_place : (r : ℕ) → r < suc m → (t : Bool) → nat_lt r m ≡ t → filter (concerns r) (s.all ++ fronts m) ≡ fronts r
-        by_place r k true e =
-            let low : r < m = ltb-true _ _ e in
-            filter-append (concerns r) s.all (fronts m) ∙ ap (λ (ys : List Mark). filter (concerns r) s.all ++ ys) (others_filter m r (fronts m) (λ f. absurd (omega arith)) (h m))
-            ∙ append-nil (filter (concerns r) s.all) ∙ s.own r low
-        by_place r k false e =
-            let high : m ≤ r = ltb-false _ _ e in
-            let same : m ≡ r = omega arith in
-            filter-append (concerns r) s.all (fronts m) ∙ ap (λ (ys : List Mark). ys ++ filter (concerns r) (fronts m)) (s.others r high)
-            ∙ subst (λ (j : ℕ). filter (concerns j) (fronts m) ≡ fronts j) same (own_kept m (fronts m) (h m))
+        none : (r : ℕ) → (m ≡ r → ⊥) → filter (concerns r) (fronts m) ≡ []
+        none r n = others_filter m r (fronts m) n (h m)
+
+        by_place : (r : ℕ) → r < suc m → (((r == m) ≡ true) × (r ≡ m)) ⊎ (((r == m) ≡ false) × (r ≡ m → ⊥)) → filter (concerns r) (s.all ++ fronts m) ≡ fronts r
+        by_place r k (inl (b, z)) = rw (z, filter-append, s.others m (omega arith)) (own_kept m (fronts m) (h m))
+        by_place r k (inr (b, n)) = rw (filter-append, none r (λ e. n (sym e)), append-nil) (s.own r (omega arith))
 
 -- ---- all that is left
 

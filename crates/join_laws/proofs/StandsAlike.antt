@@ -1,9 +1,10 @@
 -- Runs over files that differ in their bytes, step by step: ranks beside one another, and ends that are alike.
-use Rattle.join_laws.proofs.Words.{◌≡◌, ℕ, zero, suc, ◌+◌, refl, sym, ◌∙◌, ap, subst, List, [], ◌∷◌, map, set, Option, Some, None, slice_get, flat_map, fold, take, zip, enumerate_from, Header, Call, Script, Mark, Meet, Solo, Offer, Setting, Counted, get_post, meeting, puts_of, solo, told, pending, told_of, Going, End, advance, close_by, count_after, first_state, hears, offers_of, serial_from, setting_of, state_after, Arrived, Stand, ended_from, first_stand, heard, solo_to, step_to, arrival_steps, first_up, gone_up, serial_of_arrivals, blank, AllBeside, AreAlikeEnds, AreBeside, IsLike, TellAlike, arith, nat_tests}
+use Rattle.join_laws.proofs.Words.{◌≡◌, ℕ, zero, suc, ◌+◌, refl, sym, ◌∙◌, ap, subst, List, [], ◌∷◌, map, set, Option, Some, None, slice_get, flat_map, fold, take, zip, enumerate_from, Header, Call, Script, Mark, Meet, Solo, Offer, Setting, Counted, get_post, meeting, puts_of, solo, told, pending, told_of, Going, End, advance, close_by, count_after, first_state, hears, offers_of, serial_from, setting_of, state_after, Arrived, Stand, ended_from, first_stand, heard, solo_to, step_to, arrival_steps, first_up, gone_up, serial_of_arrivals, blank, AllBeside, AreAlikeEnds, AreBeside, AreNear, IsLike, Rank, TellAlike, arith, nat_tests}
 use Rattle.nc_base.specs.declared.step.Reply as reply
 use Rattle.join_laws.proofs.AlikeLaws.{advance_beside, hears_near, same_near}
 use Rattle.join_laws.proofs.OwnerAlikeLaws.{meeting_records, raised_records, solo_alike}
 use Rattle.join_laws.proofs.ReplyLaws.{gots_long}
+use Rattle.list_laws.proofs.Maps.{map_map}
 
 -- ---- ranks
 
@@ -138,25 +139,19 @@ first_alike header file other calls = record { records = refl; beside = same_bes
 
 -- ---- the close
 
-known_beside : (one other : List Arrived) → AllBeside one other → map (λ (g : Going). g.rank.known) (map (λ (a : Arrived). a.0) one) ≡ map (λ (g : Going). g.rank.known) (map (λ (a : Arrived). a.0) other)
-known_beside [] [] w = refl
-known_beside (p ∷ one) (q ∷ other) w = let again = known_beside one other w.1 in λ i. (w.0.0.rank i).known ∷ again i
-known_beside xs ys w = absurd w
-
-pending_beside : (one other : List Arrived) → AllBeside one other → map (λ (g : Going). pending g.rank) (map (λ (a : Arrived). a.0) one) ≡ map (λ (g : Going). pending g.rank) (map (λ (a : Arrived). a.0) other)
-pending_beside [] [] w = refl
-pending_beside (p ∷ one) (q ∷ other) w = let again = pending_beside one other w.1 in λ i. pending (w.0.0.rank i) ∷ again i
-pending_beside xs ys w = absurd w
-
-answers_beside : (one other : List Arrived) → AllBeside one other
-    → map (map blank) (map (λ (g : Going). g.answers) (map (λ (a : Arrived). a.0) one)) ≡ map (map blank) (map (λ (g : Going). g.answers) (map (λ (a : Arrived). a.0) other))
-answers_beside [] [] w = refl
-answers_beside (p ∷ one) (q ∷ other) w = let again = answers_beside one other w.1 in λ i. w.0.0.answers i ∷ again i
-answers_beside xs ys w = absurd w
+-- what does not depend on such values is the same
+each_beside : {X : Type 0} (f : Going → X) → ((g h : Going) → AreNear g h → f g ≡ f h) → (one other : List Arrived) → AllBeside one other
+    → map f (map (λ (a : Arrived). a.0) one) ≡ map f (map (λ (a : Arrived). a.0) other)
+each_beside f same [] [] w = refl
+each_beside f same (p ∷ one) (q ∷ other) w = let first = same p.0 q.0 w.0.0 in let again = each_beside f same one other w.1 in λ i. first i ∷ again i
+each_beside f same xs ys w = absurd w
 
 pub close_alike : (s : Setting) (x : Stand) (c : Counted) (ranks : List Arrived) → IsLike x c.records ranks
     → AreAlikeEnds (close_by s x.0 (map (λ (a : Arrived). a.0) x.1)) (close_by s c (map (λ (a : Arrived). a.0) ranks))
-close_alike s x c ranks w = grind (arith, nat_tests, raised_records, known_beside, answers_beside, pending_beside)
+close_alike s x c ranks w =
+    let answers = each_beside (λ g. map blank g.answers) (λ g h n. n.answers) x.1 ranks w.beside in
+    let pendings = each_beside (λ g. pending g.rank) (λ g h n. ap pending n.rank) x.1 ranks w.beside in
+    grind (arith, nat_tests, raised_records, map_map, answers, pendings, each_beside (λ g. g.rank.known) (λ g h n. ap (λ (r : Rank). r.known) n.rank) x.1 ranks w.beside)
 
 -- ---- a run
 

@@ -18,10 +18,10 @@ pub use Rattle.join_laws.specs.Alike.{AllBeside, AreAlike, AreAlikeEnds, AreBesi
 pub use Rattle.join_laws.specs.Begun.{HasOffered, IsBeginning}
 pub use Rattle.join_laws.specs.Worked.{two_arrivals, two_ranks}
 pub use Rattle.list_laws.proofs.Each.{all_joined, any_or_none, none_any, passes_at}
-pub use Rattle.list_laws.proofs.Maps.{filter_at_most}
+pub use Rattle.list_laws.proofs.Maps.{entry_map, filter_at_most, mapped_entry}
 pub use Rattle.list_laws.proofs.Numbers.{le_two, same_le}
 pub use Rattle.list_laws.proofs.Optional.{both_none, none_of_test, not_some, some_or_none, untold, value_of_some}
-pub use Rattle.list_laws.proofs.Places.{entry_below, entry_beside, entry_set, entry_set_other, entry_zip, first_same}
+pub use Rattle.list_laws.proofs.Places.{entry_below, entry_beside, entry_replicate, entry_set, entry_set_other, entry_zip, first_same}
 pub use Rattle.list_laws.proofs.Truth.{and_first, and_second, equal_itself, or_first_false, or_second_false}
 pub use Rattle.nc_base.specs.Values.{count_of}
 pub use Rattle.nc_base.specs.declared.answer.Answer.{Answer}
