@@ -1,9 +1,9 @@
 -- One number and its client: how both change at an event of the owner.
-use Rattle.join_laws.proofs.Words.{◌≡◌, ℕ, suc, ◌≤◌, sym, ◌∙◌, ap, List, [], ◌∷◌, ◌++◌, length, Bool, true, false, Option, Some, None, filter, Header, Offer, MeetKind, Mark, Meet, Solo, RankItem, OwnerItem, Reply, concerns, marks_from, kinds, Going, advance, hears, Client, freed, strange_offer, fits_offer, waiting_end, end_by, waiting_stop, stop_by, arith, nat_tests}
+use Rattle.join_laws.proofs.Words.{◌≡◌, ℕ, suc, ◌≤◌, List, [], ◌∷◌, ◌++◌, Bool, true, false, Some, None, filter, Header, Offer, MeetKind, Mark, Meet, Solo, RankItem, OwnerItem, Reply, concerns, kinds, Going, advance, hears, Client, freed, strange_offer, fits_offer, arith, nat_tests}
 use Rattle.nc_base.specs.declared.step.OfferKind.TheVariants as offer
 use Rattle.nc_base.specs.declared.step.RankItem.TheVariants as item
 use Rattle.nc_base.specs.declared.step.Reply as reply
-use Rattle.join_laws.proofs.StreamLaws.{waiting_reply, waiting_end_reply, waiting_stop_reply, to_come, client_end, client_stop, ended_item, Offered, offered_offer, marks_of, Heard, heard}
+use Rattle.join_laws.proofs.StreamLaws.{waiting_reply, waiting_end_reply, waiting_stop_reply, to_come, client_end, client_stop, ended_item, Offered, offered_offer, marks_of, heard}
 
 -- ---- what stays true of a rank, whatever its offers are
 

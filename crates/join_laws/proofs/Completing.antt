@@ -1,7 +1,6 @@
 -- An order that a script's ranks have begun can be gone on with to one of its histories: the ranks meet as often, one as the other.
-use Rattle.join_laws.proofs.Words.{and_from, ◌≡◌, ℕ, zero, suc, ◌+◌, ◌-◌, ◌<◌, ◌≤◌, refl, sym, ◌∙◌, ap, inl, inr, ◌⊎◌, subst, eqb_tells, List, [], ◌∷◌, ◌++◌, length, Bool, true, false, cond, ◌&&◌, Option, Some, None, arith, append_assoc, filter-append, sum_by-cons, nat_tests, slice_get, ◌==◌, filter, is_some, nat_lt, list_all, cons_option, Call, Script, Mark, Meet, Solo, MeetKind, kinds, marks, marks_from, concerns, is_of_rank_below, kind_of_call, mode_after, is_collective, is_data, IsLegal, is_meeting, is_lawful, is_solo_of, meetings, kinds_of, own_lawful, ranks_lawful, and_first, and_second, equal_itself, others_filter, all_joined, append-nil}
+use Rattle.join_laws.proofs.Words.{and_from, ◌≡◌, ℕ, zero, suc, ◌+◌, ◌-◌, ◌<◌, ◌≤◌, refl, sym, ◌∙◌, ap, inl, inr, ◌⊎◌, subst, eqb_tells, List, [], ◌∷◌, ◌++◌, length, Bool, true, false, cond, ◌&&◌, Option, Some, None, arith, append_assoc, filter-append, sum_by-cons, nat_tests, ◌==◌, filter, is_some, nat_lt, list_all, cons_option, Call, Script, Mark, Meet, Solo, MeetKind, kinds, marks, marks_from, concerns, is_of_rank_below, kind_of_call, mode_after, is_collective, is_data, IsLegal, is_meeting, is_lawful, is_solo_of, meetings, kinds_of, own_lawful, ranks_lawful, and_first, and_second, equal_itself, others_filter, all_joined, append-nil, entry_below}
 use borrow.Author.Tests.{ltb-true, ltb-false, eqb-true}
-use Rattle.nc_base.specs.declared.request.Call.TheVariants as call
 
 -- ---- what is left to a rank: its own steps, and n meetings from the k-th on
 
@@ -159,11 +158,6 @@ unfolding filler
 filler_rest r k zero = refl
 filler_rest r k (suc n) = ([], filler (suc k) n, refl, refl, filler_rest r (suc k) n)
 
-missing : (xs : List (List Call)) (i : ℕ) → i < length xs → slice_get xs i ≡ None → ⊥
-missing [] i h f = absurd (omega arith)
-missing (x ∷ xs) zero h f = cc
-missing (x ∷ xs) (suc i) h f = missing xs i (omega arith) f
-
 record HasRest (script : Script) (order : List Mark) (r : ℕ) : Type 0 where
   pub rest : List Mark
   pub is_rest : IsRest r (meetings order) (length (kinds_of script) - meetings order) rest
@@ -173,15 +167,14 @@ rest_of : (script : Script) (order : List Mark) (r : ℕ) → is_lawful script �
     → (r < script.ranks → (rest : List Mark) × (filter (concerns r) order ++ rest ≡ marks script.calls r)) → HasRest script order r
 rest_of script order r lawful each = by_rank (nat_lt r script.ranks) refl
   where
-    at_own : (given : (rest : List Mark) × (filter (concerns r) order ++ rest ≡ marks script.calls r)) (o : Option (List Call)) → slice_get script.calls r ≡ o
-        → r < script.ranks → HasRest script order r
-    at_own given None e low = let l = (ranks_lawful script lawful).one_each in absurd (missing script.calls r (omega arith) e)
-    at_own given (Some own) e low =
-        let w = own_lawful script r own lawful e in
-        let is : marks script.calls r ≡ marks_from r 0 0 false own = ap (λ (o : Option (List Call)). elim o [ None ↦ [] | Some calls ↦ marks_from r 0 0 false calls ]) e in
+    at_own : (rest : List Mark) × (filter (concerns r) order ++ rest ≡ marks script.calls r) → r < script.ranks → HasRest script order r
+    at_own given low =
+        let long = (ranks_lawful script lawful).one_each in
+        let own = entry_below script.calls r (omega arith) in
+        let is : marks script.calls r ≡ marks_from r 0 0 false own.0 = ap (λ (o : Option (List Call)). elim o [ None ↦ [] | Some calls ↦ marks_from r 0 0 false calls ]) own.1 in
         let whole : IsRest r 0 (length (kinds_of script)) (filter (concerns r) order ++ given.0) =
         subst (λ (xs : List Mark). IsRest r 0 (length (kinds_of script)) xs) (sym (given.1 ∙ is))
-        (subst (λ (ks : List MeetKind). IsRest r 0 (length ks) (marks_from r 0 0 false own)) w.agreed (marks_rest r 0 0 false own)) in
+        (subst (λ (ks : List MeetKind). IsRest r 0 (length ks) (marks_from r 0 0 false own.0)) (own_lawful script r own.0 lawful own.1).agreed (marks_rest r 0 0 false own.0)) in
         let l = rest_after (filter (concerns r) order) given.0 r 0 (length (kinds_of script)) whole in
         let same = meetings_kept r order in
         let sum = l.1 in
@@ -195,7 +188,7 @@ rest_of script order r lawful each = by_rank (nat_lt r script.ranks) refl
         }
 
     by_rank : (t : Bool) → nat_lt r script.ranks ≡ t → HasRest script order r
-    by_rank true e = let low : r < script.ranks = ltb-true _ _ e in at_own (each low) (slice_get script.calls r) refl low
+    by_rank true e = let low : r < script.ranks = ltb-true _ _ e in at_own (each low) low
     by_rank false e =
         let high : script.ranks ≤ r = ltb-false _ _ e in
         record {

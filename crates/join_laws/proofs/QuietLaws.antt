@@ -1,6 +1,5 @@
 -- A rank that ends independent data mode or makes the counts agree brings no put.
 use Rattle.join_laws.proofs.Words.{◌≡◌, ℕ, sym, subst, List, [], Bool, true, false, cond, Header, Call, PostKind, Code, Post, Offer, Want, Answered, raises, Look, Rank, post_after, posts, step, arith, nat_tests}
-use Rattle.nc_base.specs.declared.request.Call.TheVariants as call
 use Rattle.nc_base.specs.declared.answer.Code.TheVariants as code
 use Rattle.nc_base.specs.declared.step.Want.TheVariants.{Meet, Solo}
 

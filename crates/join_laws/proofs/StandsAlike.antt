@@ -1,9 +1,9 @@
 -- Runs over files that differ in their bytes, step by step: ranks beside one another, and ends that are alike.
-use Rattle.join_laws.proofs.Words.{◌≡◌, ℕ, zero, suc, ◌+◌, refl, sym, ◌∙◌, ap, subst, List, [], ◌∷◌, map, set, Option, Some, None, slice_get, flat_map, fold, take, zip, enumerate_from, Header, Call, Script, Mark, Meet, Solo, Offer, Setting, Counted, get_post, meeting, puts_of, solo, told, pending, told_of, Going, End, advance, close_by, count_after, first_state, hears, offers_of, serial_from, setting_of, state_after, Arrived, Stand, ended_from, first_stand, heard, solo_to, step_to, arrival_steps, first_up, gone_up, serial_of_arrivals, blank, AllBeside, AreAlikeEnds, AreBeside, AreNear, IsLike, Rank, TellAlike, arith, nat_tests}
+use Rattle.join_laws.proofs.Words.{◌≡◌, ℕ, zero, suc, ◌+◌, refl, sym, ◌∙◌, ap, subst, List, [], ◌∷◌, map, set, Option, Some, None, slice_get, fold, take, zip, Header, Call, Script, Mark, Meet, Solo, Offer, Setting, Counted, meeting, solo, pending, told_of, Going, End, advance, close_by, count_after, first_state, hears, offers_of, serial_from, setting_of, state_after, Arrived, Stand, ended_from, first_stand, heard, solo_to, step_to, arrival_steps, first_up, gone_up, serial_of_arrivals, blank, AllBeside, AreAlikeEnds, AreBeside, AreNear, IsLike, Rank, TellAlike, arith, nat_tests}
 use Rattle.nc_base.specs.declared.step.Reply as reply
 use Rattle.join_laws.proofs.AlikeLaws.{advance_beside, hears_near, same_near}
-use Rattle.join_laws.proofs.OwnerAlikeLaws.{meeting_records, raised_records, solo_alike}
-use Rattle.join_laws.proofs.ReplyLaws.{gots_long}
+pub use Rattle.join_laws.proofs.OwnerAlikeLaws.{AllTell}
+use Rattle.join_laws.proofs.OwnerAlikeLaws.{meeting_records, meeting_tells, raised_records, solo_alike}
 use Rattle.list_laws.proofs.Maps.{map_map}
 
 -- ---- ranks
@@ -45,11 +45,6 @@ set_beside xs ys r p q w v = absurd w
 
 -- ---- replies
 
-abbrev pub AllTell : List reply.Reply → List reply.Reply → Type 0
-AllTell [] [] = Unit {0}
-AllTell (y ∷ one) (z ∷ other) = TellAlike y z × AllTell one other
-AllTell _ _ = ⊥
-
 all_heard : (header : Header) (one other : List Arrived) (ys zs : List reply.Reply) → AllBeside one other → AllTell ys zs
     → AllBeside (map (heard header) (zip one ys)) (map (heard header) (zip other zs))
 all_heard header [] (q ∷ other) ys zs w t = absurd w
@@ -59,20 +54,6 @@ all_heard header (p ∷ one) (q ∷ other) (y ∷ ys) [] w t = absurd t
 all_heard header (p ∷ one) (q ∷ other) (y ∷ ys) (z ∷ zs) w t =
     (advance_beside header (hears header p.0 y) (hears header q.0 z) (hears_near header p.0 q.0 y z w.0.0 t.0), all_heard header one other ys zs w.1 t.1)
 all_heard header xs n ys zs w t = tt
-
-each_tells : (f g : Offer → reply.Reply) → ((o : Offer) → TellAlike (f o) (g o)) → (offers : List Offer) → AllTell (map f offers) (map g offers)
-each_tells f g w [] = tt
-each_tells f g w (o ∷ offers) = (w o, each_tells f g w offers)
-
-meeting_tells : (s : Setting) (offers : List Offer) (c d : Counted) → c.records ≡ d.records → AllTell (meeting s offers c).1 (meeting s offers d).1
-meeting_tells s offers c d e =
-    let pair = told s (flat_map puts_of (enumerate_from 0 offers)) in
-    let one = (meeting s offers c).0 in
-    let two = (meeting s offers d).0 in
-    each_tells (λ o. record { pair = pair; records = one.records; got = map (get_post s one.file) o.batch.gets })
-    (λ o. record { pair = pair; records = two.records; got = map (get_post s two.file) o.batch.gets })
-    (λ o. record { pair = refl; records = meeting_records s offers c d e; lengths = gots_long s one.file o.batch.gets ∙ sym (gots_long s two.file o.batch.gets) })
-    offers
 
 -- ---- a step
 
