@@ -1,7 +1,7 @@
 -- A run of the owner: its first strange arrival, and its order by the arrivals before that one.
 use Rattle.owner_laws.proofs.Words.{◌≡◌, ℕ, ◌+◌, ◌<◌, refl, sym, ◌∙◌, ap, subst, List, [], ◌∷◌, ◌++◌, replicate, max, Bool, true, false, ◌&&◌, Option, Some, None, arith, length-replicate, list_all-append, slice_get, nat_lt, list_all, entry_below, and_first, and_second, Mark, Offer, Client, Owner, event, first_owner, free_client, is_strange, needed_now, served, Counted, Setting, Arrival, done, served_on, stranger_on, none_marked, get_replicate, done_is, IsCutByArrivals, IsDoneByArrivals, before_stranger, before_stranger_from, first_stranger, first_stranger_from, is_strange_after, last, meeting_offers, puts_brought}
 use borrow.Author.Tests.{ltb-true}
-use Rattle.owner_laws.proofs.HeldClients.{one_if, Kept}
+use Rattle.owner_laws.proofs.HeldClients.{Kept, OfNumber}
 use Rattle.owner_laws.proofs.StrangerLaws.{event_next, not_taken, same_strange}
 
 -- ---- from where the owner stands
@@ -15,17 +15,6 @@ record IsFront (s : Setting) (d : Owner) (ranks : ℕ) (front arrivals : List Ar
 record Found (s : Setting) (ranks reached : ℕ) (before : List Arrival) (d : Owner) (arrivals : List Arrival) : Type 0 where
   stranger : (served s d arrivals).stranger ≡ first_stranger_from s ranks reached before arrivals
   front : IsFront s d ranks (before_stranger_from s ranks reached before arrivals) arrivals
-
-front_strange : (s : Setting) (d : Owner) (ranks : ℕ) (a : Arrival) (rest : List Arrival) → is_strange s d a ≡ true → IsFront s d ranks [] (a ∷ rest)
-front_strange s d ranks a rest e = record { none_strange = refl; marks = sym (none_marked s d a rest e); numbers = refl }
-
-front_on : (s : Setting) (d : Owner) (ranks : ℕ) (a : Arrival) (front rest : List Arrival) → is_strange s d a ≡ false → nat_lt a.0 ranks ≡ true → IsFront s (event s d a).owner ranks front rest
-    → IsFront s d ranks (a ∷ front) (a ∷ rest)
-front_on s d ranks a front rest e low h = record {
-  none_strange = (served_on s d a front e).stranger ∙ h.none_strange;
-  marks = (served_on s d a front e).marks ∙ ap (λ (ms : List Mark). (event s d a).marks ++ ms) h.marks ∙ sym (served_on s d a rest e).marks;
-  numbers = let more = h.numbers in λ i. (low i && more i);
-}
 
 found : (s : Setting) (ranks reached : ℕ) (before : List Arrival) (d : Owner) (arrivals : List Arrival) → list_all (λ a. nat_lt a.0 ranks) arrivals ≡ true → Kept ranks before d → d.reached ≡ reached
     → Found s ranks reached before d arrivals
@@ -45,34 +34,36 @@ found s ranks reached before d ((r, i) ∷ rest) n kept e =
     told_so : is_strange s d (r, i) ≡ is_strange_after s ranks reached before (r, i)
     told_so = same_strange s ranks before d kept r client.0 client.1 i ∙ ap (λ (m : ℕ). is_strange_after s ranks m before (r, i)) e
 
+    reached_now : ℕ
+    reached_now = max reached (needed_now s (puts_brought ranks before (r, i)))
+
+    more : List Arrival
+    more = before_stranger_from s ranks reached_now (before ++ (r, i) ∷ []) rest
+
     goes : Bool → Option ℕ
-    goes t = elim t as (λ z. Option ℕ) [
-      | true ↦ Some r
-      | false ↦ first_stranger_from s ranks (max reached (needed_now s (puts_brought ranks before (r, i)))) (before ++ (r, i) ∷ []) rest
-    ]
+    goes t = elim t as (λ z. Option ℕ) [ true ↦ Some r | false ↦ first_stranger_from s ranks reached_now (before ++ (r, i) ∷ []) rest ]
 
     front_by : Bool → List Arrival
-    front_by t = elim t as (λ z. List Arrival) [
-      | true ↦ []
-      | false ↦ (r, i) ∷ before_stranger_from s ranks (max reached (needed_now s (puts_brought ranks before (r, i)))) (before ++ (r, i) ∷ []) rest
-    ]
+    front_by t = elim t as (λ z. List Arrival) [ true ↦ [] | false ↦ (r, i) ∷ more ]
+
+    ends : (t : Bool) → is_strange s d (r, i) ≡ t → (served s d ((r, i) ∷ rest)).stranger ≡ goes t → IsFront s d ranks (front_by t) ((r, i) ∷ rest) → Found s ranks reached before d ((r, i) ∷ rest)
+    ends t f stranger front = let told = sym f ∙ told_so in record { stranger = stranger ∙ ap goes told; front = subst (λ (xs : List Arrival). IsFront s d ranks xs ((r, i) ∷ rest)) (ap front_by told) front }
 
     by : (t : Bool) → is_strange s d (r, i) ≡ t
         → ((reached' : ℕ) (before' : List Arrival) (d' : Owner) → Kept ranks before' d' → d'.reached ≡ reached' → Found s ranks reached' before' d' rest)
         → Found s ranks reached before d ((r, i) ∷ rest)
-    by true f again = record {
-      stranger = stranger_on s d (r, i) rest f ∙ sym (ap goes (sym told_so ∙ f));
-      front = subst (λ (xs : List Arrival). IsFront s d ranks xs ((r, i) ∷ rest)) (sym (ap front_by (sym told_so ∙ f))) (front_strange s d ranks (r, i) rest f);
-    }
+    by true f again = ends true f (stranger_on s d (r, i) rest f) (record { none_strange = refl; marks = sym (none_marked s d (r, i) rest f); numbers = refl })
     by false f again =
         let next = event_next s ranks before d kept r client.0 client.1 i (not_taken s ranks before d kept r client.0 client.1 i f) in
-        let later = again (max reached (needed_now s (puts_brought ranks before (r, i)))) (before ++ (r, i) ∷ []) (event s d (r, i)).owner next.kept
+        let later = again reached_now (before ++ (r, i) ∷ []) (event s d (r, i)).owner next.kept
         (next.reached ∙ ap (λ (m : ℕ). max m (needed_now s (puts_brought ranks before (r, i)))) e) in
-        record {
-          stranger = (served_on s d (r, i) rest f).stranger ∙ later.stranger ∙ sym (ap goes (sym told_so ∙ f));
-          front = subst (λ (xs : List Arrival). IsFront s d ranks xs ((r, i) ∷ rest)) (sym (ap front_by (sym told_so ∙ f)))
-              (front_on s d ranks (r, i) (before_stranger_from s ranks (max reached (needed_now s (puts_brought ranks before (r, i)))) (before ++ (r, i) ∷ []) rest) rest f low later.front);
-        }
+        let on = served_on s d (r, i) more f in
+        let front = later.front in
+        ends false f ((served_on s d (r, i) rest f).stranger ∙ later.stranger) (record {
+          none_strange = on.stranger ∙ front.none_strange;
+          marks = on.marks ∙ ap (λ (ms : List Mark). (event s d (r, i)).marks ++ ms) front.marks ∙ sym (served_on s d (r, i) rest f).marks;
+          numbers = let numbers = front.numbers in λ j. (low j && numbers j);
+        })
 
 -- ---- from the opening
 
@@ -80,22 +71,12 @@ first_kept : (ranks r : ℕ) (c : Counted) → r < ranks → Kept ranks [] (firs
 first_kept ranks r c l =
     let long = length-replicate ranks free_client in
     let own = entry_below (replicate ranks free_client) r (omega arith) in
+    let is_first = get_replicate ranks free_client in
     record {
       long = long;
-      number = r;
-      free = own.0;
-      at_free = own.1;
-      is_free = ap (λ (x : Client). x.held) (is_first r own.0 own.1);
-      count = λ q x e. sym (ap (λ (z : Client). 0 + one_if z.held) (is_first q x e) ∙ (omega arith));
-      held = λ q x o e h. never q o (sym (ap (λ (z : Client). z.held) (is_first q x e)) ∙ h);
-      ended = λ q x e. ap (λ (z : Client). z.ended) (is_first q x e);
+      some_free = record { number = r; free = own.0; at_free = own.1; is_free = ap (λ (x : Client). x.held) (is_first r own.0 own.1) };
+      each = λ q x e. let first : OfNumber [] 0 q free_client = record { count = omega arith; held = λ o h. absurd cc; ended = refl } in subst (λ (z : Client). OfNumber [] 0 q z) (sym (is_first q x e)) first;
     }
-  where
-    is_first : (q : ℕ) (x : Client) → slice_get (replicate ranks free_client) q ≡ Some x → x ≡ free_client
-    is_first q x e = get_replicate ranks free_client q x e
-
-    never : (q : ℕ) (o : Offer) → None ≡ Some o → last (meeting_offers q []) ≡ Some o
-    never q o f = absurd cc
 
 found_first : (s : Setting) (ranks : ℕ) (c : Counted) (arrivals : List Arrival) → list_all (λ a. nat_lt a.0 ranks) arrivals ≡ true
     → Found s ranks c.records [] (first_owner (replicate ranks free_client) c) arrivals
