@@ -1,5 +1,5 @@
 -- What the owner holds of each number is what the arrivals tell.
-use Rattle.owner_laws.proofs.Words.{◌≡◌, ℕ, zero, suc, ◌+◌, ◌<◌, ◌≤◌, refl, sym, ◌∙◌, ap, inl, inr, ◌⊎◌, List, [], ◌∷◌, ◌++◌, length, set, max, Bool, true, false, cond, ◌&&◌, ◌||◌, Option, Some, None, arith, append-nil, length-set, filter-append, filter_map-append, ne_eqb, eqb_tells, nat_tests, same_Some, slice_get_within, slice_get, filter, filter_map, nat_lt, ◌==◌, is_some, option_and_then, list_all, list_any, range_with_len, cons_option, option_or, entry_below, entry_set, entry_set_other, equal_itself, MeetKind, Offer, RankItem, Owner, differs, Event, holds, kind_held, left_behind, left_by, needed_now, offers_held, Client, Setting, Arrival, is_from, kind_of_meeting, Puts, are_left_behind, brought, ends, has_fewer, has_left, kind_waiting, last, meeting_offers, puts_brought, waiting, waits, no_need, none_last}
+use Rattle.owner_laws.proofs.Words.{◌≡◌, ℕ, zero, suc, ◌+◌, ◌<◌, refl, sym, ◌∙◌, ap, inl, inr, ◌⊎◌, List, [], ◌∷◌, ◌++◌, length, set, max, Bool, true, false, ◌&&◌, Option, Some, None, arith, append-nil, filter-append, filter_map-append, eqb_tells, nat_tests, same_Some, slice_get_within, slice_get, filter_map, ◌==◌, option_and_then, list_any, range_with_len, option_or, entry_below, entry_set, entry_set_other, MeetKind, Offer, RankItem, Owner, differs, Event, holds, kind_held, left_behind, left_by, needed_now, offers_held, Client, Setting, Arrival, kind_of_meeting, Puts, are_left_behind, brought, ends, has_fewer, has_left, kind_waiting, last, meeting_offers, puts_brought, waiting, waits, no_need, none_last}
 use Rattle.serial_spec.specs.Owner as owner
 use Rattle.join_laws.proofs.StepLaws.{Free}
 use Rattle.list_laws.proofs.Optional.{some_or_none}

@@ -1,5 +1,5 @@
 -- A run of the owner: its first strange arrival, and its order by the arrivals before that one.
-use Rattle.owner_laws.proofs.Words.{◌≡◌, ℕ, ◌+◌, ◌<◌, refl, sym, ◌∙◌, ap, subst, List, [], ◌∷◌, ◌++◌, replicate, max, Bool, true, false, ◌&&◌, Option, Some, None, arith, length-replicate, list_all-append, slice_get, nat_lt, list_all, entry_below, and_first, and_second, Mark, Offer, Client, Owner, event, first_owner, free_client, is_strange, needed_now, served, Counted, Setting, Arrival, done, served_on, stranger_on, none_marked, get_replicate, done_is, IsCutByArrivals, IsDoneByArrivals, before_stranger, before_stranger_from, first_stranger, first_stranger_from, is_strange_after, last, meeting_offers, puts_brought}
+use Rattle.owner_laws.proofs.Words.{◌≡◌, ℕ, ◌<◌, refl, sym, ◌∙◌, ap, subst, List, [], ◌∷◌, ◌++◌, replicate, max, Bool, true, false, ◌&&◌, Option, Some, None, arith, length-replicate, list_all-append, slice_get, nat_lt, list_all, entry_below, and_first, and_second, Mark, Client, Owner, event, first_owner, free_client, is_strange, needed_now, served, Counted, Setting, Arrival, done, served_on, stranger_on, none_marked, get_replicate, done_is, IsCutByArrivals, IsDoneByArrivals, before_stranger, before_stranger_from, first_stranger, first_stranger_from, is_strange_after, puts_brought}
 use borrow.Author.Tests.{ltb-true}
 use Rattle.owner_laws.proofs.HeldClients.{Kept, OfNumber}
 use Rattle.owner_laws.proofs.StrangerLaws.{event_next, not_taken, same_strange}
