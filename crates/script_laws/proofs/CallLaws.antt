@@ -3,10 +3,9 @@ use Rattle.script_laws.proofs.Words.{◌≡◌, ℕ, zero, suc, ◌+◌, ◌^◌
 use Rattle.nc_base.specs.declared.errors.ScriptKind.TheVariants as kind
 use Rattle.nc_base.specs.declared.errors.LimitName.TheVariants as limit
 use Rattle.nc_base.specs.declared.request.Form.TheVariants as form
-use Rattle.nc_base.specs.declared.request.Call.TheVariants as call
 use Rattle.script_laws.proofs.ListLaws.{all_pass, found_all}
-use Rattle.script_laws.proofs.StepLaws.{first_then, then_with, ok_then, unless_refused, read_as, whole_line}
-use Rattle.script_laws.proofs.CallValueLaws.{FitsValues, call_values_read}
+use Rattle.script_laws.proofs.StepLaws.{first_then, then_with, ok_then, by_some, unless_refused, read_as, whole_line}
+use Rattle.script_laws.proofs.ValueLaws.{FitsValues, values_read}
 
 -- ---- sizes and lists of them
 
@@ -95,8 +94,8 @@ put_read : (ranks r before : ℕ) (own : List Call) (all : Bool) (f : Form) (ws 
 put_read ranks r before own all f ws h =
     first_then (name ws) _ _ (λ v _.
     then_with (region f v.1) _ _ (λ g. is_given g.0 ≡ true) (region_read f v.1) (λ g good.
-    then_with (values None before g.1) _ _ (FitsValues before) (call_values_read before g.1 h) (λ vs fits.
-    record { lawful = and_from _ _ good fits.lawful; few = fits.few; fresh = tt })))
+    then_with (values None before g.1) _ _ (FitsValues None before) (values_read None before g.1 h) (λ vs fits.
+    record { lawful = and_from _ _ good (fits.lawful refl); few = fits.few; fresh = tt })))
 
 get_read : (ranks r before : ℕ) (own : List Call) (all : Bool) (f : Form) (ws : List Word) → before ≤ most_values → IfOk (get_call all f ws) (FitsCall ranks r before own)
 get_read ranks r before own all f ws h =
@@ -110,8 +109,8 @@ record FitsPost (k : PostKind) (before : ℕ) (vs : Values) : Type 0 where
 
 post_values_read : (k : PostKind) (before : ℕ) (ws : List Word) → before ≤ most_values → IfOk (post_values k before ws) (FitsPost k before)
 post_values_read Iget before ws h = whole_line (Numbers []) ws (FitsPost Iget before) (record { lawful = refl; few = omega arith })
-post_values_read Iput before ws h = IfOk-weaker (values None before ws) (FitsValues before) (FitsPost Iput before) (λ vs f. record { lawful = f.lawful; few = f.few }) (call_values_read before ws h)
-post_values_read Bput before ws h = IfOk-weaker (values None before ws) (FitsValues before) (FitsPost Bput before) (λ vs f. record { lawful = f.lawful; few = f.few }) (call_values_read before ws h)
+post_values_read Iput before ws h = IfOk-weaker (values None before ws) (FitsValues None before) (FitsPost Iput before) (λ vs f. record { lawful = f.lawful refl; few = f.few }) (values_read None before ws h)
+post_values_read Bput before ws h = IfOk-weaker (values None before ws) (FitsValues None before) (FitsPost Bput before) (λ vs f. record { lawful = f.lawful refl; few = f.few }) (values_read None before ws h)
 
 id_read : (ids : List ℕ) (ws : List Word) → IfOk (new_id ids ws) (λ r. is_posted r.0 ids ≡ false)
 id_read ids ws = grind (arith, nat_tests, first_then, then_with, unless_refused)
@@ -149,17 +148,8 @@ plain_read ranks r before own w ws h =
       fresh = subst (λ (o : Option ℕ). IfSome o (λ id. is_posted id (posted own) ≡ false)) (sym (made_no_post row is ranks r b)) tt;
     }))
 
-by_some : {A B E : Type 0} (o : Option A) (f : A → Result B E) (q : Result B E) (P : B → Type 0) → ((x : A) → IfOk (f x) P) → IfOk q P
-    → IfOk (elim o as (λ _. Result B E) [ Some x ↦ f x | None ↦ q ]) P
-by_some None f q P g h = h
-by_some (Some x) f q P g h = g x
-
 pub call_read : (ranks r before : ℕ) (own : List Call) (w : List ℕ) (ws : List Word) → before ≤ most_values → IfOk (call_of ranks r own before w ws) (FitsCall ranks r before own)
 call_read ranks r before own w ws h =
-    by_some (after_prefix (codes "put_") w) _ _ P (λ rest. first_then (or_fault kind.UnknownWord (form_and_all rest)) _ _ (λ f _. put_read ranks r before own f.1 f.0 ws h))
-    (by_some (after_prefix (codes "get_") w) _ _ P (λ rest. first_then (or_fault kind.UnknownWord (form_and_all rest)) _ _ (λ f _. get_read ranks r before own f.1 f.0 ws h))
-    (by_some (post_of_text w) _ _ P (λ k. first_then (or_fault kind.UnknownWord (form_of_text k.1)) _ _ (λ f _. post_read ranks r before own k.0 f ws h))
-    (plain_read ranks r before own w ws h)))
-  where
-    P : Call → Type 0
-    P = FitsCall ranks r before own
+    by_some (after_prefix (codes "put_") w) _ _ _ (λ rest _. first_then (or_fault kind.UnknownWord (form_and_all rest)) _ _ (λ f _. put_read ranks r before own f.1 f.0 ws h))
+    (by_some (after_prefix (codes "get_") w) _ _ _ (λ rest _. first_then (or_fault kind.UnknownWord (form_and_all rest)) _ _ (λ f _. get_read ranks r before own f.1 f.0 ws h))
+    (by_some (post_of_text w) _ _ _ (λ k _. first_then (or_fault kind.UnknownWord (form_of_text k.1)) _ _ (λ f _. post_read ranks r before own k.0 f ws h)) (plain_read ranks r before own w ws h)))

@@ -69,34 +69,26 @@ pub record FitsLine (version lines before : ℕ) (old : Defined) (r : ℕ × Def
 pub defined_after : (version lines before : ℕ) (d : Defined) (first : List ℕ) (ws : List Word) → before ≤ most_values → FitsDefined version lines d
     → IfOk (definition version before d first ws) (FitsLine version lines before d)
 defined_after version lines before d first ws h f =
-    by_test (bytes_eq first (codes "dim")) (dim_definition version d ws) _ P (λ _. of_dim) (λ _.
-    by_test (bytes_eq first (codes "var")) (var_definition version d ws) _ P (λ _. of_var) (λ _.
-    by_test (bytes_eq first (codes "att")) (att_line version before d ws) _ P (λ _. of_attr) (λ _.
-    by_test (bytes_eq first (codes "fill")) (fill_line d ws) (Err kind.UnknownWord) P (λ _. of_fill) (λ _. tt))))
+    by_test (bytes_eq first (codes "dim")) (dim_definition version d ws) _ P (λ _.
+    then_with (dim_line version d.dims ws) _ _ (NewDim version d.dims) (dim_read version d.dims ws)
+    (λ x new. record { fits = more (with_dim x d) (dim_fits version lines d x f new); few = omega arith; held = omega arith })) (λ _.
+    by_test (bytes_eq first (codes "var")) (var_definition version d ws) _ P (λ _.
+    then_with (var_line version d.dims d.vars ws) _ _ (NewVar version lines d.dims d.vars) (var_read version lines d.dims d.vars ws)
+    (λ x new. record { fits = more (with_var x d) (var_fits version lines d x f new); few = omega arith; held = let none = var_values d x new.none in omega arith })) (λ _.
+    by_test (bytes_eq first (codes "att")) (att_line version before d ws) _ P (λ _.
+    first_then (reads_as owner_of_text kind.BadName ws) _ _ (λ o _.
+    first_then (owner_place d.vars o.0) _ _ (λ k _.
+    then_with (attribute version d.titles before o.0 o.1) _ _ (NewAttr version before) (attribute_read version d.titles before o.0 o.1 h)
+    (λ a new. record { fits = attr_fits version lines d k a o.0 f new.fits; few = new.few; held = more_values d k a o.0 })))) (λ _.
+    by_test (bytes_eq first (codes "fill")) (fill_line d ws) (Err kind.UnknownWord) P (λ _.
+    first_then (refuse_if d.filled kind.TwiceNamed) _ _ (λ _ _.
+    first_then (ended ws) _ _ (λ _ _. record { fits = more (record d { filled = true }) (filled_fits version lines d f); few = omega arith; held = omega arith }))) (λ _. tt))))
   where
     P : ℕ × Defined → Type 0
     P = FitsLine version lines before d
 
     more : (e : Defined) → FitsDefined version lines e → FitsDefined version (suc lines) e
     more e g = later_defined version lines (suc lines) (omega arith) e g
-
-    of_dim : IfOk (dim_definition version d ws) (FitsLine version lines before d)
-    of_dim = then_with (dim_line version d.dims ws) _ _ (NewDim version d.dims) (dim_read version d.dims ws)
-        (λ x new. record { fits = more (with_dim x d) (dim_fits version lines d x f new); few = omega arith; held = omega arith })
-
-    of_var : IfOk (var_definition version d ws) (FitsLine version lines before d)
-    of_var = then_with (var_line version d.dims d.vars ws) _ _ (NewVar version lines d.dims d.vars) (var_read version lines d.dims d.vars ws)
-        (λ x new. record { fits = more (with_var x d) (var_fits version lines d x f new); few = omega arith; held = let none = var_values d x new.none in omega arith })
-
-    of_attr : IfOk (att_line version before d ws) (FitsLine version lines before d)
-    of_attr = first_then (reads_as owner_of_text kind.BadName ws) _ _ (λ o _.
-        first_then (owner_place d.vars o.0) _ _ (λ k _.
-        then_with (attribute version d.titles before o.0 o.1) _ _ (NewAttr version before) (attribute_read version d.titles before o.0 o.1 h)
-        (λ a new. record { fits = attr_fits version lines d k a o.0 f new.fits; few = new.few; held = more_values d k a o.0 })))
-
-    of_fill : IfOk (fill_line d ws) (FitsLine version lines before d)
-    of_fill = first_then (refuse_if d.filled kind.TwiceNamed) _ _ (λ _ _.
-        first_then (ended ws) _ _ (λ _ _. record { fits = more (record d { filled = true }) (filled_fits version lines d f); few = omega arith; held = omega arith }))
 
 -- ---- hints
 
@@ -157,31 +149,17 @@ later_known version lines more h known f =
 pub known_more : (version lines : ℕ) (known : Known) (first : List ℕ) (ws : List Word) → FitsKnown version lines known
     → IfOk (known_after version known first ws) (FitsKnown version (suc lines))
 known_more version lines known first ws f =
-    by_test (bytes_eq first (codes "ranks")) _ _ P (λ _. of_ranks) (λ _.
-    by_test (bytes_eq first (codes "hint")) _ _ P (λ _. of_hint) (λ _.
-    by_test (version == 0) _ _ P (λ e. of_addition e) (λ e. of_definition e)))
-  where
-    P : Known → Type 0
-    P = FitsKnown version (suc lines)
-
-    more : FitsKnown version (suc lines) known
-    more = later_known version lines (suc lines) (omega arith) known f
-
-    of_ranks : IfOk (ranks_line known.ranks ws >>= λ n. Ok (record known { ranks = Some n })) (FitsKnown version (suc lines))
-    of_ranks = then_with (ranks_line known.ranks ws) _ _ (InRange 1 64 1) (ranks_read known.ranks ws) (λ n fits. record { ranks = fits; hints = f.hints; few = f.few; fresh = more.fresh; old = f.old; none_added = f.none_added; added = f.added; held = f.held })
-
-    of_hint : IfOk (hint_line known.hints ws >>= λ h. Ok (record known { hints = slice_set known.hints h.0 (Some h.1) })) (FitsKnown version (suc lines))
-    of_hint = then_with (hint_line known.hints ws) _ _ (λ r. FitsForm (hint_form r.0) r.1) (hint_read known.hints ws)
-        (λ h fits. record { ranks = f.ranks; hints = one_hint (λ k n. FitsForm (hint_form k) n) known.hints h.0 h.1 f.hints fits; few = f.few; fresh = more.fresh; old = f.old; none_added = f.none_added; added = f.added; held = f.held })
-
-    of_definition : (version == 0) ≡ false
-        → IfOk (definition version known.values known.defined first ws >>= λ x. Ok (record known { defined = x.1; values = known.values + x.0 })) (FitsKnown version (suc lines))
-    of_definition e = then_with (definition version known.values known.defined first ws) _ _ (FitsLine version lines known.values known.defined)
-        (defined_after version lines known.values known.defined first ws f.few (f.fresh e))
-        (λ x new. record { ranks = f.ranks; hints = f.hints; few = new.few; fresh = λ _. new.fits; old = λ o. absurd (cc); none_added = f.none_added; added = f.added; held = let a = f.held in let b = new.held in omega arith })
-
-    of_addition : (version == 0) ≡ true
-        → IfOk (addition known.values known.added first ws >>= λ x. Ok (record known { added = x.1; values = known.values + x.0 })) (FitsKnown version (suc lines))
-    of_addition e = then_with (addition known.values known.added first ws) _ _ (FitsAddition known.values known.added)
-        (addition_read known.values known.added first ws f.few f.added)
-        (λ x new. record { ranks = f.ranks; hints = f.hints; few = new.few; fresh = more.fresh; old = f.old; none_added = λ o. absurd (cc); added = new.fits; held = let a = f.held in let b = new.held in omega arith })
+    let same = later_known version lines (suc lines) (omega arith) known f in
+    by_test (bytes_eq first (codes "ranks")) (ranks_line known.ranks ws >>= λ n. Ok (record known { ranks = Some n })) _ _ (λ _.
+    then_with (ranks_line known.ranks ws) _ _ (InRange 1 64 1) (ranks_read known.ranks ws)
+    (λ n fits. record { ranks = fits; hints = f.hints; few = f.few; fresh = same.fresh; old = f.old; none_added = f.none_added; added = f.added; held = f.held })) (λ _.
+    by_test (bytes_eq first (codes "hint")) (hint_line known.hints ws >>= λ h. Ok (record known { hints = slice_set known.hints h.0 (Some h.1) })) _ _ (λ _.
+    then_with (hint_line known.hints ws) _ _ (λ r. FitsForm (hint_form r.0) r.1) (hint_read known.hints ws) (λ h fits.
+    let hints = one_hint (λ k n. FitsForm (hint_form k) n) known.hints h.0 h.1 f.hints fits in
+    record { ranks = f.ranks; hints = hints; few = f.few; fresh = same.fresh; old = f.old; none_added = f.none_added; added = f.added; held = f.held })) (λ _.
+    by_test (version == 0) (addition known.values known.added first ws >>= λ x. Ok (record known { added = x.1; values = known.values + x.0 })) _ _ (λ e.
+    then_with (addition known.values known.added first ws) _ _ (FitsAddition known.values known.added) (addition_read known.values known.added first ws f.few f.added) (λ x new.
+    record { ranks = f.ranks; hints = f.hints; few = new.few; fresh = same.fresh; old = f.old; none_added = λ o. absurd (cc); added = new.fits; held = omega (arith, f.held, new.held) })) (λ e.
+    then_with (definition version known.values known.defined first ws) _ _ (FitsLine version lines known.values known.defined)
+    (defined_after version lines known.values known.defined first ws f.few (f.fresh e)) (λ x new.
+    record { ranks = f.ranks; hints = f.hints; few = new.few; fresh = λ _. new.fits; old = λ o. absurd (cc); none_added = f.none_added; added = f.added; held = omega (arith, f.held, new.held) }))))

@@ -6,7 +6,7 @@ use Rattle.nc_base.specs.declared.errors.LimitName.TheVariants as limit
 use Rattle.script_laws.proofs.ListLaws.{all_both, all_set, count_more, sum_set, sum_more, found_all}
 use Rattle.script_laws.proofs.StepLaws.{first_then, then_with, unless_refused, read_as}
 use Rattle.script_laws.proofs.WordLaws.{name_short, named, type_read, length_read, small_fits, length_fits}
-use Rattle.script_laws.proofs.ValueLaws.{AreWithin, values_within, bytes_long}
+use Rattle.script_laws.proofs.ValueLaws.{FitsValues, values_read, bytes_long}
 
 -- ---- a dimension
 
@@ -72,8 +72,8 @@ attribute_read version titles before owner ws h =
     then_with (attribute_name titles owner ws) _ _ (λ r. is_name r.0 ≡ true) (title_named titles owner ws) (λ n good.
     then_with (reads_as (type_of version) kind.UnknownWord n.1) _ _ (λ r. is_type version r.0 ≡ true)
     (read_as (type_of version) kind.UnknownWord n.1 (λ t. is_type version t ≡ true) (type_read version)) (λ t typed.
-    then_with (values (Some t.0) before t.1) _ _ (AreWithin before) (values_within (Some t.0) before t.1 h) (λ vs few.
-    record { fits = attr_fits version n.0 t.0 vs good typed (omega arith); few = few })))
+    then_with (values (Some t.0) before t.1) _ _ (FitsValues (Some t.0) before) (values_read (Some t.0) before t.1 h) (λ vs fits.
+    record { fits = attr_fits version n.0 t.0 vs good typed (omega arith); few = fits.few })))
 
 -- ---- a variable, over these dimensions, after so many lines
 

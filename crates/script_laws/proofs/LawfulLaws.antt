@@ -1,9 +1,9 @@
 -- A script that is read is lawful.
-use Rattle.script_laws.proofs.Words.{◌≡◌, ℕ, ◌≤◌, List, length, map, sum, Bool, true, false, cond, not, ◌&&◌, refl, ap, arith, nat_le, ◌==◌, le-leb, lt-ltb, eq-eqb, eqb-true, AllByRecursion, list_all, and_from, Dim, Attr, Var, Call, Script, most_dims, most_vars, most_dims_of_var, is_version, most_values, most_calls, is_lawful_dim, is_lawful_var, is_nothing_defined, is_lawful_header, is_lawful_extra, is_whole_attr, is_whole_extra, has_whole_attrs, added_dims, added_vars, values_in_script, is_lawful, is_empty, Defined, no_definition, Added, nothing_added, Known, script_of, header_of, most_lines, Reads, nat_tests}
+use Rattle.script_laws.proofs.Words.{◌≡◌, ℕ, ◌≤◌, ◌+◌, subst, calls_of, List, length, map, sum, Bool, true, false, cond, not, ◌&&◌, refl, ap, arith, nat_le, ◌==◌, le-leb, lt-ltb, eq-eqb, eqb-true, AllByRecursion, list_all, and_from, Dim, Attr, Var, Call, Script, most_dims, most_vars, most_dims_of_var, is_version, most_values, most_calls, is_lawful_dim, is_lawful_var, is_nothing_defined, is_lawful_header, is_lawful_extra, is_whole_attr, is_whole_extra, has_whole_attrs, added_dims, added_vars, values_in_script, is_lawful, is_empty, Defined, no_definition, Added, nothing_added, Known, script_of, header_of, most_lines, Reads, nat_tests}
 use Rattle.script_laws.proofs.ListLaws.{all_pass}
 use Rattle.script_laws.proofs.DimLaws.{FitsAttr, FitsVar, attr_whole}
 use Rattle.script_laws.proofs.DefinedLaws.{FitsDefined, FitsKnown}
-use Rattle.script_laws.proofs.CalledLaws.{all_lawful, all_different}
+use Rattle.script_laws.proofs.CalledLaws.{OwnCalls, all_lawful, all_different}
 use Rattle.script_laws.proofs.ReadLaws.{FitsParts, read_script}
 use Rattle.script_laws.proofs.HintLaws.{within_range, lawful_hints}
 
@@ -50,7 +50,9 @@ lawful_of version ranks known calls parts =
     let vars : added_vars known.added.extras ≤ most_vars = let same = extras.vars in let few = extras.few_vars in omega arith in
     let d = and_from _ _ (and_from _ _ c (le-leb (added_dims known.added.extras) most_dims dims)) (le-leb (added_vars known.added.extras) most_vars vars) in
     let e = and_from _ _ d (extras_lawful known most_lines version parts.known) in
-    let f = and_from _ _ (and_from _ _ e (all_lawful ranks calls parts.calls.lawful)) (all_different calls parts.calls.different) in
+    let each = parts.calls.each in
+    let own : (r k : ℕ) → 0 + r ≡ k → OwnCalls ranks k (calls_of r calls) = λ r k at. let same : r ≡ k = omega arith in subst (λ (i : ℕ). OwnCalls ranks i (calls_of r calls)) same (each r) in
+    let f = and_from _ _ (and_from _ _ e (all_lawful ranks 0 calls own)) (all_different calls (λ r. (each r).different)) in
     let g = and_from _ _ f (le-leb (sum (map (λ own. length own) calls)) most_calls parts.calls.few_calls) in
     let h = and_from _ _ g (le-leb _ most_values (few_values most_lines version ranks known calls parts)) in
     and_from _ _ h parts.agreed

@@ -6,7 +6,6 @@ mod ValueLaws
 mod DimLaws
 mod AddedLaws
 mod DefinedLaws
-mod CallValueLaws
 mod CallLaws
 mod CalledLaws
 mod AgreeLaws

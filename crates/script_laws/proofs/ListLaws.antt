@@ -1,5 +1,5 @@
 -- Lists whose elements all are of one kind.
-use Rattle.script_laws.proofs.Words.{◌≡◌, ℕ, zero, suc, ◌+◌, ◌≤◌, cond, sum, count_by, ap, arith, List, [], ◌∷◌, ◌++◌, map, Bool, true, false, Option, Some, None, IfSome, slice_get, slice_set, option_map, refl, AllByRecursion, list_any, list_all, sum_by-cons, sum_by_push, same_Some, and_from, or_from, all_some}
+use Rattle.script_laws.proofs.Words.{◌≡◌, ℕ, zero, suc, ◌+◌, ◌≤◌, cond, sum, count_by, arith, List, [], ◌∷◌, ◌++◌, map, Bool, true, false, Option, Some, None, IfSome, slice_get, slice_set, refl, AllByRecursion, list_any, list_all, sum_by-cons, sum_by_push, same_Some, all_some, each_passes, each_fails, each_weaker, map_push, ◌∙◌, ap, nat_tests}
 
 -- ---- all of them
 
@@ -15,23 +15,17 @@ all_set P (y ∷ ys) (suc k) x h p = (h.0, all_set P ys k x h.1 p)
 -- ---- the same as tests
 
 pub all_pass : {A : Type 0} (test : A → Bool) (P : A → Type 0) → ((x : A) → P x → test x ≡ true) → (xs : List A) → AllByRecursion P xs → list_all test xs ≡ true
-all_pass test P f [] h = refl
-all_pass test P f (x ∷ xs) h = and_from (test x) (list_all test xs) (f x h.0) (all_pass test P f xs h.1)
+all_pass test P f xs h = each_passes test xs (each_weaker P (λ x. test x ≡ true) f xs h)
 
 pub none_passes : {A : Type 0} (test : A → Bool) (P : A → Type 0) → ((x : A) → P x → test x ≡ false) → (xs : List A) → AllByRecursion P xs → list_any test xs ≡ false
-none_passes test P f [] h = refl
-none_passes test P f (x ∷ xs) h = or_from (test x) (list_any test xs) (f x h.0) (none_passes test P f xs h.1)
+none_passes test P f xs h = each_fails test xs (each_weaker P (λ x. test x ≡ false) f xs h)
 
 -- ---- what is found of each
-
-some_more : {A : Type 0} (P : A → Type 0) (x : A) (r : Option (List A)) → P x → IfSome r (λ xs. AllByRecursion P xs) → IfSome (option_map (λ xs. x ∷ xs) r) (λ xs. AllByRecursion P xs)
-some_more P x None p h = tt
-some_more P x (Some xs) p h = (p, h)
 
 found_first : {A : Type 0} (P : A → Type 0) (o : Option A) (os : List (Option A)) → ((x : A) → o ≡ Some x → P x) → IfSome (all_some os) (λ xs. AllByRecursion P xs)
     → IfSome (all_some (o ∷ os)) (λ xs. AllByRecursion P xs)
 found_first P None os f h = tt
-found_first P (Some x) os f h = some_more P x (all_some os) (f x refl) h
+found_first P (Some x) os f h = grind (arith, nat_tests, all_some os, f x refl)
 
 pub found_all : {A B : Type 0} (P : A → Type 0) (f : B → Option A) → ((b : B) (x : A) → f b ≡ Some x → P x) → (bs : List B) → IfSome (all_some (map f bs)) (λ xs. AllByRecursion P xs)
 found_all P f h [] = tt
@@ -46,8 +40,7 @@ pub sum_cons : {A : Type 0} (f : A → ℕ) (x : A) (xs : List A) → sum (map f
 sum_cons f x xs = sum_by-cons (λ n. n) (f x) (map f xs)
 
 pub sum_more : {A : Type 0} (f : A → ℕ) (xs : List A) (x : A) → sum (map f (xs ++ x ∷ [])) ≡ sum (map f xs) + f x
-sum_more f [] x = omega arith
-sum_more f (y ∷ ys) x = omega (arith, sum_cons f y (ys ++ x ∷ []), sum_cons f y ys, sum_more f ys x)
+sum_more f xs x = ap sum (map_push f xs x) ∙ sum_by_push (λ n. n) (map f xs) (f x)
 
 -- one of them changes, by so much at most
 pub sum_set : {A : Type 0} (f : A → ℕ) (xs : List A) (k n : ℕ) (x y : A) → slice_get xs k ≡ Some x → f y ≤ f x + n → sum (map f (slice_set xs k y)) ≤ sum (map f xs) + n

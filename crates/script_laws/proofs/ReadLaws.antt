@@ -1,8 +1,8 @@
 -- A whole script that is read.
-use Rattle.script_laws.proofs.Words.{◌≡◌, ℕ, suc, ◌+◌, ◌≤◌, List, [], ◌∷◌, length, take, Bool, true, false, not, Option, Some, None, Result, Ok, Err, IfOk, IfSome, subst, arith, nat_lt, nat_le, ◌==◌, bytes_eq, codes, length-append, utf8_valid_len, enumerate_from, length-enumerate_from, cond_some, faultless_some, ScriptErr, Call, Script, is_version, agree, Word, Line, text_lines, significant, significant_of, line_of, words, ◌>>=◌, or_fault, bare, whole, Known, nothing_known, known_after, at_line, version_of_text, head, data_line, definition_step, definitions, data_part, finish, script_of, no_calls, script_of_lines, most_bytes, most_lines, newlines, within_lines, script_of_utf8, script_of_text, Reads, nat_tests}
+use Rattle.script_laws.proofs.Words.{◌≡◌, ℕ, suc, ◌+◌, ◌≤◌, List, [], ◌∷◌, length, take, true, false, not, Option, Some, None, Result, Ok, Err, IfOk, IfSome, arith, nat_lt, nat_le, ◌==◌, bytes_eq, codes, length-append, utf8_valid_len, enumerate_from, length-enumerate_from, cond_some, faultless_some, if_some_at, ScriptErr, Call, Script, is_version, agree, Word, Line, text_lines, significant, significant_of, line_of, words, ◌>>=◌, or_fault, bare, Known, nothing_known, known_after, at_line, version_of_text, head, data_line, definition_step, definitions, data_part, finish, script_of, no_calls, script_of_lines, most_bytes, most_lines, newlines, within_lines, script_of_utf8, script_of_text, Reads, nat_tests}
 use borrow.Author.Tests.{ltb-false}
 use Rattle.nc_base.specs.declared.errors.ScriptKind.TheVariants as kind
-use Rattle.script_laws.proofs.StepLaws.{first_then, then_with, ok_then, by_test, if_read, read_as, whole_line, at_line_kept}
+use Rattle.script_laws.proofs.StepLaws.{first_then, then_with, ok_then, by_test, by_some, if_read, read_as, whole_line, at_line_kept}
 use Rattle.script_laws.proofs.WordLaws.{InRange}
 use Rattle.script_laws.proofs.CalledLaws.{FitsCalled, calls_read, no_calls_fit}
 use Rattle.script_laws.proofs.AgreeLaws.{finish_agreed}
@@ -26,23 +26,14 @@ record FitsStep (version lines : ℕ) (s : Option ℕ × Known) : Type 0 where
   known : FitsKnown version lines s.1
   ranks : IfSome s.0 (InRange 1 64 1)
 
-ranks_known : (o : Option ℕ) (ranks : ℕ) → IfSome o (InRange 1 64 1) → o ≡ Some ranks → InRange 1 64 1 ranks
-ranks_known None ranks h e = absurd (cc)
-ranks_known (Some n) ranks h e = let same : n ≡ ranks = cc in subst (InRange 1 64 1) same h
-
 step_kept : (version lines : ℕ) (known : Known) (w : Word) (ws : List Word) → FitsKnown version lines known → IfOk (definition_step version known w ws) (FitsStep version (suc lines))
 step_kept version lines known w ws f =
     first_then (bare w) _ _ (λ first _.
-    by_test (bytes_eq first (codes "data")) _ _ (FitsStep version (suc lines)) (λ _. of_data) (λ _. of_more first))
-  where
-    of_data : IfOk (data_line known ws >>= λ ranks. Ok (Some ranks, known)) (FitsStep version (suc lines))
-    of_data = then_with (data_line known ws) _ _ (InRange 1 64 1)
-        (first_then (or_fault kind.MissingWord known.ranks) _ _ (λ ranks told. whole_line ranks ws (InRange 1 64 1) (ranks_known known.ranks ranks f.ranks (faultless_some _ _ ranks told))))
-        (λ ranks fits. record { known = later_known version lines (suc lines) (omega arith) known f; ranks = fits })
-
-    of_more : (first : List ℕ) → IfOk (known_after version known first ws >>= λ more. Ok (None, more)) (FitsStep version (suc lines))
-    of_more first = then_with (known_after version known first ws) _ _ (FitsKnown version (suc lines)) (known_more version lines known first ws f)
-        (λ more fits. record { known = fits; ranks = tt })
+    by_test (bytes_eq first (codes "data")) (data_line known ws >>= λ ranks. Ok (Some ranks, known)) (known_after version known first ws >>= λ more. Ok (None, more)) (FitsStep version (suc lines))
+    (λ _. then_with (data_line known ws) _ _ (InRange 1 64 1)
+    (first_then (or_fault kind.MissingWord known.ranks) _ _ (λ ranks told. whole_line ranks ws (InRange 1 64 1) (if_some_at (InRange 1 64 1) known.ranks ranks (faultless_some _ _ ranks told) f.ranks)))
+    (λ ranks fits. record { known = later_known version lines (suc lines) (omega arith) known f; ranks = fits }))
+    (λ _. then_with (known_after version known first ws) _ _ (FitsKnown version (suc lines)) (known_more version lines known first ws f) (λ more fits. record { known = fits; ranks = tt })))
 
 -- what the definitions give
 pub record FitsDefinitions (version most : ℕ) (r : ℕ × (Known × List Line)) : Type 0 where
@@ -56,12 +47,9 @@ definitions_kept past version lines most known [] h f = tt
 definitions_kept past version lines most known (l ∷ ls) h f =
     ok_then (at_line l.number (definition_step version known l.first l.rest)) _ (FitsDefinitions version most) (FitsStep version (suc lines))
     (at_line_kept l.number _ (FitsStep version (suc lines)) (step_kept version lines known l.first l.rest f))
-    (λ s fits. by_ranks s s.0 fits.ranks fits.known (definitions_kept past version (suc lines) most s.1 ls (omega arith) fits.known))
-  where
-    by_ranks : (s : Option ℕ × Known) (o : Option ℕ) → IfSome o (InRange 1 64 1) → FitsKnown version (suc lines) s.1 → IfOk (definitions past version s.1 ls) (FitsDefinitions version most)
-        → IfOk (elim o as (λ _. Result (ℕ × (Known × List Line)) ScriptErr) [ Some ranks ↦ Ok (ranks, (s.1, ls)) | None ↦ definitions past version s.1 ls ]) (FitsDefinitions version most)
-    by_ranks s (Some ranks) r k rest = record { known = later_known version (suc lines) most (omega arith) s.1 k; ranks = r; rest = omega arith }
-    by_ranks s None r k rest = rest
+    (λ s fits. by_some s.0 (λ ranks. Ok (ranks, (s.1, ls))) (definitions past version s.1 ls) _
+    (λ ranks e. record { known = later_known version (suc lines) most (omega arith) s.1 fits.known; ranks = if_some_at (InRange 1 64 1) s.0 ranks e fits.ranks; rest = omega arith })
+    (definitions_kept past version (suc lines) most s.1 ls (omega arith) fits.known))
 
 -- ---- the whole
 
@@ -83,7 +71,7 @@ lines_kept past most (l ∷ ls) P h f =
     then_with (definitions past version nothing_known ls) _ _ (FitsDefinitions version most)
     (definitions_kept past version 0 most nothing_known ls (omega arith) (nothing_known_fits version 0)) (λ d fits.
     then_with (data_part past (no_calls d.0 d.1.0) d.1.1) _ _ (λ r. FitsCalled d.0 most d.1.0.values r.1.0)
-    (calls_read past d.0 d.1.0.values 0 most (no_calls d.0 d.1.0) d.1.1 (let rest = fits.rest in omega arith) (no_calls_fit d.0 d.1.0.values 0 fits.known.few)) (λ c called.
+    (calls_read d.0 d.1.0.values past 0 most (no_calls d.0 d.1.0) d.1.1 (let rest = fits.rest in omega arith) (no_calls_fit d.0 d.1.0.values 0 fits.known.few)) (λ c called.
     first_then (finish c.0 c.1.0.calls c.1.1) _ _ (λ u ended_well.
     f version d.0 d.1.0 c.1.0.calls (record {
       head = good;
@@ -114,18 +102,8 @@ lines_within n told P f = grind (arith, nat_tests, nat_lt most_lines n, ltb-fals
 pub read_script : (text : List ℕ) (s : Script) (P : Script → Type 0)
     → ((version ranks : ℕ) (known : Known) (calls : List (List Call)) → FitsParts most_lines version ranks known calls → P (script_of version ranks known calls))
     → Reads text s → P s
-read_script text s P f h = if_read (script_of_text text) P s h of_text
-  where
-    of_utf8 : IfOk (script_of_utf8 text) P
-    of_utf8 = lines_within (length (text_lines text)) (script_of_lines (length (text_lines text) + 1) (significant text)) P
-        (λ few. lines_kept (length (text_lines text) + 1) most_lines (significant text) P (omega (arith, few_lines text)) f)
-
-    by_valid : (b : Bool) → IfOk (elim b as (λ _. Result Script ScriptErr) [
-      | false ↦ Err (record { line = newlines (take (utf8_valid_len text) text) + 1; kind = kind.NotUtf8 })
-      | true ↦ script_of_utf8 text
-    ]) P
-    by_valid true = of_utf8
-    by_valid false = tt
-
-    of_text : IfOk (script_of_text text) P
-    of_text = by_test (nat_lt most_bytes (length text)) _ _ P (λ _. tt) (λ _. by_valid (utf8_valid_len text == length text))
+read_script text s P f h =
+    let past = length (text_lines text) + 1 in
+    if_read (script_of_text text) P s h (by_test (nat_lt most_bytes (length text)) _ _ P (λ _. tt) (λ _.
+    by_test (utf8_valid_len text == length text) (script_of_utf8 text) (Err (record { line = newlines (take (utf8_valid_len text) text) + 1; kind = kind.NotUtf8 })) P
+    (λ _. lines_within (length (text_lines text)) (script_of_lines past (significant text)) P (λ few. lines_kept past most_lines (significant text) P (omega (arith, few_lines text)) f)) (λ _. tt)))

@@ -1,5 +1,5 @@
 -- Steps that succeed, from word to word.
-use Rattle.script_laws.proofs.Words.{◌≡◌, ℕ, List, Bool, true, false, Option, Some, Result, Ok, Err, IfOk, refl, subst, faultless_some, ScriptKind, Word, ◌>>=◌, refuse_if, reads_as, ended, whole, at_line, arith, nat_tests}
+use Rattle.script_laws.proofs.Words.{◌≡◌, ℕ, List, Bool, true, false, Option, Some, None, Result, Ok, Err, IfOk, refl, subst, faultless_some, ScriptKind, Word, ◌>>=◌, refuse_if, reads_as, ended, whole, at_line, arith, nat_tests}
 
 pub first_then : {A B E : Type 0} (m : Result A E) (f : A → Result B E) (P : B → Type 0) → ((x : A) → m ≡ Ok x → IfOk (f x) P) → IfOk (m >>= f) P
 first_then (Ok x) f P h = h x refl
@@ -19,6 +19,11 @@ pub by_test : {A E : Type 0} (b : Bool) (p q : Result A E) (P : A → Type 0) �
     → IfOk (elim b as (λ _. Result A E) [ true ↦ p | false ↦ q ]) P
 by_test true p q P f g = f refl
 by_test false p q P f g = g refl
+
+pub by_some : {A B E : Type 0} (o : Option A) (f : A → Result B E) (q : Result B E) (P : B → Type 0) → ((x : A) → o ≡ Some x → IfOk (f x) P) → IfOk q P
+    → IfOk (elim o as (λ _. Result B E) [ Some x ↦ f x | None ↦ q ]) P
+by_some None f q P g h = h
+by_some (Some x) f q P g h = g x refl
 
 pub if_read : {A E : Type 0} (r : Result A E) (P : A → Type 0) (x : A) → r ≡ Ok x → IfOk r P → P x
 if_read {A} {E} r P x e h = let Q : Result A E → Type 0 = λ s. IfOk s P in subst Q e h

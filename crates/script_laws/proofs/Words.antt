@@ -3,7 +3,7 @@ pub use Rattle.std.proofs.Common.{Bool, Err, IfOk, IfSome, List, None, Ok, Optio
 pub use Rattle.std.proofs.lemmas.Bool.{and_from, lt-leb, not-false, not-true, not_from_false, or_from}
 pub use Rattle.std.proofs.lemmas.Bool.Decides.{nat_tests}
 pub use Rattle.std.proofs.lemmas.Int.{ints}
-pub use Rattle.std.proofs.lemmas.List.{length-map, length-replicate}
+pub use Rattle.std.proofs.lemmas.List.{length-map, length-replicate, map_push}
 pub use Rattle.std.proofs.lemmas.List.Elements.{filter_map-append}
 pub use Rattle.std.proofs.lemmas.List.Folds.{list_any-append}
 pub use Rattle.std.proofs.lemmas.List.FromFn.{length-enumerate_from, length-map-range_with_len}
@@ -14,7 +14,7 @@ pub use Rattle.std.proofs.lemmas.Slice.Eq.{bytes_eq-Decides}
 pub use Rattle.std.specs.Int.{byte_len, w32, w64}
 pub use Rattle.std.specs.List.{AllByRecursion, enumerate_from, list_all, list_any, position_or_len, prefix_len, range_with_len}
 pub use Rattle.std.specs.Str.Lossy.{utf8_valid_len}
-pub use Rattle.list_laws.proofs.Each.{each_at, each_later, each_push, each_weaker, fails_each}
+pub use Rattle.list_laws.proofs.Each.{each_at, each_fails, each_later, each_passes, each_push, each_weaker, fails_each}
 pub use Rattle.list_laws.proofs.Maps.{found_passes}
 pub use Rattle.list_laws.proofs.Optional.{if_some_at, none_before_map, not_some, untold}
 pub use Rattle.list_laws.proofs.Places.{get_left, position_below}
