@@ -1,25 +1,15 @@
 -- The claims of a heap, as entries.
-use Rattle.overlap_report.proofs.Words.{◌≡◌, ℕ, zero, suc, ◌+◌, ◌-◌, ◌<◌, ◌≤◌, refl, sym, ◌∙◌, ap, subst, inl, inr, List, [], ◌∷◌, ◌++◌, take, drop, get_or, length, Bool, true, false, Option, Some, None, slice_get, nat_cmp, is_lt, Bor, ◌^◌, arith, nat_lt, IsHeap, IsUpperBound, PopsGreatest, IsItemAt, option_copied, IfSome, IfNone, MatchOption, IsPermutation, ordering_then, Ordering, Less, Equal, nat_tests, Owned, In, same_permuted, in_extents, Claim, IsPartOfOne, owned_of, entries_of, part_of, claim_cmp, AreFit, StandsBy, Swept, IsTop, take_all, lt-ltb, Extent, extents, IsByPlace, EndBelow, origins, IsOnceEach, IsResolved, same_Some}
+use Rattle.overlap_report.proofs.Words.{◌≡◌, ℕ, zero, suc, ◌+◌, ◌-◌, ◌<◌, ◌≤◌, refl, sym, ◌∙◌, ap, subst, inl, inr, List, [], ◌∷◌, ◌++◌, take, drop, get_or, length, Bool, true, false, Option, Some, None, slice_get, nat_cmp, is_lt, Bor, ◌^◌, arith, nat_lt, IsHeap, IsUpperBound, PopsGreatest, IsItemAt, option_copied, IfSome, IfNone, MatchOption, IsPermutation, ordering_then, Ordering, Less, Equal, nat_tests, Owned, In, same_permuted, in_map, map_in, ◌⊎◌, in_extents, Claim, IsPartOfOne, owned_of, entries_of, part_of, claim_cmp, AreFit, StandsBy, Swept, IsTop, take_all, lt-ltb, Extent, extents, IsInLine, IsByPlace, EndBelow, origins, IsOnceEach, IsResolved, same_Some}
 use borrow.Author.Tests.{ltb-true, ltb-false}
 use Rattle.overlap_report.proofs.SweepSteps.{swept_empty, swept_without, swept_part, swept_more}
 use Rattle.overlap_report.proofs.OriginSteps.{resolved_by}
 use Rattle.overlap_report.proofs.KeySteps.{IsNext}
 
-in_entries : (cs : List Claim) (c : Claim) → In cs c → In (entries_of cs) (owned_of c)
-in_entries [] c m = absurd m
-in_entries (d ∷ cs) c (inl e) = inl (ap owned_of e)
-in_entries (d ∷ cs) c (inr m) = inr (in_entries cs c m)
-
-entries_in : (cs : List Claim) (o : Owned) → In (entries_of cs) o → (c : Claim) × In cs c × (owned_of c ≡ o)
-entries_in [] o m = absurd m
-entries_in (d ∷ cs) o (inl e) = (d, inl refl, e)
-entries_in (d ∷ cs) o (inr m) = let r = entries_in cs o m in (r.0, inr r.1, r.2)
-
 moved : (cs ds : List Claim) → IsPermutation cs ds → (o : Owned) → In (entries_of cs) o → In (entries_of ds) o
-moved cs ds p o m = let r = entries_in cs o m in subst (λ (z : Owned). In (entries_of ds) z) r.2 (in_entries ds r.0 ((same_permuted cs ds p).0 r.0 r.1))
+moved cs ds p o m = let r = map_in owned_of cs o m in subst (λ (z : Owned). In (entries_of ds) z) r.2 (in_map owned_of ds r.0 ((same_permuted cs ds p).0 r.0 r.1))
 
 moved_back : (cs ds : List Claim) → IsPermutation cs ds → (o : Owned) → In (entries_of ds) o → In (entries_of cs) o
-moved_back cs ds p o m = let r = entries_in ds o m in subst (λ (z : Owned). In (entries_of cs) z) r.2 (in_entries cs r.0 ((same_permuted cs ds p).1 r.0 r.1))
+moved_back cs ds p o m = let r = map_in owned_of ds o m in subst (λ (z : Owned). In (entries_of cs) z) r.2 (in_map owned_of cs r.0 ((same_permuted cs ds p).1 r.0 r.1))
 
 -- ---- the top
 
@@ -28,40 +18,13 @@ first_in [] t e = cc
 first_in (c ∷ cs) t e = inl (sym (same_Some t c e))
 
 pub top_in : (cs : List Claim) (t : Claim) → Some t ≡ slice_get cs 0 → In (entries_of cs) (owned_of t)
-top_in cs t e = in_entries cs t (first_in cs t e)
+top_in cs t e = in_map owned_of cs t (first_in cs t e)
+
+stands_by : (x y u v : ℕ) (rest : Ordering) → is_lt (ordering_then (nat_cmp x y) (ordering_then (nat_cmp u v) rest)) ≡ false → (y < x) ⊎ ((y ≡ x) × (v ≤ u))
+stands_by x y u v rest h = grind (arith, nat_tests)
 
 not_less : (a b : Claim) → is_lt (claim_cmp a b) ≡ false → StandsBy (owned_of b) (owned_of a)
-not_less a b h = by_rank (nat_lt a.rank b.rank) (nat_lt b.rank a.rank) refl refl
-  where
-    rest : Ordering → Ordering → Ordering
-    rest x y = ordering_then x (ordering_then y (ordering_then (nat_cmp a.at b.at) (ordering_then (nat_cmp a.len b.len) (ordering_then (nat_cmp a.from b.from) (nat_cmp a.request b.request)))))
-
-    true_false : {A : Type 0} → true ≡ false → A
-    true_false e = cc
-
-    less_is : (x y : ℕ) → x < y → nat_cmp x y ≡ Less
-    less_is x y l = grind (arith, nat_tests)
-
-    same_is : (x y : ℕ) → x ≡ y → nat_cmp x y ≡ Equal
-    same_is x y l = grind (arith, nat_tests)
-
-    by_slot : a.rank ≡ b.rank → (t : Bool) → nat_lt a.slot b.slot ≡ t → StandsBy (owned_of b) (owned_of a)
-    by_slot e false f = inr (sym e, ltb-false _ _ f)
-    by_slot e true f =
-        let less : is_lt (rest Equal Less) ≡ true = refl in
-        let both : is_lt (claim_cmp a b) ≡ is_lt (rest Equal Less) = (λ i. is_lt (rest (same_is a.rank b.rank e i) (less_is a.slot b.slot (ltb-true _ _ f) i))) in
-        true_false (sym less ∙ sym both ∙ h)
-
-    by_rank : (s t : Bool) → nat_lt a.rank b.rank ≡ s → nat_lt b.rank a.rank ≡ t → StandsBy (owned_of b) (owned_of a)
-    by_rank true t e f =
-        let less : is_lt (rest Less (nat_cmp a.slot b.slot)) ≡ true = refl in
-        let both : is_lt (claim_cmp a b) ≡ is_lt (rest Less (nat_cmp a.slot b.slot)) = (λ i. is_lt (rest (less_is a.rank b.rank (ltb-true _ _ e) i) (nat_cmp a.slot b.slot))) in
-        true_false (sym less ∙ sym both ∙ h)
-    by_rank false true e f = inl (ltb-true _ _ f)
-    by_rank false false e f =
-        let low : b.rank ≤ a.rank = ltb-false _ _ e in
-        let high : a.rank ≤ b.rank = ltb-false _ _ f in
-        by_slot (omega arith) (nat_lt a.slot b.slot) refl
+not_less a b h = stands_by a.rank b.rank a.slot b.slot _ h
 
 -- of all claims of the heap the top stands last
 pub last_of_all : (t : Claim) (cs : List Claim) → IsUpperBound claim_cmp t cs → (q : Owned) → In (entries_of cs) q → StandsBy q (owned_of t)
@@ -73,10 +36,7 @@ pub top_told : (cs : List Claim) (r : Option (Bor Claim)) → IsHeap claim_cmp c
     → IfSome r (λ x. IsHeap claim_cmp cs → IsUpperBound claim_cmp x.now cs) → MatchOption (option_copied r) (cs ≡ []) (λ t. IsTop cs t)
 top_told [] None heap item greatest = refl
 top_told [] (Some x) heap item greatest = cc (item.0)
-top_told (c ∷ cs) None heap item greatest = absurd (no_item (length cs) item.0)
-  where
-    no_item : (n : ℕ) → false ≡ nat_lt 0 (suc n) → ⊥
-    no_item n e = (let yes : nat_lt 0 (suc n) ≡ true = lt-ltb 0 (suc n) (omega arith) in cc)
+top_told (c ∷ cs) None heap item greatest = let yes : nat_lt 0 (suc (length cs)) ≡ true = lt-ltb 0 (suc (length cs)) (omega arith) in let no = item.0 in absurd (cc)
 top_told (c ∷ cs) (Some x) heap item greatest = (ap Some (sym item.1), last_of_all x.now (c ∷ cs) (greatest heap))
 
 pub ended_fit : (cs ds : List Claim) (t : Claim) (p : ℕ) → IsPermutation cs (t ∷ ds) → AreFit p (entries_of cs) → AreFit p (entries_of ds)
@@ -146,33 +106,30 @@ later_begin (p ∷ list) (suc i) d o h sorted m = later_begin list i d o (omega 
 
 -- ---- the whole
 
-whole_swept : (list out pool : List Owned) (i p : ℕ) → length list ≤ i → Swept (take i list) out pool p → Swept list out pool p
+pub whole_swept : (list out pool : List Owned) (i p : ℕ) → length list ≤ i → Swept (take i list) out pool p → Swept list out pool p
 whole_swept list out pool i p h s = subst (λ (os : List Owned). Swept os out pool p) (take_all i list h) s
 
-pub all_resolved : (list out pool : List Owned) (i top : ℕ) → length list ≤ i → 2 ^ 62 ≤ top → EndBelow (2 ^ 62) (extents list) → IsOnceEach (origins list)
-    → Swept (take i list) out pool top → IsResolved list out
-all_resolved list out pool i top h cap ends once s =
-    let w = whole_swept list out pool i top h s in
-    resolved_by list out once w.won (λ q y m c. (let high = c.1 in let e = ends q.extent (in_extents list q m) in w.served q y m (omega arith) c))
+-- what is given out in the end
+pub record IsServed (list out : List Owned) : Type 0 where
+  pub resolved : IsResolved list out
+  pub parts : (o : Owned) → In out o → IsPartOfOne list o
+  pub line : IsInLine (extents out)
+  pub held : (o : Owned) → In out o → 1 ≤ o.extent.len
+  pub ends : EndBelow (2 ^ 62) (extents out)
 
-pub all_parts : (list out pool : List Owned) (i top : ℕ) → length list ≤ i → Swept (take i list) out pool top → (o : Owned) → In out o → IsPartOfOne list o
-all_parts list out pool i top h s = (whole_swept list out pool i top h s).parts
-
-pub all_ends : (list out pool : List Owned) (i top : ℕ) → length list ≤ i → EndBelow (2 ^ 62) (extents list) → Swept (take i list) out pool top → EndBelow (2 ^ 62) (extents out)
-all_ends list out pool i top h ends s e m =
-    let w = whole_swept list out pool i top h s in
-    let r = extents_in out e m in
-    let low = w.low r.0 r.1 in
-    let some : 1 ≤ r.0.extent.len = low.1 in
-    let win = w.won r.0 (r.0.extent.at + r.0.extent.len - 1) r.1 (omega arith, omega arith) in
-    let high = win.covers.1 in
-    let last = ends win.holder.extent (in_extents list win.holder win.is_one) in
-    subst (λ (z : Extent). z.at + z.len < 2 ^ 62) r.2 (omega arith)
-  where
-    extents_in : (os : List Owned) (e : Extent) → In (extents os) e → (o : Owned) × In os o × (o.extent ≡ e)
-    extents_in [] e m = absurd m
-    extents_in (o ∷ os) e (inl g) = (o, inl refl, g)
-    extents_in (o ∷ os) e (inr g) = let r = extents_in os e g in (r.0, inr r.1, r.2)
+pub all_served : (list out pool : List Owned) (top : ℕ) → 2 ^ 62 ≤ top → EndBelow (2 ^ 62) (extents list) → IsOnceEach (origins list) → Swept list out pool top → IsServed list out
+all_served list out pool top cap ends once w = record {
+  resolved = resolved_by list out once w.won (λ q y m c. w.served q y m (omega (arith, c.1, ends q.extent (in_extents list q m))) c);
+  parts = w.parts;
+  line = w.line;
+  held = λ o m. (w.low o m).1;
+  ends = λ e m.
+      let r = map_in (λ (o : Owned). o.extent) out e m in
+      let some : 1 ≤ r.0.extent.len = (w.low r.0 r.1).1 in
+      let win = w.won r.0 (r.0.extent.at + r.0.extent.len - 1) r.1 (omega arith, omega arith) in
+      let last = ends win.holder.extent (in_extents list win.holder win.is_one) in
+      subst (λ (z : Extent). z.at + z.len < 2 ^ 62) r.2 (omega (arith, win.covers.1));
+}
 
 pub unchanged_items : (cs ds : List Claim) (n m : ℕ) (r : Option Claim) → IfNone r ((ds ≡ cs) × (m ≡ n)) → IfNone r (ds ≡ cs)
 unchanged_items cs ds n m None h = h.0

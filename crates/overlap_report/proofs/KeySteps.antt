@@ -1,27 +1,19 @@
 -- Requests that are the same or not, and entries among the first of a list.
-use Rattle.overlap_report.proofs.Words.{◌≡◌, ℕ, zero, suc, ◌+◌, ◌<◌, ◌≤◌, ◌⊎◌, refl, sym, ◌∙◌, ap, subst, inl, inr, List, [], ◌∷◌, ◌++◌, length, take, get_or, Bool, true, false, arith, nat_tests, take_more, take_all, map-append, get_or_default, entry_in, key_itself, Extent, Owned, Key, same_key, key_below, In, extents, IsByPlace, EndBelow, in_either, in_left, in_right, same_keys, keys_same, in_extents, no_both}
+use Rattle.overlap_report.proofs.Words.{◌≡◌, ℕ, zero, suc, ◌+◌, ◌<◌, ◌≤◌, ◌⊎◌, refl, sym, ◌∙◌, ap, subst, inl, inr, List, [], ◌∷◌, ◌++◌, length, take, get_or, Bool, true, false, arith, nat_tests, take_more, take_all, map-append, get_or_default, entry_in, key_itself, Extent, Owned, Key, same_key, key_below, In, extents, IsByPlace, EndBelow, in_either, in_left, in_right, map_in, same_keys, keys_same, in_extents, no_both}
 
 -- ---- keys
 
 pub key_back : (a b : Key) → same_key a b ≡ true → same_key b a ≡ true
-key_back a b h = let e = same_keys a b h in keys_same b a (sym e.0) (sym e.1)
+key_back a b h = grind (arith, nat_tests)
 
 pub key_meet : (a b r : Key) → same_key a r ≡ true → same_key b r ≡ true → same_key a b ≡ true
-key_meet a b r h k = let e = same_keys a r h in let f = same_keys b r k in keys_same a b (e.0 ∙ sym f.0) (e.1 ∙ sym f.1)
+key_meet a b r h k = grind (arith, nat_tests)
 
 pub key_apart : (a b r : Key) → same_key a r ≡ true → same_key b r ≡ false → same_key a b ≡ false
-key_apart a b r h k = by_test (same_key a b) refl
-  where
-    by_test : (t : Bool) → same_key a b ≡ t → same_key a b ≡ false
-    by_test false e = e
-    by_test true e = no_both (same_key b r) (key_meet b r a (key_back a b e) (key_back a r h)) k
+key_apart a b r h k = grind (arith, nat_tests)
 
 pub key_apart_back : (a b r : Key) → same_key a r ≡ false → same_key b r ≡ true → same_key a b ≡ false
-key_apart_back a b r h k = by_test (same_key a b) refl
-  where
-    by_test : (t : Bool) → same_key a b ≡ t → same_key a b ≡ false
-    by_test false e = e
-    by_test true e = no_both (same_key a r) (key_meet a r b e (key_back b r k)) h
+key_apart_back a b r h k = grind (arith, nat_tests)
 
 pub equal_key : (a b : Key) → a ≡ b → same_key a b ≡ true
 equal_key a b e = subst (λ (k : Key). same_key a k ≡ true) e (key_itself a)
@@ -40,21 +32,16 @@ pub record IsNext (seen more : List Owned) (o : Owned) : Type 0 where
   pub keeps : (p : Owned) → In seen p → In more p
   pub has : In more o
 
-pub next_taken : (list : List Owned) (i : ℕ) (o : Owned) → i < length list → o ≡ get_or list i o → IsNext (take i list) (take (i + 1) list) o
-next_taken list i o h is =
-    let more : take (i + 1) list ≡ take i list ++ get_or list i o ∷ [] = take_more list i o h in
-    record {
-      splits = λ p m. elim (in_either (take i list) (get_or list i o ∷ []) p (subst (λ (os : List Owned). In os p) more m)) [
-        | inl g ↦ inl g
-        | inr g ↦ inr (one_of p g)
-      ];
-      keeps = λ p m. subst (λ (os : List Owned). In os p) (sym more) (in_left (take i list) (get_or list i o ∷ []) p m);
-      has = subst (λ (os : List Owned). In os o) (sym more) (in_right (take i list) (get_or list i o ∷ []) o (inl (sym is)));
-    }
-  where
-    one_of : (p : Owned) → In (get_or list i o ∷ []) p → p ≡ o
-    one_of p (inl g) = sym g ∙ sym is
-    one_of p (inr g) = absurd g
+-- what holds of those seen, and of the next
+pub for_next : {seen more : List Owned} {o : Owned} (P : Owned → Type 0) → IsNext seen more o → ((p : Owned) → In seen p → P p) → P o → (p : Owned) → In more p → P p
+for_next P next old here p m = elim (next.splits p m) [ inl a ↦ old p a | inr a ↦ subst P (sym a) here ]
+
+pub next_pushed : (seen : List Owned) (o : Owned) → IsNext seen (seen ++ o ∷ []) o
+next_pushed seen o = record {
+  splits = λ p m. elim (in_either seen (o ∷ []) p m) [ inl g ↦ inl g | inr (inl g) ↦ inr (sym g) | inr (inr g) ↦ absurd g ];
+  keeps = λ p m. in_left seen (o ∷ []) p m;
+  has = in_right seen (o ∷ []) o (inl refl);
+}
 
 pub before_next : (list : List Owned) (i : ℕ) (o p : Owned) → i < length list → o ≡ get_or list i o → IsByPlace (extents list) → In (take i list) p → p.extent.at ≤ o.extent.at
 before_next [] i o p h is sorted m = absurd (omega arith)
@@ -80,22 +67,14 @@ abbrev pub nothing : Owned
 nothing = record { extent = record { at = 0; len = 0 }; rank = 0; request = 0; slot = 0; from = 0 }
 
 pub next_at : (list : List Owned) (i : ℕ) → i < length list → IsNext (take i list) (take (i + 1) list) (get_or list i nothing)
-next_at list i h = next_taken list i (get_or list i nothing) h (get_or_default list i nothing (get_or list i nothing) h)
+next_at list i h = subst (λ (os : List Owned). IsNext (take i list) os (get_or list i nothing)) (sym (take_more list i nothing h)) (next_pushed (take i list) (get_or list i nothing))
 
 -- entries that end below a place, and one more
 pub ends_next : (list : List Owned) (i n : ℕ) → i < length list → EndBelow n (extents (take i list))
     → (get_or list i nothing).extent.at + (get_or list i nothing).extent.len < n → EndBelow n (extents (take (i + 1) list))
 ends_next list i n h ends last e m =
-    elim (in_either (extents (take i list)) ((get_or list i nothing).extent ∷ []) e
-    (subst (λ (es : List Extent). In es e)
-    (ap extents (take_more list i nothing h) ∙ map-append (λ (o : Owned). o.extent) (take i list) (get_or list i nothing ∷ [])) m)) [
-      | inl g ↦ ends e g
-      | inr g ↦ at_last g
-    ]
-  where
-    at_last : In ((get_or list i nothing).extent ∷ []) e → e.at + e.len < n
-    at_last (inl g) = subst (λ (z : Extent). z.at + z.len < n) g last
-    at_last (inr g) = absurd g
+    let r = map_in (λ (o : Owned). o.extent) (take (i + 1) list) e m in
+    subst (λ (z : Extent). z.at + z.len < n) r.2 (for_next (λ p. p.extent.at + p.extent.len < n) (next_at list i h) (λ p k. ends p.extent (in_extents (take i list) p k)) last r.0 r.1)
 
 pub ends_all : (list : List Owned) (i n : ℕ) → length list ≤ i → EndBelow n (extents (take i list)) → EndBelow n (extents list)
 ends_all list i n h ends = subst (λ (os : List Owned). EndBelow n (extents os)) (take_all i list h) ends

@@ -1,7 +1,7 @@
 -- How far the entries so far reach, and the first byte that two requests hold.
 use Rattle.overlap_report.proofs.Words.{◌≡◌, ℕ, ◌+◌, ◌<◌, ◌≤◌, ◌⊎◌, refl, sym, ◌∙◌, ap, subst, inl, inr, List, length, take, get_or, Bool, true, false, cond, max, Option, Some, None, arith, nat_lt, MatchOption, range_with_len, take_all, entry_in, in_taken, Owned, Pair, Key, same_key, key_below, Holds, holdings_of_entries, shared_pair_of, first_end, second_end, key_itself, key_equal, pair_found, pair_only, In, extents, IsByPlace, in_range, range_low, range_high, holds_by, holder_of, Reach, key_of, Covers, IsClearAt, AreTwo, IsFirst, HasHolder, ArePairAt, same_as, with_entry, no_both}
 use borrow.Author.Tests.{ltb-true, ltb-false}
-use Rattle.overlap_report.proofs.KeySteps.{key_back, key_meet, key_apart, key_apart_back, equal_key, not_below_itself, IsNext, before_next, at_or_before}
+use Rattle.overlap_report.proofs.KeySteps.{key_back, key_meet, key_apart, key_apart_back, equal_key, not_below_itself, IsNext, for_next, before_next, at_or_before}
 
 -- an entry that ends there, of the request or not
 pub record EndsAt (seen : List Owned) (r : Reach) (n : ℕ) (same : Bool) : Type 0 where
@@ -19,22 +19,12 @@ pub record Reaches (r : Reach) (seen : List Owned) : Type 0 where
 
 -- ---- one more entry
 
-clear_next : (seen more : List Owned) (r : Reach) (o : Owned) → IsNext seen more o → Reaches r seen
-    → ((p : Owned) → In seen p → o.extent.at < p.extent.at + p.extent.len → 1 ≤ p.extent.len → same_key (key_of p) (key_of o) ≡ true)
-    → (x : ℕ) → IsClearAt more x
-clear_next seen more r o next h meet x p q m n c d = by_both (next.splits p m) (next.splits q n)
-  where
-    by_both : In seen p ⊎ (p ≡ o) → In seen q ⊎ (q ≡ o) → same_key (key_of p) (key_of q) ≡ true
-    by_both (inl a) (inl b) = h.clear x p q a b c d
-    by_both (inl a) (inr b) =
-        let low : o.extent.at ≤ x = subst (λ (z : Owned). z.extent.at ≤ x) b d.0 in
-        let l = c.0 in let k = c.1 in
-        subst (λ (z : Owned). same_key (key_of p) (key_of z) ≡ true) (sym b) (meet p a (omega arith) (omega arith))
-    by_both (inr a) (inl b) =
-        let low : o.extent.at ≤ x = subst (λ (z : Owned). z.extent.at ≤ x) a c.0 in
-        let l = d.0 in let k = d.1 in
-        subst (λ (z : Owned). same_key (key_of z) (key_of q) ≡ true) (sym a) (key_back (key_of q) (key_of o) (meet q b (omega arith) (omega arith)))
-    by_both (inr a) (inr b) = equal_key (key_of p) (key_of q) (ap key_of (a ∙ sym b))
+clear_next : (seen more : List Owned) (o : Owned) (x : ℕ) → IsNext seen more o → IsClearAt seen x
+    → ((p : Owned) → In seen p → Covers p x → Covers o x → same_key (key_of p) (key_of o) ≡ true) → IsClearAt more x
+clear_next seen more o x next clear meet p q m n c d =
+    for_next (λ z. Covers z x → same_key (key_of z) (key_of q) ≡ true) next
+    (λ z a c. for_next (λ y. Covers y x → same_key (key_of z) (key_of y) ≡ true) next (λ y b d. clear z y a b c d) (λ d. meet z a c d) q n d)
+    (λ c. for_next (λ y. Covers y x → same_key (key_of o) (key_of y) ≡ true) next (λ y b d. key_back (key_of y) (key_of o) (meet y b d c)) (λ d. key_itself (key_of o)) q n d) p m c
 
 moved : (seen more : List Owned) (r s : Reach) (o : Owned) (n m : ℕ) (same : Bool) → IsNext seen more o → s.rank ≡ r.rank → s.request ≡ r.request → n ≡ m
     → EndsAt seen r n same → EndsAt more s m same
@@ -49,86 +39,45 @@ pub reach_next : (seen more : List Owned) (r : Reach) (o : Owned) → IsNext see
     → cond (same_as r o) r.other r.end ≤ o.extent.at → Reaches r seen → Reaches (with_entry r o) more
 reach_next seen more r o next long free h = by_same (same_as r o) refl free
   where
-    oe : ℕ
-    oe = o.extent.at + o.extent.len
+    meet_same : same_as r o ≡ true → r.other ≤ o.extent.at → (x : ℕ) (p : Owned) → In seen p → Covers p x → Covers o x → (t : Bool) → same_as r p ≡ t → same_key (key_of p) (key_of o) ≡ true
+    meet_same e low x p m c d true f = key_meet (key_of p) (key_of o) (r.rank, r.request) f e
+    meet_same e low x p m c d false f = absurd (omega (arith, h.others p m (omega (arith, c.0, c.1)) f, c.1, d.0))
 
-    meet_same : same_as r o ≡ true → r.other ≤ o.extent.at
-        → (p : Owned) → In seen p → o.extent.at < p.extent.at + p.extent.len → 1 ≤ p.extent.len → same_key (key_of p) (key_of o) ≡ true
-    meet_same e low p m l k = by_test (same_as r p) refl
-      where
-        by_test : (t : Bool) → same_as r p ≡ t → same_key (key_of p) (key_of o) ≡ true
-        by_test true f = key_meet (key_of p) (key_of o) (r.rank, r.request) f e
-        by_test false f = let most = h.others p m k f in absurd (omega arith)
-
-    meet_other : r.end ≤ o.extent.at
-        → (p : Owned) → In seen p → o.extent.at < p.extent.at + p.extent.len → 1 ≤ p.extent.len → same_key (key_of p) (key_of o) ≡ true
-    meet_other low p m l k = let most = h.most p m k in absurd (omega arith)
-
-    with_same : same_as r o ≡ true → r.other ≤ o.extent.at → Reaches (record r { end = max r.end (o.extent.at + o.extent.len) }) more
-    with_same e low = record {
-      most = λ p m l. elim (next.splits p m) [
-        | inl a ↦ (let k = h.most p a l in omega arith)
-        | inr a ↦ subst (λ (z : Owned). z.extent.at + z.extent.len ≤ max r.end (o.extent.at + o.extent.len)) (sym a) (omega arith)
-      ];
-      others = λ p m l f. elim (next.splits p m) [
-        | inl a ↦ h.others p a l f
-        | inr a ↦ no_both (same_as r o) e (subst (λ (z : Owned). same_as r z ≡ false) a f)
-      ];
-      end_of = λ l. by_end (nat_lt r.end (o.extent.at + o.extent.len)) refl;
-      other_of = λ l. moved seen more r (record r { end = max r.end (o.extent.at + o.extent.len) }) o r.other r.other false next refl refl refl (h.other_of l);
-      clear = clear_next seen more r o next h (meet_same e low);
-    }
-      where
-        by_end : (t : Bool) → nat_lt r.end (o.extent.at + o.extent.len) ≡ t
-            → EndsAt more (record r { end = max r.end (o.extent.at + o.extent.len) }) (max r.end (o.extent.at + o.extent.len)) true
-        by_end true f = let k : r.end < o.extent.at + o.extent.len = ltb-true _ _ f in
-            record { entry = o; is_one = next.has; ends = omega arith; of_it = e }
-        by_end false f = let k : o.extent.at + o.extent.len ≤ r.end = ltb-false _ _ f in
-            moved seen more r (record r { end = max r.end (o.extent.at + o.extent.len) }) o r.end (max r.end (o.extent.at + o.extent.len)) true next refl refl (omega arith) (h.end_of (omega arith))
-
-    farther : same_as r o ≡ false → r.end ≤ o.extent.at
-        → Reaches (record { end = o.extent.at + o.extent.len; rank = o.rank; request = o.request; other = r.end }) more
-    farther e low = record {
-      most = λ p m l. elim (next.splits p m) [
-        | inl a ↦ (let k = h.most p a l in omega arith)
-        | inr a ↦ subst (λ (z : Owned). z.extent.at + z.extent.len ≤ o.extent.at + o.extent.len) (sym a) (omega arith)
-      ];
-      others = λ p m l f. elim (next.splits p m) [
-        | inl a ↦ h.most p a l
-        | inr a ↦ no_both (same_key (key_of p) (key_of o)) (equal_key (key_of p) (key_of o) (ap key_of a)) f
-      ];
-      end_of = λ l. record { entry = o; is_one = next.has; ends = refl; of_it = key_itself (key_of o) };
-      other_of = λ l. (let q = h.end_of l in
-          record { entry = q.entry; is_one = next.keeps q.entry q.is_one; ends = q.ends; of_it = key_apart (key_of q.entry) (key_of o) (r.rank, r.request) q.of_it e });
-      clear = clear_next seen more r o next h (meet_other low);
-    }
+    by_end : same_as r o ≡ true → (t : Bool) → nat_lt r.end (o.extent.at + o.extent.len) ≡ t
+        → EndsAt more (record r { end = max r.end (o.extent.at + o.extent.len) }) (max r.end (o.extent.at + o.extent.len)) true
+    by_end e true f = let k : r.end < o.extent.at + o.extent.len = ltb-true _ _ f in record { entry = o; is_one = next.has; ends = omega arith; of_it = e }
+    by_end e false f = let k : o.extent.at + o.extent.len ≤ r.end = ltb-false _ _ f in
+        moved seen more r (record r { end = max r.end (o.extent.at + o.extent.len) }) o r.end (max r.end (o.extent.at + o.extent.len)) true next refl refl (omega arith) (h.end_of (omega arith))
 
     by_same : (t : Bool) → same_as r o ≡ t → cond t r.other r.end ≤ o.extent.at
         → Reaches (cond t (record r { end = max r.end (o.extent.at + o.extent.len) })
         (record { end = o.extent.at + o.extent.len; rank = o.rank; request = o.request; other = r.end })) more
-    by_same true e low = with_same e low
-    by_same false e low = farther e low
+    by_same true e low = record {
+      most = for_next (λ p. 1 ≤ p.extent.len → p.extent.at + p.extent.len ≤ max r.end (o.extent.at + o.extent.len)) next (λ p a l. omega (arith, h.most p a l)) (λ l. omega arith);
+      others = for_next (λ p. 1 ≤ p.extent.len → same_as r p ≡ false → p.extent.at + p.extent.len ≤ r.other) next h.others (λ l f. no_both (same_as r o) e f);
+      end_of = λ l. by_end e (nat_lt r.end (o.extent.at + o.extent.len)) refl;
+      other_of = λ l. moved seen more r (record r { end = max r.end (o.extent.at + o.extent.len) }) o r.other r.other false next refl refl refl (h.other_of l);
+      clear = λ x. clear_next seen more o x next (h.clear x) (λ p m c d. meet_same e low x p m c d (same_as r p) refl);
+    }
+    by_same false e low = record {
+      most = for_next (λ p. 1 ≤ p.extent.len → p.extent.at + p.extent.len ≤ o.extent.at + o.extent.len) next (λ p a l. omega (arith, h.most p a l)) (λ l. omega arith);
+      others = for_next (λ p. 1 ≤ p.extent.len → same_key (key_of p) (key_of o) ≡ false → p.extent.at + p.extent.len ≤ r.end) next (λ p a l f. h.most p a l)
+          (λ l f. no_both (same_key (key_of o) (key_of o)) (key_itself (key_of o)) f);
+      end_of = λ l. record { entry = o; is_one = next.has; ends = refl; of_it = key_itself (key_of o) };
+      other_of = λ l. (let q = h.end_of l in
+          record { entry = q.entry; is_one = next.keeps q.entry q.is_one; ends = q.ends; of_it = key_apart (key_of q.entry) (key_of o) (r.rank, r.request) q.of_it e });
+      clear = λ x. clear_next seen more o x next (h.clear x) (λ p m c d. absurd (omega (arith, h.most p m (omega (arith, c.0, c.1)), c.1, d.0)));
+    }
 
 -- an entry without bytes
 pub reach_same : (seen more : List Owned) (r : Reach) (o : Owned) → IsNext seen more o → o.extent.len ≡ 0 → Reaches r seen → Reaches r more
 reach_same seen more r o next none h = record {
-  most = λ p m l. elim (next.splits p m) [ inl a ↦ h.most p a l | inr a ↦ empty p a l ];
-  others = λ p m l f. elim (next.splits p m) [ inl a ↦ h.others p a l f | inr a ↦ empty p a l ];
+  most = for_next (λ p. 1 ≤ p.extent.len → p.extent.at + p.extent.len ≤ r.end) next h.most (λ l. absurd (omega arith));
+  others = for_next (λ p. 1 ≤ p.extent.len → same_as r p ≡ false → p.extent.at + p.extent.len ≤ r.other) next h.others (λ l f. absurd (omega arith));
   end_of = λ l. moved seen more r r o r.end r.end true next refl refl refl (h.end_of l);
   other_of = λ l. moved seen more r r o r.other r.other false next refl refl refl (h.other_of l);
-  clear = λ x p q m n c d. by_both x p q c d (next.splits p m) (next.splits q n);
+  clear = λ x. clear_next seen more o x next (h.clear x) (λ p m c d. absurd (omega (arith, d.0, d.1)));
 }
-  where
-    empty : {A : Type 0} (p : Owned) → p ≡ o → 1 ≤ p.extent.len → A
-    empty p a l = let k : 1 ≤ o.extent.len = subst (λ (z : Owned). 1 ≤ z.extent.len) a l in absurd (omega arith)
-
-    some : (p : Owned) (x : ℕ) → Covers p x → 1 ≤ p.extent.len
-    some p x c = let l = c.0 in let k = c.1 in omega arith
-
-    by_both : (x : ℕ) (p q : Owned) → Covers p x → Covers q x → In seen p ⊎ (p ≡ o) → In seen q ⊎ (q ≡ o) → same_key (key_of p) (key_of q) ≡ true
-    by_both x p q c d (inl a) (inl b) = h.clear x p q a b c d
-    by_both x p q c d (inl a) (inr b) = empty q b (some q x d)
-    by_both x p q c d (inr a) b = empty p a (some p x c)
 
 -- ---- the byte
 

@@ -1,10 +1,10 @@
 -- The words of this crate's proofs, from where they stand.
 pub use Rattle.std.proofs.Common.{Bool, Bor, List, None, Option, Some, [], ap, arith, cond, drop, false, get_or, inl, inr, is_lt, length, map, max, nat_cmp, refl, rules, slice_get, subst, suc, sym, take, true, zero, ℕ, ◌++◌, ◌+◌, ◌-◌, ◌<◌, ◌^◌, ◌∙◌, ◌∷◌, ◌≡◌, ◌≤◌, ◌⊎◌}
 pub use Rattle.std.proofs.Math.ListN.{drop_of_length-le}
-pub use Rattle.std.proofs.lemmas.Bool.{lt-ltb}
+pub use Rattle.std.proofs.lemmas.Bool.{cases_lt, lt-ltb}
 pub use Rattle.std.proofs.lemmas.Bool.Decides.{nat_tests}
 pub use Rattle.std.proofs.lemmas.Grind.{flat_map-append}
-pub use Rattle.std.proofs.lemmas.List.{append-nil, get_or_default, map-append, take_all, take_more}
+pub use Rattle.std.proofs.lemmas.List.{append-nil, get_or_default, map-append, map_push, take_all, take_more}
 pub use Rattle.std.proofs.lemmas.List.Sorted.{IsPermutation-put_mid, IsPermutation-trans, answers_always}
 pub use Rattle.std.proofs.lemmas.Option.{same_Some}
 pub use Rattle.std.specs.BinaryHeap.{IsHeap, IsUpperBound, PopsGreatest, heap_items, heap_len}
@@ -35,7 +35,7 @@ pub use Rattle.overlap_report.specs.declared.shared.Reach.{Reach}
 pub use Rattle.overlay_laws.proofs.EntryLaws.{in_extents, same_permuted, says_cases, says_left, says_right}
 pub use Rattle.overlay_laws.proofs.HolderLaws.{holder_of, holds_by, keys_same, same_keys}
 pub use Rattle.overlay_laws.proofs.HullLaws.{in_either, in_left, in_range, in_right, range_high, range_low}
-pub use Rattle.overlay_laws.proofs.Members.{entry_in, in_taken}
+pub use Rattle.overlay_laws.proofs.Members.{entry_in, in_map, in_taken, map_in}
 pub use Rattle.overlay_laws.proofs.OriginLaws.{greatest_once}
 pub use Rattle.overlay_laws.specs.Entries.{HaveSame, In, ranges}
 pub use Rattle.overlay_laws.specs.Lines.{EndBelow, IsByPlace, IsInLine, extents}

@@ -2,7 +2,7 @@
 use Rattle.overlap_report.proofs.Words.{◌≡◌, ℕ, suc, ◌+◌, ◌-◌, ◌^◌, ◌≤◌, List, take, drop, get_or, subst, sym, arith, heap_items, entry_in, Owned, In, extents, IsInLine, EndBelow, IsResolved, IsPartOfOne, entries_of}
 use Rattle.overlap_report.proofs.CoverSteps.{entry_ends}
 use Rattle.overlap_report.proofs.KeySteps.{nothing, next_at}
-use Rattle.overlap_report.proofs.ClaimSteps.{pushed_fit, pushed_swept, at_dropped, later_begin, all_resolved, all_parts, all_ends}
+use Rattle.overlap_report.proofs.ClaimSteps.{pushed_fit, pushed_swept, at_dropped, later_begin, whole_swept, IsServed, all_served}
 use Rattle.overlap_report.proofs.serial.resolve.Goals as goal
 
 pub serve-requires-clause-order : goal.serve-requires-clause-order
@@ -29,30 +29,11 @@ loop-entry-preserved c =
           (let next : c.loop-entry.entry-index + 1 ≡ suc c.loop-entry.entry-index = omega arith in subst (λ (n : ℕ). In (drop n c.args.list.now) o) next m);
     }
 
-pub returns-clause-resolved : goal.returns-clause-resolved
-returns-clause-resolved c =
-    subst (λ (os : List Owned). IsResolved c.args.list.now os) (sym c.from_vec.ensures)
-    (all_resolved c.args.list.now c.serve-2.new.whole.items (entries_of (heap_items c.serve-2.new.heap)) c.loop-entry.entry-index (2 ^ 64 - 1) (omega arith) (omega arith)
-    c.requires.ends c.requires.once (c.in_ok-serve-2.ensures.swept (take c.loop-entry.entry-index c.args.list.now) c.loop-entry.invariant.swept))
-
-pub returns-clause-parts : goal.returns-clause-parts
-returns-clause-parts c =
-    subst (λ (os : List Owned). (o : Owned) → In os o → IsPartOfOne c.args.list.now o) (sym c.from_vec.ensures)
-    (all_parts c.args.list.now c.serve-2.new.whole.items (entries_of (heap_items c.serve-2.new.heap)) c.loop-entry.entry-index (2 ^ 64 - 1) (omega arith)
-    (c.in_ok-serve-2.ensures.swept (take c.loop-entry.entry-index c.args.list.now) c.loop-entry.invariant.swept))
-
-pub returns-clause-line : goal.returns-clause-line
-returns-clause-line c =
-    subst (λ (os : List Owned). IsInLine (extents os)) (sym c.from_vec.ensures)
-    (c.in_ok-serve-2.ensures.swept (take c.loop-entry.entry-index c.args.list.now) c.loop-entry.invariant.swept).line
-
-pub returns-clause-held : goal.returns-clause-held
-returns-clause-held c =
-    subst (λ (os : List Owned). (o : Owned) → In os o → 1 ≤ o.extent.len) (sym c.from_vec.ensures)
-    (λ o m. ((c.in_ok-serve-2.ensures.swept (take c.loop-entry.entry-index c.args.list.now) c.loop-entry.invariant.swept).low o m).1)
-
-pub returns-clause-ends : goal.returns-clause-ends
-returns-clause-ends c =
-    subst (λ (os : List Owned). EndBelow (2 ^ 62) (extents os)) (sym c.from_vec.ensures)
-    (all_ends c.args.list.now c.serve-2.new.whole.items (entries_of (heap_items c.serve-2.new.heap)) c.loop-entry.entry-index (2 ^ 64 - 1) (omega arith)
-    c.requires.ends (c.in_ok-serve-2.ensures.swept (take c.loop-entry.entry-index c.args.list.now) c.loop-entry.invariant.swept))
+pub returns : goal.returns
+returns c =
+    let list = c.args.list.now in
+    let i = c.loop-entry.entry-index in
+    let pool = entries_of (heap_items c.serve-2.new.heap) in
+    let swept = whole_swept list c.serve-2.new.whole.items pool i (2 ^ 64 - 1) (omega arith) (c.in_ok-serve-2.ensures.swept (take i list) c.loop-entry.invariant.swept) in
+    let all = subst (IsServed list) (sym c.from_vec.ensures) (all_served list c.serve-2.new.whole.items pool (2 ^ 64 - 1) (omega arith) c.requires.ends c.requires.once swept) in
+    record { resolved = all.resolved; parts = all.parts; line = all.line; held = all.held; ends = all.ends }
