@@ -7,13 +7,7 @@ use Rattle.nc_base.specs.declared.errors.ScriptKind.TheVariants as kind
 -- what is not found passes nowhere
 find_none : (p : ℕ → Bool) (from len k : ℕ) → find p (range_with_len from len) ≡ None → from ≤ k → k < from + len → p k ≡ false
 find_none p from zero k h low high = absurd (omega arith)
-find_none p from (suc len) k h low high = by_first (p from) refl (eq-or-lt_of_le low) h (λ g l. find_none p (from + 1) len k g l (omega arith))
-  where
-    by_first : (b : Bool) → p from ≡ b → (from ≡ k) ⊎ (from < k) → cond b (Some from) (find p (range_with_len (from + 1) len)) ≡ None
-        → (find p (range_with_len (from + 1) len) ≡ None → from + 1 ≤ k → p k ≡ false) → p k ≡ false
-    by_first true e place g rest = absurd (cc)
-    by_first false e (inl same) g rest = subst (λ (i : ℕ). p i ≡ false) same e
-    by_first false e (inr less) g rest = rest g (omega arith)
+find_none p from (suc len) k h low high = grind (arith, nat_tests, p from, eq-or-lt_of_le low, find_none p (from + 1) len k)
 
 no_difference : (ranks : List (List MeetKind)) (first : List MeetKind) → first_difference ranks first ≡ None → find (is_difference ranks first) (range_with_len 0 (length first + 1)) ≡ None
 no_difference ranks first h = grind (arith, nat_tests, find, found_passes, option_map, is_some, none_before_map, true≢false)
@@ -27,17 +21,13 @@ prefix_all {A} q (x ∷ xs) h = grind (arith, nat_tests, prefix_all q xs)
 position_none : {A : Type 0} (p : A → Bool) (xs : List A) → position p xs ≡ None → AllByRecursion (λ x. not (p x) ≡ true) xs
 position_none p xs h = prefix_all (λ x. not (p x)) xs (ltb-false _ _ (untold (nat_lt (position_or_len p xs) (length xs)) (position_or_len p xs) h))
 
-no_not : (b : Bool) → not (not b) ≡ true → b ≡ true
-no_not true h = refl
-no_not false h = h
-
 -- the rank has the k-th kind of the first
 abbrev SameAt : List MeetKind → ℕ → List MeetKind → Type 0
 SameAt first k own = kind_at k own ≡ kind_at k first
 
 all_same_at : (ranks : List (List MeetKind)) (first : List MeetKind) (k : ℕ) → differs_at ranks first k ≡ None → AllByRecursion (SameAt first k) ranks
 all_same_at ranks first k h =
-    each_weaker (λ own. not (not (kind_at k own == kind_at k first)) ≡ true) (SameAt first k) (λ own e. eqb-true (kind_at k own) (kind_at k first) (no_not (kind_at k own == kind_at k first) e)) ranks
+    each_weaker (λ own. not (not (kind_at k own == kind_at k first)) ≡ true) (SameAt first k) (λ own e. grind (arith, nat_tests)) ranks
     (position_none (λ own. not (kind_at k own == kind_at k first)) ranks h)
 
 all_swapped : {A : Type 0} (P : ℕ → A → Type 0) (n : ℕ) (xs : List A) → ((k : ℕ) → k ≤ n → AllByRecursion (P k) xs) → AllByRecursion (λ x. (k : ℕ) → k ≤ n → P k x) xs

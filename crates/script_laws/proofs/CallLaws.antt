@@ -1,10 +1,11 @@
 -- The calls of a script, each as it is read.
-use Rattle.script_laws.proofs.Words.{◌≡◌, ℕ, zero, suc, ◌+◌, ◌^◌, ◌<◌, ◌≤◌, List, [], ◌∷◌, ◌++◌, length, Bool, true, false, not, Option, Some, None, Result, Ok, Err, IfOk, IfSome, refl, sym, subst, arith, nat_lt, nat_le, ◌==◌, map, codes, option_and_then, length-append, lt-ltb, le-leb, ltb-false, AllByRecursion, list_all, IfOk-weaker, and_from, each_push, if_some_at, Values, Numbers, Form, Part, PostKind, Iput, Iget, Bput, Call, count_of, most_values, most_parts, is_size, are_sizes, is_part, has_lists_of, is_given, is_post_of, is_lawful_call, values_in_call, is_empty, Word, size_of_text, between_brackets, parts, all_some, list_of_text, refuse_if, or_fault, size, list, name, ended, values, after_prefix, form_and_all, form_of_text, given_of, given_parts, part, part_list, many_regions, region, choice, id_of_post, posted, put_call, get_call, post_values, is_posted, new_id, post_call, behind, plain_call, post_of_text, call_of, Family, Requests, Size, Name, Record, Nothing, row_of_text, size_read, faultless_some, is_sized, found_row, made_no_values, made_no_post, nat_tests}
+use Rattle.script_laws.proofs.Words.{◌≡◌, ℕ, zero, suc, ◌+◌, ◌^◌, ◌<◌, ◌≤◌, List, [], ◌∷◌, ◌++◌, length, Bool, true, false, not, Option, Some, None, Result, Ok, Err, IfOk, IfSome, refl, sym, subst, arith, nat_lt, nat_le, ◌==◌, map, codes, option_and_then, length-append, lt-ltb, le-leb, ltb-false, AllByRecursion, list_all, IfOk-weaker, and_from, each_push, if_some_at, Values, Numbers, Form, Part, PostKind, Iput, Iget, Bput, Call, count_of, most_values, most_parts, is_size, are_sizes, is_part, has_lists_of, is_given, is_post_of, is_lawful_call, values_in_call, is_empty, Word, size_of_text, between_brackets, parts, all_some, list_of_text, ◌>>=◌, refuse_if, or_fault, size, list, name, ended, values, after_prefix, form_and_all, form_of_text, given_of, given_parts, part, part_list, many_regions, region, choice, id_of_post, posted, put_call, get_call, post_values, is_posted, new_id, post_call, behind, plain_call, post_of_text, call_of, Family, Requests, Size, Name, Record, Nothing, row_of_text, size_read, faultless_some, is_sized, found_row, made_no_values, made_no_post, nat_tests}
+use Rattle.nc_base.specs.declared.errors.ScriptKind.{ScriptKind}
 use Rattle.nc_base.specs.declared.errors.ScriptKind.TheVariants as kind
 use Rattle.nc_base.specs.declared.errors.LimitName.TheVariants as limit
 use Rattle.nc_base.specs.declared.request.Form.TheVariants as form
 use Rattle.script_laws.proofs.ListLaws.{all_pass, found_all}
-use Rattle.script_laws.proofs.StepLaws.{first_then, then_with, ok_then, by_some, unless_refused, read_as, whole_line}
+use Rattle.script_laws.proofs.StepLaws.{first_then, then_with, word_then, unless, ok_then, by_some, unless_refused, read_as, whole_line}
 use Rattle.script_laws.proofs.ValueLaws.{FitsValues, values_read}
 
 -- ---- sizes and lists of them
@@ -21,8 +22,8 @@ sizes_read w ns h = by_inside (between_brackets w) h
         all_pass is_size (λ n. n < 2 ^ 63) (λ n small. lt-ltb n (2 ^ 63) small) ns
         (if_some_at (λ xs. AllByRecursion (λ n. n < 2 ^ 63) xs) (all_some (map size_of_text (parts inside))) ns e (found_all (λ n. n < 2 ^ 63) size_of_text size_read (parts inside)))
 
-list_word : (ws : List Word) → IfOk (list ws) (λ r. are_sizes r.0 ≡ true)
-list_word ws = read_as list_of_text kind.BadNumber ws (λ ns. are_sizes ns ≡ true) sizes_read
+sizes_then : {B : Type 0} (ws : List Word) (g : List ℕ × List Word → Result B ScriptKind) (P : B → Type 0) → ((r : List ℕ × List Word) → are_sizes r.0 ≡ true → IfOk (g r) P) → IfOk (list ws >>= g) P
+sizes_then ws g P h = word_then list_of_text kind.BadNumber ws g P (λ ns. are_sizes ns ≡ true) sizes_read h
 
 -- ---- regions
 
@@ -31,9 +32,7 @@ given_fits : (f : Form) (s c d m : List ℕ) → has_lists_of f (given_of f s c 
 given_fits f s c d m lists starts counts strides steps = grind (arith, nat_tests, and_from)
 
 part_read : (ws : List Word) → IfOk (part ws) (λ r. is_part r.0 ≡ true)
-part_read ws =
-    then_with (list ws) _ _ (λ r. are_sizes r.0 ≡ true) (list_word ws) (λ s starts.
-    then_with (list s.1) _ _ (λ r. are_sizes r.0 ≡ true) (list_word s.1) (λ c counts. and_from _ _ starts counts))
+part_read ws = sizes_then ws _ _ (λ s starts. sizes_then s.1 _ _ (λ c counts. and_from _ _ starts counts))
 
 record AreParts (n : ℕ) (ps : List Part) : Type 0 where
   good : AllByRecursion (λ p. is_part p ≡ true) ps
@@ -60,26 +59,17 @@ parts_fit ps n all some few =
 many_read : (ws : List Word) → IfOk (many_regions ws) (λ r. is_given r.0 ≡ true)
 many_read ws =
     first_then (size ws) _ _ (λ n _.
-    then_with (refuse_if (n.0 == 0) kind.BadNumber) _ _ (λ _. (n.0 == 0) ≡ false) (unless_refused (n.0 == 0) kind.BadNumber _ (λ e. e)) (λ _ some.
-    then_with (refuse_if (nat_lt most_parts n.0) (kind.Limit limit.Parts)) _ _ (λ _. n.0 ≤ most_parts)
-    (unless_refused (nat_lt most_parts n.0) (kind.Limit limit.Parts) (n.0 ≤ most_parts) (λ e. ltb-false _ _ e)) (λ _ few.
-    then_with (part_list n.0 [] n.1) _ _ (λ r. AreParts n.0 r.0) (part_list_read n.0 n.0 [] n.1 (omega arith) tt) (λ p all. parts_fit p.0 n.0 all some few))))
+    unless _ _ _ _ (λ some. unless _ _ _ _ (λ few.
+    then_with (part_list n.0 [] n.1) _ _ (λ r. AreParts n.0 r.0) (part_list_read n.0 n.0 [] n.1 (omega arith) tt) (λ p all. parts_fit p.0 n.0 all some (ltb-false most_parts n.0 few)))))
 
 region_read : (f : Form) (ws : List Word) → IfOk (region f ws) (λ r. is_given r.0 ≡ true)
 region_read form.Var ws = refl
-region_read form.Var1 ws = grind (arith, nat_tests, list_word ws, then_with, given_fits)
-region_read form.Vara ws =
-    then_with (list ws) _ _ (λ r. are_sizes r.0 ≡ true) (list_word ws) (λ s starts.
-    then_with (list s.1) _ _ (λ r. are_sizes r.0 ≡ true) (list_word s.1) (λ c counts. given_fits form.Vara s.0 c.0 [] [] refl starts counts refl refl))
-region_read form.Vars ws =
-    then_with (list ws) _ _ (λ r. are_sizes r.0 ≡ true) (list_word ws) (λ s starts.
-    then_with (list s.1) _ _ (λ r. are_sizes r.0 ≡ true) (list_word s.1) (λ c counts.
-    then_with (list c.1) _ _ (λ r. are_sizes r.0 ≡ true) (list_word c.1) (λ d strides. given_fits form.Vars s.0 c.0 d.0 [] refl starts counts strides refl)))
+region_read form.Var1 ws = sizes_then ws _ _ (λ s starts. given_fits form.Var1 s.0 [] [] [] refl starts refl refl refl)
+region_read form.Vara ws = sizes_then ws _ _ (λ s starts. sizes_then s.1 _ _ (λ c counts. given_fits form.Vara s.0 c.0 [] [] refl starts counts refl refl))
+region_read form.Vars ws = sizes_then ws _ _ (λ s starts. sizes_then s.1 _ _ (λ c counts. sizes_then c.1 _ _ (λ d strides. given_fits form.Vars s.0 c.0 d.0 [] refl starts counts strides refl)))
 region_read form.Varm ws =
-    then_with (list ws) _ _ (λ r. are_sizes r.0 ≡ true) (list_word ws) (λ s starts.
-    then_with (list s.1) _ _ (λ r. are_sizes r.0 ≡ true) (list_word s.1) (λ c counts.
-    then_with (list c.1) _ _ (λ r. are_sizes r.0 ≡ true) (list_word c.1) (λ d strides.
-    then_with (list d.1) _ _ (λ r. are_sizes r.0 ≡ true) (list_word d.1) (λ m steps. given_fits form.Varm s.0 c.0 d.0 m.0 refl starts counts strides steps))))
+    sizes_then ws _ _ (λ s starts. sizes_then s.1 _ _ (λ c counts. sizes_then c.1 _ _ (λ d strides.
+    sizes_then d.1 _ _ (λ m steps. given_fits form.Varm s.0 c.0 d.0 m.0 refl starts counts strides steps))))
 region_read form.Varn ws = many_read ws
 
 -- ---- calls

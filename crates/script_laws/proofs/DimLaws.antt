@@ -1,11 +1,11 @@
 -- Dimensions, variables and attributes as they are defined, line by line.
-use Rattle.script_laws.proofs.Words.{◌≡◌, ◌∙◌, ℕ, suc, ◌+◌, ◌^◌, ◌<◌, ◌≤◌, List, [], ◌∷◌, ◌++◌, length, drop, Bool, true, false, cond, ◌&&◌, Option, Some, None, IfOk, IfSome, refl, ap, arith, nat_lt, nat_le, ◌==◌, count_by, sum, map, slice_get, slice_set, position, bytes_eq, length-append, length-set, AllByRecursion, list_any, length-map, sum_by-cons, and_from, position_below, get_left, each_push, each_weaker, each_later, each_at, fails_each, and_second, ScriptKind, NcType, Dim, Attr, Var, Values, most_dims, most_dims_of_var, most_vars, record_limit, most_values, attr_values, is_whole_attr, count_of, fits_count, is_type, is_writable_dim, is_writable_attr, Word, is_name, refuse_if, or_fault, reads_as, name, ended, values, type_of, is_among, length_of_text, is_unlimited, dim_names, dim_line, var_head, name_list, dim_ids, is_record_dim, var_names, shape, var_line, Title, attr_of, attribute_name, attribute, with_attr_at, nat_tests}
+use Rattle.script_laws.proofs.Words.{◌≡◌, ◌∙◌, ℕ, suc, ◌+◌, ◌^◌, ◌<◌, ◌≤◌, List, [], ◌∷◌, ◌++◌, length, drop, Bool, true, false, cond, ◌&&◌, Option, Some, None, IfOk, IfSome, refl, ap, arith, nat_lt, nat_le, ◌==◌, count_by, sum, map, slice_get, slice_set, position, bytes_eq, length-append, length-set, AllByRecursion, list_any, length-map, sum_by-cons, and_from, position_below, get_left, each_push, each_weaker, each_later, each_at, fails_each, and_second, ScriptKind, NcType, Dim, Attr, Var, Values, most_dims, most_dims_of_var, most_vars, record_limit, most_values, attr_values, is_whole_attr, count_of, fits_count, is_type, is_writable_dim, is_writable_attr, Word, is_name, refuse_if, or_fault, reads_as, name, name_of_text, ended, values, type_of, is_among, length_of_text, is_unlimited, dim_names, dim_line, var_head, name_list, dim_ids, is_record_dim, var_names, shape, var_line, Title, attr_of, attribute_name, attribute, with_attr_at, nat_tests}
 use borrow.Author.Tests.{ltb-false, leb-false, eq-eqb}
 use Rattle.nc_base.specs.declared.errors.ScriptKind.TheVariants as kind
 use Rattle.nc_base.specs.declared.errors.LimitName.TheVariants as limit
 use Rattle.script_laws.proofs.ListLaws.{all_both, all_set, count_more, sum_set, sum_more, found_all}
-use Rattle.script_laws.proofs.StepLaws.{first_then, then_with, unless_refused, read_as}
-use Rattle.script_laws.proofs.WordLaws.{name_short, named, type_read, length_read, small_fits, length_fits}
+use Rattle.script_laws.proofs.StepLaws.{first_then, then_with, word_then, unless}
+use Rattle.script_laws.proofs.WordLaws.{name_short, name_read, named, type_read, length_read, small_fits, length_fits}
 use Rattle.script_laws.proofs.ValueLaws.{FitsValues, values_read, bytes_long}
 
 -- ---- a dimension
@@ -27,15 +27,11 @@ dim_fits version n len good short =
 
 pub dim_read : (version : ℕ) (dims : List Dim) (ws : List Word) → IfOk (dim_line version dims ws) (NewDim version dims)
 dim_read version dims ws =
-    then_with (name ws) _ _ (λ r. is_name r.0 ≡ true) (named ws) (λ n good.
-    first_then (refuse_if (is_among n.0 (dim_names dims)) kind.TwiceNamed) _ _ (λ _ _.
-    then_with (refuse_if (nat_le most_dims (length dims)) (kind.Limit limit.Dims)) _ _ (λ _. length dims < most_dims)
-    (unless_refused _ _ (length dims < most_dims) (λ e. leb-false _ _ e)) (λ _ room.
-    then_with (reads_as (length_of_text version) kind.BadNumber n.1) _ _ (λ r. r.0 < record_limit version)
-    (read_as (length_of_text version) kind.BadNumber n.1 (λ m. m < record_limit version) (length_read version)) (λ len short.
-    then_with (refuse_if (len.0 == 0 && list_any is_unlimited dims) kind.BadShape) _ _ (λ _. (len.0 == 0 && list_any is_unlimited dims) ≡ false)
-    (unless_refused _ _ _ (λ e. e)) (λ _ once.
-    first_then (ended len.1) _ _ (λ _ _. record { fits = dim_fits version n.0 len.0 good short; room = room; once = once }))))))
+    word_then name_of_text kind.BadName ws _ _ (λ n. is_name n ≡ true) name_read (λ n good.
+    unless (is_among n.0 (dim_names dims)) kind.TwiceNamed _ _ (λ _. unless (nat_le most_dims (length dims)) (kind.Limit limit.Dims) _ _ (λ room.
+    word_then (length_of_text version) kind.BadNumber n.1 _ _ (λ m. m < record_limit version) (length_read version) (λ len short.
+    unless (len.0 == 0 && list_any is_unlimited dims) kind.BadShape _ _ (λ once.
+    first_then (ended len.1) _ _ (λ _ _. record { fits = dim_fits version n.0 len.0 good short; room = leb-false most_dims (length dims) room; once = once }))))))
 
 -- ---- one unlimited dimension at most
 
@@ -70,8 +66,7 @@ pub record NewAttr (version before : ℕ) (a : Attr) : Type 0 where
 pub attribute_read : (version : ℕ) (titles : List Title) (before : ℕ) (owner : List ℕ) (ws : List Word) → before ≤ most_values → IfOk (attribute version titles before owner ws) (NewAttr version before)
 attribute_read version titles before owner ws h =
     then_with (attribute_name titles owner ws) _ _ (λ r. is_name r.0 ≡ true) (title_named titles owner ws) (λ n good.
-    then_with (reads_as (type_of version) kind.UnknownWord n.1) _ _ (λ r. is_type version r.0 ≡ true)
-    (read_as (type_of version) kind.UnknownWord n.1 (λ t. is_type version t ≡ true) (type_read version)) (λ t typed.
+    word_then (type_of version) kind.UnknownWord n.1 _ _ (λ t. is_type version t ≡ true) (type_read version) (λ t typed.
     then_with (values (Some t.0) before t.1) _ _ (FitsValues (Some t.0) before) (values_read (Some t.0) before t.1 h) (λ vs fits.
     record { fits = attr_fits version n.0 t.0 vs good typed (omega arith); few = fits.few })))
 
@@ -128,10 +123,8 @@ shaped dims ws =
     first_then (name_list ws) _ _ (λ names _.
     then_with (or_fault kind.UnknownName (dim_ids dims names.0)) _ _ (λ ids. AllByRecursion (λ id. id < length dims) ids)
     (some_or_fault kind.UnknownName (dim_ids dims names.0) (λ ids. AllByRecursion (λ id. id < length dims) ids) (ids_found dims names.0)) (λ ids below.
-    then_with (refuse_if (nat_lt most_dims_of_var (length ids)) (kind.Limit limit.VarDims)) _ _ (λ _. length ids ≤ most_dims_of_var)
-    (unless_refused _ _ (length ids ≤ most_dims_of_var) (λ e. ltb-false _ _ e)) (λ _ few.
-    then_with (refuse_if (list_any (is_record_dim dims) (drop 1 ids)) kind.BadShape) _ _ (λ _. AllByRecursion (λ id. is_record_dim dims id ≡ false) (drop 1 ids))
-    (unless_refused _ _ _ (λ e. fails_each (is_record_dim dims) (drop 1 ids) e)) (λ _ inner. record { few = few; below = below; inner = inner }))))
+    unless (nat_lt most_dims_of_var (length ids)) (kind.Limit limit.VarDims) _ _ (λ few. unless (list_any (is_record_dim dims) (drop 1 ids)) kind.BadShape _ _ (λ records.
+    record { few = ltb-false most_dims_of_var (length ids) few; below = below; inner = fails_each (is_record_dim dims) (drop 1 ids) records }))))
 
 pub record NewHead (version : ℕ) (names : List (List ℕ)) (t : NcType) (n : List ℕ) : Type 0 where
   pub typed : is_type version t ≡ true
@@ -140,12 +133,10 @@ pub record NewHead (version : ℕ) (names : List (List ℕ)) (t : NcType) (n : L
 
 pub head_read : (version : ℕ) (names : List (List ℕ)) (ws : List Word) → IfOk (var_head version names ws) (λ r. NewHead version names r.0.0 r.0.1)
 head_read version names ws =
-    then_with (reads_as (type_of version) kind.UnknownWord ws) _ _ (λ r. is_type version r.0 ≡ true)
-    (read_as (type_of version) kind.UnknownWord ws (λ t. is_type version t ≡ true) (type_read version)) (λ t typed.
-    then_with (name t.1) _ _ (λ r. is_name r.0 ≡ true) (named t.1) (λ n good.
-    first_then (refuse_if (is_among n.0 names) kind.TwiceNamed) _ _ (λ _ _.
-    then_with (refuse_if (nat_le most_vars (length names)) (kind.Limit limit.Vars)) _ _ (λ _. length names < most_vars)
-    (unless_refused _ _ (length names < most_vars) (λ e. leb-false _ _ e)) (λ _ room. record { typed = typed; good = good; room = room }))))
+    word_then (type_of version) kind.UnknownWord ws _ _ (λ t. is_type version t ≡ true) (type_read version) (λ t typed.
+    word_then name_of_text kind.BadName t.1 _ _ (λ n. is_name n ≡ true) name_read (λ n good.
+    unless (is_among n.0 names) kind.TwiceNamed _ _ (λ _. unless (nat_le most_vars (length names)) (kind.Limit limit.Vars) _ _ (λ room.
+    record { typed = typed; good = good; room = leb-false most_vars (length names) room }))))
 
 pub record NewVar (version lines : ℕ) (dims : List Dim) (vars : List Var) (v : Var) : Type 0 where
   pub none : attr_values v.attrs ≡ 0
@@ -174,44 +165,25 @@ var_read version lines dims vars ws =
 
 -- ---- an attribute more of one variable
 
+at_place : (o : Option Var) (vars : List Var) (f : Var → List Var) (P : List Var → Type 0) → P vars → ((v : Var) → o ≡ Some v → P (f v)) → P (elim o as (λ _. List Var) [ None ↦ vars | Some v ↦ f v ])
+at_place None vars f P old new = old
+at_place (Some v) vars f P old new = new v refl
+
+with_attr : (version lines : ℕ) (dims : List Dim) (a : Attr) (v : Var) → FitsAttr version a → FitsVar version lines dims v → FitsVar version (suc lines) dims (record v { attrs = v.attrs ++ a ∷ [] })
+with_attr version lines dims a v fits f = grind (arith, nat_tests, length-append v.attrs (a ∷ []), each_push (FitsAttr version) v.attrs a f.attrs fits)
+
 pub attr_placed : (version lines : ℕ) (dims : List Dim) (k : ℕ) (a : Attr) (vars : List Var) → FitsAttr version a → AllByRecursion (FitsVar version lines dims) vars
     → AllByRecursion (FitsVar version (suc lines) dims) (with_attr_at k a vars)
-attr_placed version lines dims k a vars fits all = by_place (slice_get vars k) (λ v e. each_at (FitsVar version lines dims) vars k v all e)
-  where
-    more : AllByRecursion (FitsVar version (suc lines) dims) vars
-    more = each_weaker (FitsVar version lines dims) (FitsVar version (suc lines) dims) (later version lines (suc lines) dims (omega arith)) vars all
-
-    grown : (v : Var) → FitsVar version lines dims v → FitsVar version (suc lines) dims (record v { attrs = v.attrs ++ a ∷ [] })
-    grown v f =
-        record {
-          named = f.named;
-          typed = f.typed;
-          few_dims = f.few_dims;
-          ids = f.ids;
-          inner = f.inner;
-          few_attrs = let few = f.few_attrs in omega (arith, length-append v.attrs (a ∷ []));
-          attrs = each_push (FitsAttr version) v.attrs a f.attrs fits;
-          begins = f.begins;
-        }
-
-    by_place : (o : Option Var) → ((v : Var) → o ≡ Some v → FitsVar version lines dims v)
-        → AllByRecursion (FitsVar version (suc lines) dims) (elim o as (λ _. List Var) [ None ↦ vars | Some v ↦ slice_set vars k (record v { attrs = v.attrs ++ a ∷ [] }) ])
-    by_place None f = more
-    by_place (Some v) f = all_set (FitsVar version (suc lines) dims) vars k (record v { attrs = v.attrs ++ a ∷ [] }) more (grown v (f v refl))
+attr_placed version lines dims k a vars fits all =
+    let more = each_weaker (FitsVar version lines dims) (FitsVar version (suc lines) dims) (later version lines (suc lines) dims (omega arith)) vars all in
+    at_place (slice_get vars k) vars (λ v. slice_set vars k (record v { attrs = v.attrs ++ a ∷ [] })) (AllByRecursion (FitsVar version (suc lines) dims)) more
+    (λ v e. all_set (FitsVar version (suc lines) dims) vars k _ more (with_attr version lines dims a v fits (each_at (FitsVar version lines dims) vars k v all e)))
 
 pub length-placed : (k : ℕ) (a : Attr) (vars : List Var) → length (with_attr_at k a vars) ≡ length vars
 length-placed k a vars = grind (arith, nat_tests, slice_get vars k, slice_set, length-set)
 
 -- the values of all attributes of the variables
 pub values_placed : (k : ℕ) (a : Attr) (vars : List Var) → sum (map (λ (v : Var). attr_values v.attrs) (with_attr_at k a vars)) ≤ sum (map (λ (v : Var). attr_values v.attrs) vars) + a.count
-values_placed k a vars = by_place (slice_get vars k) (λ v e. e)
-  where
-    grown : (v : Var) → slice_get vars k ≡ Some v
-        → sum (map (λ (w : Var). attr_values w.attrs) (slice_set vars k (record v { attrs = v.attrs ++ a ∷ [] }))) ≤ sum (map (λ (w : Var). attr_values w.attrs) vars) + a.count
-    grown v e = sum_set (λ (w : Var). attr_values w.attrs) vars k a.count v (record v { attrs = v.attrs ++ a ∷ [] }) e (omega (arith, sum_more (λ (b : Attr). b.count) v.attrs a))
-
-    by_place : (o : Option Var) → ((v : Var) → o ≡ Some v → slice_get vars k ≡ Some v)
-        → sum (map (λ (w : Var). attr_values w.attrs) (elim o as (λ _. List Var) [ None ↦ vars | Some v ↦ slice_set vars k (record v { attrs = v.attrs ++ a ∷ [] }) ]))
-        ≤ sum (map (λ (w : Var). attr_values w.attrs) vars) + a.count
-    by_place None f = omega arith
-    by_place (Some v) f = grown v (f v refl)
+values_placed k a vars =
+    at_place (slice_get vars k) vars (λ v. slice_set vars k (record v { attrs = v.attrs ++ a ∷ [] })) (λ xs. sum (map (λ (w : Var). attr_values w.attrs) xs) ≤ sum (map (λ (w : Var). attr_values w.attrs) vars) + a.count)
+    (omega arith) (λ v e. sum_set (λ (w : Var). attr_values w.attrs) vars k a.count v _ e (omega (arith, sum_more (λ (b : Attr). b.count) v.attrs a)))

@@ -1,5 +1,5 @@
 -- The header of a script for a new dataset.
-use Rattle.script_laws.proofs.Words.{◌≡◌, ℕ, ◌^◌, ◌≤◌, List, length, Bool, true, false, not, Option, Some, None, refl, arith, nat_le, ◌==◌, count_by, slice_get, AllByRecursion, list_any, list_all, lt-leb, and_from, not_from_false, not-true, Dim, Attr, Var, Script, most_dims, most_vars, most_dims_of_var, length_of, is_version, two_record_dims, record_later, bad_id, counts_are_small, is_writable_list, is_writable_attr, is_unplaced, has_writable_names, has_writable_parts, is_unlimited, Defined, header_of, most_lines, Reads, nat_tests}
+use Rattle.script_laws.proofs.Words.{◌≡◌, ℕ, ◌^◌, ◌≤◌, List, length, Bool, true, false, not, Option, Some, None, refl, arith, nat_le, ◌==◌, count_by, slice_get, AllByRecursion, each_passes, list_any, list_all, lt-leb, and_from, not_from_false, not-true, Dim, Attr, Var, Script, most_dims, most_vars, most_dims_of_var, length_of, is_version, two_record_dims, record_later, bad_id, counts_are_small, is_writable_list, is_writable_attr, is_unplaced, has_writable_names, has_writable_parts, is_unlimited, Defined, header_of, most_lines, Reads, nat_tests}
 use borrow.Author.Tests.{le-leb, le-ltb}
 use Rattle.script_laws.proofs.ListLaws.{all_pass, none_passes}
 use Rattle.script_laws.proofs.WordLaws.{small_fits}
@@ -42,14 +42,11 @@ read_unplaced text s =
 list_fits : {A : Type 0} (version most : ℕ) (test : A → Bool) (xs : List A) → length xs ≤ most → most ≤ 2 ^ 24 → list_all test xs ≡ true → is_writable_list version test xs ≡ true
 list_fits version most test xs h k all = and_from _ _ (small_fits version (length xs) (omega arith)) all
 
-attrs_fit : (version : ℕ) (attrs : List Attr) → AllByRecursion (FitsAttr version) attrs → list_all (is_writable_attr version) attrs ≡ true
-attrs_fit version attrs f = all_pass (is_writable_attr version) (FitsAttr version) (λ a g. g) attrs f
-
 names_fit : (version : ℕ) (d : Defined) (v : Var) → FitsVar version most_lines d.dims v → has_writable_names (header_of version d) v ≡ true
-names_fit version d v f = grind (arith, nat_tests, attrs_fit version v.attrs f.attrs, list_fits, and_from)
+names_fit version d v f = grind (arith, nat_tests, each_passes (is_writable_attr version) v.attrs f.attrs, list_fits, and_from)
 
 parts_fit : (version : ℕ) (d : Defined) → FitsDefined version most_lines d → has_writable_parts (header_of version d) ≡ true
-parts_fit version d f = grind (arith, nat_tests, attrs_fit version d.attrs f.attrs, names_fit version d, list_fits, all_pass, and_from)
+parts_fit version d f = grind (arith, nat_tests, each_passes (is_writable_attr version) d.attrs f.attrs, names_fit version d, list_fits, all_pass, and_from)
 
 pub read_writable : (text : List ℕ) (s : Script) → Reads text s → s.fresh ≡ true → has_writable_parts s.header ≡ true
 read_writable text s =

@@ -3,7 +3,7 @@ use Rattle.script_laws.proofs.Words.{◌≡◌, ℕ, List, true, Option, Some, m
 use borrow.Author.Tests.{le-leb, eq-eqb}
 use Rattle.script_laws.proofs.WordLaws.{InRange}
 use Rattle.script_laws.proofs.DefinedLaws.{FitHints}
-use Rattle.script_laws.proofs.RunLaws.{or_default, header_aligned, var_aligned}
+use Rattle.script_laws.proofs.RunLaws.{or_default}
 
 pub within_range : (low high unit n : ℕ) → InRange low high unit n → is_within low high n ≡ true
 within_range low high unit n f = and_from _ _ (le-leb low n f.at_least) (le-leb n high f.at_most)
@@ -16,10 +16,13 @@ hint_within : (h low high unit default : ℕ) (hints : List (Option ℕ)) → ((
     → is_within low high (hint_or hints h default) ≡ true
 hint_within h low high unit default hints f fits = or_default (hint_in h hints) default (λ n. is_within low high n ≡ true) (λ n e. within_range low high unit n (f n e)) fits
 
+hint_aligned : (h : ℕ) (hints : List (Option ℕ)) → ((n : ℕ) → hint_in h hints ≡ Some n → InRange 4 1048576 4 n) → is_alignment (hint_or hints h 4) ≡ true
+hint_aligned h hints f = or_default (hint_in h hints) 4 (λ n. is_alignment n ≡ true) (λ n e. aligned n (f n e)) refl
+
 pub lawful_hints : (ranks : ℕ) (hints : List (Option ℕ)) → InRange 1 64 1 ranks → FitHints hints → are_lawful_hints (hints_of ranks hints) ≡ true
 lawful_hints ranks hints r f =
     let nodes : is_within 1 64 (min ranks 8) ≡ true = and_from _ _ (le-leb 1 (min ranks 8) (omega arith)) (le-leb (min ranks 8) 64 (omega arith)) in
     let a = and_from _ _ (hint_within 0 1 64 1 (min ranks 8) hints (f 0) nodes) (hint_within 1 1 33554432 1 16777216 hints (f 1) refl) in
     let b = and_from _ _ (and_from _ _ a (hint_within 2 1 33554432 1 4194304 hints (f 2) refl)) (hint_within 3 1 33554432 1 524288 hints (f 3) refl) in
-    let c = and_from _ _ (and_from _ _ b (hint_within 4 1 64 1 2 hints (f 4) refl)) (aligned _ (header_aligned hints f)) in
-    and_from _ _ (and_from _ _ c (aligned _ (var_aligned hints f))) (hint_within 9 1 33554432 1 1 hints (f 9) refl)
+    let c = and_from _ _ (and_from _ _ b (hint_within 4 1 64 1 2 hints (f 4) refl)) (hint_aligned 7 hints (f 7)) in
+    and_from _ _ (and_from _ _ c (hint_aligned 8 hints (f 8))) (hint_within 9 1 33554432 1 1 hints (f 9) refl)

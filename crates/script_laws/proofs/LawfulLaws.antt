@@ -1,5 +1,5 @@
 -- A script that is read is lawful.
-use Rattle.script_laws.proofs.Words.{◌≡◌, ℕ, ◌≤◌, ◌+◌, subst, calls_of, List, length, map, sum, Bool, true, false, cond, not, ◌&&◌, refl, ap, arith, nat_le, ◌==◌, le-leb, lt-ltb, eq-eqb, eqb-true, AllByRecursion, list_all, and_from, Dim, Attr, Var, Call, Script, most_dims, most_vars, most_dims_of_var, is_version, most_values, most_calls, is_lawful_dim, is_lawful_var, is_nothing_defined, is_lawful_header, is_lawful_extra, is_whole_attr, is_whole_extra, has_whole_attrs, added_dims, added_vars, values_in_script, is_lawful, is_empty, Defined, no_definition, Added, nothing_added, Known, script_of, header_of, most_lines, Reads, nat_tests}
+use Rattle.script_laws.proofs.Words.{◌≡◌, ℕ, ◌≤◌, ◌+◌, subst, calls_of, List, length, map, sum, Bool, true, false, cond, not, ◌&&◌, refl, ap, arith, nat_le, ◌==◌, le-leb, lt-ltb, eq-eqb, eqb-true, AllByRecursion, each_passes, list_all, and_from, Dim, Attr, Var, Call, Script, most_dims, most_vars, most_dims_of_var, is_version, most_values, most_calls, is_lawful_dim, is_lawful_var, is_nothing_defined, is_lawful_header, is_lawful_extra, is_whole_attr, is_whole_extra, has_whole_attrs, added_dims, added_vars, values_in_script, is_lawful, is_empty, Defined, no_definition, Added, nothing_added, Known, script_of, header_of, most_lines, Reads, nat_tests}
 use Rattle.script_laws.proofs.ListLaws.{all_pass}
 use Rattle.script_laws.proofs.DimLaws.{FitsAttr, FitsVar, attr_whole}
 use Rattle.script_laws.proofs.DefinedLaws.{FitsDefined, FitsKnown}
@@ -37,9 +37,6 @@ header_lawful most version ranks known calls parts =
 few_values : (most version ranks : ℕ) (known : Known) (calls : List (List Call)) → FitsParts most version ranks known calls → values_in_script (script_of version ranks known calls) ≤ most_values
 few_values most version ranks known calls parts = grind (arith, nat_tests)
 
-extras_lawful : (known : Known) (most version : ℕ) → FitsKnown version most known → list_all is_lawful_extra known.added.extras ≡ true
-extras_lawful known most version f = all_pass is_lawful_extra (λ x. is_lawful_extra x ≡ true) (λ x h. h) known.added.extras f.added.each
-
 lawful_of : (version ranks : ℕ) (known : Known) (calls : List (List Call)) → FitsParts most_lines version ranks known calls → is_lawful (script_of version ranks known calls) ≡ true
 lawful_of version ranks known calls parts =
     let extras = parts.known.added in
@@ -49,7 +46,7 @@ lawful_of version ranks known calls parts =
     let dims : added_dims known.added.extras ≤ most_dims = let same = extras.dims in let few = extras.few_dims in omega arith in
     let vars : added_vars known.added.extras ≤ most_vars = let same = extras.vars in let few = extras.few_vars in omega arith in
     let d = and_from _ _ (and_from _ _ c (le-leb (added_dims known.added.extras) most_dims dims)) (le-leb (added_vars known.added.extras) most_vars vars) in
-    let e = and_from _ _ d (extras_lawful known most_lines version parts.known) in
+    let e = and_from _ _ d (each_passes is_lawful_extra known.added.extras extras.each) in
     let each = parts.calls.each in
     let own : (r k : ℕ) → 0 + r ≡ k → OwnCalls ranks k (calls_of r calls) = λ r k at. let same : r ≡ k = omega arith in subst (λ (i : ℕ). OwnCalls ranks i (calls_of r calls)) same (each r) in
     let f = and_from _ _ (and_from _ _ e (all_lawful ranks 0 calls own)) (all_different calls (λ r. (each r).different)) in
@@ -79,4 +76,4 @@ pub read_whole : (text : List ℕ) (s : Script) → Reads text s → has_whole_a
 read_whole text s =
     read_script text s (λ t. has_whole_attrs t ≡ true) (λ version ranks known calls parts.
     and_from _ _ (whole_known version most_lines known (version == 0) refl parts.known)
-    (all_pass is_whole_extra (λ x. is_whole_extra x ≡ true) (λ x h. h) known.added.extras parts.known.added.whole))
+    (each_passes is_whole_extra known.added.extras parts.known.added.whole))

@@ -2,7 +2,6 @@
 use Rattle.script_laws.proofs.Words.{◌≡◌, ◌∙◌, ℕ, ◌≤◌, List, length, false, Option, Some, None, refl, ap, arith, ◌==◌, unwrap_or, not-false, Script, hint_in, hint_or, Defined, no_definition, header_of, Reads}
 use borrow.Author.Tests.{eqb-true}
 use Rattle.script_laws.proofs.WordLaws.{InRange}
-use Rattle.script_laws.proofs.DefinedLaws.{FitHints}
 use Rattle.script_laws.proofs.ReadLaws.{read_script}
 
 pub read_ranks : (text : List ℕ) (s : Script) → Reads text s → length s.calls ≡ s.ranks
@@ -13,25 +12,16 @@ pub or_default : (o : Option ℕ) (default : ℕ) (P : ℕ → Type 0) → ((n :
 or_default None default P f p = p
 or_default (Some n) default P f p = f n refl
 
-four : InRange 4 1048576 4 4
-four = record { at_least = omega arith; at_most = omega arith; multiple = refl }
-
-pub header_aligned : (hints : List (Option ℕ)) → FitHints hints → InRange 4 1048576 4 (hint_or hints 7 4)
-header_aligned hints f = or_default (hint_in 7 hints) 4 (InRange 4 1048576 4) (f 7) four
-
-pub var_aligned : (hints : List (Option ℕ)) → FitHints hints → InRange 4 1048576 4 (hint_or hints 8 4)
-var_aligned hints f = or_default (hint_in 8 hints) 4 (InRange 4 1048576 4) (f 8) four
-
-between : (n : ℕ) → InRange 4 1048576 4 n → (4 ≤ n) × (n ≤ 1048576)
-between n f = (f.at_least, f.at_most)
+aligned_hint : (h : ℕ) (hints : List (Option ℕ)) → ((n : ℕ) → hint_in h hints ≡ Some n → InRange 4 1048576 4 n) → (4 ≤ hint_or hints h 4) × (hint_or hints h 4 ≤ 1048576)
+aligned_hint h hints f = or_default (hint_in h hints) 4 (λ n. (4 ≤ n) × (n ≤ 1048576)) (λ n e. ((f n e).at_least, (f n e).at_most)) (omega arith, omega arith)
 
 pub read_header_align : (text : List ℕ) (s : Script) → Reads text s → (4 ≤ s.hints.header_align) × (s.hints.header_align ≤ 1048576)
 read_header_align text s =
-    read_script text s (λ t. (4 ≤ t.hints.header_align) × (t.hints.header_align ≤ 1048576)) (λ version ranks known calls parts. between _ (header_aligned known.hints parts.known.hints))
+    read_script text s (λ t. (4 ≤ t.hints.header_align) × (t.hints.header_align ≤ 1048576)) (λ version ranks known calls parts. aligned_hint 7 known.hints (parts.known.hints 7))
 
 pub read_var_align : (text : List ℕ) (s : Script) → Reads text s → (4 ≤ s.hints.var_align) × (s.hints.var_align ≤ 1048576)
 read_var_align text s =
-    read_script text s (λ t. (4 ≤ t.hints.var_align) × (t.hints.var_align ≤ 1048576)) (λ version ranks known calls parts. between _ (var_aligned known.hints parts.known.hints))
+    read_script text s (λ t. (4 ≤ t.hints.var_align) × (t.hints.var_align ≤ 1048576)) (λ version ranks known calls parts. aligned_hint 8 known.hints (parts.known.hints 8))
 
 pub read_records : (text : List ℕ) (s : Script) → Reads text s → s.header.records ≡ 0
 read_records text s = read_script text s (λ t. t.header.records ≡ 0) (λ version ranks known calls parts. refl)

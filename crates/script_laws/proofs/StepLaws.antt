@@ -35,6 +35,16 @@ unless_refused false e P f = f refl
 pub read_as : {A : Type 0} (f : List ℕ → Option A) (e : ScriptKind) (ws : List Word) (P : A → Type 0) → ((w : List ℕ) (x : A) → f w ≡ Some x → P x) → IfOk (reads_as f e ws) (λ r. P r.0)
 read_as f e ws P h = grind (arith, nat_tests, first_then, faultless_some)
 
+-- the same of a word
+pub word_then : {A B : Type 0} (f : List ℕ → Option A) (e : ScriptKind) (ws : List Word) (g : A × List Word → Result B ScriptKind) (P : B → Type 0) (Q : A → Type 0)
+    → ((w : List ℕ) (x : A) → f w ≡ Some x → Q x) → ((r : A × List Word) → Q r.0 → IfOk (g r) P) → IfOk (reads_as f e ws >>= g) P
+word_then f e ws g P Q h k = then_with (reads_as f e ws) g P (λ r. Q r.0) (read_as f e ws Q h) k
+
+-- what is not refused
+pub unless : {B : Type 0} (b : Bool) (e : ScriptKind) (f : Unit {0} → Result B ScriptKind) (P : B → Type 0) → (b ≡ false → IfOk (f tt) P) → IfOk (refuse_if b e >>= f) P
+unless true e f P h = tt
+unless false e f P h = h refl
+
 pub whole_line : {A : Type 0} (x : A) (ws : List Word) (P : A → Type 0) → P x → IfOk (whole (x, ws)) P
 whole_line x ws P h = first_then (ended ws) _ _ (λ _ _. h)
 

@@ -46,15 +46,7 @@ length_read version w n h = grind (arith, nat_tests, codes "unlimited", bytes_eq
 -- ---- fields that they fit
 
 pub small_fits : (version n : ℕ) → n ≤ 2 ^ 24 → fits_count version n ≡ true
-small_fits version n h = by_width (version == 5)
-  where
-    by_width : (t : Bool) → nat_lt (2 * n) (256 ^ byte_len (cond t w64 w32)) ≡ true
-    by_width true = grind (arith, nat_tests)
-    by_width false = grind (arith, nat_tests)
+small_fits version n h = grind (arith, nat_tests, version == 5)
 
 pub length_fits : (version n : ℕ) → n < record_limit version → (fits_count version n ≡ true) × (nat_le n file_limit ≡ true)
-length_fits version n h = by_width (version == 5) h
-  where
-    by_width : (t : Bool) → n < cond t (2 ^ 62) (2 ^ 31) → (nat_lt (2 * n) (256 ^ byte_len (cond t w64 w32)) ≡ true) × (nat_le n file_limit ≡ true)
-    by_width true e = (grind (arith, nat_tests), grind (arith, nat_tests))
-    by_width false e = (grind (arith, nat_tests), grind (arith, nat_tests))
+length_fits version n h = (grind (arith, nat_tests, version == 5), grind (arith, nat_tests, version == 5))
