@@ -1,5 +1,5 @@
 -- The account of the buffer is the bytes of the waiting bputs, and refuses as the rank does.
-use Rattle.request_queue.proofs.Words.{◌≡◌, ℕ, ◌+◌, ◌-◌, ◌^◌, ◌<◌, ◌≤◌, ◌∙◌, ap, sym, refl, inl, inr, ◌⊎◌, List, [], ◌∷◌, ◌++◌, map, Bool, true, false, cond, ltb, eqb, ◌||◌, Option, Some, None, min, length, get_or, take, arith, filter, option_map, is_some, sum, sum_by, count_by, ltb-false, lt-ltb, le-ltb, cases_lt, cases_Bool, cond-true, list_any, sum_by_push, sum_by-cons, sum_by_more_le, Post, Bput, Account, new_code, Posted, Status, NullRequest, Waiting, Gone, is_waiting, buffered, buffer_code, bytes_in, is_bput, detach_code, Request, Queued, rank_with, as_posted, held, is_buffered, freed, Accounts, Holds, HasUsed, claim_code, claimed, nat_tests}
+use Rattle.request_queue.proofs.Words.{◌≡◌, ℕ, ◌+◌, ◌-◌, ◌^◌, ◌<◌, ◌≤◌, ◌∙◌, ap, sym, refl, inl, inr, ◌⊎◌, List, [], ◌∷◌, ◌++◌, map, Bool, true, false, cond, ltb, eqb, ◌||◌, Option, Some, None, min, length, get_or, take, arith, filter, option_map, is_some, sum, sum_by, count_by, ltb-false, lt-ltb, le-ltb, cases_lt, cases_Bool, cond-true, list_any, sum_by_push, sum_by-cons, sum_by_more_le, any-filter_same, map_map, sum-map, Post, Bput, Account, new_code, Posted, Status, NullRequest, Waiting, Gone, is_waiting, buffered, buffer_code, bytes_in, is_bput, detach_code, Request, Queued, rank_with, as_posted, held, is_buffered, freed, Accounts, Holds, HasUsed, claim_code, claimed, nat_tests}
 use Rattle.nc_base.specs.declared.answer.Code.TheVariants as code
 use Rattle.request_queue.proofs.PostedLaws.{not_held}
 
@@ -7,28 +7,13 @@ use Rattle.request_queue.proofs.PostedLaws.{not_held}
 used-cons : (p : Posted) (posted : List Posted) → sum (map (λ (p : Posted). buffered p.status) (p ∷ posted)) ≡ buffered p.status + sum (map (λ (p : Posted). buffered p.status) posted)
 used-cons p posted = sum_by-cons (λ (x : ℕ). x) (buffered p.status) (map (λ (p : Posted). buffered p.status) posted)
 
-used-filter_more : (s : Status) (id : ℕ) (posted : List Posted)
-    → sum (map (λ (p : Posted). buffered p.status) posted) ≡ sum (map (λ (p : Posted). buffered p.status) (filter (λ (p : Posted). is_waiting p.status) posted))
-    → sum (map (λ (p : Posted). buffered p.status) (record { id = id; status = s } ∷ posted))
-    ≡ sum (map (λ (p : Posted). buffered p.status) (filter (λ (p : Posted). is_waiting p.status) (record { id = id; status = s } ∷ posted)))
-used-filter_more NullRequest id posted ih = omega (arith, used-cons (record { id = id; status = NullRequest }) posted, ih)
-used-filter_more Gone id posted ih = omega (arith, used-cons (record { id = id; status = Gone }) posted, ih)
-used-filter_more (Waiting kind posts) id posted ih =
-    omega (
-      arith,
-      used-cons (record { id = id; status = Waiting kind posts }) posted,
-      ih,
-      used-cons (record { id = id; status = Waiting kind posts }) (filter (λ (p : Posted). is_waiting p.status) posted),
-    )
-
 used-filter : (posted : List Posted)
     → sum (map (λ (p : Posted). buffered p.status) posted) ≡ sum (map (λ (p : Posted). buffered p.status) (filter (λ (p : Posted). is_waiting p.status) posted))
 used-filter [] = refl
-used-filter (p ∷ posted) = used-filter_more p.status p.id posted (used-filter posted)
+used-filter (p ∷ posted) = grind (arith, nat_tests, p.status, used-cons p posted, used-cons p (filter (λ (q : Posted). is_waiting q.status) posted), used-filter posted)
 
 used-as_posted : (w : List Request) → sum (map (λ (p : Posted). buffered p.status) (map as_posted w)) ≡ sum_by held w
-used-as_posted [] = refl
-used-as_posted (r ∷ w) = omega (arith, used-cons (as_posted r) (map as_posted w), used-as_posted w, sum_by-cons held r w)
+used-as_posted w = ap sum (map_map (λ (p : Posted). buffered p.status) as_posted w) ∙ sum-map held w
 
 pub used_is : (posted : List Posted) (w : List Request) → filter (λ (p : Posted). is_waiting p.status) posted ≡ map as_posted w
     → sum (map (λ (p : Posted). buffered p.status) posted) ≡ sum_by held w
@@ -52,54 +37,26 @@ accounts-claim room w id posts h a = grind (arith, nat_tests, claims_more, ltb, 
 
 -- ---- attaching and detaching
 
-unbuffered_first : (r : Request) (n : ℕ) → (is_buffered r ≡ true) ⊎ (is_buffered r ≡ false) → cond (is_buffered r) 1 0 + n ≡ 0 → is_buffered r ≡ false
-unbuffered_first r n (inl e) h = let one = cond-true {A = ℕ} (is_buffered r) 1 0 e in absurd (omega (arith, one, h))
-unbuffered_first r n (inr e) h = e
-
 pub none_held : (w : List Request) → count_by is_buffered w ≡ 0 → sum_by held w ≡ 0
 none_held [] h = refl
-none_held (r ∷ w) h =
-    let count = sum_by-cons (λ (x : Request). cond (is_buffered x) 1 0) r w in
-    let all = sym count ∙ h in
-    let first = unbuffered_first r (count_by is_buffered w) (cases_Bool (is_buffered r)) all in
-    let zero = not_held r.kind r.posts first in
-    let rest = none_held w (omega (arith, all)) in
-    omega (arith, sum_by-cons held r w, zero, rest)
-
-too_large : (size : ℕ) (b : Bool) → ltb (2 ^ 26) size ≡ b → cond b code.ETooLarge code.Ok ≡ code.Ok → size ≤ 2 ^ 26
-too_large size true e h = cc
-too_large size false e h = ltb-false (2 ^ 26) size e
-
-not_null : (size : ℕ) (b : Bool) → cond b code.ENullBuf (cond (ltb (2 ^ 26) size) code.ETooLarge code.Ok) ≡ code.Ok → size ≤ 2 ^ 26
-not_null size true h = cc
-not_null size false h = too_large size (ltb (2 ^ 26) size) refl h
+none_held (r ∷ w) h = grind (arith, nat_tests, is_buffered r, none_held w, not_held r.kind r.posts, sum_by-cons (λ (x : Request). cond (is_buffered x) 1 0) r w, sum_by-cons held r w)
 
 pub new_fits : (size : ℕ) → new_code size ≡ code.Ok → size ≤ 2 ^ 26
-new_fits size h = not_null size (eqb size 0) h
+new_fits size h = grind (arith, nat_tests, eqb size 0, ltb (2 ^ 26) size, ltb-false)
 
 pub accounts-new : (w : List Request) (size : ℕ) → Accounts None w → new_code size ≡ code.Ok → Accounts (Some (record { size = size; used = 0 })) w
 accounts-new w size a h = (sym (none_held w a), new_fits size h, omega arith)
 
-any_more : (s : Status) (id : ℕ) (posted : List Posted)
-    → list_any (λ (p : Posted). is_bput p.status) posted ≡ list_any (λ (p : Posted). is_bput p.status) (filter (λ (p : Posted). is_waiting p.status) posted)
-    → list_any (λ (p : Posted). is_bput p.status) (record { id = id; status = s } ∷ posted)
-    ≡ list_any (λ (p : Posted). is_bput p.status) (filter (λ (p : Posted). is_waiting p.status) (record { id = id; status = s } ∷ posted))
-any_more s id posted ih = grind (arith, nat_tests)
+bput_waits : (s : Status) → is_bput s ≡ true → is_waiting s ≡ true
+bput_waits s h = grind (arith, nat_tests)
 
 any-filter : (posted : List Posted) → list_any (λ (p : Posted). is_bput p.status) posted
     ≡ list_any (λ (p : Posted). is_bput p.status) (filter (λ (p : Posted). is_waiting p.status) posted)
-any-filter [] = refl
-any-filter (p ∷ posted) = any_more p.status p.id posted (any-filter posted)
-
-or_counts : (b c : Bool) (n : ℕ) → c ≡ ltb 0 n → (b || c) ≡ ltb 0 (cond b 1 0 + n)
-or_counts true c n h = sym (lt-ltb 0 (1 + n) (omega arith))
-or_counts false c n h = let e : n ≡ 0 + n = omega arith in h ∙ ap (ltb 0) e
+any-filter posted = sym (any-filter_same (λ (p : Posted). is_bput p.status) (λ (p : Posted). is_waiting p.status) true (λ p h. bput_waits p.status h) posted)
 
 any-count : (w : List Request) → list_any (λ (p : Posted). is_bput p.status) (map as_posted w) ≡ ltb 0 (count_by is_buffered w)
 any-count [] = refl
-any-count (r ∷ w) =
-    or_counts (is_buffered r) (list_any (λ (p : Posted). is_bput p.status) (map as_posted w)) (count_by is_buffered w) (any-count w)
-    ∙ ap (ltb 0) (sym (sum_by-cons (λ (x : Request). cond (is_buffered x) 1 0) r w))
+any-count (r ∷ w) = grind (arith, nat_tests, is_buffered r, any-count w, lt-ltb, sum_by-cons (λ (x : Request). cond (is_buffered x) 1 0) r w)
 
 any_bput : (posted : List Posted) (w : List Request) → filter (λ (p : Posted). is_waiting p.status) posted ≡ map as_posted w
     → list_any (λ (p : Posted). is_bput p.status) posted ≡ ltb 0 (count_by is_buffered w)

@@ -17,25 +17,10 @@ module _ (places new_places : BTreeMap ℕ ℕ) (by_place new_by_place : BTreeMa
       → ((q : ℕ) → get nat_cmp new_by_place q ≡ cond (is_at (nat_cmp place) q) None (get nat_cmp by_place q))
       → ((q : ℕ) → get nat_cmp new_places q ≡ cond (is_at (nat_cmp r.id) q) None (get nat_cmp places q))
       → IsIndex new_places new_by_place
-  index_removed index there gone unlisted = λ id p. (to id p (cases_eq r.id id), from id p (cases_eq place p))
-    where
-      to : (id p : ℕ) → (r.id ≡ id) ⊎ (r.id ≡ id → ⊥) → get nat_cmp new_places id ≡ Some p → id_at (get nat_cmp new_by_place p) ≡ Some id
-      to id p (inl same) h =
-          let none = unlisted id ∙ cond-true (is_at (nat_cmp r.id) id) None (get nat_cmp places id) (at_same r.id id same) in
-          cc
-      to id p (inr apart) h =
-          let before = (index id p).0 (sym (unlisted id ∙ cond-false (is_at (nat_cmp r.id) id) None (get nat_cmp places id) (at_apart r.id id apart)) ∙ h) in
-          let elsewhere : place ≡ p → ⊥ = λ e. let here = ap id_at (ap (get nat_cmp by_place) (sym e) ∙ there) in let same : r.id ≡ id = cc in apart same in
-          ap id_at (gone p ∙ cond-false (is_at (nat_cmp place) p) None (get nat_cmp by_place p) (at_apart place p elsewhere)) ∙ before
-
-      from : (id p : ℕ) → (place ≡ p) ⊎ (place ≡ p → ⊥) → id_at (get nat_cmp new_by_place p) ≡ Some id → get nat_cmp new_places id ≡ Some p
-      from id p (inl same) h =
-          let none = ap id_at (gone p ∙ cond-true (is_at (nat_cmp place) p) None (get nat_cmp by_place p) (at_same place p same)) in
-          cc
-      from id p (inr apart) h =
-          let before = (index id p).1 (sym (ap id_at (gone p ∙ cond-false (is_at (nat_cmp place) p) None (get nat_cmp by_place p) (at_apart place p apart))) ∙ h) in
-          let other : r.id ≡ id → ⊥ = λ e. let here = ap (get nat_cmp places) (sym e) ∙ (index r.id place).1 (ap id_at there) in let same : place ≡ p = cc in apart same in
-          unlisted id ∙ cond-false (is_at (nat_cmp r.id) id) None (get nat_cmp places id) (at_apart r.id id other) ∙ before
+  index_removed index there gone unlisted = λ id p. (
+    λ h. grind (arith, nat_tests, cases_eq r.id id, cases_eq place p, at_same, at_apart, unlisted id, gone p, (index id p).0, there),
+    λ h. grind (arith, nat_tests, cases_eq r.id id, cases_eq place p, at_same, at_apart, unlisted id, gone p, (index id p).1, (index r.id place).1 (ap id_at there)),
+  )
 
   -- ---- one request more
 
@@ -43,38 +28,16 @@ module _ (places new_places : BTreeMap ℕ ℕ) (by_place new_by_place : BTreeMa
       → ((q : ℕ) → get nat_cmp new_by_place q ≡ cond (is_at (nat_cmp place) q) (Some r) (get nat_cmp by_place q))
       → ((q : ℕ) → get nat_cmp new_places q ≡ cond (is_at (nat_cmp r.id) q) (Some place) (get nat_cmp places q))
       → IsIndex new_places new_by_place
-  index_added index free fresh added listed = λ id p. (to id p (cases_eq r.id id), from id p (cases_eq place p))
-    where
-      to : (id p : ℕ) → (r.id ≡ id) ⊎ (r.id ≡ id → ⊥) → get nat_cmp new_places id ≡ Some p → id_at (get nat_cmp new_by_place p) ≡ Some id
-      to id p (inl same) h =
-          let new = listed id ∙ cond-true (is_at (nat_cmp r.id) id) (Some place) (get nat_cmp places id) (at_same r.id id same) in
-          let here : place ≡ p = cc in
-          ap id_at (added p ∙ cond-true (is_at (nat_cmp place) p) (Some r) (get nat_cmp by_place p) (at_same place p here)) ∙ ap Some same
-      to id p (inr apart) h =
-          let before = (index id p).0 (sym (listed id ∙ cond-false (is_at (nat_cmp r.id) id) (Some place) (get nat_cmp places id) (at_apart r.id id apart)) ∙ h) in
-          let elsewhere : place ≡ p → ⊥ = λ e. let here = ap id_at (ap (get nat_cmp by_place) (sym e) ∙ free) in cc in
-          ap id_at (added p ∙ cond-false (is_at (nat_cmp place) p) (Some r) (get nat_cmp by_place p) (at_apart place p elsewhere)) ∙ before
-
-      from : (id p : ℕ) → (place ≡ p) ⊎ (place ≡ p → ⊥) → id_at (get nat_cmp new_by_place p) ≡ Some id → get nat_cmp new_places id ≡ Some p
-      from id p (inl same) h =
-          let new = ap id_at (added p ∙ cond-true (is_at (nat_cmp place) p) (Some r) (get nat_cmp by_place p) (at_same place p same)) in
-          let here : r.id ≡ id = cc in
-          listed id ∙ cond-true (is_at (nat_cmp r.id) id) (Some place) (get nat_cmp places id) (at_same r.id id here) ∙ ap Some same
-      from id p (inr apart) h =
-          let before = (index id p).1 (sym (ap id_at (added p ∙ cond-false (is_at (nat_cmp place) p) (Some r) (get nat_cmp by_place p) (at_apart place p apart))) ∙ h) in
-          let other : r.id ≡ id → ⊥ = λ e. let here = ap (get nat_cmp places) (sym e) ∙ fresh in cc in
-          listed id ∙ cond-false (is_at (nat_cmp r.id) id) (Some place) (get nat_cmp places id) (at_apart r.id id other) ∙ before
+  index_added index free fresh added listed = λ id p. (
+    λ h. grind (arith, nat_tests, cases_eq r.id id, cases_eq place p, at_same, at_apart, listed id, added p, (index id p).0, free),
+    λ h. grind (arith, nat_tests, cases_eq r.id id, cases_eq place p, at_same, at_apart, listed id, added p, (index id p).1, fresh),
+  )
 
 -- ---- which ids it has
 
-lookup_waits_more : (test : ℕ → Bool) (e : ℕ × Request) (es : List (ℕ × Request)) (id : ℕ)
-    → (id_at (lookup test es) ≡ Some id → has_waiting (values_of es) id ≡ true)
-    → (b : Bool) → test e.0 ≡ b → id_at (lookup test (e ∷ es)) ≡ Some id → has_waiting (values_of (e ∷ es)) id ≡ true
-lookup_waits_more test e es id ih b t h = grind (arith, nat_tests, cond-true, or_left, eqb, eq-eqb, or_right, cond-false)
-
 lookup_waits : (test : ℕ → Bool) (es : List (ℕ × Request)) (id : ℕ) → id_at (lookup test es) ≡ Some id → has_waiting (values_of es) id ≡ true
 lookup_waits test [] id h = cc
-lookup_waits test (e ∷ es) id h = lookup_waits_more test e es id (lookup_waits test es id) (test e.0) refl h
+lookup_waits test (e ∷ es) id h = grind (arith, nat_tests, lookup_waits test es id, test e.0, cond-true, or_left, eqb e.1.id id, eq-eqb, or_right, cond-false)
 
 abbrev Listed : BTreeMap ℕ ℕ → ℕ × Request → Type 0
 Listed places e = get nat_cmp places e.1.id ≡ Some e.0
@@ -84,6 +47,20 @@ waits_listed : (places : BTreeMap ℕ ℕ) (es : List (ℕ × Request)) (id : �
 waits_listed places [] id h w = cc
 waits_listed places (e ∷ es) id h w =
     grind (arith, nat_tests, waits_listed places es id h.1, or_cases (eqb e.1.id id) (has_waiting (values_of es) id) w, eqb e.1.id id, eqb-true)
+
+-- ---- the requests of entries
+
+cond_values : (b : Bool) (e : ℕ × Request) (es : List (ℕ × Request)) (w : List Request) → values_of es ≡ w → values_of (cond b (e ∷ es) es) ≡ cond b (e.1 ∷ w) w
+cond_values true e es w h = ap (λ (l : List Request). e.1 ∷ l) h
+cond_values false e es w h = h
+
+-- a test of the places and a test of the requests that agree keep the same
+filter_values : (f : Bool → Bool) (listed : ℕ → Bool) (test : Request → Bool) (es : List (ℕ × Request)) → AllByRecursion (λ (e : ℕ × Request). listed e.0 ≡ test e.1) es
+    → values_of (filter (λ (e : ℕ × Request). f (listed e.0)) es) ≡ filter (λ (r : Request). f (test r)) (values_of es)
+filter_values f listed test [] h = refl
+filter_values f listed test (e ∷ es) h = grind (arith, nat_tests, filter_values f listed test es h.1, cond_values)
+
+-- ---- an index of requests in order
 
 module _ (places : BTreeMap ℕ ℕ) (by_place : BTreeMap ℕ Request) (ordered : IsOrdered nat_cmp by_place) (index : IsIndex places by_place) where
   all_listed : AllByRecursion (Listed places) by_place.entries
@@ -127,21 +104,15 @@ module _ (places : BTreeMap ℕ ℕ) (by_place : BTreeMap ℕ Request) (ordered 
       by_case (inr apart) = not_place id place r there apart (get nat_cmp places id) refl ∙ sym (ne_eqb id r.id apart)
 
   -- an entry stands at the place of one of the ids exactly if its request has one of them
-  pub all_stand : (ids : List ℕ) (listed : ℕ → Bool) → ((place : ℕ) → listed place ≡ list_any (stands_at places place) ids)
+  all_stand : (ids : List ℕ) (listed : ℕ → Bool) → ((place : ℕ) → listed place ≡ list_any (stands_at places place) ids)
       → AllByRecursion (λ (e : ℕ × Request). listed e.0 ≡ has_id ids e.1.id) by_place.entries
   all_stand ids listed is =
       recursion_from_All (λ (e : ℕ × Request). listed e.0 ≡ has_id ids e.1.id) by_place.entries
       (All-weaker (λ (e : ℕ × Request). get nat_cmp by_place e.0 ≡ Some e.1) (λ (e : ℕ × Request). listed e.0 ≡ has_id ids e.1.id)
       (λ e h. is e.0 ∙ (λ i. list_any (λ (id : ℕ). stands_one id e.0 e.1 h i) ids)) by_place.entries (All-found nat_cmp_total by_place ordered))
 
--- ---- the requests of entries
-
-cond_values : (b : Bool) (e : ℕ × Request) (es : List (ℕ × Request)) (w : List Request) → values_of es ≡ w → values_of (cond b (e ∷ es) es) ≡ cond b (e.1 ∷ w) w
-cond_values true e es w h = ap (λ (l : List Request). e.1 ∷ l) h
-cond_values false e es w h = h
-
--- a test of the places and a test of the requests that agree keep the same
-pub filter_values : (f : Bool → Bool) (listed : ℕ → Bool) (test : Request → Bool) (es : List (ℕ × Request)) → AllByRecursion (λ (e : ℕ × Request). listed e.0 ≡ test e.1) es
-    → values_of (filter (λ (e : ℕ × Request). f (listed e.0)) es) ≡ filter (λ (r : Request). f (test r)) (values_of es)
-filter_values f listed test [] h = refl
-filter_values f listed test (e ∷ es) h = grind (arith, nat_tests, filter_values f listed test es h.1, cond_values)
+  -- what is kept of the entries at the places of some ids is kept of the requests of these ids
+  pub listed_values : (f : Bool → Bool) (ids : List ℕ) (listed : ℕ → Bool) (w : List Request) → ((place : ℕ) → listed place ≡ list_any (stands_at places place) ids) → values by_place ≡ w
+      → values_of (filter (λ (e : ℕ × Request). f (listed e.0)) by_place.entries) ≡ filter (λ (r : Request). f (has_id ids r.id)) w
+  listed_values f ids listed w is view =
+      filter_values f listed (λ (r : Request). has_id ids r.id) by_place.entries (all_stand ids listed is) ∙ ap (filter (λ (r : Request). f (has_id ids r.id))) view

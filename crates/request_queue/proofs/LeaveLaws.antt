@@ -1,5 +1,5 @@
 -- The listed requests leave: what waits is what is not listed, and the others keep their states.
-use Rattle.request_queue.proofs.Words.{◌≡◌, ℕ, ◌+◌, ◌∙◌, ap, sym, refl, inl, inr, ◌⊎◌, List, [], ◌∷◌, map, Bool, true, false, cond, eqb, not, Option, Some, None, length, arith, Post, filter, option_map, sum_by, cond_both, cond-false, cond-true, ne_eqb, cases_Bool, and_right, and_from, both_ways, sum_by-cons, Account, Posted, Status, NullRequest, Waiting, Gone, is_waiting, status_of, Posting, Request, status_in, posted_of, as_posted, is_null, held, is_buffered, Accounts, Holds, is_listed, removed, freed, nat_tests}
+use Rattle.request_queue.proofs.Words.{◌≡◌, ℕ, ◌+◌, ◌∙◌, ap, sym, refl, inl, inr, ◌⊎◌, List, [], ◌∷◌, map, Bool, true, false, cond, eqb, not, Option, Some, None, length, arith, Post, filter, option_map, sum_by, cond_both, cond-false, cond-true, ne_eqb, cases_Bool, and_right, and_from, both_ways, sum_by-cons, sum_by-filter_both, map_map, sum-map, sum, Account, Posted, Status, NullRequest, Waiting, Gone, is_waiting, status_of, Posting, Request, status_in, posted_of, as_posted, is_null, held, is_buffered, Accounts, Holds, is_listed, removed, freed, nat_tests}
 
 abbrev pub left : (ℕ → Bool) → List Request → List Request
 left listed w = filter (λ (r : Request). not (listed r.id)) w
@@ -12,21 +12,13 @@ marked listed p = cond (is_listed listed p) (record p { status = Gone }) p
 
 -- ---- states
 
-listed_gone_more : (listed : ℕ → Bool) (r : Request) (w : List Request) (id : ℕ) → listed id ≡ true → status_in (left listed w) id ≡ Gone
-    → (b : Bool) → listed r.id ≡ b → status_in (left listed (r ∷ w)) id ≡ Gone
-listed_gone_more listed r w id t ih b e = grind (arith, nat_tests, eqb, ne_eqb, both_ways, cond-false)
-
 listed_gone : (listed : ℕ → Bool) (w : List Request) (id : ℕ) → listed id ≡ true → status_in (left listed w) id ≡ Gone
 listed_gone listed [] id t = refl
-listed_gone listed (r ∷ w) id t = listed_gone_more listed r w id t (listed_gone listed w id t) (listed r.id) refl
-
-other_stays_more : (listed : ℕ → Bool) (r : Request) (w : List Request) (id : ℕ) → listed id ≡ false → status_in (left listed w) id ≡ status_in w id
-    → (b : Bool) → listed r.id ≡ b → status_in (left listed (r ∷ w)) id ≡ status_in (r ∷ w) id
-other_stays_more listed r w id f ih b e = grind (arith, nat_tests, eqb, ne_eqb, both_ways, cond-false)
+listed_gone listed (r ∷ w) id t = grind (arith, nat_tests, listed_gone listed w id t, listed r.id, eqb r.id id, ne_eqb, both_ways, cond-false)
 
 other_stays : (listed : ℕ → Bool) (w : List Request) (id : ℕ) → listed id ≡ false → status_in (left listed w) id ≡ status_in w id
 other_stays listed [] id f = refl
-other_stays listed (r ∷ w) id f = other_stays_more listed r w id f (other_stays listed w id f) (listed r.id) refl
+other_stays listed (r ∷ w) id f = grind (arith, nat_tests, other_stays listed w id f, listed r.id, eqb r.id id, ne_eqb, both_ways, cond-false)
 
 waits_or_gone : (w : List Request) (id : ℕ) → (is_waiting (status_in w id) ≡ true) ⊎ (status_in w id ≡ Gone)
 waits_or_gone [] id = inr refl
@@ -63,16 +55,10 @@ is_null-removed listed (p ∷ posted) id =
 
 -- ---- what waits
 
-waiting_more : (listed : ℕ → Bool) (id : ℕ) (s : Status) (posted : List Posted)
-    → filter (λ (p : Posted). is_waiting p.status) (removed listed posted) ≡ filter (λ (p : Posted). not (listed p.id)) (filter (λ (p : Posted). is_waiting p.status) posted)
-    → filter (λ (p : Posted). is_waiting p.status) (removed listed (record { id = id; status = s } ∷ posted))
-    ≡ filter (λ (p : Posted). not (listed p.id)) (filter (λ (p : Posted). is_waiting p.status) (record { id = id; status = s } ∷ posted))
-waiting_more listed id s posted ih = grind (arith, nat_tests, cases_Bool, not)
-
 waiting-removed : (listed : ℕ → Bool) (posted : List Posted)
     → filter (λ (p : Posted). is_waiting p.status) (removed listed posted) ≡ filter (λ (p : Posted). not (listed p.id)) (filter (λ (p : Posted). is_waiting p.status) posted)
 waiting-removed listed [] = refl
-waiting-removed listed (p ∷ posted) = waiting_more listed p.id p.status posted (waiting-removed listed posted)
+waiting-removed listed (p ∷ posted) = grind (arith, nat_tests, waiting-removed listed posted, p.status, listed p.id, not)
 
 both_lists : (b : Bool) (f : List Request → List Posted) (x y : List Request) (s t : List Posted) → s ≡ f x → t ≡ f y → cond b s t ≡ f (cond b x y)
 both_lists true f x y s t h k = h
@@ -88,16 +74,10 @@ waiting-left listed history w kept =
     ap (filter (λ (p : Posted). is_waiting p.status)) (posted-left listed history w) ∙ waiting-removed listed (posted_of history w)
     ∙ ap (filter (λ (p : Posted). not (listed p.id))) kept ∙ filter-as_posted (λ (n : ℕ). not (listed n)) w
 
-chosen_more : (listed : ℕ → Bool) (id : ℕ) (s : Status) (posted : List Posted)
-    → filter (is_listed listed) posted ≡ filter (λ (p : Posted). listed p.id) (filter (λ (p : Posted). is_waiting p.status) posted)
-    → filter (is_listed listed) (record { id = id; status = s } ∷ posted)
-    ≡ filter (λ (p : Posted). listed p.id) (filter (λ (p : Posted). is_waiting p.status) (record { id = id; status = s } ∷ posted))
-chosen_more listed id s posted ih = grind (arith, nat_tests)
-
 chosen-waiting : (listed : ℕ → Bool) (posted : List Posted)
     → filter (is_listed listed) posted ≡ filter (λ (p : Posted). listed p.id) (filter (λ (p : Posted). is_waiting p.status) posted)
 chosen-waiting listed [] = refl
-chosen-waiting listed (p ∷ posted) = chosen_more listed p.id p.status posted (chosen-waiting listed posted)
+chosen-waiting listed (p ∷ posted) = grind (arith, nat_tests, chosen-waiting listed posted, p.status, listed p.id)
 
 pub taken_is : (listed : ℕ → Bool) (history : List Posting) (w : List Request) → filter (λ (p : Posted). is_waiting p.status) (posted_of history w) ≡ map as_posted w
     → map as_posted (taken listed w) ≡ filter (is_listed listed) (posted_of history w)
@@ -105,14 +85,8 @@ taken_is listed history w kept = grind (arith, nat_tests, chosen-waiting listed 
 
 -- ---- the account
 
-sum_by-parts_more : (f : Request → ℕ) (listed : ℕ → Bool) (r : Request) (w : List Request) → sum_by f (taken listed w) + sum_by f (left listed w) ≡ sum_by f w
-    → (listed r.id ≡ true) ⊎ (listed r.id ≡ false) → sum_by f (taken listed (r ∷ w)) + sum_by f (left listed (r ∷ w)) ≡ sum_by f (r ∷ w)
-sum_by-parts_more f listed r w ih (inl e) = rw e (omega (arith, ih, sum_by-cons f r (taken listed w), sum_by-cons f r w))
-sum_by-parts_more f listed r w ih (inr e) = rw e (omega (arith, ih, sum_by-cons f r (left listed w), sum_by-cons f r w))
-
 pub sum_by-parts : (f : Request → ℕ) (listed : ℕ → Bool) (w : List Request) → sum_by f (taken listed w) + sum_by f (left listed w) ≡ sum_by f w
-sum_by-parts f listed [] = refl
-sum_by-parts f listed (r ∷ w) = sum_by-parts_more f listed r w (sum_by-parts f listed w) (cases_Bool (listed r.id))
+sum_by-parts f listed w = sum_by-filter_both (λ (r : Request). listed r.id) (λ (r : Request). not (listed r.id)) (λ r. refl) f w
 
 pub holds_taken : (room : Option Account) (listed : ℕ → Bool) (w : List Request) → Accounts room w → Holds room (taken listed w)
 holds_taken room listed w a = grind (arith, nat_tests, sum_by-parts)
@@ -127,21 +101,16 @@ size-freed (Some room) len = refl
 
 -- ---- the ids
 
-ids-as_posted : (w : List Request) → map (λ (p : Posted). p.id) (map as_posted w) ≡ map (λ (r : Request). r.id) w
-ids-as_posted [] = refl
-ids-as_posted (r ∷ w) = ap (λ (l : List ℕ). r.id ∷ l) (ids-as_posted w)
-
 pub waiting_ids_is : (posted : List Posted) (w : List Request) → filter (λ (p : Posted). is_waiting p.status) posted ≡ map as_posted w
     → map (λ (p : Posted). p.id) (filter (λ (p : Posted). is_waiting p.status) posted) ≡ map (λ (r : Request). r.id) w
-waiting_ids_is posted w kept = ap (map (λ (p : Posted). p.id)) kept ∙ ids-as_posted w
+waiting_ids_is posted w kept = ap (map (λ (p : Posted). p.id)) kept ∙ map_map (λ (p : Posted). p.id) as_posted w
 
 -- ---- the posts
 
 sum-as_posted : (f : Status → List Post) (w : List Request) → sum_by (λ (p : Posted). length (f p.status)) (map as_posted w) ≡ sum_by (λ (r : Request). length (f (Waiting r.kind r.posts))) w
-sum-as_posted f [] = refl
-sum-as_posted f (r ∷ w) =
-    let ih = sum-as_posted f w in
-    omega (arith, sum_by-cons (λ (p : Posted). length (f p.status)) (as_posted r) (map as_posted w), sum_by-cons (λ (r : Request). length (f (Waiting r.kind r.posts))) r w, ih)
+sum-as_posted f w =
+    sym (sum-map (λ (p : Posted). length (f p.status)) (map as_posted w))
+    ∙ ap sum (map_map (λ (p : Posted). length (f p.status)) as_posted w) ∙ sum-map (λ (r : Request). length (f (Waiting r.kind r.posts))) w
 
 -- the same requests have as many posts
 pub same_posts : (f : Status → List Post) (a b : List Request) → map as_posted a ≡ map as_posted b

@@ -1,5 +1,5 @@
 -- A request that is posted under a new id stands last, and the others keep their states.
-use Rattle.request_queue.proofs.Words.{◌≡◌, ◌≤◌, ℕ, ◌+◌, ap, sym, refl, List, [], ◌∷◌, ◌++◌, map, Bool, true, false, cond, eqb, ◌||◌, Option, Some, None, length, arith, find, filter, option_map, count_by, list_any, or_parts, or_from, cond_both, ne_eqb, eqb-false, cond-false, cond-true, eq-eqb, eqb-true, filter-append, sum_by_push, length-filter, count_by-le-length, map-append, length-map, Account, Post, PostKind, Posted, Status, NullRequest, Waiting, Gone, is_waiting, is_bput, buffered, status_of, Posting, Request, status_in, standing, has_waiting, posted_of, as_posted, is_null, held, is_buffered, Accounts, nat_tests}
+use Rattle.request_queue.proofs.Words.{◌≡◌, ◌≤◌, ℕ, ◌+◌, ap, sym, refl, List, [], ◌∷◌, ◌++◌, map, Bool, true, false, cond, eqb, ◌||◌, Option, Some, None, length, arith, find, filter, option_map, count_by, list_any, or_parts, or_from, cond_both, ne_eqb, eqb-false, cond-false, cond-true, eq-eqb, eqb-true, filter-append, sum_by_push, length-filter, count_by-le-length, map-append, length-map, any_map, ◌∙◌, Account, Post, PostKind, Posted, Status, NullRequest, Waiting, Gone, is_waiting, is_bput, buffered, status_of, Posting, Request, status_in, standing, has_waiting, posted_of, as_posted, is_null, held, is_buffered, Accounts, nat_tests}
 
 -- some posted entry has the id
 abbrev pub has_posted : List Posted → ℕ → Bool
@@ -12,14 +12,9 @@ cond_same false f s x y h = h
 other_way : (a b : ℕ) → eqb a b ≡ false → eqb b a ≡ false
 other_way a b h = ne_eqb b a (λ e. eqb-false a b h (sym e))
 
-not_posted_more : (p : Posted) (posted : List Posted) (id : ℕ) → (status_of posted id ≡ None → has_posted posted id ≡ false)
-    → (b : Bool) → eqb p.id id ≡ b → status_of (p ∷ posted) id ≡ None → has_posted (p ∷ posted) id ≡ false
-not_posted_more p posted id ih true e h = let some = rw e at h in cc
-not_posted_more p posted id ih false e h = or_from (eqb p.id id) (has_posted posted id) e (ih (rw e at h))
-
 pub not_posted : (posted : List Posted) (id : ℕ) → status_of posted id ≡ None → has_posted posted id ≡ false
 not_posted [] id h = refl
-not_posted (p ∷ posted) id h = not_posted_more p posted id (not_posted posted id) (eqb p.id id) refl h
+not_posted (p ∷ posted) id h = grind (arith, nat_tests, not_posted posted id, eqb p.id id, or_from)
 
 pub filter_lacks : (f : Posted → Bool) (posted : List Posted) (id : ℕ) → has_posted posted id ≡ false → has_posted (filter f posted) id ≡ false
 filter_lacks f [] id h = refl
@@ -27,9 +22,7 @@ filter_lacks f (p ∷ posted) id h =
     grind (arith, nat_tests, filter_lacks f posted id (or_parts (eqb p.id id) (has_posted posted id) h).1, or_parts, eqb, cond_both, or_from)
 
 pub waiting_lacks : (waiting : List Request) (id : ℕ) → has_posted (map as_posted waiting) id ≡ false → has_waiting waiting id ≡ false
-waiting_lacks [] id h = refl
-waiting_lacks (r ∷ waiting) id h =
-    grind (arith, nat_tests, waiting_lacks waiting id (or_parts (eqb r.id id) (has_posted (map as_posted waiting) id) h).1, or_parts, eqb, or_from)
+waiting_lacks waiting id h = sym (any_map (λ (p : Posted). eqb p.id id) as_posted waiting) ∙ h
 
 pub status_in-push : (waiting : List Request) (r : Request) (id : ℕ) → eqb r.id id ≡ false → status_in (waiting ++ r ∷ []) id ≡ status_in waiting id
 status_in-push [] r id h = cond-false (eqb r.id id) (Waiting r.kind r.posts) Gone h
@@ -98,10 +91,6 @@ accounts-push (Some room) w r h a = let none = not_held r.kind r.posts h in (ome
 
 -- ---- a null request
 
-null_first : (k id : ℕ) (b : Bool) → eqb k id ≡ b → is_null (option_map (λ (p : Posted). p.status) (cond b (Some (record { id = k; status = NullRequest })) None)) ≡ (b || false)
-null_first k id true e = refl
-null_first k id false e = refl
-
 null_more : (p : Posted) (posted : List Posted) (k id : ℕ) → eqb p.id k ≡ false
     → is_null (status_of (posted ++ record { id = k; status = NullRequest } ∷ []) id) ≡ (eqb k id || is_null (status_of posted id))
     → (b : Bool) → eqb p.id id ≡ b → is_null (status_of (p ∷ posted ++ record { id = k; status = NullRequest } ∷ []) id) ≡ (eqb k id || is_null (status_of (p ∷ posted) id))
@@ -109,7 +98,7 @@ null_more p posted k id differ ih b e = grind (arith, nat_tests, eqb, ne_eqb, eq
 
 pub null-push : (posted : List Posted) (k id : ℕ) → has_posted posted k ≡ false
     → is_null (status_of (posted ++ record { id = k; status = NullRequest } ∷ []) id) ≡ (eqb k id || is_null (status_of posted id))
-null-push [] k id h = null_first k id (eqb k id) refl
+null-push [] k id h = grind (arith, nat_tests, eqb k id)
 null-push (p ∷ posted) k id h = grind (arith, nat_tests, null-push posted k id (or_parts (eqb p.id k) (has_posted posted k) h).1, or_parts, eqb, null_more)
 
 pub waiting-null : (posted : List Posted) (k : ℕ) → filter (λ (p : Posted). is_waiting p.status) (posted ++ record { id = k; status = NullRequest } ∷ []) ≡ filter (λ (p : Posted). is_waiting p.status) posted
@@ -118,12 +107,6 @@ waiting-null (p ∷ posted) k = ap (λ (l : List Posted). cond (is_waiting p.sta
 
 -- ---- other ids stay new
 
-find_more : (p : Posted) (o : Option Posted) (b : Bool) → option_map (λ (q : Posted). q.status) (cond b (Some p) o) ≡ None → b ≡ false
-find_more p o true h = cc
-find_more p o false h = refl
-
 pub status_of-push : (posted : List Posted) (x : Posted) (k : ℕ) → eqb x.id k ≡ false → status_of posted k ≡ None → status_of (posted ++ x ∷ []) k ≡ None
 status_of-push [] x k e h = ap (option_map (λ (q : Posted). q.status)) (cond-false (eqb x.id k) (Some x) None e)
-status_of-push (p ∷ posted) x k e h =
-    let other = find_more p (find (λ (q : Posted). eqb q.id k) posted) (eqb p.id k) h in
-    rw other (status_of-push posted x k e (rw other at h))
+status_of-push (p ∷ posted) x k e h = grind (arith, nat_tests, status_of-push posted x k e, eqb p.id k)

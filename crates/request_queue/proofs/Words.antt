@@ -7,10 +7,11 @@ pub use Rattle.std.proofs.lemmas.Grind.{common_steps}
 pub use Rattle.std.proofs.lemmas.List.{length-map, map-append, map_push, take_all}
 pub use Rattle.std.proofs.lemmas.List.Elements.{All-filter, All-push, All-weaker, filter-append, recursion_from_All}
 pub use Rattle.std.proofs.lemmas.List.Folds.{flat_map-map, list_any_more}
-pub use Rattle.std.proofs.lemmas.List.Sums.{count_by-le-length, length-filter, sum_by-cons, sum_by_more_le, sum_by_push}
+pub use Rattle.std.proofs.lemmas.List.Filters.{sum_by-filter_both}
+pub use Rattle.std.proofs.lemmas.List.Sums.{count_by-le-length, length-filter, sum_by-cons, sum_by_more_le, sum_by_push, sum-map}
 pub use Rattle.std.proofs.lemmas.Map.Iter.{rest_all, rest_more}
 pub use Rattle.std.proofs.lemmas.Map.Keys.{sorted_head, sorted_tail}
-pub use Rattle.std.proofs.lemmas.Map.Views.{All-found}
+pub use Rattle.std.proofs.lemmas.Map.Views.{All-found, any-filter_same}
 pub use Rattle.std.proofs.lemmas.Result.{IfOk-weaker}
 pub use Rattle.std.specs.BTreeMap.{BTreeMap, IsOrdered, IsUnchanged, get, insert_entry, is_at, values}
 pub use Rattle.std.specs.BTreeSet.{contains}
@@ -27,6 +28,7 @@ pub use Rattle.std.specs.Vec.Iter.{into_iter_items}
 pub use Rattle.std.specs.declared.cmp.Ordering.{Ordering}
 pub use Rattle.std.specs.declared.cmp.Ordering.TheVariants.{Equal, Greater, Less}
 pub use Rattle.request_queue.specs.Buffer.{Account, new_code}
+pub use Rattle.list_laws.proofs.Maps.{any_map, map_map}
 pub use Rattle.list_laws.proofs.Optional.{not_some}
 pub use Rattle.nc_base.specs.declared.answer.Code.{Code}
 pub use Rattle.nc_base.specs.declared.answer.Item.{Item}

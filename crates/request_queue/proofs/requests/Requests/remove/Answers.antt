@@ -1,5 +1,5 @@
 use Rattle.request_queue.proofs.Words.{◌<◌, ◌++◌, ◌∙◌, ℕ, ap, sym, subst, List, not, filter, All, nat_cmp, values_of, contains, All-filter, has_id, Request}
-use Rattle.request_queue.proofs.IndexLaws.{all_stand, filter_values}
+use Rattle.request_queue.proofs.IndexLaws.{listed_values}
 use Rattle.request_queue.proofs.requests.Requests.remove.Goals as goal
 
 pub invariant_of-self : goal.invariant_of-self
@@ -17,17 +17,12 @@ pub returns-clause-taken : goal.returns-clause-taken
 returns-clause-taken c =
     let a = c.self.inside in
     let listed = contains nat_cmp c.in_ok-listed.listed in
-    let test = λ (r : Request). has_id c.args.ids.now r.id in
-    let stand = all_stand a.places a.by_place c.self.invariant.ordered c.self.invariant.index c.args.ids.now listed c.in_ok-listed.ensures in
     c.take_all.ensures.taken
     ∙ ap (λ (w : List Request). w ++ values_of (filter (λ (e : ℕ × Request). listed e.0) a.by_place.entries)) c.in_ok-taken.ensures.items
-    ∙ filter_values (λ b. b) listed test a.by_place.entries stand ∙ ap (filter test) c.self.view_is
+    ∙ listed_values a.places a.by_place c.self.invariant.ordered c.self.invariant.index (λ b. b) c.args.ids.now listed _ c.in_ok-listed.ensures c.self.view_is
 
 pub returns-clause-left : goal.returns-clause-left
 returns-clause-left c =
     let a = c.self.inside in
-    let listed = contains nat_cmp c.in_ok-listed.listed in
-    let test = λ (r : Request). has_id c.args.ids.now r.id in
-    let stand = all_stand a.places a.by_place c.self.invariant.ordered c.self.invariant.index c.args.ids.now listed c.in_ok-listed.ensures in
     ap values_of c.take_all.ensures.left
-    ∙ filter_values not listed test a.by_place.entries stand ∙ ap (filter (λ (r : Request). not (test r))) c.self.view_is
+    ∙ listed_values a.places a.by_place c.self.invariant.ordered c.self.invariant.index not c.args.ids.now (contains nat_cmp c.in_ok-listed.listed) _ c.in_ok-listed.ensures c.self.view_is
