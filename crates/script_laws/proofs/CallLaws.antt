@@ -1,5 +1,5 @@
 -- The calls of a script, each as it is read.
-use Rattle.script_laws.proofs.Words.{◌≡◌, ℕ, zero, suc, ◌+◌, ◌^◌, ◌<◌, ◌≤◌, List, [], ◌∷◌, ◌++◌, length, Bool, true, false, not, Option, Some, None, Result, Ok, Err, IfOk, IfSome, refl, sym, subst, arith, nat_lt, nat_le, ◌==◌, map, codes, option_and_then, length-append, lt-ltb, le-leb, ltb-false, AllByRecursion, list_all, IfOk-weaker, and_from, each_push, if_some_at, Values, Numbers, Form, Part, PostKind, Iput, Iget, Bput, Call, count_of, most_values, most_parts, is_size, are_sizes, is_part, has_lists_of, is_given, is_post_of, is_lawful_call, values_in_call, is_empty, Word, size_of_text, between_brackets, parts, all_some, list_of_text, ◌>>=◌, refuse_if, or_fault, size, list, name, ended, values, after_prefix, form_and_all, form_of_text, given_of, given_parts, part, part_list, many_regions, region, choice, id_of_post, posted, put_call, get_call, post_values, is_posted, new_id, post_call, behind, plain_call, post_of_text, call_of, Family, Requests, Size, Name, Record, Nothing, row_of_text, size_read, faultless_some, is_sized, found_row, made_no_values, made_no_post, nat_tests}
+use Rattle.script_laws.proofs.Words.{◌≡◌, ℕ, zero, suc, ◌+◌, ◌^◌, ◌<◌, ◌≤◌, List, [], ◌∷◌, ◌++◌, length, Bool, true, false, not, Option, Some, None, Result, Ok, Err, IfOk, IfSome, refl, sym, subst, arith, nat_lt, nat_le, ◌==◌, map, codes, option_and_then, length-append, lt-ltb, le-leb, ltb-false, AllByRecursion, each_passes, list_all, IfOk-weaker, and_from, each_push, if_some_at, Values, Numbers, Form, Part, PostKind, Iput, Iget, Bput, Call, count_of, most_values, most_parts, is_size, are_sizes, is_part, has_lists_of, is_given, is_post_of, is_lawful_call, values_in_call, is_empty, Word, size_of_text, between_brackets, parts, all_some, list_of_text, ◌>>=◌, refuse_if, or_fault, size, list, name, ended, values, after_prefix, form_and_all, form_of_text, given_of, given_parts, part, part_list, many_regions, region, choice, id_of_post, posted, put_call, get_call, post_values, is_posted, new_id, post_call, behind, plain_call, post_of_text, call_of, Family, Requests, Size, Name, Record, Nothing, row_of_text, size_read, faultless_some, is_sized, found_row, made_no_values, made_no_post, nat_tests}
 use Rattle.nc_base.specs.declared.errors.ScriptKind.{ScriptKind}
 use Rattle.nc_base.specs.declared.errors.ScriptKind.TheVariants as kind
 use Rattle.nc_base.specs.declared.errors.LimitName.TheVariants as limit
@@ -50,11 +50,7 @@ some_parts [] n e h = subst (λ (m : ℕ). (m == 0) ≡ false → false ≡ true
 some_parts (p ∷ ps) n e h = refl
 
 parts_fit : (ps : List Part) (n : ℕ) → AreParts n ps → (n == 0) ≡ false → n ≤ most_parts → is_given (given_parts ps) ≡ true
-parts_fit ps n all some few =
-    let lists : not (is_empty ps) ≡ true = some_parts ps n all.long some in
-    let each : list_all is_part ps ≡ true = all_pass is_part (λ p. is_part p ≡ true) (λ p h. h) ps all.good in
-    let most : nat_le (length ps) most_parts ≡ true = le-leb (length ps) most_parts (let long = all.long in omega arith) in
-    and_from _ _ (and_from _ _ (and_from _ _ (and_from _ _ (and_from _ _ (and_from _ _ lists refl) refl) refl) refl) each) most
+parts_fit ps n all some few = grind (arith, nat_tests, some_parts ps n all.long some, each_passes is_part ps all.good, le-leb (length ps) most_parts, and_from)
 
 many_read : (ws : List Word) → IfOk (many_regions ws) (λ r. is_given r.0 ≡ true)
 many_read ws =

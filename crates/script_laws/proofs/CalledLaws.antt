@@ -24,11 +24,7 @@ sum_grown f (own ∷ calls) (suc r) n c h = omega (arith, sum_cons f own (slice_
 different_more : (ids : List ℕ) (id : ℕ) → are_different ids ≡ true → list_any (λ other. id == other) ids ≡ false → are_different (ids ++ id ∷ []) ≡ true
 different_more [] id h new = refl
 different_more (n ∷ ns) id h new =
-    let others : list_any (λ m. m == n) ns ≡ false = not-true (list_any (λ m. m == n) ns) (and_first (not (list_any (λ m. m == n) ns)) (are_different ns) h) in
-    let last : list_any (λ m. m == n) (id ∷ []) ≡ false = or_from (id == n) false (or_first_false (id == n) (list_any (λ other. id == other) ns) new) refl in
-    let none : list_any (λ m. m == n) (ns ++ id ∷ []) ≡ false = list_any-append (λ m. m == n) ns (id ∷ []) ∙ or_from _ _ others last in
-    and_from _ _ (not_from_false _ none)
-    (different_more ns id (and_second (not (list_any (λ m. m == n) ns)) (are_different ns) h) (or_second_false (id == n) (list_any (λ other. id == other) ns) new))
+    grind (arith, nat_tests, list_any-append (λ m. m == n) ns (id ∷ []), different_more ns id, and_first, and_second, or_first_false, or_second_false)
 
 posted_more : (own : List Call) (c : Call) (ids : List ℕ) → posted (c ∷ []) ≡ ids → posted (own ++ c ∷ []) ≡ posted own ++ ids
 posted_more own c ids h = filter_map-append id_of_post own (c ∷ []) ∙ ap (λ (more : List ℕ). posted own ++ more) h

@@ -26,15 +26,8 @@ later_defined version lines more h d f = grind (arith, nat_tests, later version 
 
 dim_fits : (version lines : ℕ) (d : Defined) (x : Dim) → FitsDefined version lines d → NewDim version d.dims x → FitsDefined version lines (with_dim x d)
 dim_fits version lines d x f new =
-    record {
-      few_dims = let room = new.room in omega (arith, length-append d.dims (x ∷ []));
-      dims = each_push (FitsDim version) d.dims x f.dims new.fits;
-      one_record = one_more d.dims x f.one_record new.once;
-      few_vars = f.few_vars;
-      few_attrs = f.few_attrs;
-      attrs = f.attrs;
-      vars = each_weaker (FitsVar version lines d.dims) (FitsVar version lines (d.dims ++ x ∷ [])) (wider version lines d.dims x) d.vars f.vars;
-    }
+    let vars = each_weaker (FitsVar version lines d.dims) (FitsVar version lines (d.dims ++ x ∷ [])) (wider version lines d.dims x) d.vars f.vars in
+    grind (arith, nat_tests, length-append d.dims (x ∷ []), each_push (FitsDim version) d.dims x f.dims new.fits, one_more d.dims x f.one_record new.once, vars)
 
 var_fits : (version lines : ℕ) (d : Defined) (x : Var) → FitsDefined version lines d → NewVar version lines d.dims d.vars x → FitsDefined version lines (with_var x d)
 var_fits version lines d x f new = grind (arith, nat_tests, length-append d.vars (x ∷ []), each_push (FitsVar version lines d.dims) d.vars x f.vars new.fits)

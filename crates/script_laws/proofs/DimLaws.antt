@@ -87,17 +87,10 @@ still_inner dims d id h e = ap (λ (o : Option Dim). elim o as (λ _. Bool) [ No
 
 pub wider : (version lines : ℕ) (dims : List Dim) (d : Dim) (v : Var) → FitsVar version lines dims v → FitsVar version lines (dims ++ d ∷ []) v
 wider version lines dims d v f =
-    record {
-      named = f.named;
-      typed = f.typed;
-      few_dims = f.few_dims;
-      few_attrs = f.few_attrs;
-      attrs = f.attrs;
-      begins = f.begins;
-      ids = each_weaker (λ id. id < length dims) (λ id. id < length (dims ++ d ∷ [])) (λ id h. omega (arith, length-append dims (d ∷ []))) v.dims f.ids;
-      inner = each_weaker (λ id. (id < length dims) × (is_record_dim dims id ≡ false)) (λ id. is_record_dim (dims ++ d ∷ []) id ≡ false) (λ id h. still_inner dims d id h.0 h.1) (drop 1 v.dims)
-          (all_both (λ id. id < length dims) (λ id. is_record_dim dims id ≡ false) (drop 1 v.dims) (each_later (λ id. id < length dims) v.dims f.ids) f.inner);
-    }
+    let ids = each_weaker (λ id. id < length dims) (λ id. id < length (dims ++ d ∷ [])) (λ id h. omega (arith, length-append dims (d ∷ []))) v.dims f.ids in
+    let inner = each_weaker (λ id. (id < length dims) × (is_record_dim dims id ≡ false)) (λ id. is_record_dim (dims ++ d ∷ []) id ≡ false) (λ id h. still_inner dims d id h.0 h.1) (drop 1 v.dims)
+    (all_both (λ id. id < length dims) (λ id. is_record_dim dims id ≡ false) (drop 1 v.dims) (each_later (λ id. id < length dims) v.dims f.ids) f.inner) in
+    grind (arith, nat_tests, f, ids, inner)
 
 pub later : (version lines more : ℕ) (dims : List Dim) → lines ≤ more → (v : Var) → FitsVar version lines dims v → FitsVar version more dims v
 later version lines more dims h v f = grind (arith, nat_tests, named)

@@ -11,9 +11,8 @@ use Rattle.script_laws.proofs.ReadLaws.{read_script}
 
 small_counts : (version lines : ℕ) (d : Defined) → FitsDefined version lines d → counts_are_small (header_of version d) ≡ true
 small_counts version lines d f =
-    let vars : list_all (λ (v : Var). nat_le (length v.dims) most_dims_of_var) d.vars ≡ true =
-    all_pass (λ (v : Var). nat_le (length v.dims) most_dims_of_var) (FitsVar version lines d.dims) (λ v g. le-leb (length v.dims) most_dims_of_var g.few_dims) d.vars f.vars in
-    and_from _ _ (and_from _ _ (le-leb (length d.dims) most_dims f.few_dims) (le-leb (length d.vars) most_vars f.few_vars)) vars
+    and_from _ _ (and_from _ _ (le-leb (length d.dims) most_dims f.few_dims) (le-leb (length d.vars) most_vars f.few_vars))
+    (all_pass (λ (v : Var). nat_le (length v.dims) most_dims_of_var) (FitsVar version lines d.dims) (λ v g. le-leb (length v.dims) most_dims_of_var g.few_dims) d.vars f.vars)
 
 same_record : (o : Option Dim) → elim o as (λ _. Bool) [ None ↦ false | Some d ↦ is_unlimited d ] ≡ false → (length_of o == 0) ≡ false
 same_record None e = refl
