@@ -1,5 +1,5 @@
 -- Extents in the order of their places, joined where they touch.
-use Rattle.overlap_report.proofs.Words.{◌≡◌, ℕ, zero, suc, ◌+◌, ◌-◌, ◌<◌, ◌≤◌, ◌⊎◌, refl, sym, ◌∙◌, ap, subst, inl, inr, List, [], ◌∷◌, ◌++◌, length, drop, get_or, Bool, true, false, cond, max, arith, nat_lt, ◌==◌, flat_map-append, append-nil, drop_of_length-le, range_with_len, Extent, Owned, In, HaveSame, ranges, extents, IsByPlace, EndBelow, IsCover, spans, in_either, in_left, in_right, in_range, range_low, range_high, run}
+use Rattle.overlap_report.proofs.Words.{◌≡◌, ℕ, zero, suc, ◌+◌, ◌-◌, ◌<◌, ◌≤◌, ◌⊎◌, refl, sym, ◌∙◌, ap, subst, inl, inr, List, [], ◌∷◌, ◌++◌, length, drop, get_or, Bool, true, false, cond, max, arith, nat_lt, ◌==◌, flat_map-append, append-nil, flat_in, lt-ltb, nat_tests, drop_of_length-le, range_with_len, Extent, Owned, In, HaveSame, ranges, extents, IsByPlace, EndBelow, IsCover, spans, in_either, in_left, in_right, in_range, range_low, range_high, run}
 use borrow.Author.Tests.{ltb-true, ltb-false, eqb-true}
 
 -- the runs of the extents, where one from a place to an end has begun
@@ -10,14 +10,7 @@ joined_from at end (e ∷ es) =
     (cond (nat_lt end e.at) (run at end ++ joined_from e.at (max end (e.at + e.len)) es) (joined_from at (max end (e.at + e.len)) es))
 
 in_run : (at end : ℕ) (d : Extent) → In (run at end) d → (d.at ≡ at) × (d.at + d.len ≡ end) × (1 ≤ d.len)
-in_run at end d = by_test (nat_lt at end) refl
-  where
-    by_test : (t : Bool) → nat_lt at end ≡ t → In (cond t (record { at = at; len = end - at } ∷ []) []) d → (d.at ≡ at) × (d.at + d.len ≡ end) × (1 ≤ d.len)
-    by_test false f m = absurd m
-    by_test true f (inl m) =
-        let room : at < end = ltb-true _ _ f in
-        subst (λ (z : Extent). (z.at ≡ at) × (z.at + z.len ≡ end) × (1 ≤ z.len)) m (refl, omega arith, omega arith)
-    by_test true f (inr m) = absurd m
+in_run at end d m = grind (arith, nat_tests, nat_lt at end)
 
 begins_by : (at end : ℕ) (es : List Extent) → IsByPlace es → ((d : Extent) → In es d → at ≤ d.at) → (d : Extent) → In (joined_from at end es) d → at ≤ d.at
 begins_by at end [] sorted low d m = let r = (in_run at end d m).0 in omega arith
@@ -67,23 +60,15 @@ joined_cover at end (e ∷ es) sorted low =
 -- ---- the bytes
 
 run_bytes : (at end x : ℕ) → In (spans (run at end)) x → (at ≤ x) × (x < end)
-run_bytes at end x = by_test (nat_lt at end) refl
-  where
-    by_test : (t : Bool) → nat_lt at end ≡ t → In (spans (cond t (record { at = at; len = end - at } ∷ []) [])) x → (at ≤ x) × (x < end)
-    by_test false f m = absurd m
-    by_test true f m =
-        let room : at < end = ltb-true _ _ f in
-        elim (in_either (range_with_len at (end - at)) [] x m) [
-          | inl g ↦ (let l = range_low at (end - at) x g in let h = range_high at (end - at) x g in (l, omega arith))
-          | inr g ↦ absurd g
-        ]
+run_bytes at end x m =
+    let r = flat_in (λ (e : Extent). range_with_len e.at e.len) (run at end) x m in
+    let k = in_run at end r.0 r.1 in
+    (omega (arith, k, range_low r.0.at r.0.len x r.2), omega (arith, k, range_high r.0.at r.0.len x r.2))
 
 bytes_run : (at end x : ℕ) → at ≤ x → x < end → In (spans (run at end)) x
-bytes_run at end x l h = by_test (nat_lt at end) refl
-  where
-    by_test : (t : Bool) → nat_lt at end ≡ t → In (spans (cond t (record { at = at; len = end - at } ∷ []) [])) x
-    by_test false f = let no = ltb-false _ _ f in absurd (omega arith)
-    by_test true f = in_left (range_with_len at (end - at)) [] x (in_range at (end - at) x l (omega arith))
+bytes_run at end x l h =
+    subst (λ (t : Bool). In (spans (cond t (record { at = at; len = end - at } ∷ []) [])) x) (sym (lt-ltb at end (omega arith)))
+    (in_left (range_with_len at (end - at)) [] x (in_range at (end - at) x l (omega arith)))
 
 spans_joined : (ds es : List Extent) → spans (ds ++ es) ≡ spans ds ++ spans es
 spans_joined ds es = flat_map-append (λ e. range_with_len e.at e.len) ds es

@@ -89,13 +89,4 @@ once_by list same x a b m n e f =
     o.is ∙ ap (λ (z : Owned). origin_at z x) one ∙ sym q.is
 
 pub two_once : (a b : Owned) → ((a.rank ≡ b.rank) → (a.slot ≡ b.slot) → ⊥) → IsOnceEach (origins (a ∷ b ∷ []))
-two_once a b apart = once_by (a ∷ b ∷ []) one
-  where
-    one : (o q : Owned) → In (a ∷ b ∷ []) o → In (a ∷ b ∷ []) q → o.rank ≡ q.rank → o.slot ≡ q.slot → o ≡ q
-    one o q (inl m) (inl n) e f = sym m ∙ n
-    one o q (inl m) (inr (inl n)) e f = absurd (apart (ap (λ (z : Owned). z.rank) m ∙ e ∙ sym (ap (λ (z : Owned). z.rank) n)) (ap (λ (z : Owned). z.slot) m ∙ f ∙ sym (ap (λ (z : Owned). z.slot) n)))
-    one o q (inr (inl m)) (inl n) e f = absurd (apart (ap (λ (z : Owned). z.rank) n ∙ sym e ∙ sym (ap (λ (z : Owned). z.rank) m)) (ap (λ (z : Owned). z.slot) n ∙ sym f ∙ sym (ap (λ (z : Owned). z.slot) m)))
-    one o q (inr (inl m)) (inr (inl n)) e f = sym m ∙ n
-    one o q (inl m) (inr (inr n)) e f = absurd n
-    one o q (inr (inl m)) (inr (inr n)) e f = absurd n
-    one o q (inr (inr m)) n e f = absurd m
+two_once a b apart = once_by (a ∷ b ∷ []) (λ o q m n e f. grind (arith, m, n, apart))

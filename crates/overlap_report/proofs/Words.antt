@@ -34,7 +34,7 @@ pub use Rattle.overlap_report.specs.declared.serial.Claim.{Claim}
 pub use Rattle.overlap_report.specs.declared.shared.Reach.{Reach}
 pub use Rattle.overlay_laws.proofs.EntryLaws.{in_extents, same_permuted, says_cases, says_left, says_right}
 pub use Rattle.overlay_laws.proofs.HolderLaws.{holder_of, holds_by, keys_same, same_keys}
-pub use Rattle.overlay_laws.proofs.HullLaws.{in_either, in_left, in_range, in_right, range_high, range_low}
+pub use Rattle.overlay_laws.proofs.HullLaws.{flat_in, in_either, in_left, in_range, in_right, range_high, range_low}
 pub use Rattle.overlay_laws.proofs.Members.{entry_in, in_map, in_taken, map_in}
 pub use Rattle.overlay_laws.proofs.OriginLaws.{greatest_once}
 pub use Rattle.overlay_laws.specs.Entries.{HaveSame, In, ranges}
