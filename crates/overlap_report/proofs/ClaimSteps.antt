@@ -1,6 +1,5 @@
 -- The claims of a heap, as entries.
-use Rattle.overlap_report.proofs.Words.{◌≡◌, ℕ, zero, suc, ◌+◌, ◌-◌, ◌<◌, ◌≤◌, refl, sym, ◌∙◌, ap, subst, inl, inr, List, [], ◌∷◌, ◌++◌, take, drop, get_or, length, Bool, true, false, Option, Some, None, slice_get, nat_cmp, is_lt, Bor, ◌^◌, arith, nat_lt, IsHeap, IsUpperBound, PopsGreatest, IsItemAt, option_copied, IfSome, IfNone, MatchOption, IsPermutation, ordering_then, Ordering, Less, Equal, nat_tests, Owned, In, same_permuted, in_map, map_in, ◌⊎◌, in_extents, Claim, IsPartOfOne, owned_of, entries_of, part_of, claim_cmp, AreFit, StandsBy, Swept, IsTop, take_all, lt-ltb, Extent, extents, IsInLine, IsByPlace, EndBelow, origins, IsOnceEach, IsResolved, same_Some}
-use borrow.Author.Tests.{ltb-true, ltb-false}
+use Rattle.overlap_report.proofs.Words.{◌≡◌, ℕ, zero, suc, ◌+◌, ◌-◌, ◌<◌, ◌≤◌, refl, sym, ◌∙◌, ap, subst, inl, inr, List, [], ◌∷◌, ◌++◌, take, drop, get_or, length, true, false, Option, Some, None, slice_get, nat_cmp, is_lt, Bor, ◌^◌, arith, nat_lt, IsHeap, IsUpperBound, PopsGreatest, IsItemAt, option_copied, IfSome, IfNone, MatchOption, IsPermutation, ordering_then, Ordering, nat_tests, Owned, In, same_permuted, in_map, map_in, ◌⊎◌, in_extents, Claim, IsPartOfOne, owned_of, entries_of, part_of, claim_cmp, AreFit, StandsBy, Swept, IsTop, take_all, lt-ltb, Extent, extents, IsInLine, IsByPlace, EndBelow, origins, IsOnceEach, IsResolved, same_Some}
 use Rattle.overlap_report.proofs.SweepSteps.{swept_empty, swept_without, swept_part, swept_more}
 use Rattle.overlap_report.proofs.OriginSteps.{resolved_by}
 use Rattle.overlap_report.proofs.KeySteps.{IsNext}

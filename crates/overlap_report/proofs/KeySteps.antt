@@ -1,5 +1,5 @@
 -- Requests that are the same or not, and entries among the first of a list.
-use Rattle.overlap_report.proofs.Words.{◌≡◌, ℕ, zero, suc, ◌+◌, ◌<◌, ◌≤◌, ◌⊎◌, refl, sym, ◌∙◌, ap, subst, inl, inr, List, [], ◌∷◌, ◌++◌, length, take, get_or, Bool, true, false, arith, nat_tests, take_more, take_all, map-append, get_or_default, entry_in, key_itself, Extent, Owned, Key, same_key, key_below, In, extents, IsByPlace, EndBelow, in_either, in_left, in_right, map_in, same_keys, keys_same, in_extents, no_both}
+use Rattle.overlap_report.proofs.Words.{◌≡◌, ℕ, zero, suc, ◌+◌, ◌<◌, ◌≤◌, ◌⊎◌, refl, sym, ◌∙◌, ap, subst, inl, inr, List, [], ◌∷◌, ◌++◌, length, take, get_or, true, false, arith, nat_tests, take_more, take_all, entry_in, key_itself, Extent, Owned, Key, same_key, key_below, In, extents, IsByPlace, EndBelow, in_either, in_left, in_right, map_in, in_extents}
 
 -- ---- keys
 

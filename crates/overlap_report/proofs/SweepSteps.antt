@@ -1,6 +1,5 @@
 -- One step of the sweep.
-use Rattle.overlap_report.proofs.Words.{◌≡◌, ℕ, ◌+◌, ◌-◌, ◌<◌, ◌≤◌, refl, sym, ap, subst, inl, inr, List, [], ◌∷◌, ◌++◌, Bool, true, false, arith, nat_lt, Extent, Owned, In, extents, IsInLine, in_either, in_left, in_right, cases_lt, map_push, IsPartOf, IsPartOfOne, Covers, part_of, StandsBy, Winner, Swept}
-use borrow.Author.Tests.{ltb-true, ltb-false}
+use Rattle.overlap_report.proofs.Words.{ℕ, ◌+◌, ◌<◌, ◌≤◌, refl, sym, ap, subst, inl, inr, List, [], ◌∷◌, ◌++◌, arith, Extent, Owned, In, extents, IsInLine, in_either, cases_lt, map_push, IsPartOfOne, Covers, part_of, StandsBy, Winner, Swept}
 use Rattle.overlap_report.proofs.KeySteps.{IsNext, for_next, next_pushed}
 
 -- ---- nothing goes on

@@ -1,5 +1,5 @@
 -- Each entry is served up to where the next begins.
-use Rattle.overlap_report.proofs.Words.{◌≡◌, ℕ, suc, ◌+◌, ◌-◌, ◌^◌, ◌≤◌, List, take, drop, get_or, subst, sym, arith, heap_items, entry_in, Owned, In, extents, IsInLine, EndBelow, IsResolved, IsPartOfOne, entries_of}
+use Rattle.overlap_report.proofs.Words.{◌≡◌, ℕ, suc, ◌+◌, ◌-◌, ◌^◌, take, drop, get_or, subst, sym, arith, heap_items, entry_in, In, entries_of}
 use Rattle.overlap_report.proofs.CoverSteps.{entry_ends}
 use Rattle.overlap_report.proofs.KeySteps.{nothing, next_at}
 use Rattle.overlap_report.proofs.ClaimSteps.{pushed_fit, pushed_swept, at_dropped, later_begin, whole_swept, IsServed, all_served}
