@@ -1,5 +1,5 @@
 -- The ranks of a script agree on the kinds of their collective calls.
-use Rattle.script_laws.proofs.Words.{◌≡◌, ◌∙◌, ◌≤◌, ◌<◌, ℕ, zero, suc, ◌+◌, List, [], ◌∷◌, length, map, Bool, true, false, cond, not, Some, None, Ok, refl, ap, subst, arith, find, position, is_some, option_map, ◌==◌, nat_lt, bytes_eq, eqb-true, ltb-false, eq-or-lt_of_le, ◌⊎◌, inl, inr, true≢false, AllByRecursion, list_all, range_with_len, position_or_len, prefix_len, bytes_eq-Decides, and_from, finished, each_weaker, found_passes, none_before_map, not_some, untold, Call, MeetKind, kinds, kind_number, kind_numbers, agree, Line, kind_at, differs_at, is_difference, first_difference, mismatch, finish, nat_tests}
+use Rattle.script_laws.proofs.Words.{◌≡◌, ◌∙◌, ◌≤◌, ◌<◌, ℕ, zero, suc, ◌+◌, List, [], ◌∷◌, length, map, Bool, true, false, not, Some, None, Ok, refl, ap, arith, find, position, is_some, option_map, ◌==◌, nat_lt, bytes_eq, ltb-false, eq-or-lt_of_le, true≢false, AllByRecursion, list_all, range_with_len, position_or_len, prefix_len, bytes_eq-Decides, and_from, finished, each_weaker, found_passes, none_before_map, not_some, untold, Call, MeetKind, kinds, kind_number, kind_numbers, agree, Line, kind_at, differs_at, is_difference, first_difference, mismatch, finish, nat_tests}
 use Rattle.nc_base.specs.declared.errors.ScriptKind.TheVariants as kind
 
 -- ---- no difference

@@ -1,8 +1,7 @@
 -- The calls of a script, each as it is read.
-use Rattle.script_laws.proofs.Words.{◌≡◌, ℕ, zero, suc, ◌+◌, ◌^◌, ◌<◌, ◌≤◌, List, [], ◌∷◌, ◌++◌, length, Bool, true, false, not, Option, Some, None, Result, Ok, Err, IfOk, IfSome, refl, sym, subst, arith, nat_lt, nat_le, ◌==◌, map, codes, option_and_then, length-append, lt-ltb, le-leb, ltb-false, AllByRecursion, each_passes, list_all, IfOk-weaker, and_from, each_push, if_some_at, Values, Numbers, Form, Part, PostKind, Iput, Iget, Bput, Call, count_of, most_values, most_parts, is_size, are_sizes, is_part, has_lists_of, is_given, is_post_of, is_lawful_call, values_in_call, is_empty, Word, size_of_text, between_brackets, parts, all_some, list_of_text, ◌>>=◌, refuse_if, or_fault, size, list, name, ended, values, after_prefix, form_and_all, form_of_text, given_of, given_parts, part, part_list, many_regions, region, choice, id_of_post, posted, put_call, get_call, post_values, is_posted, new_id, post_call, behind, plain_call, post_of_text, call_of, Family, Requests, Size, Name, Record, Nothing, row_of_text, size_read, faultless_some, is_sized, found_row, made_no_values, made_no_post, nat_tests}
+use Rattle.script_laws.proofs.Words.{◌≡◌, ℕ, zero, suc, ◌+◌, ◌^◌, ◌<◌, ◌≤◌, List, [], ◌∷◌, ◌++◌, length, Bool, true, false, not, Option, Some, None, Result, Ok, Err, IfOk, IfSome, refl, sym, subst, arith, ◌==◌, map, codes, option_and_then, length-append, lt-ltb, le-leb, ltb-false, AllByRecursion, each_passes, IfOk-weaker, and_from, each_push, if_some_at, Values, Numbers, Form, Part, PostKind, Iput, Iget, Bput, Call, count_of, most_values, most_parts, is_size, are_sizes, is_part, has_lists_of, is_given, is_post_of, is_lawful_call, values_in_call, is_empty, Word, size_of_text, between_brackets, parts, all_some, list_of_text, ◌>>=◌, or_fault, size, list, name, ended, values, after_prefix, form_and_all, form_of_text, given_of, given_parts, part, part_list, many_regions, region, choice, id_of_post, posted, put_call, get_call, post_values, is_posted, new_id, post_call, behind, plain_call, post_of_text, call_of, Family, Requests, Size, Name, Record, Nothing, row_of_text, size_read, faultless_some, is_sized, found_row, made_no_values, made_no_post, nat_tests}
 use Rattle.nc_base.specs.declared.errors.ScriptKind.{ScriptKind}
 use Rattle.nc_base.specs.declared.errors.ScriptKind.TheVariants as kind
-use Rattle.nc_base.specs.declared.errors.LimitName.TheVariants as limit
 use Rattle.nc_base.specs.declared.request.Form.TheVariants as form
 use Rattle.script_laws.proofs.ListLaws.{all_pass, found_all}
 use Rattle.script_laws.proofs.StepLaws.{first_then, then_with, word_then, unless, ok_then, by_some, unless_refused, read_as, whole_line}

@@ -1,5 +1,5 @@
 -- The calls of all ranks, line by line.
-use Rattle.script_laws.proofs.Words.{◌≡◌, ◌∙◌, ℕ, zero, suc, ◌+◌, ◌≤◌, List, [], ◌∷◌, ◌++◌, length, map, replicate, sum, Bool, true, false, not, Option, Ok, IfOk, IfSome, refl, sym, ap, subst, arith, ◌==◌, slice_set, bytes_eq, codes, length-set, length-append, append-nil, le_of_eq, AllByRecursion, list_any, list_all, enumerate_from, filter_map-append, list_any-append, length-replicate, and_from, not_from_false, not-true, or_from, one_posted, none_posted, each_push, and_first, and_second, or_first_false, or_second_false, Call, most_values, is_lawful_call, values_in_call, posted_ids, are_different, each_passes, Word, Line, ◌>>=◌, bare, next, id_of_post, posted, is_posted, Called, calls_of, rank_of_text, with_call, call_of, call_line, called_after, at_line, call_step, data_part, nat_tests}
+use Rattle.script_laws.proofs.Words.{◌≡◌, ◌∙◌, ℕ, zero, suc, ◌+◌, ◌≤◌, List, [], ◌∷◌, ◌++◌, length, map, replicate, sum, Bool, true, false, Option, Ok, IfOk, IfSome, refl, sym, ap, subst, arith, ◌==◌, slice_set, bytes_eq, codes, length-set, length-append, append-nil, le_of_eq, AllByRecursion, list_any, list_all, enumerate_from, filter_map-append, list_any-append, length-replicate, and_from, one_posted, none_posted, each_push, and_first, and_second, or_first_false, or_second_false, Call, most_values, is_lawful_call, values_in_call, posted_ids, are_different, each_passes, Word, Line, ◌>>=◌, bare, next, id_of_post, posted, is_posted, Called, calls_of, rank_of_text, with_call, call_of, call_line, called_after, at_line, call_step, data_part, nat_tests}
 use Rattle.script_laws.proofs.ListLaws.{sum_cons, sum_more}
 use Rattle.script_laws.proofs.StepLaws.{first_then, then_with, ok_then, by_test, whole_line, at_line_kept}
 use Rattle.script_laws.proofs.CallLaws.{FitsCall, call_read}
