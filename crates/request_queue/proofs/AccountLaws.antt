@@ -1,5 +1,5 @@
 -- The account of the buffer is the bytes of the waiting bputs, and refuses as the rank does.
-use Rattle.request_queue.proofs.Words.{◌≡◌, ℕ, ◌+◌, ◌-◌, ◌^◌, ◌<◌, ◌≤◌, ◌∙◌, ap, sym, refl, inl, inr, ◌⊎◌, List, [], ◌∷◌, ◌++◌, map, Bool, true, false, cond, ltb, eqb, ◌||◌, Option, Some, None, min, length, get_or, take, arith, filter, option_map, is_some, sum, sum_by, count_by, ltb-false, lt-ltb, le-ltb, cases_lt, cases_Bool, cond-true, list_any, sum_by_push, sum_by-cons, sum_by_more_le, any-filter_same, map_map, sum-map, Post, Bput, Account, new_code, Posted, Status, NullRequest, Waiting, Gone, is_waiting, buffered, buffer_code, bytes_in, is_bput, detach_code, Request, Queued, rank_with, as_posted, held, is_buffered, freed, Accounts, Holds, HasUsed, claim_code, claimed, nat_tests}
+use Rattle.request_queue.proofs.Words.{◌≡◌, ℕ, ◌+◌, ◌-◌, ◌^◌, ◌<◌, ◌≤◌, ◌∙◌, ap, sym, refl, List, [], ◌∷◌, ◌++◌, map, Bool, true, false, cond, ltb, eqb, Option, Some, None, min, length, get_or, take, arith, filter, option_map, is_some, sum, sum_by, count_by, ltb-false, lt-ltb, le-ltb, cases_lt, list_any, sum_by_push, sum_by-cons, sum_by_more_le, any-filter_same, map_map, sum-map, Post, Bput, Account, new_code, Posted, Status, is_waiting, buffered, buffer_code, bytes_in, is_bput, detach_code, Request, Queued, rank_with, as_posted, held, is_buffered, freed, Accounts, Holds, HasUsed, claim_code, claimed, nat_tests}
 use Rattle.nc_base.specs.declared.answer.Code.TheVariants as code
 use Rattle.request_queue.proofs.PostedLaws.{not_held}
 

@@ -1,5 +1,5 @@
 -- The listed requests leave: what waits is what is not listed, and the others keep their states.
-use Rattle.request_queue.proofs.Words.{◌≡◌, ℕ, ◌+◌, ◌∙◌, ap, sym, refl, inl, inr, ◌⊎◌, List, [], ◌∷◌, map, Bool, true, false, cond, eqb, not, Option, Some, None, length, arith, Post, filter, option_map, sum_by, cond_both, cond-false, cond-true, ne_eqb, cases_Bool, and_right, and_from, both_ways, sum_by-cons, sum_by-filter_both, map_map, sum-map, sum, Account, Posted, Status, NullRequest, Waiting, Gone, is_waiting, status_of, Posting, Request, status_in, posted_of, as_posted, is_null, held, is_buffered, Accounts, Holds, is_listed, removed, freed, nat_tests}
+use Rattle.request_queue.proofs.Words.{◌≡◌, ℕ, ◌+◌, ◌∙◌, ap, sym, refl, inr, ◌⊎◌, List, [], ◌∷◌, map, Bool, true, false, cond, eqb, not, Option, Some, None, length, arith, Post, filter, option_map, sum_by, cond_both, cond-false, cond-true, ne_eqb, cases_Bool, and_right, and_from, both_ways, sum_by-filter_both, map_map, sum-map, sum, Account, Posted, Status, NullRequest, Waiting, Gone, is_waiting, status_of, Posting, Request, status_in, posted_of, as_posted, is_null, held, is_buffered, Accounts, Holds, is_listed, removed, freed, nat_tests}
 
 abbrev pub left : (ℕ → Bool) → List Request → List Request
 left listed w = filter (λ (r : Request). not (listed r.id)) w

@@ -1,5 +1,5 @@
 -- A request that is posted under a new id stands last, and the others keep their states.
-use Rattle.request_queue.proofs.Words.{◌≡◌, ◌≤◌, ℕ, ◌+◌, ap, sym, refl, List, [], ◌∷◌, ◌++◌, map, Bool, true, false, cond, eqb, ◌||◌, Option, Some, None, length, arith, find, filter, option_map, count_by, list_any, or_parts, or_from, cond_both, ne_eqb, eqb-false, cond-false, cond-true, eq-eqb, eqb-true, filter-append, sum_by_push, length-filter, count_by-le-length, map-append, length-map, any_map, ◌∙◌, Account, Post, PostKind, Posted, Status, NullRequest, Waiting, Gone, is_waiting, is_bput, buffered, status_of, Posting, Request, status_in, standing, has_waiting, posted_of, as_posted, is_null, held, is_buffered, Accounts, nat_tests}
+use Rattle.request_queue.proofs.Words.{◌≡◌, ◌≤◌, ℕ, ◌+◌, ap, sym, refl, List, [], ◌∷◌, ◌++◌, map, Bool, true, false, cond, eqb, ◌||◌, Option, Some, None, length, arith, filter, option_map, count_by, list_any, or_parts, or_from, cond_both, ne_eqb, eqb-false, cond-false, cond-true, eq-eqb, eqb-true, filter-append, sum_by_push, length-filter, count_by-le-length, map-append, length-map, any_map, ◌∙◌, Account, Post, PostKind, Posted, Status, NullRequest, Waiting, Gone, is_waiting, is_bput, buffered, status_of, Posting, Request, status_in, standing, has_waiting, posted_of, as_posted, is_null, held, is_buffered, Accounts, nat_tests}
 
 -- some posted entry has the id
 abbrev pub has_posted : List Posted → ℕ → Bool

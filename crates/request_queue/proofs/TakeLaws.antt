@@ -1,5 +1,5 @@
 -- What a wait or a cancel leaves, and what it takes.
-use Rattle.request_queue.proofs.Words.{◌≡◌, ℕ, ap, refl, List, [], ◌∷◌, map, Bool, true, false, cond, eqb, ◌||◌, Option, Some, arith, filter, nat_cmp, is_at, or_from, or_left, or_right, cond_both, cond-true, eq-eqb, eqb-true, ne_eqb, cases_order, Posted, Status, NullRequest, Gone, is_waiting, status_of, item_code, items_from, has_id, Posting, Request, status_in, has_waiting, posted_of, as_posted, is_null, any_map, items_by, code_by, nat_tests}
+use Rattle.request_queue.proofs.Words.{◌≡◌, ℕ, refl, List, [], ◌∷◌, map, Bool, true, false, cond, eqb, ◌||◌, Option, Some, arith, filter, nat_cmp, is_at, or_from, or_left, or_right, cond_both, cond-true, eq-eqb, eqb-true, ne_eqb, cases_order, Posted, Status, NullRequest, Gone, is_waiting, status_of, item_code, items_from, has_id, Posting, Request, status_in, has_waiting, posted_of, as_posted, is_null, any_map, items_by, code_by, nat_tests}
 use Rattle.request_queue.proofs.PostedLaws.{has_posted, new_lacks}
 
 -- ---- a set with one more number

@@ -1,4 +1,4 @@
-use Rattle.request_queue.proofs.Words.{◌<◌, ◌++◌, ◌∙◌, ℕ, ap, sym, subst, List, not, filter, All, nat_cmp, values_of, contains, All-filter, has_id, Request}
+use Rattle.request_queue.proofs.Words.{◌<◌, ◌++◌, ◌∙◌, ℕ, ap, sym, subst, List, not, filter, All, nat_cmp, values_of, contains, All-filter, Request}
 use Rattle.request_queue.proofs.IndexLaws.{listed_values}
 use Rattle.request_queue.proofs.requests.Requests.remove.Goals as goal
 
