@@ -1,4 +1,5 @@
 //! Runs from the text of a script: answers, files and device calls.
+#![tactic(auto, unfolding(crate::proofs::Words::digits, crate::proofs::Words::canon))]
 
 ghost use Rattle.std.specs.Prelude.{◌≡◌, ◌+◌, [], ◌∷◌, ◌++◌, replicate};
 ghost use Rattle.script_spec.specs.TextExamples.{fault_at, printed, data_of, calls_made, script_read, opened, printed_on, calls_on};

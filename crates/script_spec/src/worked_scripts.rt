@@ -1,4 +1,5 @@
 //! What scripts mean, and which are refused.
+#![tactic(auto, unfolding(crate::proofs::Words::digits, crate::proofs::Words::canon))]
 
 ghost use Rattle.std.specs.Prelude.{◌≡◌, ℕ, List, nat_lt, ◌^◌, ◌+◌, ◌-◌, [], ◌∷◌, ◌++◌, length, map, replicate, Some, None, pos, true, codes, Ok, Err, false};
 ghost use Rattle.serial_spec.specs.SoundHeaders.{is_writable};

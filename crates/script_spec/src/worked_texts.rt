@@ -1,4 +1,5 @@
 //! What is printed, and the generated script.
+#![tactic(auto, unfolding(crate::proofs::Words::digits, crate::proofs::Words::canon))]
 
 ghost use Rattle.std.specs.Prelude.{true, false, map, ◌≡◌, ◌+◌, [], ◌∷◌, ◌++◌, length, codes, ◌-◌, option_map, Some, take};
 ghost use Rattle.serial_spec.specs.HeaderBytes.{header_len};
@@ -48,7 +49,6 @@ pub fn worked_quotes()
 {}
 
 /// The generator.
-#[tactic(auto, unfolding(serial_spec::specs::HeaderBytes::canon))]
 pub fn worked_generator()
     ensures rows { first_row 8 - first_row 7 ≡ 23 }
     ensures count { length (made_calls 0 12 0) ≡ 40 }
