@@ -1,8 +1,9 @@
 // Attributes.
 ghost use Rattle.std.specs.Prelude.{◌*◌};
 ghost use Rattle.serial_spec.specs.HeaderFaults.{AttrType, AttrCount};
-ghost use Rattle.cdf_header.specs.Reading.{Gives, field_at, block_at, each_at, attr_at, attrs_at};
+ghost use Rattle.cdf_header.specs.Reading.{Gives, field_at, block_at, attr_at, attrs_at};
 
+use crate::entries::Entry;
 use crate::header_bytes::HeaderBytes;
 use crate::section::Section;
 use crate::stop::Stop;
@@ -72,29 +73,20 @@ impl HeaderBytes<'_> {
         })
     }
 
-    /// So many attributes.
-    pub(crate) fn each_attr(
-        &self,
-        alloc: Global,
-        at: &mut usize,
-        count: u64,
-    ) -> Result<AttrList, Stop>
-        ensures { Gives (λ found. (found, at.new)) result (each_at (attr_at self.now.version self.now.bytes.now) count at.old) }
-    {
-        let mut found = AttrList::new(alloc);
-        for _ in 0..count {
-            let attr = self.attr(alloc, at)?;
-            found.push(attr)?;
-        }
-        Ok(found)
-    }
-
     /// A list of attributes.
     #[tactic(auto, unfolding(crate::specs::Reading::attrs_at))]
     pub(crate) fn attrs(&self, alloc: Global, at: &mut usize) -> Result<AttrList, Stop>
         ensures { Gives (λ found. (found, at.new)) result (attrs_at self.now.version self.now.bytes.now at.old) }
     {
         let count = self.count(at, Section::Attributes)?;
-        self.each_attr(alloc, at, count)
+        self.entries(alloc, at, count)
+    }
+}
+
+impl Entry for Attr {
+    ghost reading = { attr_at };
+
+    fn read(bytes: &HeaderBytes<'_>, alloc: Global, at: &mut usize) -> Result<Attr, Stop> {
+        bytes.attr(alloc, at)
     }
 }

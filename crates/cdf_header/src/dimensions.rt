@@ -1,8 +1,9 @@
 // Sections of a header, and the dimensions.
 ghost use Rattle.serial_spec.specs.HeaderFaults.{Count, DimLength};
 ghost use Rattle.cdf_header.specs.Sections.{section_of};
-ghost use Rattle.cdf_header.specs.Reading.{Gives, field_at, absent_at, dim_at, each_at, count_at, dims_at};
+ghost use Rattle.cdf_header.specs.Reading.{Gives, field_at, absent_at, dim_at, count_at, dims_at};
 
+use crate::entries::Entry;
 use crate::header_bytes::HeaderBytes;
 use crate::section::Section;
 use crate::stop::Stop;
@@ -90,29 +91,20 @@ impl HeaderBytes<'_> {
         Ok(Dim { name, len })
     }
 
-    /// So many dimensions.
-    pub(crate) fn each_dim(
-        &self,
-        alloc: Global,
-        at: &mut usize,
-        count: u64,
-    ) -> Result<DimList, Stop>
-        ensures { Gives (λ found. (found, at.new)) result (each_at (dim_at self.now.version self.now.bytes.now) count at.old) }
-    {
-        let mut found = DimList::new(alloc);
-        for _ in 0..count {
-            let dim = self.dim(alloc, at)?;
-            found.push(dim)?;
-        }
-        Ok(found)
-    }
-
     /// The list of dimensions.
     #[tactic(auto, unfolding(crate::specs::Reading::dims_at))]
     pub(crate) fn dims(&self, alloc: Global, at: &mut usize) -> Result<DimList, Stop>
         ensures { Gives (λ found. (found, at.new)) result (dims_at self.now.version self.now.bytes.now at.old) }
     {
         let count = self.count(at, Section::Dimensions)?;
-        self.each_dim(alloc, at, count)
+        self.entries(alloc, at, count)
+    }
+}
+
+impl Entry for Dim {
+    ghost reading = { dim_at };
+
+    fn read(bytes: &HeaderBytes<'_>, alloc: Global, at: &mut usize) -> Result<Dim, Stop> {
+        bytes.dim(alloc, at)
     }
 }

@@ -1,7 +1,8 @@
 // Variables.
 ghost use Rattle.serial_spec.specs.HeaderFaults.{DimCount, VarType, Vsize, Begin};
-ghost use Rattle.cdf_header.specs.Reading.{Gives, field_at, unread_at, each_at, kind_at, id_at, ids_at, var_at, vars_at};
+ghost use Rattle.cdf_header.specs.Reading.{Gives, field_at, unread_at, kind_at, id_at, ids_at, var_at, vars_at};
 
+use crate::entries::Entry;
 use crate::header_bytes::HeaderBytes;
 use crate::section::Section;
 use crate::stop::Stop;
@@ -39,25 +40,13 @@ impl HeaderBytes<'_> {
         Ok(n)
     }
 
-    /// So many places of dimensions.
-    pub(crate) fn each_id(&self, alloc: Global, at: &mut usize, count: u64) -> Result<IdList, Stop>
-        ensures { Gives (λ found. (found, at.new)) result (each_at (id_at self.now.version self.now.bytes.now) count at.old) }
-    {
-        let mut found = IdList::new(alloc);
-        for _ in 0..count {
-            let id = self.id(at)?;
-            found.push(id)?;
-        }
-        Ok(found)
-    }
-
     /// The places of a variable's dimensions.
     #[tactic(auto, unfolding(crate::specs::Reading::ids_at))]
     pub(crate) fn ids(&self, alloc: Global, at: &mut usize) -> Result<IdList, Stop>
         ensures { Gives (λ found. (found, at.new)) result (ids_at self.now.version self.now.bytes.now at.old) }
     {
         let count = self.dim_count(at)?;
-        self.each_id(alloc, at, count)
+        self.entries(alloc, at, count)
     }
 
     /// A variable's type.
@@ -121,29 +110,29 @@ impl HeaderBytes<'_> {
         })
     }
 
-    /// So many variables.
-    pub(crate) fn each_var(
-        &self,
-        alloc: Global,
-        at: &mut usize,
-        count: u64,
-    ) -> Result<VarList, Stop>
-        ensures { Gives (λ found. (found, at.new)) result (each_at (var_at self.now.version self.now.bytes.now) count at.old) }
-    {
-        let mut found = VarList::new(alloc);
-        for _ in 0..count {
-            let var = self.var(alloc, at)?;
-            found.push(var)?;
-        }
-        Ok(found)
-    }
-
     /// The list of variables.
     #[tactic(auto, unfolding(crate::specs::Reading::vars_at))]
     pub(crate) fn vars(&self, alloc: Global, at: &mut usize) -> Result<VarList, Stop>
         ensures { Gives (λ found. (found, at.new)) result (vars_at self.now.version self.now.bytes.now at.old) }
     {
         let count = self.count(at, Section::Variables)?;
-        self.each_var(alloc, at, count)
+        self.entries(alloc, at, count)
+    }
+}
+
+/// The place of a dimension.
+impl Entry for u32 {
+    ghost reading = { id_at };
+
+    fn read(bytes: &HeaderBytes<'_>, _: Global, at: &mut usize) -> Result<u32, Stop> {
+        bytes.id(at)
+    }
+}
+
+impl Entry for Var {
+    ghost reading = { var_at };
+
+    fn read(bytes: &HeaderBytes<'_>, alloc: Global, at: &mut usize) -> Result<Var, Stop> {
+        bytes.var(alloc, at)
     }
 }
