@@ -1,5 +1,6 @@
 -- A cursor that cuts extents goes over the same windows as one that cuts bytes.
-use Rattle.overlay_laws.proofs.Words.{◌≡◌, ℕ, zero, suc, ◌+◌, ◌-◌, ◌<◌, ◌≤◌, refl, sym, ◌∙◌, ap, subst, inl, inr, List, [], ◌∷◌, ◌++◌, length, Bool, true, false, cond, max, arith, length-append, append-nil, mod_below, div-add-mod', filter, map, nat_lt, nat_le, ◌==◌, range_with_len, length-range_with_len, lt-ltb, le-ltb, le-leb, lt-leb, leb-true, leb-false, equal_below, equal_true, range_append, Extent, first_of, last_of, hull_len, windows, sieving_windows, in_order, In, HaveSame, IsAscending, walked, round_end, below, above, IsCover, end_after, is_single, first_at, hull_of, extents_walked, told_of, spans, filter-append}
+use Rattle.overlay_laws.proofs.Words.{◌≡◌, ℕ, zero, suc, ◌+◌, ◌-◌, ◌<◌, ◌≤◌, refl, sym, ◌∙◌, ap, subst, inl, inr, List, [], ◌∷◌, ◌++◌, length, Bool, true, false, cond, max, arith, length-append, append-nil, mod_below, div-add-mod', filter, map, nat_lt, nat_le, ◌==◌, range_with_len, length-range_with_len, lt-ltb, le-ltb, le-leb, lt-leb, leb-true, leb-false, equal_below, equal_true, range_append, Extent, first_of, last_of, hull_len, windows, sieving_windows, in_order, In, HaveSame, IsAscending, walked, round_end, below, above, IsCover, end_after, is_single, first_at, hull_of, extents_walked, told_of, spans, filter-append, nat_tests}
+use Rattle.overlay_laws.proofs.Members.{either}
 use Rattle.overlay_laws.proofs.HullLaws.{range_low, range_high, in_either, in_in_order, in_order_in, in_order_ascends}
 use Rattle.overlay_laws.proofs.WalkLaws.{filter_none, filter_all, drop_first, windows_walked, sieved_walked}
 
@@ -64,110 +65,51 @@ spans_above_all stop (e ∷ cover) h =
     ∙ ap (λ r. r ++ filter (λ y. nat_le stop y) (spans cover)) (range_above_all stop e.at e.len (h e (inl refl)))
     ∙ ap (λ r. range_with_len e.at e.len ++ r) (spans_above_all stop cover (λ d k. h d (inr k)))
 
+none_below : (stop : ℕ) (e : Extent) (cover : List Extent) → IsCover (e ∷ cover) → stop ≤ e.at + e.len → filter (λ y. nat_lt y stop) (spans cover) ≡ []
+none_below stop e cover h l = spans_below_none stop cover (λ d k. omega (arith, h.1 d k))
+
+below_first : (stop : ℕ) (e : Extent) (cover : List Extent) → IsCover (e ∷ cover) → filter (λ y. nat_lt y stop) (spans cover) ≡ spans (below stop cover)
+    → filter (λ y. nat_lt y stop) (spans (e ∷ cover)) ≡ spans (below stop (e ∷ cover))
+below_first stop e cover h ih = grind (arith, nat_tests, filter-append, range_below_all, range_below_none, range_below_cut, none_below stop e cover h)
+
 pub spans_below : (stop : ℕ) (cover : List Extent) → IsCover cover → filter (λ y. nat_lt y stop) (spans cover) ≡ spans (below stop cover)
 spans_below stop [] h = refl
-spans_below stop (e ∷ cover) h = by_start (spans_below stop cover h.2) (nat_le stop e.at) refl
-  where
-    rest_none : stop < e.at + e.len → filter (λ y. nat_lt y stop) (spans cover) ≡ []
-    rest_none l = spans_below_none stop cover (λ d k. let m = h.1 d k in omega arith)
+spans_below stop (e ∷ cover) h = below_first stop e cover h (spans_below stop cover h.2)
 
-    by_end : filter (λ y. nat_lt y stop) (spans cover) ≡ spans (below stop cover) → e.at < stop → (t : Bool) → nat_le (e.at + e.len) stop ≡ t
-        → filter (λ y. nat_lt y stop) (spans (e ∷ cover)) ≡ spans (cond t (e ∷ below stop cover) (record { at = e.at; len = stop - e.at } ∷ []))
-    by_end ih l true g =
-        filter-append (λ y. nat_lt y stop) (range_with_len e.at e.len) (spans cover)
-        ∙ ap (λ r. r ++ filter (λ y. nat_lt y stop) (spans cover)) (range_below_all stop e.at e.len (leb-true (e.at + e.len) stop g))
-        ∙ ap (λ r. range_with_len e.at e.len ++ r) ih
-    by_end ih l false g =
-        let m : stop < e.at + e.len = leb-false (e.at + e.len) stop g in
-        filter-append (λ y. nat_lt y stop) (range_with_len e.at e.len) (spans cover)
-        ∙ ap (λ r. r ++ filter (λ y. nat_lt y stop) (spans cover)) (range_below_cut stop e.at e.len l m)
-        ∙ ap (λ r. range_with_len e.at (stop - e.at) ++ r) (rest_none m)
+all_above : (stop : ℕ) (e : Extent) (cover : List Extent) → IsCover (e ∷ cover) → stop ≤ e.at + e.len → filter (λ y. nat_le stop y) (spans cover) ≡ spans cover
+all_above stop e cover h l = spans_above_all stop cover (λ d k. omega (arith, h.1 d k))
 
-    by_start : filter (λ y. nat_lt y stop) (spans cover) ≡ spans (below stop cover) → (t : Bool) → nat_le stop e.at ≡ t
-        → filter (λ y. nat_lt y stop) (spans (e ∷ cover))
-        ≡ spans (cond t [] (cond (nat_le (e.at + e.len) stop) (e ∷ below stop cover) (record { at = e.at; len = stop - e.at } ∷ [])))
-    by_start ih true g =
-        let l : stop ≤ e.at = leb-true stop e.at g in
-        spans_below_none stop (e ∷ cover) (before l)
-      where
-        before : stop ≤ e.at → (d : Extent) → In (e ∷ cover) d → stop ≤ d.at
-        before l d (inl k) = subst (λ (z : Extent). stop ≤ z.at) k l
-        before l d (inr k) = let m = h.1 d k in omega arith
-    by_start ih false g = by_end ih (leb-false stop e.at g) (nat_le (e.at + e.len) stop) refl
+above_first : (stop : ℕ) (e : Extent) (cover : List Extent) → IsCover (e ∷ cover) → filter (λ y. nat_le stop y) (spans cover) ≡ spans (above stop cover)
+    → filter (λ y. nat_le stop y) (spans (e ∷ cover)) ≡ spans (above stop (e ∷ cover))
+above_first stop e cover h ih = grind (arith, nat_tests, filter-append, range_above_all, range_above_none, range_above_cut, all_above stop e cover h)
 
 pub spans_above : (stop : ℕ) (cover : List Extent) → IsCover cover → filter (λ y. nat_le stop y) (spans cover) ≡ spans (above stop cover)
 spans_above stop [] h = refl
-spans_above stop (e ∷ cover) h = by_start (spans_above stop cover h.2) (nat_le stop e.at) refl
-  where
-    by_end : filter (λ y. nat_le stop y) (spans cover) ≡ spans (above stop cover) → e.at < stop → (t : Bool) → nat_le (e.at + e.len) stop ≡ t
-        → filter (λ y. nat_le stop y) (spans (e ∷ cover)) ≡ spans (cond t (above stop cover) (record { at = stop; len = e.at + e.len - stop } ∷ cover))
-    by_end ih l true g =
-        filter-append (λ y. nat_le stop y) (range_with_len e.at e.len) (spans cover)
-        ∙ ap (λ r. r ++ filter (λ y. nat_le stop y) (spans cover)) (range_above_none stop e.at e.len (leb-true (e.at + e.len) stop g))
-        ∙ ih
-    by_end ih l false g =
-        let m : stop < e.at + e.len = leb-false (e.at + e.len) stop g in
-        filter-append (λ y. nat_le stop y) (range_with_len e.at e.len) (spans cover)
-        ∙ ap (λ r. r ++ filter (λ y. nat_le stop y) (spans cover)) (range_above_cut stop e.at e.len l m)
-        ∙ ap (λ r. range_with_len stop (e.at + e.len - stop) ++ r) (spans_above_all stop cover (λ d k. let b = h.1 d k in omega arith))
-
-    by_start : filter (λ y. nat_le stop y) (spans cover) ≡ spans (above stop cover) → (t : Bool) → nat_le stop e.at ≡ t
-        → filter (λ y. nat_le stop y) (spans (e ∷ cover))
-        ≡ spans (cond t (e ∷ cover) (cond (nat_le (e.at + e.len) stop) (above stop cover) (record { at = stop; len = e.at + e.len - stop } ∷ cover)))
-    by_start ih true g =
-        let l : stop ≤ e.at = leb-true stop e.at g in
-        spans_above_all stop (e ∷ cover) (before l)
-      where
-        before : stop ≤ e.at → (d : Extent) → In (e ∷ cover) d → stop ≤ d.at
-        before l d (inl k) = subst (λ (z : Extent). stop ≤ z.at) k l
-        before l d (inr k) = let m = h.1 d k in omega arith
-    by_start ih false g = by_end ih (leb-false stop e.at g) (nat_le (e.at + e.len) stop) refl
+spans_above stop (e ∷ cover) h = above_first stop e cover h (spans_above stop cover h.2)
 
 -- ---- both parts are covers
 
 below_after : (stop n : ℕ) (cover : List Extent) → ((d : Extent) → In cover d → n < d.at) → (d : Extent) → In (below stop cover) d → n < d.at
-below_after stop n [] h d k = absurd k
-below_after stop n (e ∷ cover) h d k = by_start (below_after stop n cover (λ c g. h c (inr g)) d) (nat_le stop e.at) k
-  where
-    by_end : (In (below stop cover) d → n < d.at) → (t : Bool) → In (cond t (e ∷ below stop cover) (record { at = e.at; len = stop - e.at } ∷ [])) d → n < d.at
-    by_end ih true (inl g) = subst (λ (z : Extent). n < z.at) g (h e (inl refl))
-    by_end ih true (inr g) = ih g
-    by_end ih false (inl g) = subst (λ (z : Extent). n < z.at) g (h e (inl refl))
-    by_end ih false (inr g) = absurd g
-
-    by_start : (In (below stop cover) d → n < d.at) → (t : Bool)
-        → In (cond t [] (cond (nat_le (e.at + e.len) stop) (e ∷ below stop cover) (record { at = e.at; len = stop - e.at } ∷ []))) d → n < d.at
-    by_start ih true g = absurd g
-    by_start ih false g = by_end ih (nat_le (e.at + e.len) stop) g
+below_after stop n [] h d = λ k. absurd k
+below_after stop n (e ∷ cover) h d =
+    either (λ xs. In xs d → n < d.at) (nat_le stop e.at) _ _ (λ g k. absurd k)
+    (λ g. either (λ xs. In xs d → n < d.at) (nat_le (e.at + e.len) stop) _ _
+    (λ l k. elim k [ inl m ↦ subst (λ (z : Extent). n < z.at) m (h e (inl refl)) | inr m ↦ below_after stop n cover (λ c q. h c (inr q)) d m ])
+    (λ l k. elim k [ inl m ↦ subst (λ (z : Extent). n < z.at) m (h e (inl refl)) | inr m ↦ absurd m ]))
 
 pub below_cover : (stop : ℕ) (cover : List Extent) → IsCover cover → IsCover (below stop cover)
 below_cover stop [] h = tt
-below_cover stop (e ∷ cover) h = by_start (below_cover stop cover h.2) (nat_le stop e.at) refl
-  where
-    by_end : IsCover (below stop cover) → e.at < stop → (t : Bool) → IsCover (cond t (e ∷ below stop cover) (record { at = e.at; len = stop - e.at } ∷ []))
-    by_end ih l true = (h.0, below_after stop (e.at + e.len) cover h.1, ih)
-    by_end ih l false = (omega arith, (λ d k. absurd k), tt)
-
-    by_start : IsCover (below stop cover) → (t : Bool) → nat_le stop e.at ≡ t
-        → IsCover (cond t [] (cond (nat_le (e.at + e.len) stop) (e ∷ below stop cover) (record { at = e.at; len = stop - e.at } ∷ [])))
-    by_start ih true g = tt
-    by_start ih false g = by_end ih (leb-false stop e.at g) (nat_le (e.at + e.len) stop)
+below_cover stop (e ∷ cover) h =
+    either IsCover (nat_le stop e.at) _ _ (λ g. tt)
+    (λ g. either IsCover (nat_le (e.at + e.len) stop) _ _ (λ l. (h.0, below_after stop (e.at + e.len) cover h.1, below_cover stop cover h.2))
+    (λ l. (omega (arith, leb-false stop e.at g), (λ d k. absurd k), tt)))
 
 pub above_cover : (stop : ℕ) (cover : List Extent) → IsCover cover → IsCover (above stop cover)
 above_cover stop [] h = tt
-above_cover stop (e ∷ cover) h = by_start (above_cover stop cover h.2) (nat_le stop e.at) refl
-  where
-    by_end : IsCover (above stop cover) → e.at < stop → (t : Bool) → nat_le (e.at + e.len) stop ≡ t
-        → IsCover (cond t (above stop cover) (record { at = stop; len = e.at + e.len - stop } ∷ cover))
-    by_end ih l true g = ih
-    by_end ih l false g =
-        let m : stop < e.at + e.len = leb-false (e.at + e.len) stop g in
-        (omega arith, (λ d k. let b = h.1 d k in omega arith), h.2)
-
-    by_start : IsCover (above stop cover) → (t : Bool) → nat_le stop e.at ≡ t
-        → IsCover (cond t (e ∷ cover) (cond (nat_le (e.at + e.len) stop) (above stop cover) (record { at = stop; len = e.at + e.len - stop } ∷ cover)))
-    by_start ih true g = h
-    by_start ih false g = by_end ih (leb-false stop e.at g) (nat_le (e.at + e.len) stop) refl
+above_cover stop (e ∷ cover) h =
+    either IsCover (nat_le stop e.at) _ _ (λ g. h)
+    (λ g. either IsCover (nat_le (e.at + e.len) stop) _ _ (λ l. above_cover stop cover h.2)
+    (λ l. (omega (arith, leb-false (e.at + e.len) stop l), (λ d k. omega (arith, h.1 d k, leb-false stop e.at g, leb-false (e.at + e.len) stop l)), h.2)))
 
 -- ---- the hull
 
@@ -181,28 +123,16 @@ last_of_range a (suc zero) h = omega arith
 last_of_range a (suc (suc n)) h = let e = last_of_range (a + 1) (suc n) (omega arith) in omega arith
 
 -- where a cover ends, and that it has no more bytes than lie between
+first_in : (e : Extent) (cover : List Extent) → IsCover (e ∷ cover) → e.at ≤ last_of (spans (e ∷ cover))
+first_in e cover h = omega (arith, last_of_range e.at e.len h.0, last_joined (range_with_len e.at e.len) (spans cover), h.0)
+
 end_of_cover : (e : Extent) (cover : List Extent) → IsCover (e ∷ cover)
     → (last_of (spans (e ∷ cover)) + 1 ≡ end_after (e.at + e.len) cover) × (e.at + length (spans (e ∷ cover)) ≤ end_after (e.at + e.len) cover)
-end_of_cover e [] h =
-    let a = last_of_range e.at e.len h.0 in
-    let b : length (range_with_len e.at e.len) ≡ e.len = length-range_with_len e.at e.len in
-    let c : length (range_with_len e.at e.len ++ []) ≡ length (range_with_len e.at e.len) = ap (λ (xs : List ℕ). length xs) (append-nil (range_with_len e.at e.len)) in
-    let d : last_of (range_with_len e.at e.len ++ []) ≡ last_of (range_with_len e.at e.len) = ap (λ (xs : List ℕ). last_of xs) (append-nil (range_with_len e.at e.len)) in
-    (omega arith, omega arith)
+end_of_cover e [] h = simp append-nil (omega (arith, last_of_range e.at e.len h.0, length-range_with_len e.at e.len))
 end_of_cover e (f ∷ cover) h =
-    let r = end_of_cover f cover h.2 in
-    let ends = r.0 in
-    let fits = r.1 in
-    let gap = h.1 f (inl refl) in
-    let first = last_of_range e.at e.len h.0 in
-    let whole = last_joined (range_with_len e.at e.len) (spans (f ∷ cover)) in
-    let most : f.at ≤ last_of (spans (f ∷ cover)) = first_in f cover h.2 in
     let long = length-append (range_with_len e.at e.len) (spans (f ∷ cover)) in
-    let b : length (range_with_len e.at e.len) ≡ e.len = length-range_with_len e.at e.len in
-    (omega arith, omega arith)
-  where
-    first_in : (f : Extent) (cover : List Extent) → IsCover (f ∷ cover) → f.at ≤ last_of (spans (f ∷ cover))
-    first_in f cover k = let a = last_of_range f.at f.len k.0 in let w = last_joined (range_with_len f.at f.len) (spans cover) in let l = k.0 in omega arith
+    let last = last_joined (range_with_len e.at e.len) (spans (f ∷ cover)) in
+    omega (arith, end_of_cover f cover h.2, h.1 f (inl refl), last_of_range e.at e.len h.0, last, first_in f cover h.2, long, length-range_with_len e.at e.len)
 
 first_of_range : (a n : ℕ) (rest : List ℕ) → 1 ≤ n → first_of (range_with_len a n ++ rest) ≡ a
 first_of_range a zero rest h = absurd (omega arith)
@@ -215,47 +145,27 @@ triple_same a b c d s t p q r = λ i. (p i, q i, r i)
 pub hull_told : (e : Extent) (cover : List Extent) → IsCover (e ∷ cover) → told_of (spans (e ∷ cover)) ≡ hull_of (e ∷ cover)
 hull_told e cover h =
     let first : first_of (spans (e ∷ cover)) ≡ e.at = first_of_range e.at e.len (spans cover) h.0 in
-    let r = end_of_cover e cover h in
-    let ends = r.0 in
-    triple_same (first_of (spans (e ∷ cover))) (hull_len (spans (e ∷ cover))) e.at (end_after (e.at + e.len) cover - e.at)
-    (length (spans (e ∷ cover)) == hull_len (spans (e ∷ cover))) (is_single (e ∷ cover)) first (omega arith)
-    (by_rest e cover h first ends)
+    triple_same _ _ _ _ _ _ first (omega (arith, (end_of_cover e cover h).0)) (single e cover h first)
   where
-    by_rest : (e : Extent) (cover : List Extent) → IsCover (e ∷ cover) → first_of (spans (e ∷ cover)) ≡ e.at
-        → last_of (spans (e ∷ cover)) + 1 ≡ end_after (e.at + e.len) cover
+    single : (e : Extent) (cover : List Extent) → IsCover (e ∷ cover) → first_of (spans (e ∷ cover)) ≡ e.at
         → (length (spans (e ∷ cover)) == hull_len (spans (e ∷ cover))) ≡ is_single (e ∷ cover)
-    by_rest e [] h first ends =
-        let b : length (range_with_len e.at e.len) ≡ e.len = length-range_with_len e.at e.len in
-        let c : length (range_with_len e.at e.len ++ []) ≡ length (range_with_len e.at e.len) = ap (λ (xs : List ℕ). length xs) (append-nil (range_with_len e.at e.len)) in
-        equal_true (length (spans (e ∷ []))) (hull_len (spans (e ∷ []))) (omega arith)
-    by_rest e (f ∷ cover) h first ends =
-        let r = end_of_cover f cover h.2 in
-        let fits = r.1 in
-        let gap = h.1 f (inl refl) in
+    single e [] h first = equal_true _ _ (omega (arith, simp append-nil at (end_of_cover e [] h).0, length-append (range_with_len e.at e.len) [], length-range_with_len e.at e.len, (end_of_cover e [] h).0))
+    single e (f ∷ cover) h first =
         let long = length-append (range_with_len e.at e.len) (spans (f ∷ cover)) in
-        let b : length (range_with_len e.at e.len) ≡ e.len = length-range_with_len e.at e.len in
-        equal_below (length (spans (e ∷ f ∷ cover))) (hull_len (spans (e ∷ f ∷ cover))) (omega arith)
+        equal_below _ _ (omega (arith, end_of_cover e (f ∷ cover) h, end_of_cover f cover h.2, h.1 f (inl refl), long, length-range_with_len e.at e.len))
 
 -- ---- the walk
 
 -- the window that begins at a place, told: its extents are not none, since it ends past that place
+abbrev IsTold : List Extent → Type 0
+IsTold cover = IsCover cover → told_of (spans cover) ≡ hull_of cover
+
 pub below_told : (stop : ℕ) (e : Extent) (cover : List Extent) → IsCover (e ∷ cover) → e.at < stop
     → told_of (spans (below stop (e ∷ cover))) ≡ hull_of (below stop (e ∷ cover))
-below_told stop e cover h l = by_start (below_cover stop (e ∷ cover) h) (nat_le stop e.at) refl
-  where
-    by_end : (t : Bool) → IsCover (cond t (e ∷ below stop cover) (record { at = e.at; len = stop - e.at } ∷ []))
-        → told_of (spans (cond t (e ∷ below stop cover) (record { at = e.at; len = stop - e.at } ∷ []))) ≡ hull_of (cond t (e ∷ below stop cover) (record { at = e.at; len = stop - e.at } ∷ []))
-    by_end true k = hull_told e (below stop cover) k
-    by_end false k = hull_told (record { at = e.at; len = stop - e.at }) [] k
-
-    by_start : IsCover (below stop (e ∷ cover)) → (t : Bool) → nat_le stop e.at ≡ t → told_of (spans (below stop (e ∷ cover))) ≡ hull_of (below stop (e ∷ cover))
-    by_start k true g = let m : stop ≤ e.at = leb-true stop e.at g in absurd (omega arith)
-    by_start k false g =
-        subst (λ (c : List Extent). told_of (spans c) ≡ hull_of c) (sym (opened g))
-        (by_end (nat_le (e.at + e.len) stop) (subst (λ (c : List Extent). IsCover c) (opened g) k))
-      where
-        opened : nat_le stop e.at ≡ false → below stop (e ∷ cover) ≡ cond (nat_le (e.at + e.len) stop) (e ∷ below stop cover) (record { at = e.at; len = stop - e.at } ∷ [])
-        opened g = ap (λ (t : Bool). cond t [] (cond (nat_le (e.at + e.len) stop) (e ∷ below stop cover) (record { at = e.at; len = stop - e.at } ∷ []))) g
+below_told stop e cover h l =
+    either IsTold (nat_le stop e.at) _ _ (λ g k. absurd (omega (arith, leb-true stop e.at g)))
+    (λ g. either IsTold (nat_le (e.at + e.len) stop) _ _ (λ k. hull_told e (below stop cover)) (λ k. hull_told (record { at = e.at; len = stop - e.at }) []))
+    (below_cover stop (e ∷ cover) h)
 
 pub range_first : (a n : ℕ) (rest : List ℕ) → 1 ≤ n → (ys : List ℕ) × (range_with_len a n ++ rest ≡ a ∷ ys)
 range_first a zero rest h = absurd (omega arith)
@@ -305,30 +215,17 @@ spans_ascend (e ∷ cover) h =
     range_then_ascends e.at e.len (spans cover) (spans_ascend cover h.2) (λ y k. let m = spans_past cover (e.at + e.len) y h.1 k in omega arith)
 
 -- ascending lists with the same members are the same
-tail_members : (x : ℕ) (xs ys : List ℕ) → ((y : ℕ) → In xs y → x < y) → ((y : ℕ) → In (x ∷ xs) y → In (x ∷ ys) y) → (y : ℕ) → In xs y → In ys y
-tail_members x xs ys h k y g = elim (k y (inr g)) [ inl e ↦ (let l = h y g in absurd (omega arith)) | inr m ↦ m ]
+tail_members : (x y : ℕ) (xs ys : List ℕ) → x ≡ y → ((z : ℕ) → In xs z → x < z) → ((z : ℕ) → In (x ∷ xs) z → In (y ∷ ys) z) → (z : ℕ) → In xs z → In ys z
+tail_members x y xs ys e h k z g = elim (k z (inr g)) [ inl f ↦ (let l = h z g in absurd (omega arith)) | inr m ↦ m ]
 
 pub same_ascending : (xs ys : List ℕ) → IsAscending xs → IsAscending ys → ((y : ℕ) → In xs y → In ys y) → ((y : ℕ) → In ys y → In xs y) → xs ≡ ys
 same_ascending [] [] h k there back = refl
 same_ascending [] (y ∷ ys) h k there back = absurd (back y (inl refl))
 same_ascending (x ∷ xs) [] h k there back = absurd (there x (inl refl))
 same_ascending (x ∷ xs) (y ∷ ys) h k there back =
-    let r = rest heads in
-    ap (λ zs. x ∷ zs) (same_ascending xs ys h.1 k.1 r.0 r.1) ∙ ap (λ z. z ∷ ys) heads
-  where
-    heads : x ≡ y
-    heads = by_two (there x (inl refl)) (back y (inl refl))
-      where
-        by_two : In (y ∷ ys) x → In (x ∷ xs) y → x ≡ y
-        by_two (inl e) g = sym e
-        by_two (inr m) (inl e) = e
-        by_two (inr m) (inr n) = let a = k.0 x m in let b = h.0 y n in absurd (omega arith)
-
-    rest : x ≡ y → (((z : ℕ) → In xs z → In ys z) × ((z : ℕ) → In ys z → In xs z))
-    rest e = (
-      tail_members x xs ys h.0 (subst (λ (u : ℕ). (z : ℕ) → In (x ∷ xs) z → In (u ∷ ys) z) (sym e) there),
-      tail_members y ys xs k.0 (subst (λ (u : ℕ). (z : ℕ) → In (y ∷ ys) z → In (u ∷ xs) z) e back),
-    )
+    let heads : x ≡ y = grind (arith, nat_tests, there x (inl refl), back y (inl refl), h.0 y, k.0 x) in
+    let rest = same_ascending xs ys h.1 k.1 (tail_members x y xs ys heads h.0 there) (tail_members y x ys xs (sym heads) k.0 back) in
+    λ i. heads i ∷ rest i
 
 -- a cover of the bytes of a list has just those in order
 pub cover_in_order : (cover : List Extent) (bytes : List ℕ) → IsCover cover → HaveSame (spans cover) bytes → spans cover ≡ in_order bytes

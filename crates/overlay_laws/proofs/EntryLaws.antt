@@ -1,5 +1,5 @@
 -- The puts of a step are cells; sorted entries say what the puts say; the entries of a get collect its bytes.
-use Rattle.overlay_laws.proofs.Words.{◌≡◌, ℕ, zero, suc, ◌+◌, ◌-◌, ◌<◌, ◌≤◌, refl, sym, ◌∙◌, ap, subst, inl, inr, ◌⊎◌, List, [], ◌∷◌, ◌++◌, length, drop, Bool, true, false, Option, Some, None, arith, common_steps, flat_map-append, length-append, get_or_past, Contains-permutation, IsPermutation-sym, IsPermutation, fold, flat_map, nat_lt, map, zip, slice_get, enumerate_from, range_with_len, slice_index_or, Contains, length-range_with_len, same_Some, puts_are_cells, range_and_rest, puts_say, said_past, said_inside, cells_said, Header, Var, Post, Owned, at, read, size_of, cells, places, Puts, bytes_of, bytes_of_some, Setting, put_post, get_post, get_some, byte_or, said_at, Says, IsOneValued, Cell, write_cells, said_by, IsWithin, said_by_puts, cells_of_puts, Source, cell_of, ranges, IsRun, IsGathered, got_cell, IsRunFrom, In, HaveSame, extents, nat_tests}
+use Rattle.overlay_laws.proofs.Words.{◌≡◌, ℕ, zero, suc, ◌+◌, ◌-◌, ◌<◌, ◌≤◌, refl, sym, ◌∙◌, ap, subst, inl, inr, ◌⊎◌, List, [], ◌∷◌, ◌++◌, length, drop, Bool, true, false, Option, Some, None, arith, common_steps, flat_map-append, length-append, get_or_past, Contains-permutation, IsPermutation-sym, IsPermutation, fold, flat_map, nat_lt, map, zip, slice_get, enumerate_from, range_with_len, slice_index_or, Contains, length-range_with_len, same_Some, puts_are_cells, range_and_rest, puts_say, said_past, said_inside, cells_said, Header, Var, Post, Owned, at, read, size_of, cells, places, Puts, bytes_of, bytes_of_some, Setting, put_post, get_post, get_some, byte_or, said_at, Says, IsOneValued, Cell, write_cells, said_by, IsWithin, said_by_puts, cells_of_puts, Source, cell_of, ranges, IsRun, IsGathered, got_cell, IsRunFrom, In, HaveSame, extents, nat_tests, map-append, length-map, cond}
 use borrow.Author.Tests.{ltb-true, ltb-false}
 use Rattle.overlay_laws.proofs.SaidLaws.{said_in_any_order, same_said, cells_long, same_file}
 
@@ -20,14 +20,7 @@ gathered_says header source [] [] h = refl
 gathered_says header source [] (os ∷ ess) h = absurd h
 gathered_says header source (p ∷ puts) [] h = absurd h
 gathered_says header source (p ∷ puts) (os ∷ ess) h =
-    ap (λ cells. said_by cells) (map_append (λ o. cell_of source o) os (flat_map (λ o. o) ess))
-    ∙ flat_map-append (λ cell. enumerate_from cell.0 cell.1) (map (λ o. cell_of source o) os) (map (λ o. cell_of source o) (flat_map (λ o. o) ess))
-    ∙ ap (λ rest. said_by (map (λ o. cell_of source o) os) ++ rest) (gathered_says header source puts ess h.2)
-    ∙ ap (λ first. first ++ said_by_puts header puts) (run_says p.1.bytes source 0 os h.0 ∙ ap (λ b. zip b p.1.bytes) h.1)
-  where
-    map_append : {X Y : Type 0} (f : X → Y) (xs ys : List X) → map f (xs ++ ys) ≡ map f xs ++ map f ys
-    map_append f [] ys = refl
-    map_append f (x ∷ xs) ys = ap (λ rest. f x ∷ rest) (map_append f xs ys)
+    grind (arith, nat_tests, gathered_says header source puts ess h.2, run_says p.1.bytes source 0 os h.0, map-append, flat_map-append)
 
 -- ---- entries in another order
 
@@ -114,13 +107,7 @@ list_writes s source puts ess list file h p once room fits = grind (arith, nat_t
 
 read_flat : (file ps : List ℕ) (size : ℕ) → flat_map (λ x. read file x size) ps ≡ map (λ i. at file i) (flat_map (λ x. range_with_len x size) ps)
 read_flat file [] size = refl
-read_flat file (p ∷ ps) size =
-    ap (λ rest. read file p size ++ rest) (read_flat file ps size)
-    ∙ sym (map_append (range_with_len p size) (flat_map (λ x. range_with_len x size) ps))
-  where
-    map_append : (xs ys : List ℕ) → map (λ i. at file i) (xs ++ ys) ≡ map (λ i. at file i) xs ++ map (λ i. at file i) ys
-    map_append [] ys = refl
-    map_append (x ∷ xs) ys = ap (λ rest. at file x ∷ rest) (map_append xs ys)
+read_flat file (p ∷ ps) size = grind (arith, nat_tests, read_flat file ps size, map-append)
 
 got_by : (s : Setting) (v : Option Var) (post : Post) (file : List ℕ) → get_some s v post file ≡ map (λ i. at file i) (bytes_of_some s.header v post)
 got_by s None post file = refl
@@ -132,14 +119,6 @@ get_is_bytes s post file = got_by s (slice_get s.header.vars post.var) post file
 
 -- ---- pieces of a get, each at its place in the blob
 
-map_long : (f : ℕ → ℕ) (xs : List ℕ) → length (map f xs) ≡ length xs
-map_long f [] = refl
-map_long f (x ∷ xs) = ap suc (map_long f xs)
-
-map_joined : (f : ℕ → ℕ) (xs ys : List ℕ) → map f (xs ++ ys) ≡ map f xs ++ map f ys
-map_joined f [] ys = refl
-map_joined f (x ∷ xs) ys = ap (λ rest. f x ∷ rest) (map_joined f xs ys)
-
 pub enumerate_joined : (n m : ℕ) (xs ys : List ℕ) → n + length xs ≡ m → enumerate_from n (xs ++ ys) ≡ enumerate_from n xs ++ enumerate_from m ys
 enumerate_joined n m [] ys e = let f : n ≡ m = omega arith in ap (λ k. enumerate_from k ys) f
 enumerate_joined n m (x ∷ xs) ys e = ap (λ rest. (n, x) ∷ rest) (enumerate_joined (n + 1) m xs ys (omega arith))
@@ -147,7 +126,7 @@ enumerate_joined n m (x ∷ xs) ys e = ap (λ rest. (n, x) ∷ rest) (enumerate_
 run_got : (file : List ℕ) (from : ℕ) (os : List Owned) → IsRunFrom from os
     → said_by (map (λ o. got_cell file o) os) ≡ enumerate_from from (map (λ i. at file i) (ranges os))
 run_got file from [] h = refl
-run_got file from (o ∷ os) h = grind (arith, nat_tests, run_got file (from + o.extent.len) os h.1, enumerate_joined, map_joined, map_long, length-range_with_len)
+run_got file from (o ∷ os) h = grind (arith, nat_tests, run_got file (from + o.extent.len) os h.1, enumerate_joined, map-append, length-map, length-range_with_len)
 
 pub says_place : (n : ℕ) (b : List ℕ) (x v : ℕ) → Says (enumerate_from n b) x v → (n ≤ x) × (slice_get b (x - n) ≡ Some v)
 says_place n [] x v h = absurd h
@@ -160,13 +139,10 @@ run_once n b x v w h k = same_Some v w (sym (says_place n b x v h).1 ∙ (says_p
 run_within : (file : List ℕ) (from n : ℕ) (os : List Owned) → IsRunFrom from os → from + length (ranges os) ≤ n → IsWithin (map (λ o. got_cell file o) os) n
 run_within file from n [] h k = tt
 run_within file from n (o ∷ os) h k =
-    let same : o.from ≡ from = h.0 in
-    let joined : length (range_with_len o.extent.at o.extent.len ++ ranges os) ≡ length (range_with_len o.extent.at o.extent.len) + length (ranges os)
-    = length-append (range_with_len o.extent.at o.extent.len) (ranges os) in
-    let long : length (range_with_len o.extent.at o.extent.len) ≡ o.extent.len = length-range_with_len o.extent.at o.extent.len in
-    let bytes : length (read file o.extent.at o.extent.len) ≡ length (range_with_len o.extent.at o.extent.len)
-    = map_long (λ i. at file i) (range_with_len o.extent.at o.extent.len) in
-    (omega arith, run_within file (from + o.extent.len) n os h.1 (omega arith))
+    let bytes = length-map (range_with_len o.extent.at o.extent.len) (λ i. at file i) in
+    let joined = length-append (range_with_len o.extent.at o.extent.len) (ranges os) in
+    let long = length-range_with_len o.extent.at o.extent.len in
+    (omega (arith, h.0, bytes), run_within file (from + o.extent.len) n os h.1 (omega arith))
 
 collected_as : (file blob bytes : List ℕ) (os list : List Owned) → bytes ≡ map (λ i. at file i) (ranges os) → IsRunFrom 0 os → HaveSame os list → length blob ≡ length bytes
     → write_cells blob (map (λ o. got_cell file o) list) ≡ bytes
@@ -177,29 +153,20 @@ collected_as file blob bytes os list is run same long =
     ∙ ap (λ (o : Option ℕ). byte_or o (at blob x))
     (sym (cells_moved (λ o. got_cell file o) os list same (subst (λ ps. IsOneValued ps) (sym told) (run_once 0 bytes)) x)
     ∙ ap (λ ps. said_at ps x) told)
-    ∙ by_place x (nat_lt x (length bytes)) refl)
+    ∙ by_place x)
   where
     told : said_by (map (λ o. got_cell file o) os) ≡ enumerate_from 0 bytes
     told = run_got file 0 os run ∙ ap (λ xs. enumerate_from 0 xs) (sym is)
 
     room : IsWithin (map (λ o. got_cell file o) os) (length blob)
-    room =
-        let e : length bytes ≡ length (map (λ i. at file i) (ranges os)) = ap (λ (xs : List ℕ). length xs) is in
-        let m : length (map (λ i. at file i) (ranges os)) ≡ length (ranges os) = map_long (λ i. at file i) (ranges os) in
-        run_within file 0 (length blob) os run (omega arith)
+    room = run_within file 0 (length blob) os run (omega (arith, ap (λ (xs : List ℕ). length xs) is, length-map (ranges os) (λ i. at file i)))
 
-    by_place : (x : ℕ) (t : Bool) → nat_lt x (length bytes) ≡ t → byte_or (said_at (enumerate_from 0 bytes) x) (at blob x) ≡ at bytes x
-    by_place x true e =
-        let l : x < length bytes = ltb-true _ _ e in
-        let none : x - 0 ≡ x = omega arith in
-        ap (λ (o : Option ℕ). byte_or o (at blob x)) (said_inside 0 bytes x 0 (omega arith) (omega arith)) ∙ ap (λ (k : ℕ). at bytes k) none
-    by_place x false e =
-        let l : length bytes ≤ x = ltb-false _ _ e in
-        ap (λ (o : Option ℕ). byte_or o (at blob x)) (said_past 0 bytes x (omega arith)) ∙ get_or_past blob x 0 (omega arith) ∙ sym (get_or_past bytes x 0 l)
+    by_place : (x : ℕ) → byte_or (said_at (enumerate_from 0 bytes) x) (at blob x) ≡ at bytes x
+    by_place x = grind (arith, nat_tests, said_inside 0 bytes x 0, said_past, get_or_past)
 
 pub collected : (file blob : List ℕ) (os list : List Owned) → IsRunFrom 0 os → HaveSame os list → length blob ≡ length (ranges os)
     → write_cells blob (map (λ o. got_cell file o) list) ≡ map (λ i. at file i) (ranges os)
-collected file blob os list run same long = grind (arith, nat_tests, collected_as, map_long)
+collected file blob os list run same long = grind (arith, nat_tests, collected_as, length-map)
 
 -- the blob of a get, collected entry by entry in any order
 pub get_collected : (s : Setting) (post : Post) (file blob : List ℕ) (os list : List Owned) → IsRunFrom 0 os → ranges os ≡ bytes_of s.header post

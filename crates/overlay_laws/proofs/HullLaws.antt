@@ -1,5 +1,5 @@
 -- The windows of the device calls have every covered byte, so that hulls written over them are the step.
-use Rattle.overlay_laws.proofs.Words.{◌≡◌, ℕ, zero, suc, ◌+◌, ◌-◌, ◌*◌, ◌/◌, ◌%◌, ◌<◌, ◌≤◌, refl, sym, ◌∙◌, ap, subst, inl, inr, ◌⊎◌, List, [], ◌∷◌, ◌++◌, length, Bool, true, false, not, cond, min, max, arith, nat_tests, div_below, le-div, mod_below, div-add-mod', mul-le, mul_comm, fold, flat_map, filter, map, zip, nat_lt, nat_le, ◌==◌, range_with_len, list_any, or_left, or_right, or_cases, in_filter, filter_in, no_false, equal_true, puts_are_cells, puts_say, Header, Hints, Puts, covered, Setting, put_post, in_order, first_of, last_of, not_empty, domain_size, domains, windows, collective_windows, sieved, sieving_windows, is_empty, Cell, said_at, said_by, Says, IsWithin, IsInOne, HasEach, said_by_puts, In, cells_of_puts, hulls, IsAscending, written_over, AreHints, filter_at_most}
+use Rattle.overlay_laws.proofs.Words.{◌≡◌, ℕ, zero, suc, ◌+◌, ◌-◌, ◌*◌, ◌/◌, ◌%◌, ◌<◌, ◌≤◌, refl, sym, ◌∙◌, ap, subst, inl, inr, ◌⊎◌, List, [], ◌∷◌, ◌++◌, length, Bool, true, false, not, cond, min, max, arith, nat_tests, div_below, le-div, mod_below, div-add-mod', mul-le, mul_comm, fold, flat_map, filter, map, zip, nat_lt, nat_le, ◌==◌, range_with_len, list_any, or_left, or_right, or_cases, in_filter, filter_in, no_false, equal_true, puts_are_cells, puts_say, Header, Hints, Puts, covered, Setting, put_post, in_order, first_of, last_of, not_empty, domain_size, domains, windows, collective_windows, sieved, sieving_windows, is_empty, Cell, said_at, said_by, Says, IsWithin, IsInOne, HasEach, said_by_puts, In, cells_of_puts, hulls, IsAscending, written_over, AreHints, filter_at_most, leb_tells, cases_eq, lt-ltb}
 use borrow.Author.Tests.{ltb-false, eqb-true}
 use Rattle.overlay_laws.proofs.Members.{in_map}
 use Rattle.overlay_laws.proofs.SaidLaws.{said_is, same_said}
@@ -38,11 +38,7 @@ flat_in f (z ∷ xs) y h = grind (arith, nat_tests, flat_in f xs y, in_either)
 
 pub in_range : (a n x : ℕ) → a ≤ x → x < a + n → In (range_with_len a n) x
 in_range a zero x h k = absurd (omega arith)
-in_range a (suc n) x h k = by_first (λ l. in_range (a + 1) n x l (omega arith)) (a == x) refl
-  where
-    by_first : (a + 1 ≤ x → In (range_with_len (a + 1) n) x) → (t : Bool) → (a == x) ≡ t → In (range_with_len a (suc n)) x
-    by_first rest true e = inl (eqb-true _ _ e)
-    by_first rest false e = inr (rest (grind (arith, nat_tests)))
+in_range a (suc n) x h k = elim (cases_eq a x) [ inl e ↦ inl e | inr m ↦ inr (in_range (a + 1) n x (omega arith) (omega arith)) ]
 
 pub range_low : (a n x : ℕ) → In (range_with_len a n) x → a ≤ x
 range_low a zero x h = absurd h
@@ -216,26 +212,15 @@ sieved_have zero buffer [] x h l asc k = absurd k
 sieved_have zero buffer (y ∷ ys) x h l asc k = absurd (omega arith)
 sieved_have (suc fuel) buffer [] x h l asc k = absurd k
 sieved_have (suc fuel) buffer (y ∷ ys) x h l asc k =
-    by_test
-    (λ g. sieved_have fuel buffer (filter (λ z. nat_le (y + buffer) z) ys) x h (let m = filter_at_most (λ z. nat_le (y + buffer) z) ys in omega arith)
-    (filter_ascends (λ z. nat_le (y + buffer) z) ys asc.1) g)
-    k (nat_lt x (y + buffer)) refl
-  where
-    le_true : nat_lt x (y + buffer) ≡ false → nat_le (y + buffer) x ≡ true
-    le_true e = grind (arith, nat_tests)
-
-    by_test : (In (filter (λ z. nat_le (y + buffer) z) ys) x → HasWindow (sieved fuel buffer (filter (λ z. nat_le (y + buffer) z) ys)) x)
-        → In (y ∷ ys) x → (t : Bool) → nat_lt x (y + buffer) ≡ t → HasWindow (sieved (suc fuel) buffer (y ∷ ys)) x
-    by_test rest g true e = record {
-      window = filter (λ z. nat_lt z (y + buffer)) (y ∷ ys);
-      is_one = inl refl;
-      has = in_filter (λ z. nat_lt z (y + buffer)) (y ∷ ys) x g e;
-      ascends = filter_ascends (λ z. nat_lt z (y + buffer)) (y ∷ ys) asc;
-    }
-    by_test rest (inl g) false e = let m : y + buffer ≤ x = ltb-false _ _ e in absurd (omega arith)
-    by_test rest (inr g) false e =
-        later_window (filter (λ z. nat_lt z (y + buffer)) (y ∷ ys)) (sieved fuel buffer (filter (λ z. nat_le (y + buffer) z) ys)) x
-        (rest (in_filter (λ z. nat_le (y + buffer) z) ys x g (le_true e)))
+    let first = filter (λ z. nat_lt z (y + buffer)) (y ∷ ys) in
+    let later = filter (λ z. nat_le (y + buffer) z) ys in
+    elim (leb_tells (y + buffer) x) [
+      | inr e ↦ record { window = first; is_one = inl refl; has = in_filter (λ z. nat_lt z (y + buffer)) (y ∷ ys) x k (lt-ltb _ _ e.1); ascends = filter_ascends (λ z. nat_lt z (y + buffer)) (y ∷ ys) asc }
+      | inl e ↦
+          later_window first (sieved fuel buffer later) x
+          (sieved_have fuel buffer later x h (omega (arith, filter_at_most (λ z. nat_le (y + buffer) z) ys)) (filter_ascends (λ z. nat_le (y + buffer) z) ys asc.1)
+          (in_filter (λ z. nat_le (y + buffer) z) ys x (elim k [ inl g ↦ absurd (omega (arith, e.1, g)) | inr g ↦ g ]) e.0))
+    ]
 
 sieved_only : (fuel buffer : ℕ) (bytes w : List ℕ) (x : ℕ) → In (sieved fuel buffer bytes) w → In w x → In bytes x
 sieved_only zero buffer bytes w x h k = absurd h

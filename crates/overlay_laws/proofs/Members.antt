@@ -1,5 +1,5 @@
 -- Members of lists: of filtered, mapped, entry_numbered and paired ones, by place, of a list's first entries.
-use Rattle.overlay_laws.proofs.Words.{◌≡◌, ℕ, zero, suc, ◌+◌, ◌<◌, refl, subst, length, take, get_or, ap, inl, inr, List, [], ◌∷◌, Some, arith, zip, slice_get, enumerate_from, AllByRecursion, slice_get_read, In, at_in, entry_numbered, nat_tests}
+use Rattle.overlay_laws.proofs.Words.{◌≡◌, ℕ, zero, suc, ◌+◌, ◌<◌, refl, subst, length, take, get_or, ap, inl, inr, List, [], ◌∷◌, Some, arith, zip, slice_get, enumerate_from, AllByRecursion, slice_get_read, In, at_in, entry_numbered, nat_tests, Bool, true, false, cond}
 use Rattle.std.proofs.Common.{map}
 
 pub in_map : {X Y : Type 0} (f : X → Y) (xs : List X) (x : X) → In xs x → In (map f xs) (f x)
@@ -29,10 +29,14 @@ entry_in (x ∷ xs) zero d h = inl refl
 entry_in (x ∷ xs) (suc i) d h = inr (entry_in xs i d (omega arith))
 
 pub in_taken : {X : Type 0} (n : ℕ) (xs : List X) (x : X) → In (take n xs) x → In xs x
-in_taken zero xs x h = absurd h
-in_taken (suc n) [] x h = absurd h
 in_taken (suc n) (y ∷ xs) x (inl e) = inl e
 in_taken (suc n) (y ∷ xs) x (inr h) = inr (in_taken n xs x h)
+in_taken n xs x h = absurd h
+
+-- a value under a test, by both of its cases
+pub either : {X : Type 0} (P : X → Type 0) (t : Bool) (a b : X) → (t ≡ true → P a) → (t ≡ false → P b) → P (cond t a b)
+either P true a b f g = f refl
+either P false a b f g = g refl
 
 -- ---- numbers
 

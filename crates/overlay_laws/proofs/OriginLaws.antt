@@ -1,5 +1,5 @@
 -- The bytes of entries by where they come from; where requests overlap, the last in rank order counts.
-use Rattle.overlay_laws.proofs.Words.{◌≡◌, ℕ, zero, suc, ◌+◌, ◌<◌, ◌≤◌, refl, sym, ◌∙◌, ap, subst, inl, inr, ◌⊎◌, List, [], ◌∷◌, ◌++◌, length, take, drop, Bool, true, false, Option, Some, None, arith, drop_more, map-append, fold, flat_map, map, option_map, ◌==◌, enumerate_from, range_with_len, no_none_some, puts_are_cells, puts_say, one_hit, Owned, at, Puts, Setting, put_post, option_or, same_Some, one_says, said_at, Says, IsOneValued, write_cells, said_by, IsWithin, cells_of_puts, Source, cell_of, IsGathered, In, HaveSame, Origin, origins_of, origins, byte_at, AreFound, AtMost, IsGreatest, IsResolved, IsOnceEach, IsInOrder, nat_tests}
+use Rattle.overlay_laws.proofs.Words.{◌≡◌, ℕ, zero, suc, ◌+◌, ◌<◌, ◌≤◌, refl, sym, ◌∙◌, ap, subst, inl, inr, ◌⊎◌, List, [], ◌∷◌, ◌++◌, length, take, drop, Bool, true, false, Option, Some, None, arith, drop_more, map-append, fold, flat_map, map, option_map, ◌==◌, enumerate_from, range_with_len, no_none_some, puts_are_cells, puts_say, one_hit, Owned, at, Puts, Setting, put_post, option_or, same_Some, one_says, said_at, Says, IsOneValued, write_cells, said_by, IsWithin, cells_of_puts, Source, cell_of, IsGathered, In, HaveSame, Origin, origins_of, origins, byte_at, AreFound, AtMost, IsGreatest, IsResolved, IsOnceEach, IsInOrder, nat_tests, some_or_none}
 use Rattle.overlay_laws.proofs.SaidLaws.{said_is, says_some, one_said, same_said}
 use Rattle.overlay_laws.proofs.EntryLaws.{says_cases, says_moved, gathered_says}
 
@@ -42,21 +42,14 @@ itself a = inr (refl, omega arith)
 last_is_greatest : (ps : List (ℕ × Origin)) → AllInOrder ps → (x : ℕ) (a b : Origin) → said_at ps x ≡ Some a → Says ps x b → AtMost b a
 unfolding AllInOrder
 last_is_greatest [] h x a b e k = absurd k
-last_is_greatest (p ∷ ps) h x a b e k = by_rest (λ g l. last_is_greatest ps h.1 x a b g l) (said_at ps x) refl k e
-  where
-    by_one : (t : Bool) → (p.0 == x) ≡ t → one_says p.0 p.1 x ≡ Some a → p.1 ≡ a
-    by_one true g l = same_Some p.1 a (sym (one_hit p.0 x p.1 g) ∙ l)
-    by_one false g l = no_none_some a (sym (miss g) ∙ l)
-      where
-        miss : (p.0 == x) ≡ false → one_says p.0 p.1 x ≡ None
-        miss g = cc
-
-    by_rest : (said_at ps x ≡ Some a → Says ps x b → AtMost b a) → (o : Option Origin) → said_at ps x ≡ o
-        → ((p.0 ≡ x) × (p.1 ≡ b)) ⊎ Says ps x b → option_or o (one_says p.0 p.1 x) ≡ Some a → AtMost b a
-    by_rest ih (Some c) g (inr l) f = ih (g ∙ f) l
-    by_rest ih (Some c) g (inl l) f = subst (λ (z : Origin). AtMost z a) l.1 (h.0 x a (said_is ps x a (g ∙ f)))
-    by_rest ih None g (inr l) f = let s = says_some ps x b l in no_none_some s.0 (sym g ∙ s.1)
-    by_rest ih None g (inl l) f = subst (λ (z : Origin). AtMost z a) l.1 (subst (λ (z : Origin). AtMost p.1 z) (by_one (p.0 == x) refl f) (itself p.1))
+last_is_greatest (p ∷ ps) h x a b e (inr l) =
+    let s = says_some ps x b l in
+    last_is_greatest ps h.1 x a b (grind (arith, nat_tests, s)) l
+last_is_greatest (p ∷ ps) h x a b e (inl l) = elim (some_or_none (said_at ps x)) [
+  | inl n ↦ (let same : b ≡ a = grind (arith, nat_tests, same_Some b a) in subst (λ (z : Origin). AtMost b z) same (itself b))
+  | inr s ↦ (let same : s.0 ≡ a = grind (arith, nat_tests, same_Some s.0 a) in
+      subst (λ (z : Origin). AtMost z a) l.1 (h.0 x a (said_is ps x a (s.1 ∙ ap Some same))))
+]
 
 same_ends : (a b : Origin) → AtMost a b → AtMost b a → (a.0 ≡ b.0) × (a.1 ≡ b.1)
 same_ends a b xs ys = grind (arith, nat_tests)
@@ -112,32 +105,25 @@ origins_moved xs ys p x a h = says_moved origins_of xs ys x a p h
 
 pub resolved_says : (ordered list result : List Owned) → HaveSame ordered list → IsInOrder ordered → IsOnceEach (origins ordered) → IsResolved list result
     → (x : ℕ) → said_at (origins result) x ≡ said_at (origins ordered) x
-resolved_says ordered list result same order once resolved x = by_ordered (said_at (origins ordered) x) refl
+resolved_says ordered list result same order once resolved x = elim (some_or_none (said_at (origins ordered) x)) [
+  | inr a ↦ one_said (origins result) once_result x a.0 (resolved.1 x a.0 (great a.0 a.1)) ∙ sym a.1
+  | inl e ↦ elim (some_or_none (said_at (origins result) x)) [
+    | inl g ↦ g ∙ sym e
+    | inr a ↦ (let s = says_some (origins ordered) x a.0 (there x a.0 (resolved.0 x a.0 (said_is (origins result) x a.0 a.1)).0) in no_none_some s.0 (sym e ∙ s.1))
+  ]
+]
   where
-    there : (b : Origin) → Says (origins list) x b → Says (origins ordered) x b
-    there b h = origins_moved list ordered same.1 x b h
-
-    back : (b : Origin) → Says (origins ordered) x b → Says (origins list) x b
-    back b h = origins_moved ordered list same.0 x b h
+    there : (y : ℕ) (b : Origin) → Says (origins list) y b → Says (origins ordered) y b
+    there y b h = origins_moved list ordered same.1 y b h
 
     great : (a : Origin) → said_at (origins ordered) x ≡ Some a → IsGreatest (origins list) x a
-    great a e = (back a (said_is (origins ordered) x a e), λ b h. last_is_greatest (origins ordered) (origins_in_order ordered order) x a b e (there b h))
+    great a e = (origins_moved ordered list same.0 x a (said_is (origins ordered) x a e), λ b h. last_is_greatest (origins ordered) (origins_in_order ordered order) x a b e (there x b h))
 
     once_list : IsOnceEach (origins list)
-    once_list y a b ha hb = once y a b (origins_moved list ordered same.1 y a ha) (origins_moved list ordered same.1 y b hb)
+    once_list y a b ha hb = once y a b (there y a ha) (there y b hb)
 
     once_result : IsOneValued (origins result)
     once_result y a b ha hb = greatest_once (origins list) once_list y a b (resolved.0 y a ha) (resolved.0 y b hb)
-
-    by_result : (o : Option Origin) → said_at (origins result) x ≡ o → said_at (origins ordered) x ≡ None → said_at (origins result) x ≡ said_at (origins ordered) x
-    by_result None g e = g ∙ sym e
-    by_result (Some a) g e =
-        let s = says_some (origins ordered) x a (there a (resolved.0 x a (said_is (origins result) x a g)).0) in
-        no_none_some s.0 (sym e ∙ s.1)
-
-    by_ordered : (o : Option Origin) → said_at (origins ordered) x ≡ o → said_at (origins result) x ≡ said_at (origins ordered) x
-    by_ordered None e = by_result (said_at (origins result) x) refl e
-    by_ordered (Some a) e = one_said (origins result) once_result x a (resolved.1 x a (great a e)) ∙ sym e
 
 -- the step of the model, where requests overlap, is the resolved entries written one by one
 pub resolved_writes : (s : Setting) (source : Source) (puts : Puts) (ess : List (List Owned)) (list result : List Owned) (file : List ℕ)

@@ -1,13 +1,8 @@
 -- Windows that are each read, overlaid and written, one after another.
-use Rattle.overlay_laws.proofs.Words.{◌≡◌, ℕ, zero, suc, ◌+◌, ◌-◌, ◌<◌, ◌≤◌, None, refl, sym, ◌∙◌, ap, subst, List, [], ◌∷◌, length, Some, arith, take, drop, fold, map, read_long, at, read, written, Cell, write_cells, IsWithin, IsFrom, moved_down, said_at, said_by, clips, IsInOne, HasEach, read_overlaid, all_read_overlaid, nat_tests}
+use Rattle.overlay_laws.proofs.Words.{◌≡◌, ℕ, zero, suc, ◌+◌, ◌-◌, ◌<◌, ◌≤◌, None, refl, sym, ◌∙◌, ap, subst, List, [], ◌∷◌, length, Some, arith, take, drop, fold, map, read_at, read_long, at, read, written, Cell, write_cells, IsWithin, IsFrom, moved_down, said_at, said_by, clips, IsInOne, HasEach, read_overlaid, all_read_overlaid, nat_tests}
 use Rattle.overlay_laws.proofs.SaidLaws.{cells_long}
 use Rattle.overlay_laws.proofs.WindowLaws.{clips_within, clips_from, within_more, window_done, windows_done}
 use Rattle.overlay_laws.proofs.OriginLaws.{slice_step}
-
-read_at : (file : List ℕ) (x n i : ℕ) → i < n → at (read file x n) i ≡ at file (x + i)
-read_at file x zero i h = absurd (omega arith)
-read_at file x (suc n) zero h = let e : x ≡ x + 0 = omega arith in ap (λ (k : ℕ). at file k) e
-read_at file x (suc n) (suc i) h = let e : x + 1 + i ≡ x + suc i = omega arith in read_at file (x + 1) n i (omega arith) ∙ ap (λ (k : ℕ). at file k) e
 
 pub kept_read : (file buf : List ℕ) (lo n x : ℕ) → buf ≡ read file lo n → lo ≤ x → x < lo + n → at buf (x - lo) ≡ at file x
 kept_read file buf lo n x e h k = grind (arith, nat_tests, read_at)

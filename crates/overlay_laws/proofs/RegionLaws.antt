@@ -1,16 +1,11 @@
 -- The elements of a region have different indices, so those of a sound header's variable lie apart.
-use Rattle.overlay_laws.proofs.Words.{◌≡◌, ℕ, zero, suc, ◌+◌, ◌-◌, ◌*◌, ◌<◌, ◌≤◌, refl, sym, ◌∙◌, ap, subst, inl, inr, ◌⊎◌, List, [], ◌∷◌, ◌++◌, length, get_or, drop, true, Some, arith, flat_map, map, slice_get, range_with_len, length-map, same_Some, no_none_some, same_factor, Header, Var, Region, size_of, is_sound, product, row, place, IsIndex, IsElement, AreApart, coordinates, index_at, elements, places, length-coordinates, elements_apart, LieApart, HaveStrides, nat_tests}
+use Rattle.overlay_laws.proofs.Words.{◌≡◌, ℕ, zero, suc, ◌+◌, ◌-◌, ◌*◌, ◌<◌, ◌≤◌, refl, sym, ◌∙◌, ap, subst, inl, inr, ◌⊎◌, List, [], ◌∷◌, ◌++◌, length, get_or, drop, true, Some, arith, flat_map, map, slice_get, range_with_len, length-map, same_Some, no_none_some, same_factor, Header, Var, Region, size_of, is_sound, product, row, place, IsIndex, IsElement, AreApart, coordinates, index_at, elements, places, length-coordinates, elements_apart, LieApart, HaveStrides, nat_tests, mapped_entry}
 
 split_at : {A : Type 0} (xs ys : List A) (m : ℕ) (c : A) → slice_get (xs ++ ys) m ≡ Some c
     → (slice_get xs m ≡ Some c) ⊎ ((length xs ≤ m) × (slice_get ys (m - length xs) ≡ Some c))
 split_at [] ys m c h = let e : m ≡ m - 0 = omega arith in inr (omega arith, ap (λ (k : ℕ). slice_get ys k) (sym e) ∙ h)
 split_at (x ∷ xs) ys zero c h = inl h
 split_at {A} (x ∷ xs) ys (suc m) c h = grind (arith, nat_tests, split_at xs ys m c h)
-
-map_at : {A B : Type 0} (f : A → B) (xs : List A) (m : ℕ) (c : B) → slice_get (map f xs) m ≡ Some c → (d : A) × (slice_get xs m ≡ Some d) × (f d ≡ c)
-map_at f [] m c h = no_none_some c h
-map_at f (x ∷ xs) zero c h = (x, refl, same_Some (f x) c h)
-map_at f (x ∷ xs) (suc m) c h = map_at f xs m c h
 
 record BlockAt (inner : List (List ℕ)) (a n m : ℕ) (c : List ℕ) : Type 0 where
   block : ℕ
@@ -24,36 +19,23 @@ record BlockAt (inner : List (List ℕ)) (a n m : ℕ) (c : List ℕ) : Type 0 w
 block_at : (inner : List (List ℕ)) (a n m : ℕ) (c : List ℕ) → slice_get (flat_map (λ i. map (λ d. i ∷ d) inner) (range_with_len a n)) m ≡ Some c → BlockAt inner a n m c
 block_at inner a zero m c h = no_none_some c h
 block_at inner a (suc n) m c h =
-    by_side (λ g. block_at inner (a + 1) n (m - length (map (λ d. a ∷ d) inner)) c g)
-    (split_at (map (λ d. a ∷ d) inner) (flat_map (λ i. map (λ d. i ∷ d) inner) (range_with_len (a + 1) n)) m c h)
-  where
-    first : a + 0 ≡ a
-    first = omega arith
-
-    by_side : (slice_get (flat_map (λ i. map (λ d. i ∷ d) inner) (range_with_len (a + 1) n)) (m - length (map (λ d. a ∷ d) inner)) ≡ Some c
-        → BlockAt inner (a + 1) n (m - length (map (λ d. a ∷ d) inner)) c)
-        → (slice_get (map (λ d. a ∷ d) inner) m ≡ Some c)
-        ⊎ ((length (map (λ d. a ∷ d) inner) ≤ m) × (slice_get (flat_map (λ i. map (λ d. i ∷ d) inner) (range_with_len (a + 1) n)) (m - length (map (λ d. a ∷ d) inner)) ≡ Some c))
-        → BlockAt inner a (suc n) m c
-    by_side ih (inl g) =
-        let r = map_at (λ d. a ∷ d) inner m c g in
-        record { block = 0; place = m; rest = r.0; below = omega arith; is_place = omega arith; is_rest = r.1; whole = ap (λ (k : ℕ). k ∷ r.0) first ∙ r.2 }
-    by_side ih (inr g) =
-        let r = ih g.1 in
-        let long = length-map inner (λ d. a ∷ d) in
-        let fits = g.0 in
-        let there = r.is_place in
-        let low = r.below in
-        let next : a + suc r.block ≡ a + 1 + r.block = omega arith in
-        record {
-          block = suc r.block;
-          place = r.place;
-          rest = r.rest;
-          below = omega arith;
-          is_place = omega arith;
-          is_rest = r.is_rest;
-          whole = ap (λ (k : ℕ). k ∷ r.rest) next ∙ r.whole;
-        }
+    let long = length-map inner (λ d. a ∷ d) in
+    elim (split_at (map (λ d. a ∷ d) inner) (flat_map (λ i. map (λ d. i ∷ d) inner) (range_with_len (a + 1) n)) m c h) [
+      | inl g ↦ (let r = mapped_entry (λ d. a ∷ d) inner m c g in
+          let first : a + 0 ≡ a = omega arith in
+          record { block = 0; place = m; rest = r.0; below = omega arith; is_place = omega arith; is_rest = r.1.0; whole = ap (λ (k : ℕ). k ∷ r.0) first ∙ r.1.1 })
+      | inr g ↦ (let r = block_at inner (a + 1) n (m - length (map (λ d. a ∷ d) inner)) c g.1 in
+          let next : a + suc r.block ≡ a + 1 + r.block = omega arith in
+          record {
+            block = suc r.block;
+            place = r.place;
+            rest = r.rest;
+            below = omega (arith, r.below);
+            is_place = omega (arith, r.is_place, long, g.0);
+            is_rest = r.is_rest;
+            whole = ap (λ (k : ℕ). k ∷ r.rest) next ∙ r.whole;
+          })
+    ]
 
 -- the number of a region's element is its row-major number
 pub coordinate_row : (counts : List ℕ) (m : ℕ) (c : List ℕ) → slice_get (coordinates counts) m ≡ Some c → IsIndex counts c × (m ≡ row counts c)
@@ -75,35 +57,34 @@ times_once s t x y h e = let f : x * t ≡ y * t = omega arith in same_factor x 
 index_once : (counts starts strides c d : List ℕ) → HaveStrides counts starts strides → IsIndex counts c → IsIndex counts d
     → index_at starts strides c ≡ index_at starts strides d → c ≡ d
 index_once [] starts strides [] [] h p q e = refl
-index_once [] starts strides [] (y ∷ d) h p q e = absurd q
-index_once [] starts strides (x ∷ c) d h p q e = absurd p
-index_once (n ∷ counts) starts strides [] d h p q e = absurd p
-index_once (n ∷ counts) starts strides (x ∷ c) [] h p q e = absurd q
-index_once (n ∷ counts) [] strides (x ∷ c) (y ∷ d) h p q e = absurd h
-index_once (n ∷ counts) (s ∷ starts) [] (x ∷ c) (y ∷ d) h p q e = absurd h
 index_once (n ∷ counts) (s ∷ starts) (t ∷ strides) (x ∷ c) (y ∷ d) h p q e =
     let first : s + x * t ≡ s + y * t = ap (λ (l : List ℕ). get_or l 0 0) e in
     let rest = index_once counts starts strides c d h.1 p.1 q.1 (ap (λ (l : List ℕ). drop 1 l) e) in
     ap (λ (k : ℕ). k ∷ c) (times_once s t x y h.0 first) ∙ ap (λ (l : List ℕ). y ∷ l) rest
+index_once [] _ _ [] (y ∷ d) h p q e = absurd q
+index_once [] _ _ (x ∷ c) _ h p q e = absurd p
+index_once (n ∷ counts) _ _ [] _ h p q e = absurd p
+index_once (n ∷ counts) _ _ (x ∷ c) [] h p q e = absurd q
+index_once _ _ _ _ _ h p q e = absurd h
 
 -- elements at different numbers have different indices
 pub elements_once : (g : Region) (i j : ℕ) (a : List ℕ) → HaveStrides g.count g.start g.stride
     → slice_get (elements g) i ≡ Some a → slice_get (elements g) j ≡ Some a → i ≡ j
 elements_once g i j a h p q =
-    let c = map_at (λ c. index_at g.start g.stride c) (coordinates g.count) i a p in
-    let d = map_at (λ c. index_at g.start g.stride c) (coordinates g.count) j a q in
-    let rc = coordinate_row g.count i c.0 c.1 in
-    let rd = coordinate_row g.count j d.0 d.1 in
-    let same = index_once g.count g.start g.stride c.0 d.0 h rc.0 rd.0 (c.2 ∙ sym d.2) in
+    let c = mapped_entry (λ c. index_at g.start g.stride c) (coordinates g.count) i a p in
+    let d = mapped_entry (λ c. index_at g.start g.stride c) (coordinates g.count) j a q in
+    let rc = coordinate_row g.count i c.0 c.1.0 in
+    let rd = coordinate_row g.count j d.0 d.1.0 in
+    let same = index_once g.count g.start g.stride c.0 d.0 h rc.0 rd.0 (c.1.1 ∙ sym d.1.1) in
     rc.1 ∙ ap (λ (x : List ℕ). row g.count x) same ∙ sym rd.1
 
 pub region_apart : (header : Header) (k : ℕ) (v : Var) (g : Region) → is_sound header ≡ true → slice_get header.vars k ≡ Some v
     → HaveStrides g.count g.start g.stride → ((i : ℕ) (a : List ℕ) → slice_get (elements g) i ≡ Some a → IsElement header v a)
     → LieApart (size_of v.kind) (places header v g)
 region_apart header k v g sound is h each i j p q e f differ =
-    let a = map_at (λ index. place header v index) (elements g) i p e in
-    let b = map_at (λ index. place header v index) (elements g) j q f in
-    let apart = elements_apart header k k v v a.0 b.0 sound is is (each i a.0 a.1) (each j b.0 b.1)
-    (λ d. differ (elements_once g i j b.0 h (a.1 ∙ ap Some d.1) b.1)) in
-    subst (λ (x : ℕ). AreApart x (size_of v.kind) q (size_of v.kind)) a.2
-    (subst (λ (y : ℕ). AreApart (place header v a.0) (size_of v.kind) y (size_of v.kind)) b.2 apart)
+    let a = mapped_entry (λ index. place header v index) (elements g) i p e in
+    let b = mapped_entry (λ index. place header v index) (elements g) j q f in
+    let apart = elements_apart header k k v v a.0 b.0 sound is is (each i a.0 a.1.0) (each j b.0 b.1.0)
+    (λ d. differ (elements_once g i j b.0 h (a.1.0 ∙ ap Some d.1) b.1.0)) in
+    subst (λ (x : ℕ). AreApart x (size_of v.kind) q (size_of v.kind)) a.1.1
+    (subst (λ (y : ℕ). AreApart (place header v a.0) (size_of v.kind) y (size_of v.kind)) b.1.1 apart)

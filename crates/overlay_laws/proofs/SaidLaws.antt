@@ -1,5 +1,5 @@
 -- Cells written one after another: each byte is what the last cell that has it says, else the old one.
-use Rattle.overlay_laws.proofs.Words.{◌≡◌, ℕ, ◌-◌, refl, sym, ◌∙◌, subst, inl, inr, List, [], ◌∷◌, length, Option, Some, None, ext_get_or, equal_true, one_hit, cells_said, no_none_some, first_counts, at, written, length-written_inside, option_or, same_Some, one_says, said_at, Says, IsOneValued, Cell, write_cells, said_by, IsWithin, arith, nat_tests}
+use Rattle.overlay_laws.proofs.Words.{◌≡◌, ℕ, ◌-◌, refl, sym, ◌∙◌, subst, inl, inr, List, [], ◌∷◌, length, Option, Some, None, ext_get_or, equal_true, one_hit, cells_said, no_none_some, first_counts, at, written, length-written_inside, option_or, same_Some, one_says, said_at, Says, IsOneValued, Cell, write_cells, said_by, IsWithin, arith, nat_tests, some_or_none, second_counts}
 use borrow.Author.Tests.{eqb-true}
 
 -- ---- cells
@@ -28,12 +28,11 @@ said_is {A} (p ∷ ps) x v h = grind (arith, nat_tests, said_is ps x v, eqb-true
 -- a place of which something is said
 pub says_some : {A : Type 0} (ps : List (ℕ × A)) (x : ℕ) (v : A) → Says ps x v → (w : A) × (said_at ps x ≡ Some w)
 says_some [] x v h = absurd h
-says_some {A} (p ∷ ps) x v (inr h) = let s = says_some ps x v h in (s.0, first_counts (said_at ps x) _ s.0 s.1)
-says_some {A} (p ∷ ps) x v (inl h) = by_rest (said_at ps x) refl
-  where
-    by_rest : (o : Option A) → said_at ps x ≡ o → (w : A) × (option_or o (one_says p.0 p.1 x) ≡ Some w)
-    by_rest (Some a) e = (a, refl)
-    by_rest None e = (p.1, one_hit p.0 x p.1 (equal_true p.0 x h.0))
+says_some (p ∷ ps) x v (inr h) = let s = says_some ps x v h in (s.0, first_counts (said_at ps x) _ s.0 s.1)
+says_some (p ∷ ps) x v (inl h) = elim (some_or_none (said_at ps x)) [
+  | inl n ↦ (p.1, second_counts (said_at ps x) _ n ∙ one_hit p.0 x p.1 (equal_true p.0 x h.0))
+  | inr s ↦ (s.0, first_counts (said_at ps x) _ s.0 s.1)
+]
 
 pub one_said : {A : Type 0} (ps : List (ℕ × A)) → IsOneValued ps → (x : ℕ) (v : A) → Says ps x v → said_at ps x ≡ Some v
 one_said ps once x v h = grind (arith, nat_tests, says_some ps x v h, said_is ps x (says_some ps x v h).0 (says_some ps x v h).1)
@@ -41,15 +40,7 @@ one_said ps once x v h = grind (arith, nat_tests, says_some ps x v h, said_is ps
 -- lists that say the same pairs, in whatever order
 pub said_in_any_order : {A : Type 0} (a b : List (ℕ × A)) → IsOneValued a → ((x : ℕ) (v : A) → Says a x v → Says b x v)
     → ((x : ℕ) (v : A) → Says b x v → Says a x v) → (x : ℕ) → said_at a x ≡ said_at b x
-said_in_any_order {A} a b once there back x = by_a (said_at a x) refl
-  where
-    once_b : IsOneValued b
-    once_b y v w hv hw = once y v w (back y v hv) (back y w hw)
-
-    by_b : (q : Option A) → said_at b x ≡ q → said_at a x ≡ None → said_at a x ≡ said_at b x
-    by_b None e g = g ∙ sym e
-    by_b (Some v) e g = no_none_some v (sym g ∙ one_said a once x v (back x v (said_is b x v e)))
-
-    by_a : (o : Option A) → said_at a x ≡ o → said_at a x ≡ said_at b x
-    by_a (Some v) e = e ∙ sym (one_said b once_b x v (there x v (said_is a x v e)))
-    by_a None e = by_b (said_at b x) refl e
+said_in_any_order a b once there back x = elim (some_or_none (said_at b x)) [
+  | inr v ↦ one_said a once x v.0 (back x v.0 (said_is b x v.0 v.1)) ∙ sym v.1
+  | inl n ↦ elim (some_or_none (said_at a x)) [ inl e ↦ e ∙ sym n | inr v ↦ (let s = says_some b x v.0 (there x v.0 (said_is a x v.0 v.1)) in no_none_some s.0 (sym n ∙ s.1)) ]
+]

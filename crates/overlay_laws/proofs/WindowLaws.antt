@@ -1,25 +1,16 @@
 -- Windows that are read, overlaid and written are cells that are written; windows that have every cell are the cells.
-use Rattle.overlay_laws.proofs.Words.{◌≡◌, ℕ, ◌+◌, ◌-◌, ◌<◌, ◌≤◌, refl, sym, ◌∙◌, ap, inl, inr, List, [], ◌∷◌, ◌++◌, length, drop, get_or, Bool, true, false, Option, Some, None, arith, common_steps, flat_map-append, fold-append, get_or-take, get_or-drop, fold, flat_map, nat_lt, map, enumerate_from, at-written_before, at-written_after, length-written_inside, said_below, said_past, said_inside, at-written_inside, said_append, cells_said, no_none_some, neither_some, second_counts, first_counts, at, written, option_or, said_at, byte_or, Cell, write_cells, said_by, IsWithin, IsFrom, moved_down, IsPart, AreParts, SomeSays, clip, clips, IsInOne, HasEach, nat_tests}
+use Rattle.overlay_laws.proofs.Words.{◌≡◌, ℕ, ◌+◌, ◌-◌, ◌<◌, ◌≤◌, refl, sym, ◌∙◌, ap, inl, inr, ◌⊎◌, List, [], ◌∷◌, ◌++◌, length, drop, get_or, Bool, true, false, Option, Some, None, arith, common_steps, flat_map-append, fold-append, get_or-take, get_or-drop, fold, flat_map, nat_lt, map, enumerate_from, at-written_before, at-written_after, length-written_inside, said_below, said_past, said_inside, at-written_inside, said_append, cells_said, no_none_some, neither_some, second_counts, first_counts, at, written, option_or, said_at, byte_or, Cell, write_cells, said_by, IsWithin, IsFrom, moved_down, IsPart, AreParts, SomeSays, clip, clips, IsInOne, HasEach, nat_tests, cond, some_or_none, leb_tells}
 use borrow.Author.Tests.{ltb-true, ltb-false}
 use Rattle.overlay_laws.proofs.SaidLaws.{cells_long, same_file, same_said}
 
 -- ---- cells seen from a place on
 
-one_moved : (lo p : ℕ) (b : List ℕ) (x : ℕ) → lo ≤ p → lo ≤ x → said_at (enumerate_from (p - lo) b) (x - lo) ≡ said_at (enumerate_from p b) x
-one_moved lo p b x h k = by_front (nat_lt x p) refl
-  where
-    by_back : (t : Bool) → nat_lt x (p + length b) ≡ t → p ≤ x → said_at (enumerate_from (p - lo) b) (x - lo) ≡ said_at (enumerate_from p b) x
-    by_back true e g =
-        let l : x < p + length b = ltb-true _ _ e in
-        let same : (x - lo) - (p - lo) ≡ x - p = omega arith in
-        said_inside (p - lo) b (x - lo) 0 (omega arith) (omega arith) ∙ ap (λ (n : ℕ). Some (get_or b n 0)) same ∙ sym (said_inside p b x 0 g l)
-    by_back false e g =
-        let l : p + length b ≤ x = ltb-false _ _ e in
-        said_past (p - lo) b (x - lo) (omega arith) ∙ sym (said_past p b x l)
+-- what a cell says of a place
+said_cell : (p : ℕ) (b : List ℕ) (x : ℕ) → said_at (enumerate_from p b) x ≡ cond (nat_lt x p) None (cond (nat_lt x (p + length b)) (Some (at b (x - p))) None)
+said_cell p b x = grind (arith, nat_tests, said_below, said_inside p b x 0, said_past)
 
-    by_front : (t : Bool) → nat_lt x p ≡ t → said_at (enumerate_from (p - lo) b) (x - lo) ≡ said_at (enumerate_from p b) x
-    by_front true e = let l : x < p = ltb-true _ _ e in said_below (p - lo) b (x - lo) (omega arith) ∙ sym (said_below p b x l)
-    by_front false e = by_back (nat_lt x (p + length b)) refl (ltb-false _ _ e)
+one_moved : (lo p : ℕ) (b : List ℕ) (x : ℕ) → lo ≤ p → lo ≤ x → said_at (enumerate_from (p - lo) b) (x - lo) ≡ said_at (enumerate_from p b) x
+one_moved lo p b x h k = grind (arith, nat_tests, said_cell)
 
 two_else : {A : Type 0} (o p q r : Option A) → o ≡ p → q ≡ r → option_or o q ≡ option_or p r
 two_else o p q r e f = ap (λ s. option_or s q) e ∙ ap (λ s. option_or p s) f
@@ -55,30 +46,17 @@ window_by : (file buf inner : List ℕ) (lo : ℕ) (pieces : List Cell) → leng
 window_by file buf inner lo pieces long inside room low high kept =
     same_file (written file lo inner) (write_cells file pieces)
     (length-written_inside file lo inner (omega arith) ∙ sym (cells_long pieces file (within_more pieces (lo + length buf) (length file) room high)))
-    (λ x. by_front x (nat_lt x lo) refl)
+    each
   where
-    unsaid : (x : ℕ) → said_at (said_by pieces) x ≡ None → at file x ≡ at (write_cells file pieces) x
-    unsaid x e = ap (λ (o : Option ℕ). byte_or o (at file x)) (sym e) ∙ sym (cells_said pieces file x)
+    -- the window's bytes, and those before and behind it
+    here : (x : ℕ) → lo ≤ x → x < lo + length buf → at (written file lo inner) x ≡ byte_or (said_at (said_by pieces) x) (at file x)
+    here x g l = grind (arith, nat_tests, at-written_inside, inside x, moved_said lo pieces x low g, kept x g l)
 
-    over : (x : ℕ) (o : Option ℕ) → said_at (said_by pieces) x ≡ o → lo ≤ x → x < lo + length buf
-        → byte_or (said_at (said_by pieces) x) (at buf (x - lo)) ≡ byte_or (said_at (said_by pieces) x) (at file x)
-    over x None e g l = ap (λ (b : ℕ). byte_or (said_at (said_by pieces) x) b) (kept x g l e)
-    over x (Some v) e g l = ap (λ (o : Option ℕ). byte_or o (at buf (x - lo))) e ∙ sym (ap (λ (o : Option ℕ). byte_or o (at file x)) e)
+    beside : (x : ℕ) → (x < lo) ⊎ (lo + length buf ≤ x) → at (written file lo inner) x ≡ byte_or (said_at (said_by pieces) x) (at file x)
+    beside x w = grind (arith, nat_tests, at-written_before, at-written_after, none_below lo pieces x low, none_past (lo + length buf) pieces x high)
 
-    by_back : (x : ℕ) (t : Bool) → nat_lt x (lo + length inner) ≡ t → lo ≤ x → at (written file lo inner) x ≡ at (write_cells file pieces) x
-    by_back x true e g =
-        let l : x < lo + length inner = ltb-true _ _ e in
-        at-written_inside file inner lo x g l ∙ inside x
-        ∙ ap (λ (o : Option ℕ). byte_or o (at buf (x - lo))) (moved_said lo pieces x low g)
-        ∙ over x (said_at (said_by pieces) x) refl g (omega arith)
-        ∙ sym (cells_said pieces file x)
-    by_back x false e g =
-        let l : lo + length inner ≤ x = ltb-false _ _ e in
-        at-written_after file inner lo x l ∙ unsaid x (none_past (lo + length buf) pieces x high (omega arith))
-
-    by_front : (x : ℕ) (t : Bool) → nat_lt x lo ≡ t → at (written file lo inner) x ≡ at (write_cells file pieces) x
-    by_front x true e = let l : x < lo = ltb-true _ _ e in at-written_before file inner lo x l ∙ unsaid x (none_below lo pieces x low l)
-    by_front x false e = by_back x (nat_lt x (lo + length inner)) refl (ltb-false _ _ e)
+    each : (x : ℕ) → at (written file lo inner) x ≡ at (write_cells file pieces) x
+    each x = grind (arith, nat_tests, cells_said pieces file x, here x, beside x)
 
 -- A buffer that has the file's bytes wherever no piece has the place, overlaid and written, writes the pieces.
 pub window_done : (file buf : List ℕ) (lo : ℕ) (pieces : List Cell) → lo + length buf ≤ length file → IsFrom lo pieces → IsWithin pieces (lo + length buf)
@@ -106,25 +84,18 @@ parts_only whole (cells ∷ lists) h x v e = grind (arith, nat_tests, parts_only
 some_joined : (lists : List (List Cell)) (x v : ℕ) → SomeSays lists x v → (w : ℕ) × (said_at (said_by (flat_map (λ cells. cells) lists)) x ≡ Some w)
 some_joined [] x v h = absurd h
 some_joined (cells ∷ lists) x v (inr h) = grind (arith, nat_tests, some_joined lists x v h, said_joined, first_counts)
-some_joined (cells ∷ lists) x v (inl h) = by_rest (said_at (said_by (flat_map (λ c. c) lists)) x) refl
-  where
-    by_rest : (o : Option ℕ) → said_at (said_by (flat_map (λ c. c) lists)) x ≡ o → (w : ℕ) × (said_at (said_by (flat_map (λ c. c) (cells ∷ lists))) x ≡ Some w)
-    by_rest (Some w) g = (w, said_joined cells (flat_map (λ c. c) lists) x ∙ first_counts (said_at (said_by (flat_map (λ c. c) lists)) x) _ w g)
-    by_rest None g = (v, said_joined cells (flat_map (λ c. c) lists) x ∙ second_counts (said_at (said_by (flat_map (λ c. c) lists)) x) _ g ∙ h)
+some_joined (cells ∷ lists) x v (inl h) = elim (some_or_none (said_at (said_by (flat_map (λ c. c) lists)) x)) [
+  | inl n ↦ (v, grind (arith, nat_tests, said_joined, second_counts))
+  | inr s ↦ (s.0, grind (arith, nat_tests, said_joined, first_counts))
+]
 
 -- parts that say nothing else, and everything between them, say together what the whole says
 pub parts_said : (whole : List (ℕ × ℕ)) (lists : List (List Cell)) → AreParts whole lists → ((x v : ℕ) → said_at whole x ≡ Some v → SomeSays lists x v)
     → (x : ℕ) → said_at (said_by (flat_map (λ cells. cells) lists)) x ≡ said_at whole x
-parts_said whole lists are each x = by_whole (said_at whole x) refl
-  where
-    by_joined : (o : Option ℕ) → said_at (said_by (flat_map (λ cells. cells) lists)) x ≡ o → said_at whole x ≡ None
-        → said_at (said_by (flat_map (λ cells. cells) lists)) x ≡ said_at whole x
-    by_joined None g e = g ∙ sym e
-    by_joined (Some w) g e = no_none_some w (sym e ∙ parts_only whole lists are x w g)
-
-    by_whole : (o : Option ℕ) → said_at whole x ≡ o → said_at (said_by (flat_map (λ cells. cells) lists)) x ≡ said_at whole x
-    by_whole None e = by_joined (said_at (said_by (flat_map (λ cells. cells) lists)) x) refl e
-    by_whole (Some v) e = let s = some_joined lists x v (each x v e) in s.1 ∙ sym (parts_only whole lists are x s.0 s.1)
+parts_said whole lists are each x = elim (some_or_none (said_at whole x)) [
+  | inl n ↦ elim (some_or_none (said_at (said_by (flat_map (λ cells. cells) lists)) x)) [ inl e ↦ e ∙ sym n | inr s ↦ no_none_some s.0 (sym n ∙ parts_only whole lists are x s.0 s.1) ]
+  | inr w ↦ (let s = some_joined lists x w.0 (each x w.0 w.1) in s.1 ∙ sym (parts_only whole lists are x s.0 s.1))
+]
 
 -- ---- the part of a cell in a window
 
@@ -143,31 +114,25 @@ clips_from lo hi [] h = tt
 clips_from lo hi (c ∷ cells) h = (clip_low lo hi c h, clips_from lo hi cells h)
 
 -- what of a cell lies in the window
-clip_in : (lo hi : ℕ) (c : Cell) (x : ℕ) → lo ≤ x → x < hi → said_at (enumerate_from (clip lo hi c).0 (clip lo hi c).1) x ≡ said_at (enumerate_from c.0 c.1) x
-clip_in lo hi c x h k = by_front (nat_lt x c.0) refl
-  where
-    by_back : (t : Bool) → nat_lt x (c.0 + length c.1) ≡ t → c.0 ≤ x
-        → said_at (enumerate_from (clip lo hi c).0 (clip lo hi c).1) x ≡ said_at (enumerate_from c.0 c.1) x
-    by_back true e g =
-        let l : x < c.0 + length c.1 = ltb-true _ _ e in
-        let low : (clip lo hi c).0 ≤ x = omega arith in
-        let long : x < (clip lo hi c).0 + length (clip lo hi c).1 = grind (arith, common_steps) in
-        let place : x - (clip lo hi c).0 < hi - (clip lo hi c).0 = omega arith in
-        let same : (lo - c.0) + (x - (clip lo hi c).0) ≡ x - c.0 = omega arith in
-        said_inside (clip lo hi c).0 (clip lo hi c).1 x 0 low long
-        ∙ ap Some (get_or-take (hi - (clip lo hi c).0) (drop (lo - c.0) c.1) (x - (clip lo hi c).0) 0 place
-        ∙ get_or-drop (lo - c.0) c.1 (x - (clip lo hi c).0) 0 ∙ ap (λ (n : ℕ). get_or c.1 n 0) same)
-        ∙ sym (said_inside c.0 c.1 x 0 g l)
-    by_back false e g =
-        let l : c.0 + length c.1 ≤ x = ltb-false _ _ e in
-        let past : (clip lo hi c).0 + length (clip lo hi c).1 ≤ x = grind (arith, common_steps) in
-        said_past (clip lo hi c).0 (clip lo hi c).1 x past ∙ sym (said_past c.0 c.1 x l)
+clip_past : (lo hi : ℕ) (c : Cell) (x : ℕ) → lo ≤ x → c.0 + length c.1 ≤ x → (clip lo hi c).0 + length (clip lo hi c).1 ≤ x
+clip_past lo hi c x h l = grind (arith, common_steps)
 
-    by_front : (t : Bool) → nat_lt x c.0 ≡ t → said_at (enumerate_from (clip lo hi c).0 (clip lo hi c).1) x ≡ said_at (enumerate_from c.0 c.1) x
-    by_front true e =
-        let l : x < c.0 = ltb-true _ _ e in
-        said_below (clip lo hi c).0 (clip lo hi c).1 x (omega arith) ∙ sym (said_below c.0 c.1 x l)
-    by_front false e = by_back (nat_lt x (c.0 + length c.1)) refl (ltb-false _ _ e)
+clip_reach : (lo hi : ℕ) (c : Cell) (x : ℕ) → lo ≤ x → x < hi → c.0 ≤ x → x < c.0 + length c.1 → x < (clip lo hi c).0 + length (clip lo hi c).1
+clip_reach lo hi c x h k g l = grind (arith, common_steps)
+
+clip_in : (lo hi : ℕ) (c : Cell) (x : ℕ) → lo ≤ x → x < hi → said_at (enumerate_from (clip lo hi c).0 (clip lo hi c).1) x ≡ said_at (enumerate_from c.0 c.1) x
+clip_in lo hi c x h k = elim (leb_tells c.0 x) [
+  | inr e ↦ said_below (clip lo hi c).0 (clip lo hi c).1 x (omega (arith, e.1)) ∙ sym (said_below c.0 c.1 x e.1)
+  | inl e ↦ elim (leb_tells (c.0 + length c.1) x) [
+    | inl f ↦ said_past (clip lo hi c).0 (clip lo hi c).1 x (clip_past lo hi c x h f.1) ∙ sym (said_past c.0 c.1 x f.1)
+    | inr f ↦
+        (let same : (lo - c.0) + (x - (clip lo hi c).0) ≡ x - c.0 = omega (arith, e.1) in
+        said_inside (clip lo hi c).0 (clip lo hi c).1 x 0 (omega (arith, e.1)) (clip_reach lo hi c x h k e.1 f.1)
+        ∙ ap Some (get_or-take (hi - (clip lo hi c).0) (drop (lo - c.0) c.1) (x - (clip lo hi c).0) 0 (omega (arith, e.1))
+        ∙ get_or-drop (lo - c.0) c.1 (x - (clip lo hi c).0) 0 ∙ ap (λ (n : ℕ). get_or c.1 n 0) same)
+        ∙ sym (said_inside c.0 c.1 x 0 e.1 f.1))
+  ]
+]
 
 pub clips_in : (lo hi : ℕ) (cells : List Cell) (x : ℕ) → lo ≤ x → x < hi → said_at (said_by (clips lo hi cells)) x ≡ said_at (said_by cells) x
 clips_in lo hi [] x h k = refl

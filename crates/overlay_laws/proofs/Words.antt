@@ -1,8 +1,8 @@
 -- The words of this crate's proofs, from where they stand.
 pub use Rattle.std.proofs.Common.{Bool, List, None, Option, Some, [], ap, arith, cond, drop, false, get_or, inl, inr, length, max, min, not, refl, subst, suc, sym, take, true, zero, ℕ, ◌%◌, ◌&&◌, ◌*◌, ◌++◌, ◌+◌, ◌-◌, ◌/◌, ◌<◌, ◌∙◌, ◌∷◌, ◌≡◌, ◌≤◌, ◌⊎◌}
 pub use Rattle.std.proofs.Math.Nat.{mul-le-mul_right, mul_comm}
-pub use Rattle.std.proofs.lemmas.Bool.{and_from, eqb-true, le-leb, le-ltb, leb-false, leb-true, lt-leb, lt-ltb, or_cases, or_left, or_right}
-pub use Rattle.std.proofs.lemmas.Bool.Decides.{nat_tests}
+pub use Rattle.std.proofs.lemmas.Bool.{and_from, cases_eq, eqb-true, le-leb, le-ltb, leb-false, leb-true, lt-leb, lt-ltb, or_cases, or_left, or_right}
+pub use Rattle.std.proofs.lemmas.Bool.Decides.{leb_tells, nat_tests}
 pub use Rattle.std.proofs.lemmas.Grind.{common_steps, div_ceil_times, flat_map-append, fold-append}
 pub use Rattle.std.proofs.lemmas.List.{append-nil, drop_more, ext_get_or, get_or-append_right, get_or-drop, get_or-take, get_or_append_left, get_or_past, length-append, length-map, map-append}
 pub use Rattle.std.proofs.lemmas.List.Elements.{filter-append}
@@ -14,9 +14,9 @@ pub use Rattle.std.specs.List.{AllByRecursion, Contains, enumerate_from, list_an
 pub use Rattle.std.specs.List.Sorted.{IsPermutation}
 pub use Rattle.std.specs.Option.{option_or}
 pub use Rattle.std.specs.Prelude.{filter, flat_map, fold, map, nat_le, nat_lt, option_map, slice_get, zip, ◌==◌}
-pub use Rattle.list_laws.proofs.Maps.{filter_at_most}
+pub use Rattle.list_laws.proofs.Maps.{filter_at_most, mapped_entry}
 pub use Rattle.list_laws.proofs.Numbers.{same_factor}
-pub use Rattle.list_laws.proofs.Optional.{first_counts, neither_some, no_none_some, second_counts, some_of_map}
+pub use Rattle.list_laws.proofs.Optional.{first_counts, neither_some, no_none_some, second_counts, some_of_map, some_or_none}
 pub use Rattle.list_laws.proofs.Places.{entry_numbered, take_at_most}
 pub use Rattle.list_laws.proofs.Ranges.{range_append}
 pub use Rattle.list_laws.proofs.Truth.{and_first, and_second, equal_above, equal_below, equal_true, no_both, no_false}
@@ -39,7 +39,7 @@ pub use Rattle.overlay_laws.specs.Steps.{HasRoom, HaveStrides, LieApart}
 pub use Rattle.overlay_laws.specs.Walks.{IsCover, above, below, end_after, extents_walked, first_at, hull_of, is_single, round_end, told_of, walked}
 pub use Rattle.overlay_laws.specs.Windows.{AreParts, HasEach, IsInOne, IsPart, SomeSays, all_read_overlaid, clip, clips, read_overlaid}
 pub use Rattle.serial_spec.proofs.ApartLaws.{elements_apart}
-pub use Rattle.serial_spec.proofs.CellLaws.{read_long}
+pub use Rattle.serial_spec.proofs.CellLaws.{read_at, read_long}
 pub use Rattle.serial_spec.proofs.ElementLaws.{length-coordinates}
 pub use Rattle.serial_spec.proofs.FileLaws.{at-written_after, at-written_before, length-written_inside}
 pub use Rattle.serial_spec.proofs.KeyLaws.{key_itself}
