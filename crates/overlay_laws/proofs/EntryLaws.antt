@@ -1,6 +1,5 @@
 -- The puts of a step are cells; sorted entries say what the puts say; the entries of a get collect its bytes.
-use Rattle.overlay_laws.proofs.Words.{◌≡◌, ℕ, zero, suc, ◌+◌, ◌-◌, ◌<◌, ◌≤◌, refl, sym, ◌∙◌, ap, subst, inl, inr, ◌⊎◌, List, [], ◌∷◌, ◌++◌, length, drop, Bool, true, false, Option, Some, None, arith, common_steps, flat_map-append, length-append, get_or_past, Contains-permutation, IsPermutation-sym, IsPermutation, fold, flat_map, nat_lt, map, zip, slice_get, enumerate_from, range_with_len, slice_index_or, Contains, length-range_with_len, same_Some, puts_are_cells, range_and_rest, puts_say, said_past, said_inside, cells_said, Header, Var, Post, Owned, at, read, size_of, cells, places, Puts, bytes_of, bytes_of_some, Setting, put_post, get_post, get_some, byte_or, said_at, Says, IsOneValued, Cell, write_cells, said_by, IsWithin, said_by_puts, cells_of_puts, Source, cell_of, ranges, IsRun, IsGathered, got_cell, IsRunFrom, In, HaveSame, extents, nat_tests, map-append, length-map, cond}
-use borrow.Author.Tests.{ltb-true, ltb-false}
+use Rattle.overlay_laws.proofs.Words.{◌≡◌, ℕ, zero, suc, ◌+◌, ◌-◌, ◌<◌, ◌≤◌, refl, sym, ◌∙◌, ap, subst, inl, inr, ◌⊎◌, List, [], ◌∷◌, ◌++◌, length, drop, Option, Some, None, arith, common_steps, flat_map-append, length-append, get_or_past, Contains-permutation, IsPermutation-sym, IsPermutation, fold, flat_map, map, zip, slice_get, enumerate_from, range_with_len, slice_index_or, Contains, length-range_with_len, same_Some, puts_are_cells, range_and_rest, puts_say, said_past, said_inside, cells_said, Header, Var, Post, Owned, at, read, size_of, places, Puts, bytes_of, bytes_of_some, Setting, put_post, get_post, get_some, byte_or, said_at, Says, IsOneValued, Cell, write_cells, said_by, IsWithin, said_by_puts, cells_of_puts, Source, cell_of, ranges, IsRun, IsGathered, got_cell, IsRunFrom, In, HaveSame, extents, nat_tests, map-append, length-map}
 use Rattle.overlay_laws.proofs.SaidLaws.{said_in_any_order, same_said, cells_long, same_file}
 
 -- ---- entries in order

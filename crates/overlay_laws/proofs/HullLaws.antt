@@ -1,6 +1,6 @@
 -- The windows of the device calls have every covered byte, so that hulls written over them are the step.
 use Rattle.overlay_laws.proofs.Words.{◌≡◌, ℕ, zero, suc, ◌+◌, ◌-◌, ◌*◌, ◌/◌, ◌%◌, ◌<◌, ◌≤◌, refl, sym, ◌∙◌, ap, subst, inl, inr, ◌⊎◌, List, [], ◌∷◌, ◌++◌, length, Bool, true, false, not, cond, min, max, arith, nat_tests, div_below, le-div, mod_below, div-add-mod', mul-le, mul_comm, fold, flat_map, filter, map, zip, nat_lt, nat_le, ◌==◌, range_with_len, list_any, or_left, or_right, or_cases, in_filter, filter_in, no_false, equal_true, puts_are_cells, puts_say, Header, Hints, Puts, covered, Setting, put_post, in_order, first_of, last_of, not_empty, domain_size, domains, windows, collective_windows, sieved, sieving_windows, is_empty, Cell, said_at, said_by, Says, IsWithin, IsInOne, HasEach, said_by_puts, In, cells_of_puts, hulls, IsAscending, written_over, AreHints, filter_at_most, leb_tells, cases_eq, lt-ltb}
-use borrow.Author.Tests.{ltb-false, eqb-true}
+use borrow.Author.Tests.{eqb-true}
 use Rattle.overlay_laws.proofs.Members.{in_map}
 use Rattle.overlay_laws.proofs.SaidLaws.{said_is, same_said}
 use Rattle.overlay_laws.proofs.EntryLaws.{says_cases}

@@ -1,5 +1,5 @@
 -- The bytes of entries by where they come from; where requests overlap, the last in rank order counts.
-use Rattle.overlay_laws.proofs.Words.{◌≡◌, ℕ, zero, suc, ◌+◌, ◌<◌, ◌≤◌, refl, sym, ◌∙◌, ap, subst, inl, inr, ◌⊎◌, List, [], ◌∷◌, ◌++◌, length, take, drop, Bool, true, false, Option, Some, None, arith, drop_more, map-append, fold, flat_map, map, option_map, ◌==◌, enumerate_from, range_with_len, no_none_some, puts_are_cells, puts_say, one_hit, Owned, at, Puts, Setting, put_post, option_or, same_Some, one_says, said_at, Says, IsOneValued, write_cells, said_by, IsWithin, cells_of_puts, Source, cell_of, IsGathered, In, HaveSame, Origin, origins_of, origins, byte_at, AreFound, AtMost, IsGreatest, IsResolved, IsOnceEach, IsInOrder, nat_tests, some_or_none}
+use Rattle.overlay_laws.proofs.Words.{◌≡◌, ℕ, zero, suc, ◌+◌, ◌<◌, ◌≤◌, refl, sym, ◌∙◌, ap, subst, inl, inr, List, [], ◌∷◌, ◌++◌, length, take, drop, Option, Some, None, arith, drop_more, map-append, fold, flat_map, map, option_map, enumerate_from, range_with_len, no_none_some, puts_are_cells, puts_say, one_hit, Owned, at, Puts, Setting, put_post, option_or, same_Some, one_says, said_at, Says, IsOneValued, write_cells, said_by, IsWithin, cells_of_puts, Source, cell_of, IsGathered, In, HaveSame, Origin, origins_of, origins, byte_at, AreFound, AtMost, IsGreatest, IsResolved, IsOnceEach, IsInOrder, nat_tests, some_or_none}
 use Rattle.overlay_laws.proofs.SaidLaws.{said_is, says_some, one_said, same_said}
 use Rattle.overlay_laws.proofs.EntryLaws.{says_cases, says_moved, gathered_says}
 

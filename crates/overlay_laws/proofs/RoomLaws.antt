@@ -1,6 +1,5 @@
 -- Where every covered byte lies below n, so does every cell of the puts and of their entries.
 use Rattle.overlay_laws.proofs.Words.{ℕ, ◌+◌, ◌-◌, ◌<◌, ◌≤◌, List, [], ◌∷◌, drop, Option, Some, None, arith, flat_map, slice_get, range_with_len, take_at_most, size_pos, Header, Var, Post, Owned, size_of, cells, places, Puts, bytes_of, bytes_of_some, covered, Setting, IsWithin, cells_of_some, cells_of, cells_of_puts, Source, cell_of, IsGathered, In, HaveSame, HasRoom}
-use Rattle.nc_base.specs.declared.header.NcType.TheVariants as kind
 use Rattle.overlay_laws.proofs.HullLaws.{in_left, in_right, in_range, in_flat}
 use Rattle.overlay_laws.proofs.WindowLaws.{append_within}
 use Rattle.overlay_laws.proofs.EntryLaws.{within_each}
