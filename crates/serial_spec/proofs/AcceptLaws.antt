@@ -15,10 +15,8 @@ pub coordinates_all : (counts : List ℕ) → AllByRecursion (IsIndex counts) (c
 coordinates_all [] = (tt, tt)
 coordinates_all (n ∷ counts) =
     each_flat_map (IsIndex (n ∷ counts)) (λ i. map (λ c. i ∷ c) (coordinates counts)) (range_with_len 0 n)
-    (all_below (λ i. AllByRecursion (IsIndex (n ∷ counts)) (map (λ c. i ∷ c) (coordinates counts))) 0 n n (omega arith) (each (coordinates_all counts)))
-  where
-    each : AllByRecursion (IsIndex counts) (coordinates counts) → (i : ℕ) → i < n → AllByRecursion (IsIndex (n ∷ counts)) (map (λ c. i ∷ c) (coordinates counts))
-    each h i l = each_map (IsIndex (n ∷ counts)) (λ c. i ∷ c) (coordinates counts) (each_weaker (IsIndex counts) (λ c. IsIndex (n ∷ counts) (i ∷ c)) (λ c k. (l, k)) (coordinates counts) h)
+    (all_below (λ i. AllByRecursion (IsIndex (n ∷ counts)) (map (λ c. i ∷ c) (coordinates counts))) 0 n n (omega arith) (λ i l. each_map (IsIndex (n ∷ counts)) (λ c. i ∷ c) (coordinates counts)
+    (each_weaker (IsIndex counts) (λ c. IsIndex (n ∷ counts) (i ∷ c)) (λ c k. (l, k)) (coordinates counts) (coordinates_all counts))))
 
 -- ---- below the bounds
 
@@ -126,7 +124,8 @@ some_product counts c h = let l = row_below counts c h in grind (arith, nat_test
 -- the record of an element is below those that the region needs
 record_needed : (header : Header) (v : Var) (g : Region) (c : List ℕ) → length g.start ≡ length v.dims → length g.count ≡ length v.dims → length g.stride ≡ length v.dims
     → IsIndex g.count c → starts_with_zero (lengths header v) ≡ true → record_of (index_at g.start g.stride c) < records_of header v g
-record_needed header v g c a b d h e = by_lists v.dims g.start g.count g.stride c a b d h e needed_is
+record_needed header v g c a b d h e =
+    subst (λ (n : ℕ). record_of (index_at g.start g.stride c) < n) (sym needed_is) (by_lists v.dims g.start g.count g.stride c a b d h e)
   where
     needed_is : records_of header v g ≡ slice_index g.start 0 + (slice_index g.count 0 - 1) * slice_index g.stride 0 + 1
     needed_is =
@@ -135,16 +134,13 @@ record_needed header v g c a b d h e = by_lists v.dims g.start g.count g.stride 
 
     by_lists : (dims starts counts strides c : List ℕ) → length starts ≡ length dims → length counts ≡ length dims → length strides ≡ length dims
         → IsIndex counts c → starts_with_zero (map (λ id. length_of (slice_get header.dims id)) dims) ≡ true
-        → records_of header v g ≡ slice_index starts 0 + (slice_index counts 0 - 1) * slice_index strides 0 + 1
-        → record_of (index_at starts strides c) < records_of header v g
-    by_lists [] starts counts strides c a b d h e n = absurd cc
-    by_lists (id ∷ dims) (s ∷ starts) (m ∷ counts) (t ∷ strides) [] a b d h e n = absurd h
-    by_lists (id ∷ dims) (s ∷ starts) (m ∷ counts) (t ∷ strides) (i ∷ c) a b d h e n =
-        let low = h.0 in
-        let steps : i * t ≤ (m - 1) * t = mul-le-mul_right t (omega (arith, low)) in
-        let whole : records_of header v g ≡ s + (m - 1) * t + 1 = n in
+        → record_of (index_at starts strides c) < slice_index starts 0 + (slice_index counts 0 - 1) * slice_index strides 0 + 1
+    by_lists [] starts counts strides c a b d h e = absurd cc
+    by_lists (id ∷ dims) (s ∷ starts) (m ∷ counts) (t ∷ strides) [] a b d h e = absurd h
+    by_lists (id ∷ dims) (s ∷ starts) (m ∷ counts) (t ∷ strides) (i ∷ c) a b d h e =
+        let steps : i * t ≤ (m - 1) * t = mul-le-mul_right t (omega (arith, h.0)) in
         omega arith
-    by_lists _ _ _ _ c a b d h e n = absurd (omega arith)
+    by_lists _ _ _ _ c a b d h e = absurd (omega arith)
 
 accepted_at : (header : Header) (k : ℕ) (v : Var) (g : Region) (known : ℕ) (way : Direction) (c : List ℕ) → is_sound header ≡ true → slice_get header.vars k ≡ Some v
     → IsAccepted header v g known way → IsIndex g.count c → IsElementBelow header v (records_of header v g) (index_at g.start g.stride c)

@@ -3,15 +3,20 @@ use Rattle.serial_spec.proofs.Words.{◌≡◌, ℕ, zero, suc, ◌+◌, refl, s
 use Rattle.nc_base.specs.declared.script.Extra.TheVariants as extra
 use Rattle.nc_base.specs.declared.errors.HeaderErr.TheVariants as fault
 use Rattle.serial_spec.proofs.RoomLaws.{untested}
+use Rattle.serial_spec.proofs.MemberLaws.{either}
 
 -- ---- a header of which another is a part
+
+-- a variable of this kind and with these dimensions stands there
+abbrev IsKept : List Var → ℕ → Var → Type 0
+IsKept ws k v = (w : Var) × (slice_get ws k ≡ Some w) × (w.kind ≡ v.kind) × (w.dims ≡ v.dims)
 
 record Grew (h g : Header) : Type 0 where
   more : List Dim
   dims : g.dims ≡ h.dims ++ more
-  vars : (k : ℕ) (v : Var) → slice_get h.vars k ≡ Some v → (w : Var) × (slice_get g.vars k ≡ Some w) × (w.kind ≡ v.kind) × (w.dims ≡ v.dims)
+  vars : (k : ℕ) (v : Var) → slice_get h.vars k ≡ Some v → IsKept g.vars k v
 
-same_vars : (h : Header) (k : ℕ) (v : Var) → slice_get h.vars k ≡ Some v → (w : Var) × (slice_get h.vars k ≡ Some w) × (w.kind ≡ v.kind) × (w.dims ≡ v.dims)
+same_vars : (h : Header) (k : ℕ) (v : Var) → slice_get h.vars k ≡ Some v → IsKept h.vars k v
 same_vars h k v e = (v, e, refl, refl)
 
 grew_none : (h : Header) → Grew h h
@@ -25,19 +30,14 @@ in_front [] ws k v h = absurd cc
 in_front (x ∷ vs) ws zero v h = h
 in_front (x ∷ vs) ws (suc k) v h = in_front vs ws k v h
 
-attr_kept : (name : List ℕ) (a : Attr) (vs : List Var) (k : ℕ) (v : Var) → slice_get vs k ≡ Some v
-    → (w : Var) × (slice_get (with_var_attr name a vs) k ≡ Some w) × (w.kind ≡ v.kind) × (w.dims ≡ v.dims)
+attr_kept : (name : List ℕ) (a : Attr) (vs : List Var) (k : ℕ) (v : Var) → slice_get vs k ≡ Some v → IsKept (with_var_attr name a vs) k v
 attr_kept name a [] k v h = absurd cc
-attr_kept name a (x ∷ vs) k v h = by_name (λ j y g. attr_kept name a vs j y g) (bytes_eq x.name name) k h
-  where
-    by_name : ((j : ℕ) (y : Var) → slice_get vs j ≡ Some y → (w : Var) × (slice_get (with_var_attr name a vs) j ≡ Some w) × (w.kind ≡ y.kind) × (w.dims ≡ y.dims))
-        → (t : Bool) → (k : ℕ) → slice_get (x ∷ vs) k ≡ Some v
-        → (w : Var) × (slice_get (cond t (record x { attrs = x.attrs ++ a ∷ [] } ∷ vs) (x ∷ with_var_attr name a vs)) k ≡ Some w) × (w.kind ≡ v.kind) × (w.dims ≡ v.dims)
-    by_name rest true zero h =
-        let same : x ≡ v = cc in (record x { attrs = x.attrs ++ a ∷ [] }, refl, ap (λ (y : Var). y.kind) same, ap (λ (y : Var). y.dims) same)
-    by_name rest true (suc k) h = (v, h, refl, refl)
-    by_name rest false zero h = (v, h, refl, refl)
-    by_name rest false (suc k) h = rest k v h
+attr_kept name a (x ∷ vs) zero v h =
+    let same : x ≡ v = cc in
+    either (λ (ws : List Var). IsKept ws 0 v) (bytes_eq x.name name) _ _
+    (λ e. (record x { attrs = x.attrs ++ a ∷ [] }, refl, ap (λ (y : Var). y.kind) same, ap (λ (y : Var). y.dims) same)) (λ e. (v, h, refl, refl))
+attr_kept name a (x ∷ vs) (suc k) v h =
+    either (λ (ws : List Var). IsKept ws (suc k) v) (bytes_eq x.name name) _ _ (λ e. (v, h, refl, refl)) (λ e. attr_kept name a vs k v h)
 
 one_more : (h : Header) (e : Extra) → Grew h (with_extra h e)
 one_more h (extra.Dim d) = record { more = d ∷ []; dims = refl; vars = same_vars h }

@@ -1,7 +1,8 @@
 -- The boxes of a range of row-major numbers have just the indices with these numbers, in order.
-use Rattle.serial_spec.proofs.Words.{◌≡◌, ℕ, zero, suc, ◌+◌, ◌-◌, ◌*◌, ◌/◌, ◌%◌, ◌<◌, ◌≤◌, refl, sym, ◌∙◌, ap, List, [], ◌∷◌, ◌++◌, length, map, take, drop, replicate, Bool, true, false, append_assoc, arith, add-mul, le_of_mul-le-mul_right, mul-le-mul_right, drop-append-add, take-append-add, div-add-mod', mod_below, le-div, drop-drop, drop-append-le, take-append-le, length-drop, map-append, append-nil, length-map, flat_map-append, flat_map, nat_lt, ◌==◌, range_with_len, eqb-false, some_factor, map_map, flat_same, Part, product, coordinates, boxes, in_row, whole_rows, shifted, box_indices, AreBoxes, part, part_joined, part_none, part_map, nat_tests}
+use Rattle.serial_spec.proofs.Words.{◌≡◌, ℕ, zero, suc, ◌+◌, ◌-◌, ◌*◌, ◌/◌, ◌%◌, ◌<◌, ◌≤◌, refl, sym, ◌∙◌, ap, List, [], ◌∷◌, ◌++◌, length, map, take, drop, replicate, Bool, true, false, append_assoc, arith, add-mul, le_of_mul-le-mul_right, mul-le-mul_right, drop-append-add, take-append-add, div-add-mod', mod_below, le-div, drop-drop, drop-append-le, take-append-le, length-drop, map-append, append-nil, length-map, flat_map-append, flat_map, nat_lt, ◌==◌, range_with_len, eqb-false, some_factor, map_map, flat_same, Part, product, coordinates, boxes, in_row, whole_rows, shifted, box_indices, AreBoxes, part, part_joined, part_none, part_map, nat_tests, leb_tells, inl, inr}
 use borrow.Author.Tests.{ltb-true, ltb-false, eqb-true}
 use Rattle.serial_spec.proofs.ElementLaws.{length-coordinates}
+use Rattle.serial_spec.proofs.MemberLaws.{either, holds_or_not}
 
 -- ---- rows of one length
 
@@ -128,50 +129,37 @@ in_row_of size x h = record { whole = div-add-mod' x size; less = mod_below x si
 -- the last row's part, from its front
 last_part : (n : ℕ) (lengths : List ℕ) (q r to : ℕ) → Right lengths → InRow (product lengths) to q r → to ≤ n * product lengths
     → flat_map box_indices (in_row q (boxes lengths 0 r)) ≡ part (q * product lengths) to (coordinates (n ∷ lengths))
-last_part n lengths q r to ih w h = in_row_indices q (boxes lengths 0 r) ∙ ap (λ ys. map (λ c. q ∷ c) ys) (ih 0 r (omega arith) (low w.less)) ∙ by_row (nat_lt q n) refl
-  where
-    size : ℕ
-    size = product lengths
-
-    low : r < product lengths → r ≤ product lengths
-    low l = omega arith
-
-    by_row : (t : Bool) → nat_lt q n ≡ t → map (λ c. q ∷ c) (part 0 r (coordinates lengths)) ≡ part (q * product lengths) to (coordinates (n ∷ lengths))
-    by_row true e =
-        let plain : q * product lengths ≡ q * product lengths + 0 = omega arith in
-        sym (part_map (λ c. q ∷ c) (coordinates lengths) 0 r)
-        ∙ sym (part_within (slice lengths) (product lengths) (slice_long lengths) n q 0 r (q * product lengths) (q * product lengths) to (ltb-true _ _ e) (omega arith) (low w.less) refl plain (sym w.whole))
-    by_row false e =
-        let past : n ≤ q = ltb-false _ _ e in
-        let over : n * product lengths ≤ q * product lengths = mul-le-mul_right (product lengths) past in
-        let sum = w.whole in
-        let none : r ≤ 0 = omega arith in
-        ap (λ ys. map (λ c. q ∷ c) ys) (part_none (coordinates lengths) 0 r none)
-        ∙ sym (part_none (coordinates (n ∷ lengths)) (q * product lengths) to (omega arith))
+last_part n lengths q r to ih w h =
+    let size = product lengths in
+    let low : r ≤ size = omega (arith, w.less) in
+    in_row_indices q (boxes lengths 0 r) ∙ ap (λ ys. map (λ c. q ∷ c) ys) (ih 0 r (omega arith) low) ∙ elim (leb_tells (suc q) n) [
+      | inl e ↦
+          sym (part_map (λ c. q ∷ c) (coordinates lengths) 0 r)
+          ∙ sym (part_within (slice lengths) size (slice_long lengths) n q 0 r (q * size) (q * size) to e.1 (omega arith) low refl (omega arith) (sym w.whole))
+      | inr e ↦
+          (let past : n ≤ q = omega (arith, e.1) in
+          let over = mul-le-mul_right size past in
+          ap (λ ys. map (λ c. q ∷ c) ys) (part_none (coordinates lengths) 0 r (omega (arith, over, w.whole)))
+          ∙ sym (part_none (coordinates (n ∷ lengths)) (q * size) to (omega (arith, over))))
+    ]
 
 -- both ends in one row
+row_less : (n size q r x : ℕ) → InRow size x q r → x < n * size → q < n
+row_less n size q r x w h = elim (leb_tells (suc q) n) [
+  | inl e ↦ e.1
+  | inr e ↦ (let past : n ≤ q = omega (arith, e.1) in absurd (omega (arith, mul-le-mul_right size past, w.whole, h)))
+]
+
 one_row : (n : ℕ) (lengths : List ℕ) (q r s from to : ℕ) → Right lengths → InRow (product lengths) from q r → InRow (product lengths) to q s
     → from ≤ to → from < n * product lengths
     → flat_map box_indices (in_row q (boxes lengths r s)) ≡ part from to (coordinates (n ∷ lengths))
 one_row n lengths q r s from to ih v w h k =
-    let a = v.whole in
-    let b = w.whole in
-    let l = w.less in
-    let ordered : r ≤ s = omega arith in
-    let size_pos : 0 < product lengths = some_factor n (product lengths) from k in
-    let below : q < n = below_n (nat_lt q n) refl in
+    let ordered : r ≤ s = omega (arith, v.whole, w.whole) in
+    let low : s ≤ product lengths = omega (arith, w.less) in
     in_row_indices q (boxes lengths r s)
-    ∙ ap (λ ys. map (λ c. q ∷ c) ys) (ih r s ordered (omega arith))
+    ∙ ap (λ ys. map (λ c. q ∷ c) ys) (ih r s ordered low)
     ∙ sym (part_map (λ c. q ∷ c) (coordinates lengths) r s)
-    ∙ sym (part_within (slice lengths) (product lengths) (slice_long lengths) n q r s (q * product lengths) from to below ordered (omega arith) refl (sym a) (sym b))
-  where
-    below_n : (t : Bool) → nat_lt q n ≡ t → q < n
-    below_n true e = ltb-true _ _ e
-    below_n false e =
-        let past : n ≤ q = ltb-false _ _ e in
-        let over : n * product lengths ≤ q * product lengths = mul-le-mul_right (product lengths) past in
-        let a = v.whole in
-        absurd (omega arith)
+    ∙ sym (part_within (slice lengths) (product lengths) (slice_long lengths) n q r s (q * product lengths) from to (row_less n (product lengths) q r from v k) ordered low refl (sym v.whole) (sym w.whole))
 
 -- whole rows, and the last row's part
 from_front : (n : ℕ) (lengths : List ℕ) (p q r to : ℕ) → Right lengths → InRow (product lengths) to q r → to ≤ n * product lengths → p ≤ q
@@ -224,62 +212,32 @@ first_part n lengths p q r s from to ih v w h k =
         ∙ sym (part_within (slice lengths) (product lengths) (slice_long lengths) n p r (product lengths) (p * product lengths) from ((p + 1) * product lengths) below low (omega arith) refl (sym v.whole) one)
 
 rows_right : (n : ℕ) (lengths : List ℕ) → Right lengths → Right (n ∷ lengths)
-rows_right n lengths ih from to h k = by_row (from / product lengths == to / product lengths) refl
+rows_right n lengths ih from to h k = elim (holds_or_not (from / product lengths == to / product lengths)) [
+  | inl e ↦ rw (e, boxes) (same_row n lengths from to ih h k (eqb-true _ _ e))
+  | inr e ↦
+      (let some : 0 < product lengths = some_factor n (product lengths) from (omega (arith, ordered e)) in
+      let last = in_row_of (product lengths) to some in
+      elim (holds_or_not (from % product lengths == 0)) [
+        | inl z ↦
+            (let front : from / product lengths * product lengths ≡ from = omega (arith, eqb-true (from % product lengths) 0 z, div-add-mod' from (product lengths)) in
+            rw (e, boxes) (rw z (from_front n lengths (from / product lengths) (to / product lengths) (to % product lengths) to ih last k (omega (arith, later some e))
+            ∙ ap (λ (x : ℕ). part x to (coordinates (n ∷ lengths))) front)))
+        | inr z ↦
+            rw (e, boxes) (rw z (first_part n lengths (from / product lengths) (to / product lengths) (from % product lengths) (to % product lengths) from to ih
+            (in_row_of (product lengths) from some) last k (later some e)))
+      ])
+]
   where
     ordered : (from / product lengths == to / product lengths) ≡ false → from < to
-    ordered e = by_test (nat_lt from to) refl
-      where
-        by_test : (t : Bool) → nat_lt from to ≡ t → from < to
-        by_test true f = ltb-true _ _ f
-        by_test false f =
-            let low : to ≤ from = ltb-false _ _ f in
-            let same : from ≡ to = omega arith in
-            absurd (eqb-false _ _ e (ap (λ (x : ℕ). x / product lengths) same))
+    ordered e = elim (leb_tells (suc from) to) [
+      | inl f ↦ f.1
+      | inr f ↦ (let same : from ≡ to = omega (arith, f.1) in absurd (eqb-false _ _ e (ap (λ (x : ℕ). x / product lengths) same)))
+    ]
 
-    later : (some : 0 < product lengths) → (from / product lengths == to / product lengths) ≡ false → from / product lengths < to / product lengths
+    later : 0 < product lengths → (from / product lengths == to / product lengths) ≡ false → from / product lengths < to / product lengths
     later some e =
         let a = div-add-mod' from (product lengths) in
-        let up : from / product lengths ≤ to / product lengths = le-div (from / product lengths) to (product lengths) some (omega arith) in
-        let apart = eqb-false _ _ e in
-        by_test (nat_lt (from / product lengths) (to / product lengths)) refl up apart
-      where
-        by_test : (t : Bool) → nat_lt (from / product lengths) (to / product lengths) ≡ t → from / product lengths ≤ to / product lengths
-            → (from / product lengths ≡ to / product lengths → ⊥) → from / product lengths < to / product lengths
-        by_test true f up apart = ltb-true _ _ f
-        by_test false f up apart =
-            let low : to / product lengths ≤ from / product lengths = ltb-false _ _ f in
-            absurd (apart (omega arith))
-
-    by_front : (some : 0 < product lengths) → from / product lengths < to / product lengths → (u : Bool) → (from % product lengths == 0) ≡ u
-        → flat_map box_indices (elim u as (λ v. List Part) [
-          | true ↦ whole_rows lengths (from / product lengths) (to / product lengths) ++ in_row (to / product lengths) (boxes lengths 0 (to % product lengths))
-          | false ↦ in_row (from / product lengths) (boxes lengths (from % product lengths) (product lengths))
-              ++ whole_rows lengths (from / product lengths + 1) (to / product lengths) ++ in_row (to / product lengths) (boxes lengths 0 (to % product lengths))
-        ]) ≡ part from to (coordinates (n ∷ lengths))
-    by_front some l true e =
-        let none : from % product lengths ≡ 0 = eqb-true _ _ e in
-        let a = div-add-mod' from (product lengths) in
-        let front : from / product lengths * product lengths ≡ from = omega arith in
-        from_front n lengths (from / product lengths) (to / product lengths) (to % product lengths) to ih (in_row_of (product lengths) to some) k (omega arith)
-        ∙ ap (λ (x : ℕ). part x to (coordinates (n ∷ lengths))) front
-    by_front some l false e =
-        first_part n lengths (from / product lengths) (to / product lengths) (from % product lengths) (to % product lengths) from to ih
-        (in_row_of (product lengths) from some) (in_row_of (product lengths) to some) k l
-
-    by_row : (t : Bool) → (from / product lengths == to / product lengths) ≡ t
-        → flat_map box_indices (elim t as (λ v. List Part) [
-          | true ↦ in_row (from / product lengths) (boxes lengths (from % product lengths) (to % product lengths))
-          | false ↦ elim (from % product lengths == 0) as (λ v. List Part) [
-            | true ↦ whole_rows lengths (from / product lengths) (to / product lengths) ++ in_row (to / product lengths) (boxes lengths 0 (to % product lengths))
-            | false ↦ in_row (from / product lengths) (boxes lengths (from % product lengths) (product lengths))
-                ++ whole_rows lengths (from / product lengths + 1) (to / product lengths) ++ in_row (to / product lengths) (boxes lengths 0 (to % product lengths))
-          ]
-        ]) ≡ part from to (coordinates (n ∷ lengths))
-    by_row true e = same_row n lengths from to ih h k (eqb-true _ _ e)
-    by_row false e =
-        let l = ordered e in
-        let some : 0 < product lengths = some_factor n (product lengths) from (omega arith) in
-        by_front some (later some e) (from % product lengths == 0) refl
+        omega (arith, eqb-false _ _ e, le-div (from / product lengths) to (product lengths) some (omega arith))
 
 pub boxes_right : (lengths : List ℕ) (from to : ℕ) → from ≤ to → to ≤ product lengths → AreBoxes lengths from to (boxes lengths from to)
 boxes_right [] = scalar_boxes

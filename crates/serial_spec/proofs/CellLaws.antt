@@ -1,37 +1,7 @@
 -- Cells that lie apart, and what is written of them.
-use Rattle.serial_spec.proofs.Words.{◌≡◌, ℕ, zero, suc, ◌+◌, ◌-◌, ◌<◌, ◌≤◌, refl, sym, ◌∙◌, ap, subst, inl, inr, ◌⊎◌, List, [], ◌∷◌, ◌++◌, length, map, get_or, Some, None, arith, cases_eq, AllByRecursion, enumerate_from, flat_map, slice_get, option_or, neither_some, second_counts, first_counts, at, read, written, AreApart, said_at, Cell, write_cells, said_by, nat_tests}
+use Rattle.serial_spec.proofs.Words.{◌≡◌, ℕ, zero, suc, ◌+◌, ◌-◌, ◌<◌, ◌≤◌, refl, sym, ◌∙◌, ap, subst, inl, inr, ◌⊎◌, List, [], ◌∷◌, ◌++◌, length, map, get_or, Some, None, arith, cases_eq, AllByRecursion, enumerate_from, flat_map, slice_get, option_or, neither_some, second_counts, first_counts, at, read, written, AreApart, said_at, Cell, write_cells, said_by, nat_tests, In}
 use Rattle.serial_spec.proofs.FileLaws.{length-written_inside}
 use Rattle.serial_spec.proofs.SaidLaws.{said_below, said_past, said_inside, said_append}
-
--- ---- members
-
-abbrev pub Has : {A : Type 0} → List A → A → Type 0
-Has [] x = ⊥
-Has (y ∷ ys) x = (y ≡ x) ⊎ Has ys x
-
-has_left : {A : Type 0} (xs ys : List A) (x : A) → Has xs x → Has (xs ++ ys) x
-has_left [] ys x h = absurd h
-has_left (y ∷ xs) ys x (inl e) = inl e
-has_left (y ∷ xs) ys x (inr h) = inr (has_left xs ys x h)
-
-has_right : {A : Type 0} (xs ys : List A) (x : A) → Has ys x → Has (xs ++ ys) x
-has_right [] ys x h = h
-has_right (y ∷ xs) ys x h = inr (has_right xs ys x h)
-
-pub has_map : {A B : Type 0} (f : A → B) (xs : List A) (x : A) → Has xs x → Has (map f xs) (f x)
-has_map f [] x h = absurd h
-has_map f (y ∷ xs) x (inl e) = inl (ap f e)
-has_map f (y ∷ xs) x (inr h) = inr (has_map f xs x h)
-
-pub has_flat : {A B : Type 0} (f : A → List B) (xs : List A) (x : A) (b : B) → Has xs x → Has (f x) b → Has (flat_map f xs) b
-has_flat f [] x b h k = absurd h
-has_flat {B = B} f (y ∷ xs) x b (inl e) k = has_left (f y) (flat_map f xs) b (subst (λ z. Has {A = B} (f z) b) (sym e) k)
-has_flat f (y ∷ xs) x b (inr h) k = has_right (f y) (flat_map f xs) b (has_flat f xs x b h k)
-
-pub has_at : {A : Type 0} (xs : List A) (k : ℕ) (x : A) → slice_get xs k ≡ Some x → Has xs x
-has_at [] k x h = absurd cc
-has_at (y ∷ xs) zero x h = inl cc
-has_at (y ∷ xs) (suc k) x h = inr (has_at xs k x h)
 
 -- ---- the same or not
 
@@ -58,18 +28,17 @@ said_by_one c d x e low high = ap (λ (f : Cell). said_at (enumerate_from f.0 f.
 said_or_none : (c : Cell) (x : ℕ) → c.0 ≤ x → x < c.0 + length c.1 → (ds : List Cell) → AllByRecursion (IsOrApart c) ds
     → (said_at (said_by ds) x ≡ Some (get_or c.1 (x - c.0) 0)) ⊎ (said_at (said_by ds) x ≡ None)
 said_or_none c x low high [] h = inr refl
-said_or_none c x low high (d ∷ ds) h = by_rest (said_or_none c x low high ds h.1) h.0
-  where
-    whole : said_at (said_by (d ∷ ds)) x ≡ option_or (said_at (said_by ds) x) (said_at (enumerate_from d.0 d.1) x)
-    whole = said_append (enumerate_from d.0 d.1) (said_by ds) x
+said_or_none c x low high (d ∷ ds) h =
+    let whole = said_append (enumerate_from d.0 d.1) (said_by ds) x in
+    elim (said_or_none c x low high ds h.1) [
+      | inl s ↦ inl (whole ∙ first_counts (said_at (said_by ds) x) _ _ s)
+      | inr s ↦ elim h.0 [
+        | inl e ↦ inl (whole ∙ second_counts (said_at (said_by ds) x) _ s ∙ said_by_one c d x e low high)
+        | inr a ↦ inr (whole ∙ neither_some (said_at (said_by ds) x) _ s (unsaid_by_one d c.0 (length c.1) x a low high))
+      ]
+    ]
 
-    by_rest : ((said_at (said_by ds) x ≡ Some (get_or c.1 (x - c.0) 0)) ⊎ (said_at (said_by ds) x ≡ None)) → IsOrApart c d
-        → (said_at (said_by (d ∷ ds)) x ≡ Some (get_or c.1 (x - c.0) 0)) ⊎ (said_at (said_by (d ∷ ds)) x ≡ None)
-    by_rest (inl s) q = inl (whole ∙ first_counts (said_at (said_by ds) x) (said_at (enumerate_from d.0 d.1) x) _ s)
-    by_rest (inr s) (inl e) = inl (whole ∙ second_counts (said_at (said_by ds) x) (said_at (enumerate_from d.0 d.1) x) s ∙ said_by_one c d x e low high)
-    by_rest (inr s) (inr a) = inr (whole ∙ neither_some (said_at (said_by ds) x) (said_at (enumerate_from d.0 d.1) x) s (unsaid_by_one d c.0 (length c.1) x a low high))
-
-pub said_of : (c : Cell) (x : ℕ) → c.0 ≤ x → x < c.0 + length c.1 → (ds : List Cell) → AllByRecursion (IsOrApart c) ds → Has ds c
+pub said_of : (c : Cell) (x : ℕ) → c.0 ≤ x → x < c.0 + length c.1 → (ds : List Cell) → AllByRecursion (IsOrApart c) ds → In ds c
     → said_at (said_by ds) x ≡ Some (get_or c.1 (x - c.0) 0)
 said_of c x low high [] h m = absurd m
 said_of c x low high (d ∷ ds) h (inl e) = grind (arith, nat_tests, said_append, said_or_none, first_counts, second_counts, said_by_one)
@@ -103,16 +72,7 @@ read_at file x (suc n) (suc j) h =
 
 pub read_same : (f g : List ℕ) (a b n : ℕ) → ((j : ℕ) → j < n → at f (a + j) ≡ at g (b + j)) → read f a n ≡ read g b n
 read_same f g a b zero h = refl
-read_same f g a b (suc n) h = λ t. first t ∷ read_same f g (a + 1) (b + 1) n later t
-  where
-    first : at f a ≡ at g b
-    first =
-        let one : a ≡ a + 0 = omega arith in
-        let two : b + 0 ≡ b = omega arith in
-        ap (λ (k : ℕ). at f k) one ∙ h 0 (omega arith) ∙ ap (λ (k : ℕ). at g k) two
-
-    later : (j : ℕ) → j < n → at f (a + 1 + j) ≡ at g (b + 1 + j)
-    later j l =
-        let one : a + 1 + j ≡ a + suc j = omega arith in
-        let two : b + suc j ≡ b + 1 + j = omega arith in
-        ap (λ (k : ℕ). at f k) one ∙ h (suc j) (omega arith) ∙ ap (λ (k : ℕ). at g k) two
+read_same f g a b (suc n) h =
+    let first : at f a ≡ at g b = grind (arith, nat_tests, h 0 (omega arith)) in
+    let rest = read_same f g (a + 1) (b + 1) n (λ j l. grind (arith, nat_tests, h (suc j) (omega arith))) in
+    λ t. first t ∷ rest t

@@ -1,5 +1,38 @@
 -- The items of a list, by their places, and those that pass a test.
-use Rattle.serial_spec.proofs.Words.{◌≡◌, ℕ, zero, suc, refl, ap, ◌∙◌, subst, List, [], ◌∷◌, Bool, true, false, cond, Some, inl, inr, filter, slice_get, list_any, or_left, or_right, In, arith, nat_tests}
+use Rattle.serial_spec.proofs.Words.{◌≡◌, ℕ, zero, suc, refl, ap, ◌∙◌, subst, List, [], ◌∷◌, Bool, true, false, cond, Some, inl, inr, filter, slice_get, list_any, or_left, or_right, In, arith, nat_tests, ◌++◌, sym, flat_map, map, or_cases, eqb-true, no_false, ◌==◌, ◌⊎◌}
+
+-- a test that holds or doesn't, and a value under it
+pub holds_or_not : (t : Bool) → (t ≡ true) ⊎ (t ≡ false)
+holds_or_not true = inl refl
+holds_or_not false = inr refl
+
+pub either : {X : Type 0} (P : X → Type 0) (t : Bool) (a b : X) → (t ≡ true → P a) → (t ≡ false → P b) → P (cond t a b)
+either P true a b f g = f refl
+either P false a b f g = g refl
+
+pub in_left : {X : Type 0} (xs ys : List X) (x : X) → In xs x → In (xs ++ ys) x
+in_left [] ys x h = absurd h
+in_left (z ∷ xs) ys x (inl e) = inl e
+in_left (z ∷ xs) ys x (inr h) = inr (in_left xs ys x h)
+
+pub in_right : {X : Type 0} (xs ys : List X) (x : X) → In ys x → In (xs ++ ys) x
+in_right [] ys x h = h
+in_right (z ∷ xs) ys x h = inr (in_right xs ys x h)
+
+pub in_map : {X Y : Type 0} (f : X → Y) (xs : List X) (x : X) → In xs x → In (map f xs) (f x)
+in_map f [] x h = absurd h
+in_map f (y ∷ ys) x (inl e) = inl (ap f e)
+in_map f (y ∷ ys) x (inr h) = inr (in_map f ys x h)
+
+pub in_flat : {X Y : Type 0} (f : X → List Y) (xs : List X) (x : X) (y : Y) → In xs x → In (f x) y → In (flat_map f xs) y
+in_flat f [] x y h k = absurd h
+in_flat {X} f (z ∷ xs) x y (inl e) k = in_left (f z) (flat_map f xs) y (subst (λ (u : X). In (f u) y) (sym e) k)
+in_flat f (z ∷ xs) x y (inr h) k = in_right (f z) (flat_map f xs) y (in_flat f xs x y h k)
+
+-- the number that a test finds is a member
+pub any_in : (xs : List ℕ) (x : ℕ) → list_any (λ z. z == x) xs ≡ true → In xs x
+any_in [] x h = no_false h
+any_in (y ∷ ys) x h = elim (or_cases (y == x) _ h) [ inl e ↦ inl (eqb-true _ _ e) | inr g ↦ inr (any_in ys x g) ]
 
 pub in_filter : {X : Type 0} (t : X → Bool) (xs : List X) (x : X) → In xs x → t x ≡ true → In (filter t xs) x
 in_filter t [] x h e = absurd h

@@ -1,11 +1,12 @@
 -- The redefined file has the new header, each old element at its new place, and zeros between.
-use Rattle.serial_spec.proofs.Words.{◌≡◌, ℕ, zero, suc, ◌+◌, ◌-◌, ◌<◌, ◌≤◌, min, max, refl, sym, ◌∙◌, ap, subst, inl, inr, ◌⊎◌, List, [], ◌∷◌, ◌++◌, length, map, take, drop, replicate, get_or, true, Option, Some, None, length-append, arith, common_steps, fold-append, same_number_lists, length-take, get_or-take, get_or-append_right, get_or-drop, length-replicate, length-drop, AllByRecursion, flat_map, fold, zip, slice_get, each_map, each_flat_map, each_weaker, Header, Var, at, read, written, size_of, lengths, end_of, place, row, IsIndex, IsElementBelow, AreApart, canon, header_len, is_sound, known_lengths, all_indices, moved, redefined, Moves, KeepsVars, IsRedefined, said_at, byte_or, Cell, write_cells, said_by, cases_eq, nat_tests}
+use Rattle.serial_spec.proofs.Words.{◌≡◌, ℕ, zero, suc, ◌+◌, ◌-◌, ◌<◌, ◌≤◌, min, max, refl, sym, ◌∙◌, ap, subst, inl, inr, ◌⊎◌, List, [], ◌∷◌, ◌++◌, length, map, take, drop, replicate, get_or, true, Option, Some, None, length-append, arith, common_steps, fold-append, same_number_lists, length-take, get_or-take, get_or-append_right, get_or-drop, length-replicate, length-drop, AllByRecursion, flat_map, fold, zip, slice_get, each_map, each_flat_map, each_weaker, Header, Var, at, read, written, size_of, lengths, end_of, place, row, IsIndex, IsElementBelow, AreApart, canon, header_len, is_sound, known_lengths, all_indices, moved, redefined, Moves, KeepsVars, IsRedefined, said_at, byte_or, Cell, write_cells, said_by, cases_eq, nat_tests, In}
 use Rattle.serial_spec.proofs.ApartLaws.{elements_apart, elements_past_header}
 use Rattle.serial_spec.proofs.ElementLaws.{coordinates_at}
 use Rattle.serial_spec.proofs.SaidLaws.{cells_said}
 use Rattle.serial_spec.proofs.RoomLaws.{known_of, index_is_element, element_inside}
 use Rattle.serial_spec.proofs.AcceptLaws.{coordinates_all}
-use Rattle.serial_spec.proofs.CellLaws.{Has, has_map, has_flat, has_at, same_index, IsOrApart, said_of, unsaid, cells_within, read_long, read_at, read_same}
+use Rattle.serial_spec.proofs.CellLaws.{same_index, IsOrApart, said_of, unsaid, cells_within, read_long, read_at, read_same}
+use Rattle.serial_spec.proofs.MemberLaws.{in_map, in_flat, at_in}
 
 -- ---- the file before the elements are moved
 
@@ -67,17 +68,17 @@ each_cell old new file Q f =
     (λ k v w h g. each_map Q (cell_at old new file v w) (all_indices old v)
     (each_weaker (IsIndex (known_lengths old v old.records)) (λ i. Q (cell_at old new file v w i)) (λ i l. f k v w i h g l) (all_indices old v) (coordinates_all (known_lengths old v old.records)))))
 
-has_zip : (olds news : List Var) (k : ℕ) (v w : Var) → slice_get olds k ≡ Some v → slice_get news k ≡ Some w → Has {A = Var × Var} (zip olds news) (v, w)
+has_zip : (olds news : List Var) (k : ℕ) (v w : Var) → slice_get olds k ≡ Some v → slice_get news k ≡ Some w → In {X = Var × Var} (zip olds news) (v, w)
 has_zip (x ∷ olds) (y ∷ news) zero v w h g = grind (arith, nat_tests)
 has_zip (x ∷ olds) (y ∷ news) (suc k) v w h g = inr (has_zip olds news k v w h g)
 has_zip _ _ k v w h g = absurd cc
 
 has_cell : (old new : Header) (file : List ℕ) (k : ℕ) (v w : Var) (index : List ℕ) → slice_get old.vars k ≡ Some v → slice_get new.vars k ≡ Some w
-    → IsIndex (known_lengths old v old.records) index → Has (all_cells old new file) (cell_at old new file v w index)
+    → IsIndex (known_lengths old v old.records) index → In (all_cells old new file) (cell_at old new file v w index)
 has_cell old new file k v w index h g i =
-    has_flat (cells_of old new file) (zip old.vars new.vars) (v, w) (cell_at old new file v w index) (has_zip old.vars new.vars k v w h g)
-    (has_map (cell_at old new file v w) (all_indices old v) index
-    (has_at (all_indices old v) (row (known_lengths old v old.records) index) index (coordinates_at (known_lengths old v old.records) index i)))
+    in_flat (cells_of old new file) (zip old.vars new.vars) (v, w) (cell_at old new file v w index) (has_zip old.vars new.vars k v w h g)
+    (in_map (cell_at old new file v w) (all_indices old v) index
+    (at_in (all_indices old v) (row (known_lengths old v old.records) index) index (coordinates_at (known_lengths old v old.records) index i)))
 
 -- ---- the law
 
@@ -106,7 +107,18 @@ or_apart : (old new : Header) (file : List ℕ) → is_sound new ≡ true → Ke
     → (k : ℕ) (v w : Var) (index : List ℕ) → slice_get old.vars k ≡ Some v → slice_get new.vars k ≡ Some w → IsIndex (known_lengths old v old.records) index
     → (m : ℕ) (x y : Var) (other : List ℕ) → slice_get old.vars m ≡ Some x → slice_get new.vars m ≡ Some y → IsIndex (known_lengths old x old.records) other
     → IsOrApart (cell_at old new file v w index) (cell_at old new file x y other)
-or_apart old new file sound keeps k v w index h g i m x y other f e j = by_same (cases_eq m k) (same_index other index)
+or_apart old new file sound keeps k v w index h g i m x y other f e j = elim (cases_eq m k) [
+  | inr n ↦ apart (λ p. n p.0)
+  | inl p ↦ elim (same_index other index) [
+    | inr n ↦ apart (λ q. n q.1)
+    | inl q ↦
+        (let one : Some x ≡ Some v = sym f ∙ ap (λ (n : ℕ). slice_get old.vars n) p ∙ h in
+        let two : Some y ≡ Some w = sym e ∙ ap (λ (n : ℕ). slice_get new.vars n) p ∙ g in
+        let old_same : x ≡ v = cc in
+        let new_same : y ≡ w = cc in
+        inl (λ t. cell_at old new file (old_same t) (new_same t) (q t)))
+  ]
+]
   where
     apart : ((m ≡ k) × (other ≡ index) → ⊥) → IsOrApart (cell_at old new file v w index) (cell_at old new file x y other)
     apart n =
@@ -114,16 +126,6 @@ or_apart old new file sound keeps k v w index h g i m x y other f e j = by_same 
         let b = kept old new keeps m x y f e in
         inr (resized (place new y other) (size_of y.kind) (place new w index) (size_of w.kind) _ _ (cell_long old new file m x y other b) (cell_long old new file k v w index a)
         (elements_apart new m k y w other index sound e g (still old new m x y old.records other sound e b j).0 (still old new k v w old.records index sound g a i).0 n))
-
-    by_same : ((m ≡ k) ⊎ (m ≡ k → ⊥)) → ((other ≡ index) ⊎ (other ≡ index → ⊥)) → IsOrApart (cell_at old new file v w index) (cell_at old new file x y other)
-    by_same (inr n) q = apart (λ p. n p.0)
-    by_same (inl p) (inr n) = apart (λ q. n q.1)
-    by_same (inl p) (inl q) =
-        let one : Some x ≡ Some v = sym f ∙ ap (λ (n : ℕ). slice_get old.vars n) p ∙ h in
-        let two : Some y ≡ Some w = sym e ∙ ap (λ (n : ℕ). slice_get new.vars n) p ∙ g in
-        let old_same : x ≡ v = cc in
-        let new_same : y ≡ w = cc in
-        inl (λ t. cell_at old new file (old_same t) (new_same t) (q t))
 
 abbrev end_after : Header → Header → ℕ
 end_after old new = end_of new (header_len new) old.records
@@ -159,30 +161,16 @@ redefined_long file old new sound keeps =
 head_kept : (file : List ℕ) (old new : Header) → is_sound new ≡ true → KeepsVars old new → (x : ℕ) → x < length (canon new)
     → at (redefined file old new) x ≡ get_or (canon new) x 0
 head_kept file old new sound keeps x l =
-    unmoved file old new x (unsaid x (all_cells old new file) (each_cell old new file (λ d. AreApart d.0 (length d.1) x 1) before))
+    unmoved file old new x (unsaid x (all_cells old new file) (each_cell old new file (λ d. AreApart d.0 (length d.1) x 1)
+    (λ k v w index h g i. inr (omega (arith, elements_past_header new k w index sound g (still old new k v w old.records index sound g (kept old new keeps k v w h g) i).0, l)))))
     ∙ blank_head (canon new) (end_after old new) file x (head_first old new) l
-  where
-    before : (k : ℕ) (v w : Var) (index : List ℕ) → slice_get old.vars k ≡ Some v → slice_get new.vars k ≡ Some w → IsIndex (known_lengths old v old.records) index
-        → AreApart (place new w index) (length (read file (place old v index) (size_of v.kind))) x 1
-    before k v w index h g i =
-        let a = kept old new keeps k v w h g in
-        let past = elements_past_header new k w index sound g (still old new k v w old.records index sound g a i).0 in
-        inr (omega (arith, past, l))
 
 redefined_head : (file : List ℕ) (old new : Header) → is_sound new ≡ true → KeepsVars old new → take (header_len new) (redefined file old new) ≡ canon new
 redefined_head file old new sound keeps =
+    let front : length (take (header_len new) (redefined file old new)) ≡ min (header_len new) (length (redefined file old new)) = length-take (header_len new) (redefined file old new) in
+    let long : length (take (header_len new) (redefined file old new)) ≡ length (canon new) = omega (arith, redefined_long file old new sound keeps, head_first old new, front) in
     same_number_lists (take (header_len new) (redefined file old new)) (canon new) long
-    (λ x l. get_or-take (header_len new) (redefined file old new) x 0 (below x l) ∙ head_kept file old new sound keeps x (below x l))
-  where
-    long : length (take (header_len new) (redefined file old new)) ≡ length (canon new)
-    long =
-        let whole = redefined_long file old new sound keeps in
-        let front = head_first old new in
-        let taken : length (take (header_len new) (redefined file old new)) ≡ min (header_len new) (length (redefined file old new)) = length-take (header_len new) (redefined file old new) in
-        omega arith
-
-    below : (x : ℕ) → x < length (take (header_len new) (redefined file old new)) → x < header_len new
-    below x l = omega (arith, long, l)
+    (λ x l. let low : x < header_len new = omega (arith, long, l) in get_or-take (header_len new) (redefined file old new) x 0 low ∙ head_kept file old new sound keeps x low)
 
 redefined_moved : (file : List ℕ) (old new : Header) → is_sound new ≡ true → KeepsVars old new
     → (from to size : ℕ) → Moves old new from to size → read (redefined file old new) to size ≡ read file from size
@@ -204,24 +192,17 @@ redefined_moved file old new sound keeps from to size (k, v, w, index, h, g, i, 
 redefined_bare : (file : List ℕ) (old new : Header) → (x : ℕ) → header_len new ≤ x → x < end_after old new
     → ((from to size : ℕ) → Moves old new from to size → AreApart to size x 1) → at (redefined file old new) x ≡ 0
 redefined_bare file old new x low high f =
-    unmoved file old new x (unsaid x (all_cells old new file) (each_cell old new file (λ d. AreApart d.0 (length d.1) x 1) away))
+    unmoved file old new x (unsaid x (all_cells old new file) (each_cell old new file (λ d. AreApart d.0 (length d.1) x 1)
+    (λ k v w index h g i. resized (place new w index) (size_of v.kind) x 1 _ _ (sym (read_long file (place old v index) (size_of v.kind))) refl
+    (f (place old v index) (place new w index) (size_of v.kind) (k, v, w, index, h, g, i, refl, refl, refl)))))
     ∙ blank_bare (canon new) (end_after old new) file x (head_first old new) low high
-  where
-    away : (k : ℕ) (v w : Var) (index : List ℕ) → slice_get old.vars k ≡ Some v → slice_get new.vars k ≡ Some w → IsIndex (known_lengths old v old.records) index
-        → AreApart (place new w index) (length (read file (place old v index) (size_of v.kind))) x 1
-    away k v w index h g i =
-        resized (place new w index) (size_of v.kind) x 1 _ _ (sym (read_long file (place old v index) (size_of v.kind))) refl
-        (f (place old v index) (place new w index) (size_of v.kind) (k, v, w, index, h, g, i, refl, refl, refl))
 
 redefined_past : (file : List ℕ) (old new : Header) → is_sound new ≡ true → KeepsVars old new → (x : ℕ) → end_after old new ≤ x
     → at (redefined file old new) x ≡ at file x
 redefined_past file old new sound keeps x l =
-    unmoved file old new x (unsaid x (all_cells old new file) (each_cell old new file (λ d. AreApart d.0 (length d.1) x 1) below))
+    unmoved file old new x (unsaid x (all_cells old new file) (each_cell old new file (λ d. AreApart d.0 (length d.1) x 1)
+    (λ k v w index h g i. inl (omega (arith, ends file old new sound keeps k v w index h g i, l)))))
     ∙ blank_past (canon new) (end_after old new) file x (head_first old new) l
-  where
-    below : (k : ℕ) (v w : Var) (index : List ℕ) → slice_get old.vars k ≡ Some v → slice_get new.vars k ≡ Some w → IsIndex (known_lengths old v old.records) index
-        → AreApart (place new w index) (length (read file (place old v index) (size_of v.kind))) x 1
-    below k v w index h g i = let e = ends file old new sound keeps k v w index h g i in inl (omega (arith, e, l))
 
 pub redefined_is : (file : List ℕ) (old new : Header) → is_sound new ≡ true → KeepsVars old new → IsRedefined old new file (redefined file old new)
 redefined_is file old new sound keeps =

@@ -1,7 +1,8 @@
 -- Elements end within the file, and an index below the known lengths is an element.
-use Rattle.serial_spec.proofs.Words.{◌≡◌, ℕ, zero, suc, ◌+◌, ◌-◌, ◌*◌, ◌<◌, ◌≤◌, refl, sym, ◌∙◌, ap, subst, List, [], ◌∷◌, length, map, drop, Bool, true, false, cond, Some, None, arith, mul-le-mul_right, nat_tests, position_from-zero, list_any, position_from, AllByRecursion, slice_get, position, MatchBool, ◌==◌, if◌then◌else◌, and_second, equal_suc, both_none, none_of_test, none_before_map, Header, Var, size_of, greatest, length_of, lengths, starts_with_zero, without_record, is_record, slab, vsize, recsize, last_share, end_of_var, end_of, place, record_of, within_record, HasRecord, IsIndex, IsElementBelow, first_check, first_with, fault_if, two_record_dims, record_later, is_record_id, is_sound, known_lengths, entry_map, fails_each}
+use Rattle.serial_spec.proofs.Words.{◌≡◌, ℕ, zero, suc, ◌+◌, ◌-◌, ◌*◌, ◌<◌, ◌≤◌, refl, sym, ◌∙◌, ap, subst, List, [], ◌∷◌, length, map, drop, Bool, true, false, cond, Some, None, arith, mul-le-mul_right, nat_tests, position_from-zero, list_any, position_from, AllByRecursion, slice_get, position, MatchBool, ◌==◌, if◌then◌else◌, and_second, equal_suc, both_none, none_of_test, none_before_map, Header, Var, size_of, greatest, length_of, lengths, starts_with_zero, without_record, is_record, slab, vsize, recsize, last_share, end_of_var, end_of, place, record_of, within_record, HasRecord, IsIndex, IsElementBelow, first_check, first_with, fault_if, two_record_dims, record_later, is_record_id, is_sound, known_lengths, entry_map, fails_each, told_else, each_map, inl, inr}
 use Rattle.nc_base.specs.declared.errors.HeaderErr.TheVariants as fault
 use Rattle.serial_spec.proofs.ApartLaws.{span_fixed, span_record}
+use Rattle.serial_spec.proofs.MemberLaws.{holds_or_not}
 
 -- ---- the end of a file
 
@@ -36,25 +37,15 @@ some_record r n h = grind (arith, nat_tests)
 -- an element in a record below n ends within the file of n records
 pub element_inside : (header : Header) (first n k : ℕ) (v : Var) (index : List ℕ) → slice_get header.vars k ≡ Some v → IsElementBelow header v n index
     → place header v index + size_of v.kind ≤ end_of header first n
-element_inside header first n k v index h p = by_kind (is_record header v) refl
-  where
-    by_kind : (t : Bool) → is_record header v ≡ t → place header v index + size_of v.kind ≤ end_of header first n
-    by_kind false e =
-        let w = span_fixed header v index e p.0 in
-        let high = w.high in
-        let small = slab_below header v in
-        let own = end_fixed header n v e in
-        let whole = end_holds header first n k v h in
-        omega arith
-    by_kind true e =
-        let w = span_record header v index e p.0 in
-        let high = w.high in
-        let below : record_of index < n = subst (λ (t : Bool). MatchBool t (record_of index < n) (Unit {0})) e p.1 in
-        let rows : record_of index * recsize header ≤ (n - 1) * recsize header = mul-le-mul_right (recsize header) (omega (arith, below)) in
-        let small = slab_shared header v in
-        let own = end_record header n v e (some_record (record_of index) n below) in
-        let whole = end_holds header first n k v h in
-        omega arith
+element_inside header first n k v index h p =
+    let whole = end_holds header first n k v h in
+    elim (holds_or_not (is_record header v)) [
+      | inr e ↦ omega (arith, span_fixed header v index e p.0, slab_below header v, end_fixed header n v e, whole)
+      | inl e ↦
+          (let below : record_of index < n = subst (λ (t : Bool). MatchBool t (record_of index < n) (Unit {0})) e p.1 in
+          let rows : record_of index * recsize header ≤ (n - 1) * recsize header = mul-le-mul_right (recsize header) (omega (arith, below)) in
+          omega (arith, span_record header v index e p.0, slab_shared header v, end_record header n v e (some_record (record_of index) n below), rows, whole))
+    ]
 
 -- ---- the end grows with the records
 
@@ -91,20 +82,13 @@ by_lengths known ls index some h = grind (arith, nat_tests, none_known, equal_su
 pub untested : {A : Type 0} (test : A → Bool) (n : ℕ) (xs : List A) (k : ℕ) (x : A) → position_from test n xs ≡ None → slice_get xs k ≡ Some x → test x ≡ false
 untested test n [] k x h g = absurd cc
 untested test n (y ∷ xs) zero x h g = grind (arith, nat_tests)
-untested test n (y ∷ xs) (suc k) x h g = untested test (n + 1) xs k x (by_test (test y) h) g
-  where
-    by_test : (t : Bool) → cond t (Some n) (position_from test (n + 1) xs) ≡ None → position_from test (n + 1) xs ≡ None
-    by_test true h = absurd cc
-    by_test false h = h
+untested test n (y ∷ xs) (suc k) x h g = untested test (n + 1) xs k x (told_else (test y) n (position_from test (n + 1) xs) h).1 g
 
 later_some : (header : Header) (ids : List ℕ) → list_any (λ id. is_record_id header id) (drop 1 ids) ≡ false
     → AllByRecursion (λ n. (n == 0) ≡ false) (drop 1 (map (λ id. length_of (slice_get header.dims id)) ids))
 later_some header [] h = tt
-later_some header (id ∷ ids) h = each ids (fails_each (λ id. is_record_id header id) ids h)
-  where
-    each : (ids : List ℕ) → AllByRecursion (λ id. is_record_id header id ≡ false) ids → AllByRecursion (λ n. (n == 0) ≡ false) (map (λ id. length_of (slice_get header.dims id)) ids)
-    each [] h = tt
-    each (id ∷ ids) h = (h.0, each ids h.1)
+later_some header (id ∷ ids) h =
+    each_map (λ n. (n == 0) ≡ false) (λ id. length_of (slice_get header.dims id)) ids (fails_each (λ id. is_record_id header id) ids h)
 
 -- no length but the first is that of the record dimension
 pub none_later : (header : Header) (k : ℕ) (v : Var) → is_sound header ≡ true → slice_get header.vars k ≡ Some v

@@ -1,5 +1,5 @@
 -- A byte after writes and puts is what the last of them that has it says, else the old one.
-use Rattle.serial_spec.proofs.Words.{◌≡◌, ℕ, suc, ◌+◌, ◌-◌, ◌<◌, ◌≤◌, refl, sym, ◌∙◌, ap, List, [], ◌∷◌, ◌++◌, length, take, drop, get_or, Bool, true, false, cond, Option, Some, None, arith, common_steps, flat_map-append, fold-append, get_or-append_right, get_or_append_left, nat_tests, fold, flat_map, zip, ◌==◌, slice_get, enumerate_from, range_with_len, option_or, length-range_with_len, equal_above, equal_below, neither_some, second_counts, first_counts, option_or_assoc, none_last, Header, Var, Post, at, longer, written, one_says, said_at, byte_or, Cell, write_cells, said_by, size_of, cells, places, Puts, bytes_of_some, said_by_puts, Setting, put_post, put_some, after_puts}
+use Rattle.serial_spec.proofs.Words.{◌≡◌, ℕ, suc, ◌+◌, ◌-◌, ◌<◌, ◌≤◌, refl, sym, ◌∙◌, ap, List, [], ◌∷◌, ◌++◌, length, take, drop, get_or, Bool, true, false, cond, Option, Some, None, arith, common_steps, flat_map-append, fold-append, get_or-append_right, get_or_append_left, nat_tests, fold, flat_map, zip, ◌==◌, slice_get, enumerate_from, range_with_len, option_or, length-range_with_len, equal_above, equal_below, neither_some, second_counts, first_counts, option_or_assoc, none_last, Header, Var, Post, at, longer, written, one_says, said_at, byte_or, Cell, write_cells, said_by, size_of, cells, places, Puts, bytes_of_some, said_by_puts, Setting, put_post, put_some, after_puts, zero}
 use Rattle.std.proofs.lemmas.List.{length-append}
 use borrow.Author.Tests.{ltb-true, ltb-false, eqb-true}
 use Rattle.serial_spec.proofs.FileLaws.{at-longer, at-written_before, at-written_after, written-front}
@@ -31,22 +31,13 @@ pub said_past : {A : Type 0} (p : ℕ) (b : List A) (x : ℕ) → p + length b �
 said_past p [] x h = refl
 said_past p (v ∷ b) x h = neither_some (said_at (enumerate_from (p + 1) b) x) _ (said_past (p + 1) b x (omega arith)) (one_miss p x v (equal_below p x (omega arith)))
 
+get_or_cons : {A : Type 0} (v : A) (b : List A) (n : ℕ) (d : A) → get_or (v ∷ b) n d ≡ cond (n == 0) v (get_or b (n - 1) d)
+get_or_cons v b zero d = refl
+get_or_cons v b (suc n) d = grind (arith, nat_tests)
+
 pub said_inside : {A : Type 0} (p : ℕ) (b : List A) (x : ℕ) (d : A) → p ≤ x → x < p + length b → said_at (enumerate_from p b) x ≡ Some (get_or b (x - p) d)
 said_inside p [] x d h k = absurd (omega arith)
-said_inside {A} p (v ∷ b) x d h k = by_test (λ l. said_inside (p + 1) b x d l (omega arith)) (p == x) refl
-  where
-    by_test : (p + 1 ≤ x → said_at (enumerate_from (p + 1) b) x ≡ Some (get_or b (x - (p + 1)) d))
-        → (t : Bool) → (p == x) ≡ t → said_at (enumerate_from p (v ∷ b)) x ≡ Some (get_or (v ∷ b) (x - p) d)
-    by_test rest true e =
-        let same : p ≡ x = eqb-true _ _ e in
-        let none : x - p ≡ 0 = omega arith in
-        second_counts (said_at (enumerate_from (p + 1) b) x) _ (said_below (p + 1) b x (omega arith))
-        ∙ one_hit p x v e ∙ ap (λ (n : ℕ). Some (get_or (v ∷ b) n d)) (sym none)
-    by_test rest false e =
-        let past : p + 1 ≤ x = missed p x h e in
-        let next : suc (x - (p + 1)) ≡ x - p = omega arith in
-        first_counts (said_at (enumerate_from (p + 1) b) x) _ _ (rest past)
-        ∙ ap (λ (n : ℕ). Some (get_or (v ∷ b) n d)) next
+said_inside p (v ∷ b) x d h k = grind (arith, nat_tests, said_inside (p + 1) b x d, said_below (p + 1) b x, get_or_cons)
 
 -- ---- a write
 

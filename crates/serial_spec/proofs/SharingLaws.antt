@@ -1,7 +1,8 @@
 -- The pair of variables that is computed is the least pair that shares a byte, and there is none where none is computed.
-use Rattle.serial_spec.proofs.Words.{◌≡◌, ℕ, zero, suc, ◌+◌, ◌<◌, ◌≤◌, refl, sym, ◌∙◌, ap, subst, inl, inr, ◌⊎◌, List, [], ◌∷◌, Bool, true, false, cond, Option, Some, None, arith, slice_get, nat_lt, IsTrue, option_or, told_else, both_none, Header, Var, share, sharing, sharing_with, sharing_from, Shares, IsSharing, nat_tests}
+use Rattle.serial_spec.proofs.Words.{◌≡◌, ℕ, zero, suc, ◌+◌, ◌<◌, ◌≤◌, refl, sym, ◌∙◌, ap, subst, inl, inr, ◌⊎◌, List, [], ◌∷◌, Bool, true, false, cond, Option, Some, None, arith, slice_get, nat_lt, IsTrue, option_or, told_else, both_none, Header, Var, share, sharing, sharing_with, sharing_from, Shares, IsSharing, nat_tests, some_or_none, first_counts, second_counts}
 use borrow.Author.Tests.{ltb-true, ltb-false}
 use Rattle.serial_spec.proofs.ApartLaws.{none_with}
+use Rattle.serial_spec.proofs.MemberLaws.{holds_or_not}
 
 -- `Shares` over a list of variables
 abbrev SharesOf : Header → ℕ → List Var → ℕ → ℕ → Type 0
@@ -25,27 +26,25 @@ record IsPartner (header : Header) (v : Var) (ws : List Var) (j : ℕ) : Type 0 
 first_partner : (header : Header) (v : Var) (k m : ℕ) (ws : List Var) (p : ℕ × ℕ) → sharing_with header v k m ws ≡ Some p
     → (j : ℕ) × (p ≡ (k, m + j)) × IsPartner header v ws j
 first_partner header v k m [] p h = absurd cc
-first_partner header v k m (w ∷ ws) p h = by_test (λ g. first_partner header v k (suc m) ws p g) (share header v w) refl h
+first_partner header v k m (w ∷ ws) p h = elim (holds_or_not (share header v w)) [
+  | inl e ↦
+      (let told : Some (k, m) ≡ Some p = rw e at h in
+      let same : (k, m) ≡ p = cc in
+      let back : m ≡ m + 0 = omega arith in
+      (0, sym same ∙ ap (λ (n : ℕ). (k, n)) back, record { other = w; there = refl; shares = e; least = λ b x g s. omega arith }))
+  | inr e ↦
+      (let found = first_partner header v k (suc m) ws p (rw e at h) in
+      let on : suc m + found.0 ≡ m + suc found.0 = omega arith in
+      (suc found.0, found.1 ∙ ap (λ (n : ℕ). (k, n)) on, record { other = found.2.other; there = found.2.there; shares = found.2.shares; least = later found.0 found.2 e }))
+]
   where
-    by_test : (sharing_with header v k (suc m) ws ≡ Some p → (j : ℕ) × (p ≡ (k, suc m + j)) × IsPartner header v ws j)
-        → (t : Bool) → share header v w ≡ t → cond t (Some (k, m)) (sharing_with header v k (suc m) ws) ≡ Some p
-        → (j : ℕ) × (p ≡ (k, m + j)) × IsPartner header v (w ∷ ws) j
-    by_test rest true e h =
-        let same : (k, m) ≡ p = cc in
-        let back : m ≡ m + 0 = omega arith in
-        (0, sym same ∙ ap (λ (n : ℕ). (k, n)) back, record { other = w; there = refl; shares = e; least = λ b x g s. omega arith })
-    by_test rest false e h =
-        let found = rest h in
-        let on : suc m + found.0 ≡ m + suc found.0 = omega arith in
-        (suc found.0, found.1 ∙ ap (λ (n : ℕ). (k, n)) on, record { other = found.2.other; there = found.2.there; shares = found.2.shares; least = later found.0 found.2 e })
-      where
-        later : (j : ℕ) → IsPartner header v ws j → share header v w ≡ false
-            → (b : ℕ) (x : Var) → slice_get (w ∷ ws) b ≡ Some x → share header v x ≡ true → suc j ≤ b
-        later j found e zero x g s =
-            let same : w ≡ x = cc in
-            let yes : share header v w ≡ true = ap (λ (y : Var). share header v y) same ∙ s in
-            absurd cc
-        later j found e (suc b) x g s = let l = found.least b x g s in omega arith
+    later : (j : ℕ) → IsPartner header v ws j → share header v w ≡ false
+        → (b : ℕ) (x : Var) → slice_get (w ∷ ws) b ≡ Some x → share header v x ≡ true → suc j ≤ b
+    later j found e zero x g s =
+        let same : w ≡ x = cc in
+        let yes : share header v w ≡ true = ap (λ (y : Var). share header v y) same ∙ s in
+        absurd cc
+    later j found e (suc b) x g s = omega (arith, found.least b x g s)
 
 -- ---- the least pair of a list
 
@@ -137,22 +136,18 @@ further header first k v vs p e none found =
 
 least_of : (header : Header) (first k : ℕ) (vs : List Var) (p : ℕ × ℕ) → sharing_from header first k vs ≡ Some p → Found header first k vs p
 least_of header first k [] p h = absurd cc
-least_of header first k (v ∷ vs) p h = by_begin (λ g. least_of header first (suc k) vs p g) (nat_lt v.begin first) refl h
-  where
-    by_partner : nat_lt v.begin first ≡ false → (sharing_from header first (suc k) vs ≡ Some p → Found header first (suc k) vs p)
-        → (o : Option (ℕ × ℕ)) → sharing_with header v k (suc k) vs ≡ o → option_or o (sharing_from header first (suc k) vs) ≡ Some p
-        → Found header first k (v ∷ vs) p
-    by_partner e rest (Some q) f g = with_partner header first k v vs p e (f ∙ g)
-    by_partner e rest None f g = further header first k v vs p e f (rest g)
-
-    by_begin : (sharing_from header first (suc k) vs ≡ Some p → Found header first (suc k) vs p)
-        → (t : Bool) → nat_lt v.begin first ≡ t
-        → cond t (Some (k, k)) (option_or (sharing_with header v k (suc k) vs) (sharing_from header first (suc k) vs)) ≡ Some p
-        → Found header first k (v ∷ vs) p
-    by_begin rest true e g =
-        let same : (k, k) ≡ p = cc in
-        subst (λ (q : ℕ × ℕ). Found header first k (v ∷ vs) q) same (in_header header first k v vs e)
-    by_begin rest false e g = by_partner e rest (sharing_with header v k (suc k) vs) refl g
+least_of header first k (v ∷ vs) p h = elim (holds_or_not (nat_lt v.begin first)) [
+  | inl e ↦
+      (let told : Some (k, k) ≡ Some p = rw e at h in
+      let same : (k, k) ≡ p = cc in
+      subst (λ (q : ℕ × ℕ). Found header first k (v ∷ vs) q) same (in_header header first k v vs e))
+  | inr e ↦
+      (let told : option_or (sharing_with header v k (suc k) vs) (sharing_from header first (suc k) vs) ≡ Some p = rw e at h in
+      elim (some_or_none (sharing_with header v k (suc k) vs)) [
+        | inr q ↦ with_partner header first k v vs p e (q.1 ∙ sym (first_counts _ (sharing_from header first (suc k) vs) q.0 q.1) ∙ told)
+        | inl n ↦ further header first k v vs p e n (least_of header first (suc k) vs p (sym (second_counts _ _ n) ∙ told))
+      ])
+]
 
 no_pair : (header : Header) (first k : ℕ) (vs : List Var) → sharing_from header first k vs ≡ None → (a b : ℕ) → SharesOf header first vs a b → ⊥
 no_pair header first k [] h a b (x, g, s) = absurd cc
@@ -171,12 +166,8 @@ sharing_found header first k m h =
     let found = least_of header first 0 header.vars (k, m) h in
     let i : found.0 ≡ k = omega (arith, ap (λ (p : ℕ × ℕ). p.0) found.2) in
     let j : found.1 ≡ m = omega (arith, ap (λ (p : ℕ × ℕ). p.1) found.2) in
-    by_same found.0 found.1 i j found.3
-  where
-    by_same : (i j : ℕ) → i ≡ k → j ≡ m → IsLeast header first header.vars i j → IsSharing header first k m
-    by_same i j e f l =
-        let there = subst (λ (n : ℕ). IsLeast header first header.vars n m) e (subst (λ (n : ℕ). IsLeast header first header.vars i n) f l) in
-        record { pair = there.pair; least_first = there.least_first; least_second = there.least_second }
+    let there = subst (λ (n : ℕ). IsLeast header first header.vars n m) i (subst (λ (n : ℕ). IsLeast header first header.vars found.0 n) j found.3) in
+    record { pair = there.pair; least_first = there.least_first; least_second = there.least_second }
 
 pub sharing_none : (header : Header) (first : ℕ) → sharing header first ≡ None → (k m : ℕ) → Shares header first k m → ⊥
 sharing_none header first h k m s = no_pair header first 0 header.vars h k m s

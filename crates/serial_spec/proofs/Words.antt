@@ -3,7 +3,7 @@ pub use Rattle.std.proofs.Common.{Bool, List, None, Option, Some, [], ap, append
 pub use Rattle.std.proofs.Math.Nat.{add-mul, le_of_mul-le-mul_right, mul-le-mul_right}
 pub use Rattle.std.proofs.Math.Seq.{drop-append-add, take-append-add}
 pub use Rattle.std.proofs.lemmas.Bool.{and_from, cases_eq, eq-eqb, eqb-false, eqb-true, le-leb, leb-false, leb-true, lt-ltb, not-false, not-true, not_from_false, or_cases, or_left, or_right}
-pub use Rattle.std.proofs.lemmas.Bool.Decides.{nat_tests}
+pub use Rattle.std.proofs.lemmas.Bool.Decides.{leb_tells, nat_tests}
 pub use Rattle.std.proofs.lemmas.Grind.{common_steps, flat_map-append, fold-append, same_number_lists}
 pub use Rattle.std.proofs.lemmas.Int.{to_z-of_z}
 pub use Rattle.std.proofs.lemmas.Iterator.Adapters.{position_from-zero}
@@ -19,7 +19,7 @@ pub use Rattle.list_laws.proofs.Appends.{append_parts}
 pub use Rattle.list_laws.proofs.Each.{each_append, each_flat_map, each_map, each_weaker, fails_each}
 pub use Rattle.list_laws.proofs.Maps.{entry_map, flat_same, map_map}
 pub use Rattle.list_laws.proofs.Numbers.{le_two, some_factor}
-pub use Rattle.list_laws.proofs.Optional.{both_none, first_counts, if_some_at, neither_some, no_none_some, none_before_map, none_last, none_of_test, option_or_assoc, second_counts, told_else}
+pub use Rattle.list_laws.proofs.Optional.{both_none, first_counts, if_some_at, neither_some, no_none_some, none_before_map, none_last, none_of_test, option_or_assoc, second_counts, some_or_none, told_else}
 pub use Rattle.list_laws.proofs.Parts.{part, part_joined, part_map, part_none}
 pub use Rattle.list_laws.proofs.Places.{entry_numbered, get_left, get_right, take_at_most}
 pub use Rattle.list_laws.proofs.Ranges.{pieces_long}

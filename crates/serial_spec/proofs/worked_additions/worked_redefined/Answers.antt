@@ -4,16 +4,6 @@ use Rattle.serial_spec.proofs.AddedLaws.{redefined_keeps}
 use Rattle.serial_spec.proofs.MoveLaws.{redefined_is}
 use Rattle.serial_spec.proofs.worked_additions.worked_redefined.Goals as goal
 
-pub returns-clause-right : goal.returns-clause-right
-unfolding canon
-returns-clause-right c = redefined_is file_halves dataset_a dataset_aq refl (redefined_keeps dataset_a (more_var 113 Short 120 ∷ []) refl)
-
--- the last element stands at 92 in the old file and at 128 in the new one
-pub returns-clause-other_value : goal.returns-clause-other_value
-unfolding canon
-returns-clause-other_value c h =
-    let same = h.moved 92 128 4 (0, _, _, 3 ∷ [], refl, refl, (lit< tt, tt), refl, refl, refl) in cc
-
 -- the bytes of v's elements at their new places end before byte 132
 ends_before : (index : List ℕ) (to size : ℕ) → IsIndex (4 ∷ []) index → size ≡ 4 → to ≡ place dataset_aq (var_at 118 Int (0 ∷ []) 116) index
     → AreApart to size 132 1
@@ -31,10 +21,12 @@ behind from to size (zero, v, w, index, old, new, inside, f, t, s) =
     inside s
 behind from to size (suc k, v, w, index, old, new, inside, f, t, s) = no_none_some v old
 
-pub returns-clause-not_zero : goal.returns-clause-not_zero
+-- the last element stands at 92 in the old file and at 128 in the new one
+pub returns : goal.returns
 unfolding canon
-returns-clause-not_zero c h = let zero = h.bare 132 (lit< tt) (lit< tt) behind in cc
-
-pub returns-clause-too_long : goal.returns-clause-too_long
-unfolding canon
-returns-clause-too_long c h = omega (arith, h.long)
+returns c = record {
+  right = redefined_is file_halves dataset_a dataset_aq refl (redefined_keeps dataset_a (more_var 113 Short 120 ∷ []) refl);
+  other_value = λ h. let same = h.moved 92 128 4 (0, _, _, 3 ∷ [], refl, refl, (lit< tt, tt), refl, refl, refl) in absurd cc;
+  not_zero = λ h. let zero = h.bare 132 (lit< tt) (lit< tt) behind in absurd cc;
+  too_long = λ h. absurd (omega (arith, h.long));
+}

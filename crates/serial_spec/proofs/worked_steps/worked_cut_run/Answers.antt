@@ -76,12 +76,6 @@ one_answer zero g own e f =
     (if_some_at (λ (x : Going). HasAnswers dataset_a Disk x (answer Ok ∷ [])) (slice_get first_done.1 0) g e (([], refl), all_heard))
 one_answer (suc r) g own e f = no_none_some own f
 
-pub returns-clause-old : goal.returns-clause-old
-returns-clause-old c = record { stood = stood _ nothing_left; each_rank = refl; some_answers = one_answer }
-
-pub returns-clause-torn : goal.returns-clause-torn
-returns-clause-torn c = record { stood = stood _ half_left; each_rank = refl; some_answers = one_answer }
-
 -- ---- and what it can't leave
 
 left_of_put : (left : List ℕ) → StoodAt whole_then_ends (setting_of whole_then_ends dataset_a) Disk first_done (Meet 0 ∷ []) left 0 → IsLeftOfPut left
@@ -96,16 +90,13 @@ nine_is_none : ◌≡◌ {A = ℕ} 9 1 ⊎ ◌≡◌ {A = ℕ} 9 7 → ⊥
 nine_is_none (inl e) = omega (arith, e)
 nine_is_none (inr e) = omega (arith, e)
 
-pub returns-clause-neither : goal.returns-clause-neither
-returns-clause-neither c h = nine_is_none ((left_of_put _ h.stood).changed 83 (lit< tt) refl)
-
-pub returns-clause-outside : goal.returns-clause-outside
-returns-clause-outside c h = omega (arith, (left_of_put _ h.stood).kept 87 (lit< tt) refl)
-
-pub returns-clause-answered : goal.returns-clause-answered
+pub returns : goal.returns
 unfolding canon
-returns-clause-answered c h = let own = (h.some_answers 0 _ _ refl refl).0 in let e = own.1 in cc
-
-pub returns-clause-unheard : goal.returns-clause-unheard
-unfolding canon
-returns-clause-unheard c h = omega (arith, (h.some_answers 0 _ _ refl refl).1)
+returns c = record {
+  old = record { stood = stood _ nothing_left; each_rank = refl; some_answers = one_answer };
+  torn = record { stood = stood _ half_left; each_rank = refl; some_answers = one_answer };
+  neither = λ h. nine_is_none ((left_of_put _ h.stood).changed 83 (lit< tt) refl);
+  outside = λ h. absurd (omega (arith, (left_of_put _ h.stood).kept 87 (lit< tt) refl));
+  answered = λ h. let own = (h.some_answers 0 _ _ refl refl).0 in let e = own.1 in absurd cc;
+  unheard = λ h. absurd (omega (arith, (h.some_answers 0 _ _ refl refl).1));
+}

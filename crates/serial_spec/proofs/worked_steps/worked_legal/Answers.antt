@@ -7,14 +7,10 @@ each_rank zero h = refl
 each_rank (suc zero) h = refl
 each_rank (suc (suc r)) h = absurd (omega arith)
 
-pub returns-clause-legal : goal.returns-clause-legal
-returns-clause-legal c = record { known_ranks = refl; each_rank = each_rank }
-
-pub returns-clause-exchanged : goal.returns-clause-exchanged
-returns-clause-exchanged c h = let e = h.each_rank 0 (lit< tt) in cc
-
-pub returns-clause-of_no_rank : goal.returns-clause-of_no_rank
-returns-clause-of_no_rank c h = let e = h.known_ranks in cc
-
-pub returns-clause-left_out : goal.returns-clause-left_out
-returns-clause-left_out c h = let e = h.each_rank 1 (lit< tt) in cc
+pub returns : goal.returns
+returns c = record {
+  legal = record { known_ranks = refl; each_rank = each_rank };
+  exchanged = λ h. let e = h.each_rank 0 (lit< tt) in absurd cc;
+  of_no_rank = λ h. let e = h.known_ranks in absurd cc;
+  left_out = λ h. let e = h.each_rank 1 (lit< tt) in absurd cc;
+}
