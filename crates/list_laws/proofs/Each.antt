@@ -1,7 +1,7 @@
 -- What holds of each entry of a list, and the tests that tell it.
 use Rattle.list_laws.proofs.Words.{◌≡◌, ℕ, zero, suc, List, [], ◌∷◌, ◌++◌, drop, map, Bool, true, false, refl, subst, Some, ◌||◌, inl, inr, ◌⊎◌, ◌∙◌, AllByRecursion, AllZip, list_any, list_all, flat_map, and_from, or_from, list_all-append}
 use Rattle.std.proofs.Common.{slice_get}
-use Rattle.list_laws.proofs.Truth.{and_first, and_second, or_first_false, or_second_false}
+use Rattle.list_laws.proofs.Truth.{holds_or_not, and_first, and_second, or_first_false, or_second_false}
 
 pub each_weaker : {A : Type 0} (P Q : A → Type 0) → ((x : A) → P x → Q x) → (xs : List A) → AllByRecursion P xs → AllByRecursion Q xs
 each_weaker P Q f [] h = tt
@@ -69,13 +69,10 @@ none_any p (x ∷ xs) f =
 -- one that is, or none
 pub any_or_none : {X : Type 0} (p : X → Bool) (xs : List X) → (list_any p xs ≡ false) ⊎ ((q : ℕ) × ((x : X) × ((slice_get xs q ≡ Some x) × (p x ≡ true))))
 any_or_none p [] = inl refl
-any_or_none p (x ∷ xs) = by (p x) refl (any_or_none p xs)
-  where
-    by : (t : Bool) → p x ≡ t → (list_any p xs ≡ false) ⊎ ((q : ℕ) × ((y : _) × ((slice_get xs q ≡ Some y) × (p y ≡ true))))
-        → ((p x || list_any p xs) ≡ false) ⊎ ((q : ℕ) × ((y : _) × ((slice_get (x ∷ xs) q ≡ Some y) × (p y ≡ true))))
-    by true e other = inr (0, (x, (refl, e)))
-    by false e (inl n) = inl (λ i. (e i || n i))
-    by false e (inr (q, (y, (g, h)))) = inr (suc q, (y, (g, h)))
+any_or_none p (x ∷ xs) = elim (holds_or_not (p x)) [
+  | inl e ↦ inr (0, (x, (refl, e)))
+  | inr e ↦ elim (any_or_none p xs) [ inl n ↦ inl (λ i. (e i || n i)) | inr r ↦ inr (suc r.0, r.1) ]
+]
 
 pub zip_weaker : {A B : Type 0} (R Q : A → B → Type 0) (xs : List A) (ys : List B) → ((a : A) (b : B) → R a b → Q a b) → AllZip R xs ys → AllZip Q xs ys
 zip_weaker R Q [] [] f h = tt

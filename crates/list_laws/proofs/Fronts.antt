@@ -18,13 +18,8 @@ prefix_long (x ∷ xs) (y ∷ ys) (more, e) = let a = prefix_long xs ys (more, c
 -- a beginning of a list and one item more is all of it, or a beginning of the list
 pub front_or_all : {X : Type 0} (xs ys : List X) (z : X) → IsPrefix xs (ys ++ z ∷ []) → IsPrefix xs ys ⊎ (xs ≡ ys ++ z ∷ [])
 front_or_all [] ys z e = inl (ys, refl)
-front_or_all (x ∷ xs) [] z (more, e) = inr (one xs more e)
-  where
-    one : (xs more : List _) → (x ∷ xs) ++ more ≡ z ∷ [] → x ∷ xs ≡ z ∷ []
-    one [] more e = let a : x ≡ z = cc in λ i. a i ∷ []
-    one (y ∷ ys) more e = cc
-front_or_all (x ∷ xs) (y ∷ ys) z (more, e) = by (front_or_all xs ys z (more, cc)) cc
-  where
-    by : IsPrefix xs ys ⊎ (xs ≡ ys ++ z ∷ []) → x ≡ y → IsPrefix (x ∷ xs) (y ∷ ys) ⊎ (x ∷ xs ≡ (y ∷ ys) ++ z ∷ [])
-    by (inl (rest, f)) a = inl (rest, λ i. a i ∷ f i)
-    by (inr f) a = inr (λ i. a i ∷ f i)
+front_or_all (x ∷ []) [] z (more, e) = inr (let a : x ≡ z = cc in λ i. a i ∷ [])
+front_or_all (x ∷ y ∷ xs) [] z (more, e) = absurd cc
+front_or_all (x ∷ xs) (y ∷ ys) z (more, e) =
+    let a : x ≡ y = cc in
+    elim (front_or_all xs ys z (more, cc)) [ inl r ↦ inl (r.0, λ i. a i ∷ r.1 i) | inr f ↦ inr (λ i. a i ∷ f i) ]

@@ -1,6 +1,7 @@
 -- Lists that are mapped, searched or filtered.
-use Rattle.list_laws.proofs.Words.{◌≡◌, ◌≤◌, refl, sym, ◌∙◌, ap, List, [], ◌∷◌, length, map, Bool, true, false, cond, not, ◌||◌, Some, arith, ℕ, zero, suc, None, ◌+◌, ◌<◌, ◌++◌, take, get_or, drop, filter, slice_get, flat_map, list_any, position, prefix_len, find, enumerate_from, length-map, drop_more}
+use Rattle.list_laws.proofs.Words.{◌≡◌, ◌≤◌, refl, sym, ◌∙◌, ap, List, [], ◌∷◌, length, map, Bool, Option, true, false, cond, not, ◌||◌, Some, arith, ℕ, zero, suc, None, ◌+◌, ◌<◌, ◌++◌, take, get_or, drop, filter, slice_get, flat_map, list_any, position, prefix_len, find, enumerate_from, length-map, drop_more}
 use Rattle.std.proofs.lemmas.List.{append_assoc}
+use Rattle.list_laws.proofs.Truth.{either}
 
 pub map_map : {A B C : Type 0} (f : B → C) (g : A → B) (xs : List A) → map f (map g xs) ≡ map (λ x. f (g x)) xs
 map_map f g [] = refl
@@ -19,19 +20,14 @@ position_map p f xs = rw (prefix_map (λ y. not (p y)) f xs, length-map xs f) re
 
 pub filter_at_most : {A : Type 0} (test : A → Bool) (xs : List A) → length (filter test xs) ≤ length xs
 filter_at_most test [] = omega arith
-filter_at_most {A} test (x ∷ xs) = by_test (test x) (filter_at_most test xs)
-  where
-    by_test : (t : Bool) → length (filter test xs) ≤ length xs → length (cond t (x ∷ filter test xs) (filter test xs)) ≤ length (x ∷ xs)
-    by_test true h = omega arith
-    by_test false h = omega arith
+filter_at_most {A} test (x ∷ xs) =
+    let h = filter_at_most test xs in
+    either (λ (ys : List A). length ys ≤ length (x ∷ xs)) (test x) _ _ (λ e. omega arith) (λ e. omega arith)
 
 pub found_passes : {A : Type 0} (p : A → Bool) (xs : List A) (x : A) → find p xs ≡ Some x → p x ≡ true
 found_passes p [] x e = cc
-found_passes {A} p (y ∷ ys) x e = by_test (found_passes p ys x) (p y) refl e
-  where
-    by_test : (find p ys ≡ Some x → p x ≡ true) → (t : Bool) → p y ≡ t → cond t (Some y) (find p ys) ≡ Some x → p x ≡ true
-    by_test later true h g = let same : y ≡ x = cc in ap p (sym same) ∙ h
-    by_test later false h g = later g
+found_passes {A} p (y ∷ ys) x e =
+    either (λ (o : Option A). o ≡ Some x → p x ≡ true) (p y) _ _ (λ h g. let same : y ≡ x = cc in ap p (sym same) ∙ h) (λ h g. found_passes p ys x g) e
 
 pub entry_map : {A B : Type 0} (f : A → B) (xs : List A) (k : ℕ) (x : A) → slice_get xs k ≡ Some x → slice_get (map f xs) k ≡ Some (f x)
 entry_map f [] k x h = cc

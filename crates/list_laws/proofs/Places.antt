@@ -1,5 +1,5 @@
 -- The entries of a list by their places.
-use Rattle.list_laws.proofs.Words.{◌≡◌, ℕ, zero, suc, ◌<◌, ◌≤◌, refl, ap, List, [], ◌∷◌, length, take, set, Some, arith, Bool, subst, nat_lt, drop, replicate, sym, get_or, ◌+◌, ◌∙◌, ◌++◌, true, false, position_or_len, enumerate_from, slice_get, zip, ltb-true, cond_some, same_Some, nat_tests}
+use Rattle.list_laws.proofs.Words.{◌≡◌, ℕ, zero, suc, ◌<◌, ◌≤◌, refl, ap, List, [], ◌∷◌, length, take, set, Some, arith, Bool, subst, nat_lt, drop, replicate, sym, get_or, ◌+◌, ◌∙◌, ◌++◌, true, false, position_or_len, enumerate_from, slice_get, zip, ltb-true, cond_some, same_Some, nat_tests, cases_eq, inl, inr, ◌⊎◌}
 use Rattle.std.proofs.Common.{position}
 pub use Rattle.nc_base.proofs.ListPlaces.{get_left, get_right, take_next}
 
@@ -59,19 +59,13 @@ left_more old now i y left r l = entry_set_other now i r y (λ e. absurd (omega 
 pub each_more : {X : Type 0} (P : ℕ → X → X → Type 0) (old now : List X) (i : ℕ) (x y : X) → slice_get old i ≡ Some x → slice_get now i ≡ Some x → P i x y
     → ((r : ℕ) (a b : X) → r < i → slice_get old r ≡ Some a → slice_get now r ≡ Some b → P r a b)
     → (r : ℕ) (a b : X) → r < i + 1 → slice_get old r ≡ Some a → slice_get (set now i y) r ≡ Some b → P r a b
-each_more {X} P old now i x y e f p each r a b l g h = by_order (nat_lt r i) refl
-  where
-    at : r ≡ i → P r a b
-    at s =
-        let first : x ≡ a = same_Some x a (sym e ∙ ap (slice_get old) (sym s) ∙ g) in
-        let second : y ≡ b = same_Some y b (sym (entry_set now i x y f) ∙ ap (slice_get (set now i y)) (sym s) ∙ h) in
-        subst (λ (k : ℕ). P k a b) (sym s) (subst (λ (c : X). P i c b) first (subst (λ (d : X). P i x d) second p))
-
-    by_order : (t : Bool) → nat_lt r i ≡ t → P r a b
-    by_order true t =
-        let below : r < i = grind (arith, nat_tests) in
-        each r a b below g (sym (entry_set_other now i r y (λ s. absurd (omega arith))) ∙ h)
-    by_order false t = at (grind (arith, nat_tests))
+each_more {X} P old now i x y e f p each r a b l g h = elim (cases_eq r i) [
+  | inr n ↦ each r a b (omega arith) g (sym (entry_set_other now i r y n) ∙ h)
+  | inl s ↦
+      (let first : x ≡ a = same_Some x a (sym e ∙ ap (slice_get old) (sym s) ∙ g) in
+      let second : y ≡ b = same_Some y b (sym (entry_set now i x y f) ∙ ap (slice_get (set now i y)) (sym s) ∙ h) in
+      subst (λ (k : ℕ). P k a b) (sym s) (subst (λ (c : X). P i c b) first (subst (λ (d : X). P i x d) second p)))
+]
 
 -- an entry of one of two lists that are as long has its like in the other
 pub entry_beside : {X Y : Type 0} (xs : List X) (ys : List Y) (q : ℕ) (x : X) → length xs ≡ length ys → slice_get xs q ≡ Some x

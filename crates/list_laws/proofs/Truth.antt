@@ -1,8 +1,17 @@
 -- The parts of a test: of a conjunction that holds, of a disjunction that doesn't.
-use Rattle.list_laws.proofs.Words.{◌≡◌, ℕ, suc, ◌<◌, Bool, true, false, ◌&&◌, ◌||◌, refl, arith, zero, ◌≤◌, ◌==◌, nat_tests}
+use Rattle.list_laws.proofs.Words.{◌≡◌, ℕ, suc, ◌<◌, Bool, true, false, ◌&&◌, ◌||◌, refl, arith, zero, ◌≤◌, ◌==◌, nat_tests, inl, inr, ◌⊎◌, cond}
 
 pub no_false : {A : Type 0} → false ≡ true → A
 no_false h = absurd cc
+
+-- a test holds or doesn't, and so with a value under it
+pub holds_or_not : (t : Bool) → (t ≡ true) ⊎ (t ≡ false)
+holds_or_not true = inl refl
+holds_or_not false = inr refl
+
+pub either : {X : Type 0} (P : X → Type 0) (t : Bool) (a b : X) → (t ≡ true → P a) → (t ≡ false → P b) → P (cond t a b)
+either P true a b f g = f refl
+either P false a b f g = g refl
 
 pub and_first : (a b : Bool) → (a && b) ≡ true → a ≡ true
 and_first true b h = refl

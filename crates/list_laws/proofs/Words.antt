@@ -2,7 +2,7 @@
 pub use Rattle.std.proofs.Common.{Bool, Err, List, None, Ok, Option, Result, Some, [], ap, append_assoc, arith, cond, drop, false, get_or, inl, inr, leb, length, length-append, map, nat_lt, not, refl, replicate, set, subst, suc, sym, take, true, zero, ℕ, ◌&&◌, ◌*◌, ◌++◌, ◌+◌, ◌-◌, ◌/◌, ◌<◌, ◌||◌, ◌∙◌, ◌∷◌, ◌≡◌, ◌≤◌, ◌⊎◌}
 pub use Rattle.std.proofs.Math.Nat.{mul-div_cancel}
 pub use Rattle.std.proofs.Math.Seq.{take-add, take-append_seam}
-pub use Rattle.std.proofs.lemmas.Bool.{and_from, lt-leb, ltb-true, or_from}
+pub use Rattle.std.proofs.lemmas.Bool.{and_from, cases_eq, lt-leb, ltb-true, or_from}
 pub use Rattle.std.proofs.lemmas.Bool.Decides.{nat_tests}
 pub use Rattle.std.proofs.lemmas.List.{drop-drop, drop-map, drop_more, length-map, take-map}
 pub use Rattle.std.proofs.lemmas.List.Folds.{list_all-append}
