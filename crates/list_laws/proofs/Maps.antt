@@ -1,5 +1,5 @@
 -- Lists that are mapped, searched or filtered.
-use Rattle.list_laws.proofs.Words.{◌≡◌, ◌≤◌, refl, sym, ◌∙◌, ap, List, [], ◌∷◌, length, map, Bool, Option, true, false, cond, not, ◌||◌, Some, arith, ℕ, zero, suc, None, ◌+◌, ◌<◌, ◌++◌, take, get_or, drop, filter, slice_get, flat_map, list_any, position, prefix_len, find, enumerate_from, length-map, drop_more}
+use Rattle.list_laws.proofs.Words.{◌≡◌, ◌≤◌, refl, sym, ◌∙◌, ap, List, [], ◌∷◌, length, map, Bool, Option, true, not, ◌||◌, Some, arith, ℕ, zero, suc, None, ◌+◌, ◌<◌, ◌++◌, take, get_or, drop, filter, slice_get, flat_map, list_any, position, prefix_len, find, enumerate_from, length-map, drop_more}
 use Rattle.std.proofs.lemmas.List.{append_assoc}
 use Rattle.list_laws.proofs.Truth.{either}
 

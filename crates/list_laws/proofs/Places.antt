@@ -1,5 +1,5 @@
 -- The entries of a list by their places.
-use Rattle.list_laws.proofs.Words.{◌≡◌, ℕ, zero, suc, ◌<◌, ◌≤◌, refl, ap, List, [], ◌∷◌, length, take, set, Some, arith, Bool, subst, nat_lt, drop, replicate, sym, get_or, ◌+◌, ◌∙◌, ◌++◌, true, false, position_or_len, enumerate_from, slice_get, zip, ltb-true, cond_some, same_Some, nat_tests, cases_eq, inl, inr, ◌⊎◌}
+use Rattle.list_laws.proofs.Words.{◌≡◌, ℕ, zero, suc, ◌<◌, ◌≤◌, refl, ap, List, [], ◌∷◌, length, take, set, Some, arith, Bool, subst, nat_lt, drop, replicate, sym, get_or, ◌+◌, ◌∙◌, ◌++◌, position_or_len, enumerate_from, slice_get, zip, ltb-true, cond_some, same_Some, cases_eq, inl, inr}
 use Rattle.std.proofs.Common.{position}
 pub use Rattle.nc_base.proofs.ListPlaces.{get_left, get_right, take_next}
 

@@ -1,9 +1,8 @@
 -- What is added to a header keeps its variables: their kinds, and the lengths of their dimensions.
-use Rattle.serial_spec.proofs.Words.{◌≡◌, ℕ, zero, suc, ◌+◌, refl, sym, ◌∙◌, ap, List, [], ◌∷◌, ◌++◌, length, map, Bool, true, false, cond, Some, None, append_assoc, arith, append-nil, position_from-zero, enumerate_from, AllByRecursion, slice_get, position, bytes_eq, nat_le, leb-false, and_second, both_none, none_of_test, none_before_map, Header, Dim, Var, Attr, Extra, length_of, first_check, first_with, fault_if, two_record_dims, record_later, bad_id, is_sound, with_var_attr, with_extra, added, begins_by_number, begin_of_number, with_begins, redefined_header, KeepsVars, fails_each, entry_map, get_left, entry_numbered, nat_tests}
+use Rattle.serial_spec.proofs.Words.{◌≡◌, ℕ, zero, suc, ◌+◌, refl, sym, ◌∙◌, ap, List, [], ◌∷◌, ◌++◌, length, map, true, false, Some, None, append_assoc, arith, append-nil, position_from-zero, enumerate_from, AllByRecursion, slice_get, position, bytes_eq, nat_le, leb-false, and_second, both_none, none_of_test, none_before_map, Header, Dim, Var, Attr, Extra, length_of, first_check, first_with, fault_if, two_record_dims, record_later, bad_id, is_sound, with_var_attr, with_extra, added, begins_by_number, begin_of_number, with_begins, redefined_header, KeepsVars, fails_each, entry_map, get_left, entry_numbered, nat_tests, either}
 use Rattle.nc_base.specs.declared.script.Extra.TheVariants as extra
 use Rattle.nc_base.specs.declared.errors.HeaderErr.TheVariants as fault
 use Rattle.serial_spec.proofs.RoomLaws.{untested}
-use Rattle.serial_spec.proofs.MemberLaws.{either}
 
 -- ---- a header of which another is a part
 

@@ -1,8 +1,7 @@
 -- The boxes of a range of row-major numbers have just the indices with these numbers, in order.
-use Rattle.serial_spec.proofs.Words.{◌≡◌, ℕ, zero, suc, ◌+◌, ◌-◌, ◌*◌, ◌/◌, ◌%◌, ◌<◌, ◌≤◌, refl, sym, ◌∙◌, ap, List, [], ◌∷◌, ◌++◌, length, map, take, drop, replicate, Bool, true, false, append_assoc, arith, add-mul, le_of_mul-le-mul_right, mul-le-mul_right, drop-append-add, take-append-add, div-add-mod', mod_below, le-div, drop-drop, drop-append-le, take-append-le, length-drop, map-append, append-nil, length-map, flat_map-append, flat_map, nat_lt, ◌==◌, range_with_len, eqb-false, some_factor, map_map, flat_same, Part, product, coordinates, boxes, in_row, whole_rows, shifted, box_indices, AreBoxes, part, part_joined, part_none, part_map, nat_tests, leb_tells, inl, inr}
+use Rattle.serial_spec.proofs.Words.{◌≡◌, ℕ, zero, suc, ◌+◌, ◌-◌, ◌*◌, ◌/◌, ◌%◌, ◌<◌, ◌≤◌, refl, sym, ◌∙◌, ap, List, [], ◌∷◌, ◌++◌, length, map, take, drop, replicate, false, append_assoc, arith, add-mul, le_of_mul-le-mul_right, mul-le-mul_right, drop-append-add, take-append-add, div-add-mod', mod_below, le-div, drop-drop, drop-append-le, take-append-le, length-drop, map-append, append-nil, length-map, flat_map-append, flat_map, ◌==◌, range_with_len, eqb-false, some_factor, map_map, flat_same, Part, product, coordinates, boxes, in_row, whole_rows, shifted, box_indices, AreBoxes, part, part_joined, part_none, part_map, nat_tests, leb_tells, inl, inr, holds_or_not}
 use borrow.Author.Tests.{ltb-true, ltb-false, eqb-true}
 use Rattle.serial_spec.proofs.ElementLaws.{length-coordinates}
-use Rattle.serial_spec.proofs.MemberLaws.{either, holds_or_not}
 
 -- ---- rows of one length
 

@@ -1,5 +1,5 @@
 -- Cells that lie apart, and what is written of them.
-use Rattle.serial_spec.proofs.Words.{◌≡◌, ℕ, zero, suc, ◌+◌, ◌-◌, ◌<◌, ◌≤◌, refl, sym, ◌∙◌, ap, subst, inl, inr, ◌⊎◌, List, [], ◌∷◌, ◌++◌, length, map, get_or, Some, None, arith, cases_eq, AllByRecursion, enumerate_from, flat_map, slice_get, option_or, neither_some, second_counts, first_counts, at, read, written, AreApart, said_at, Cell, write_cells, said_by, nat_tests, In}
+use Rattle.serial_spec.proofs.Words.{◌≡◌, ℕ, zero, suc, ◌+◌, ◌-◌, ◌<◌, ◌≤◌, refl, ◌∙◌, ap, inl, inr, ◌⊎◌, List, [], ◌∷◌, length, get_or, Some, None, arith, cases_eq, AllByRecursion, enumerate_from, neither_some, second_counts, first_counts, at, read, written, AreApart, said_at, Cell, write_cells, said_by, nat_tests, In}
 use Rattle.serial_spec.proofs.FileLaws.{length-written_inside}
 use Rattle.serial_spec.proofs.SaidLaws.{said_below, said_past, said_inside, said_append}
 

@@ -1,14 +1,5 @@
 -- The items of a list, by their places, and those that pass a test.
-use Rattle.serial_spec.proofs.Words.{◌≡◌, ℕ, zero, suc, refl, ap, ◌∙◌, subst, List, [], ◌∷◌, Bool, true, false, cond, Some, inl, inr, filter, slice_get, list_any, or_left, or_right, In, arith, nat_tests, ◌++◌, sym, flat_map, map, or_cases, eqb-true, no_false, ◌==◌, ◌⊎◌}
-
--- a test that holds or doesn't, and a value under it
-pub holds_or_not : (t : Bool) → (t ≡ true) ⊎ (t ≡ false)
-holds_or_not true = inl refl
-holds_or_not false = inr refl
-
-pub either : {X : Type 0} (P : X → Type 0) (t : Bool) (a b : X) → (t ≡ true → P a) → (t ≡ false → P b) → P (cond t a b)
-either P true a b f g = f refl
-either P false a b f g = g refl
+use Rattle.serial_spec.proofs.Words.{◌≡◌, ℕ, zero, suc, refl, ap, ◌∙◌, subst, List, [], ◌∷◌, Bool, true, false, cond, Some, inl, inr, filter, slice_get, list_any, or_left, or_right, In, arith, nat_tests, ◌++◌, sym, flat_map, map, or_cases, eqb-true, no_false, ◌==◌}
 
 pub in_left : {X : Type 0} (xs ys : List X) (x : X) → In xs x → In (xs ++ ys) x
 in_left [] ys x h = absurd h

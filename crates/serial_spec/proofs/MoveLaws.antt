@@ -1,5 +1,5 @@
 -- The redefined file has the new header, each old element at its new place, and zeros between.
-use Rattle.serial_spec.proofs.Words.{◌≡◌, ℕ, zero, suc, ◌+◌, ◌-◌, ◌<◌, ◌≤◌, min, max, refl, sym, ◌∙◌, ap, subst, inl, inr, ◌⊎◌, List, [], ◌∷◌, ◌++◌, length, map, take, drop, replicate, get_or, true, Option, Some, None, length-append, arith, common_steps, fold-append, same_number_lists, length-take, get_or-take, get_or-append_right, get_or-drop, length-replicate, length-drop, AllByRecursion, flat_map, fold, zip, slice_get, each_map, each_flat_map, each_weaker, Header, Var, at, read, written, size_of, lengths, end_of, place, row, IsIndex, IsElementBelow, AreApart, canon, header_len, is_sound, known_lengths, all_indices, moved, redefined, Moves, KeepsVars, IsRedefined, said_at, byte_or, Cell, write_cells, said_by, cases_eq, nat_tests, In}
+use Rattle.serial_spec.proofs.Words.{◌≡◌, ℕ, zero, suc, ◌+◌, ◌-◌, ◌<◌, ◌≤◌, min, max, refl, sym, ◌∙◌, ap, subst, inl, inr, List, [], ◌∷◌, ◌++◌, length, map, take, drop, replicate, get_or, true, Option, Some, None, length-append, arith, common_steps, fold-append, same_number_lists, length-take, get_or-take, get_or-append_right, get_or-drop, length-replicate, length-drop, AllByRecursion, flat_map, fold, zip, slice_get, each_map, each_flat_map, each_weaker, Header, Var, at, read, written, size_of, lengths, end_of, place, row, IsIndex, IsElementBelow, AreApart, canon, header_len, is_sound, known_lengths, all_indices, moved, redefined, Moves, KeepsVars, IsRedefined, said_at, byte_or, Cell, write_cells, said_by, cases_eq, nat_tests, In}
 use Rattle.serial_spec.proofs.ApartLaws.{elements_apart, elements_past_header}
 use Rattle.serial_spec.proofs.ElementLaws.{coordinates_at}
 use Rattle.serial_spec.proofs.SaidLaws.{cells_said}

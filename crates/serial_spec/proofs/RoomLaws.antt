@@ -1,8 +1,7 @@
 -- Elements end within the file, and an index below the known lengths is an element.
-use Rattle.serial_spec.proofs.Words.{◌≡◌, ℕ, zero, suc, ◌+◌, ◌-◌, ◌*◌, ◌<◌, ◌≤◌, refl, sym, ◌∙◌, ap, subst, List, [], ◌∷◌, length, map, drop, Bool, true, false, cond, Some, None, arith, mul-le-mul_right, nat_tests, position_from-zero, list_any, position_from, AllByRecursion, slice_get, position, MatchBool, ◌==◌, if◌then◌else◌, and_second, equal_suc, both_none, none_of_test, none_before_map, Header, Var, size_of, greatest, length_of, lengths, starts_with_zero, without_record, is_record, slab, vsize, recsize, last_share, end_of_var, end_of, place, record_of, within_record, HasRecord, IsIndex, IsElementBelow, first_check, first_with, fault_if, two_record_dims, record_later, is_record_id, is_sound, known_lengths, entry_map, fails_each, told_else, each_map, inl, inr}
+use Rattle.serial_spec.proofs.Words.{◌≡◌, ℕ, zero, suc, ◌+◌, ◌-◌, ◌*◌, ◌<◌, ◌≤◌, refl, sym, ◌∙◌, ap, subst, List, [], ◌∷◌, length, map, drop, Bool, true, false, cond, Some, None, arith, mul-le-mul_right, nat_tests, position_from-zero, list_any, position_from, AllByRecursion, slice_get, position, MatchBool, ◌==◌, if◌then◌else◌, and_second, equal_suc, both_none, none_of_test, none_before_map, Header, Var, size_of, greatest, length_of, lengths, starts_with_zero, without_record, is_record, slab, vsize, recsize, last_share, end_of_var, end_of, place, record_of, within_record, HasRecord, IsIndex, IsElementBelow, first_check, first_with, fault_if, two_record_dims, record_later, is_record_id, is_sound, known_lengths, entry_map, fails_each, told_else, each_map, inl, inr, holds_or_not}
 use Rattle.nc_base.specs.declared.errors.HeaderErr.TheVariants as fault
 use Rattle.serial_spec.proofs.ApartLaws.{span_fixed, span_record}
-use Rattle.serial_spec.proofs.MemberLaws.{holds_or_not}
 
 -- ---- the end of a file
 

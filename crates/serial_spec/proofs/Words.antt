@@ -23,7 +23,7 @@ pub use Rattle.list_laws.proofs.Optional.{both_none, first_counts, if_some_at, n
 pub use Rattle.list_laws.proofs.Parts.{part, part_joined, part_map, part_none}
 pub use Rattle.list_laws.proofs.Places.{entry_numbered, get_left, get_right, take_at_most}
 pub use Rattle.list_laws.proofs.Ranges.{pieces_long}
-pub use Rattle.list_laws.proofs.Truth.{and_first, and_second, equal_above, equal_below, equal_itself, equal_suc, equal_zero, no_false, or_first_false, or_second_false}
+pub use Rattle.list_laws.proofs.Truth.{and_first, and_second, either, equal_above, equal_below, equal_itself, equal_suc, equal_zero, holds_or_not, no_false, or_first_false, or_second_false}
 pub use Rattle.nc_base.specs.declared.answer.Answer.{Answer}
 pub use Rattle.nc_base.specs.declared.answer.Code.{Code}
 pub use Rattle.nc_base.specs.declared.answer.Code.TheVariants.{Ok}
