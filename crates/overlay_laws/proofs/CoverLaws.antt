@@ -1,6 +1,5 @@
 -- A cursor that cuts extents goes over the same windows as one that cuts bytes.
-use Rattle.overlay_laws.proofs.Words.{◌≡◌, ℕ, zero, suc, ◌+◌, ◌-◌, ◌<◌, ◌≤◌, refl, sym, ◌∙◌, ap, subst, inl, inr, List, [], ◌∷◌, ◌++◌, length, Bool, max, arith, length-append, append-nil, mod_below, div-add-mod', filter, map, nat_lt, nat_le, ◌==◌, range_with_len, length-range_with_len, lt-ltb, le-ltb, le-leb, lt-leb, leb-true, leb-false, equal_below, equal_true, range_append, Extent, first_of, last_of, hull_len, windows, sieving_windows, in_order, In, HaveSame, IsAscending, walked, round_end, below, above, IsCover, end_after, is_single, first_at, hull_of, extents_walked, told_of, spans, filter-append, nat_tests}
-use Rattle.overlay_laws.proofs.Members.{either}
+use Rattle.overlay_laws.proofs.Words.{◌≡◌, ℕ, zero, suc, ◌+◌, ◌-◌, ◌<◌, ◌≤◌, refl, sym, ◌∙◌, ap, subst, inl, inr, List, [], ◌∷◌, ◌++◌, length, Bool, max, arith, length-append, append-nil, mod_below, div-add-mod', filter, map, nat_lt, nat_le, ◌==◌, range_with_len, length-range_with_len, lt-ltb, le-ltb, le-leb, lt-leb, leb-true, leb-false, equal_below, equal_true, range_append, Extent, first_of, last_of, hull_len, windows, sieving_windows, in_order, In, HaveSame, IsAscending, walked, round_end, below, above, IsCover, end_after, is_single, first_at, hull_of, extents_walked, told_of, spans, filter-append, nat_tests, either}
 use Rattle.overlay_laws.proofs.HullLaws.{range_low, range_high, in_either, in_in_order, in_order_in, in_order_ascends}
 use Rattle.overlay_laws.proofs.WalkLaws.{filter_none, filter_all, drop_first, windows_walked, sieved_walked}
 

@@ -1,36 +1,17 @@
 -- The windows of the device calls have every covered byte, so that hulls written over them are the step.
-use Rattle.overlay_laws.proofs.Words.{◌≡◌, ℕ, zero, suc, ◌+◌, ◌-◌, ◌*◌, ◌/◌, ◌%◌, ◌<◌, ◌≤◌, refl, sym, ◌∙◌, ap, subst, inl, inr, ◌⊎◌, List, [], ◌∷◌, ◌++◌, length, Bool, true, false, not, cond, min, max, arith, nat_tests, div_below, le-div, mod_below, div-add-mod', mul-le, mul_comm, fold, flat_map, filter, map, zip, nat_lt, nat_le, ◌==◌, range_with_len, list_any, or_left, or_right, or_cases, in_filter, filter_in, no_false, equal_true, puts_are_cells, puts_say, Header, Hints, Puts, covered, Setting, put_post, in_order, first_of, last_of, not_empty, domain_size, domains, windows, collective_windows, sieved, sieving_windows, is_empty, Cell, said_at, said_by, Says, IsWithin, IsInOne, HasEach, said_by_puts, In, cells_of_puts, hulls, IsAscending, written_over, AreHints, filter_at_most, leb_tells, cases_eq, lt-ltb}
-use borrow.Author.Tests.{eqb-true}
-use Rattle.overlay_laws.proofs.Members.{in_map}
+use Rattle.overlay_laws.proofs.Words.{◌≡◌, ℕ, zero, suc, ◌+◌, ◌-◌, ◌*◌, ◌/◌, ◌%◌, ◌<◌, ◌≤◌, refl, sym, ◌∙◌, ap, inl, inr, ◌⊎◌, List, [], ◌∷◌, ◌++◌, length, Bool, true, false, not, cond, min, max, arith, nat_tests, div_below, le-div, mod_below, div-add-mod', mul-le, mul_comm, fold, flat_map, filter, map, zip, nat_lt, nat_le, ◌==◌, range_with_len, list_any, or_left, or_right, in_filter, filter_in, equal_true, puts_are_cells, puts_say, Header, Hints, Puts, covered, Setting, put_post, in_order, first_of, last_of, not_empty, domain_size, domains, windows, collective_windows, sieved, sieving_windows, is_empty, Cell, said_at, said_by, Says, IsWithin, IsInOne, HasEach, said_by_puts, In, cells_of_puts, hulls, IsAscending, written_over, AreHints, filter_at_most, leb_tells, cases_eq, lt-ltb}
+use Rattle.overlay_laws.proofs.Members.{in_map, map_in}
 use Rattle.overlay_laws.proofs.SaidLaws.{said_is, same_said}
 use Rattle.overlay_laws.proofs.EntryLaws.{says_cases}
 use Rattle.overlay_laws.proofs.WindowLaws.{windows_done}
+pub use Rattle.serial_spec.proofs.MemberLaws.{in_left, in_right, in_flat, any_in}
 
 -- ---- members of lists
-
-map_in : {X Y : Type 0} (f : X → Y) (xs : List X) (y : Y) → In (map f xs) y → (x : X) × (f x ≡ y)
-map_in f [] y h = absurd h
-map_in f (x ∷ xs) y (inl e) = (x, e)
-map_in f (x ∷ xs) y (inr h) = map_in f xs y h
-
-pub in_left : {X : Type 0} (xs ys : List X) (x : X) → In xs x → In (xs ++ ys) x
-in_left [] ys x h = absurd h
-in_left (z ∷ xs) ys x (inl e) = inl e
-in_left (z ∷ xs) ys x (inr h) = inr (in_left xs ys x h)
-
-pub in_right : {X : Type 0} (xs ys : List X) (x : X) → In ys x → In (xs ++ ys) x
-in_right [] ys x h = h
-in_right (z ∷ xs) ys x h = inr (in_right xs ys x h)
 
 pub in_either : {X : Type 0} (xs ys : List X) (x : X) → In (xs ++ ys) x → In xs x ⊎ In ys x
 in_either [] ys x h = inr h
 in_either (z ∷ xs) ys x (inl e) = inl (inl e)
 in_either (z ∷ xs) ys x (inr h) = elim (in_either xs ys x h) [ inl g ↦ inl (inr g) | inr g ↦ inr g ]
-
-pub in_flat : {X Y : Type 0} (f : X → List Y) (xs : List X) (x : X) (y : Y) → In xs x → In (f x) y → In (flat_map f xs) y
-in_flat f [] x y h k = absurd h
-in_flat {X} f (z ∷ xs) x y (inl e) k = in_left (f z) (flat_map f xs) y (subst (λ (u : X). In (f u) y) (sym e) k)
-in_flat f (z ∷ xs) x y (inr h) k = in_right (f z) (flat_map f xs) y (in_flat f xs x y h k)
 
 pub flat_in : {X Y : Type 0} (f : X → List Y) (xs : List X) (y : Y) → In (flat_map f xs) y → (x : X) × In xs x × In (f x) y
 flat_in f [] y h = absurd h
@@ -49,10 +30,6 @@ pub range_high : (a n x : ℕ) → In (range_with_len a n) x → x < a + n
 range_high a zero x h = absurd h
 range_high a (suc n) x (inl e) = omega arith
 range_high a (suc n) x (inr h) = let l = range_high (a + 1) n x h in omega arith
-
-pub any_in : (xs : List ℕ) (x : ℕ) → list_any (λ z. z == x) xs ≡ true → In xs x
-any_in [] x h = no_false h
-any_in (y ∷ ys) x h = elim (or_cases (y == x) _ h) [ inl e ↦ inl (eqb-true _ _ e) | inr g ↦ inr (any_in ys x g) ]
 
 pub in_any : (xs : List ℕ) (x : ℕ) → In xs x → list_any (λ z. z == x) xs ≡ true
 in_any [] x h = absurd h

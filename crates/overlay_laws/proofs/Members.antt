@@ -1,11 +1,7 @@
 -- Members of lists: of filtered, mapped, entry_numbered and paired ones, by place, of a list's first entries.
-use Rattle.overlay_laws.proofs.Words.{◌≡◌, ℕ, zero, suc, ◌+◌, ◌<◌, refl, subst, length, take, get_or, ap, inl, inr, List, [], ◌∷◌, Some, arith, zip, slice_get, enumerate_from, AllByRecursion, slice_get_read, In, at_in, entry_numbered, nat_tests, Bool, true, false, cond}
+use Rattle.overlay_laws.proofs.Words.{◌≡◌, ℕ, zero, suc, ◌+◌, ◌<◌, refl, subst, length, take, get_or, ap, inl, inr, List, [], ◌∷◌, Some, arith, zip, slice_get, enumerate_from, AllByRecursion, slice_get_read, In, at_in, entry_numbered, nat_tests}
 use Rattle.std.proofs.Common.{map}
-
-pub in_map : {X Y : Type 0} (f : X → Y) (xs : List X) (x : X) → In xs x → In (map f xs) (f x)
-in_map f [] x h = absurd h
-in_map f (y ∷ ys) x (inl e) = inl (ap f e)
-in_map f (y ∷ ys) x (inr h) = inr (in_map f ys x h)
+pub use Rattle.serial_spec.proofs.MemberLaws.{in_map}
 
 pub map_in : {X Y : Type 0} (f : X → Y) (xs : List X) (y : Y) → In (map f xs) y → (x : X) × In xs x × (f x ≡ y)
 map_in f [] y h = absurd h
@@ -32,11 +28,6 @@ pub in_taken : {X : Type 0} (n : ℕ) (xs : List X) (x : X) → In (take n xs) x
 in_taken (suc n) (y ∷ xs) x (inl e) = inl e
 in_taken (suc n) (y ∷ xs) x (inr h) = inr (in_taken n xs x h)
 in_taken n xs x h = absurd h
-
--- a value under a test, by both of its cases
-pub either : {X : Type 0} (P : X → Type 0) (t : Bool) (a b : X) → (t ≡ true → P a) → (t ≡ false → P b) → P (cond t a b)
-either P true a b f g = f refl
-either P false a b f g = g refl
 
 -- ---- numbers
 

@@ -19,7 +19,7 @@ pub use Rattle.list_laws.proofs.Numbers.{same_factor}
 pub use Rattle.list_laws.proofs.Optional.{first_counts, neither_some, no_none_some, second_counts, some_of_map, some_or_none}
 pub use Rattle.list_laws.proofs.Places.{entry_numbered, take_at_most}
 pub use Rattle.list_laws.proofs.Ranges.{range_append}
-pub use Rattle.list_laws.proofs.Truth.{and_first, and_second, equal_above, equal_below, equal_true, no_both, no_false}
+pub use Rattle.list_laws.proofs.Truth.{and_first, and_second, either, equal_above, equal_below, equal_true, no_both, no_false}
 pub use Rattle.nc_base.specs.declared.header.Header.{Header}
 pub use Rattle.nc_base.specs.declared.header.Var.{Var}
 pub use Rattle.nc_base.specs.declared.plan.Extent.{Extent}
