@@ -1,5 +1,5 @@
 -- One call of a rank: its mode, its kind, its mark, its offer and its requests.
-use Rattle.run_laws.proofs.Words.{◌≡◌, ℕ, refl, sym, ◌∙◌, ap, subst, List, [], ◌∷◌, ◌++◌, map, Bool, true, false, cond, not, ◌&&◌, max, Option, Some, None, ◌==◌, if◌then◌else◌, is_none, is_some, IfSome, and-false, value_of_some, Header, Call, Code, Answer, Batch, Post, Offer, OfferKind, MeetKind, Reply, Want, Look, Refused, Empty, Asks, look, Rank, Open, Posted, Status, Gone, NullRequest, Waiting, step, hear, posts, post_after, buffer_code, bytes_in, values_of_post, status_of, is_chosen, named, without_chosen, with_posted, is_collective, is_data, mode_after, kind_of_call, id_posted, arith, nat_tests}
+use Rattle.run_laws.proofs.Words.{◌≡◌, ℕ, refl, sym, ◌∙◌, ap, subst, List, [], ◌∷◌, ◌++◌, map, Bool, true, false, not, ◌&&◌, max, Option, Some, None, ◌==◌, if◌then◌else◌, is_none, is_some, IfSome, and-false, value_of_some, Header, Call, Code, Answer, Batch, Post, Offer, OfferKind, MeetKind, Reply, Want, Look, Refused, Empty, Asks, look, Rank, Open, Posted, Status, Gone, NullRequest, Waiting, step, hear, posts, post_after, buffer_code, bytes_in, values_of_post, status_of, is_chosen, named, without_chosen, with_posted, is_collective, is_data, mode_after, kind_of_call, id_posted, arith, nat_tests, Choice, either}
 use Rattle.nc_base.specs.declared.request.Call.TheVariants as call
 use Rattle.nc_base.specs.declared.answer.Code.TheVariants as code
 use Rattle.nc_base.specs.declared.step.OfferKind.TheVariants as offer
@@ -68,10 +68,6 @@ Says r c (r', want.Answered a) = Alone r c r'
 Says r c (r', want.Meet o) = Meeting r c r' o
 Says r c (r', want.Solo o) = AloneAsking r c r' o
 
-either : {X : Type 0} (P : X → Type 0) (t : Bool) (a b : X) → (t ≡ true → P a) → (t ≡ false → P b) → P (cond t a b)
-either P true a b f g = f refl
-either P false a b f g = g refl
-
 with_true : (b t : Bool) → b ≡ t → (b && true) ≡ t
 with_true true t e = e
 with_true false t e = e
@@ -98,9 +94,10 @@ solo_with : (r : Rank) (c : Call) (b : Batch) (o : Open) → o.independent ≡ m
 solo_with r c b o e f kind alone of_data mode = grind (arith, nat_tests, asks_with, with_true)
 
 -- after those of the chosen are gone
-gone_asks : (r : Rank) (c : Call) (r' r'' : Rank) (o : Offer) → id_posted c ≡ None → r'.independent ≡ r.independent → r'.known ≡ r.known
-    → ((id : ℕ) → is_free r.posted id ≡ true → is_free r'.posted id ≡ true) → Asking r' c r'' o → Asking r c r'' o
-gone_asks r c r' r'' o none mode known frees w = grind (arith, nat_tests)
+gone_asks : (r : Rank) (c : Call) (choice : Choice) (k : OfferKind) (b : Batch) (o : Open) → o.independent ≡ mode_after r.independent c → o.gets ≡ b.gets
+    → Asking r c (record (without_chosen r choice) { «open» = Some o }) (record { kind = k; known = r.known; batch = b })
+gone_asks r c choice k b o e f =
+    record { known = refl; told = refl; open_with = o; is_open = refl; mode = e; gets = f; kept = refl; frees = λ id h g. free_gone (is_chosen (named r choice)) r.posted id g }
 
 post_frees : (r : Rank) (c : Call) (id : ℕ) (s : Status) → id_posted c ≡ Some id → Frees r c (with_posted r id s)
 post_frees r c id s e n other free = grind (arith, nat_tests, free_after)
@@ -128,24 +125,10 @@ step_says header r (call.Post id kind name given values) = by_look (look header 
     by_look (Asks asked) = by_code asked (buffer_code r kind (bytes_in asked))
 step_says header r (call.Wait true choice) =
     either (Says r (call.Wait true choice)) r.independent _ _ (λ e. meets_with r _ meets.Wait _ _ refl refl refl refl)
-    (λ e. record {
-      asking = gone_asks r (call.Wait true choice) (without_chosen r choice) _ _ refl refl refl (λ id f. free_gone (is_chosen (named r choice)) r.posted id f)
-          (asks_with (without_chosen r choice) _ _ _ _ refl refl);
-      of_kind = meets.Wait;
-      kind = refl;
-      meets = refl;
-      together = refl;
-    })
+    (λ e. record { asking = gone_asks r (call.Wait true choice) choice _ _ _ refl refl; of_kind = meets.Wait; kind = refl; meets = refl; together = refl })
 step_says header r (call.Wait false choice) =
     either (Says r (call.Wait false choice)) r.independent _ _
-    (λ e. record {
-      asking = gone_asks r (call.Wait false choice) (without_chosen r choice) _ _ refl refl refl (λ id f. free_gone (is_chosen (named r choice)) r.posted id f)
-          (asks_with (without_chosen r choice) _ _ _ _ refl refl);
-      kind = refl;
-      is_solo = refl;
-      alone = refl;
-      solo = with_true r.independent true e;
-    })
+    (λ e. record { asking = gone_asks r (call.Wait false choice) choice _ _ _ refl refl; kind = refl; is_solo = refl; alone = refl; solo = with_true r.independent true e })
     (λ e. refused_alone r _ e refl refl refl)
 step_says header r (call.Cancel choice) =
     answered_alone r (call.Cancel choice) (without_chosen r choice) refl refl refl refl refl refl (λ id h f. free_gone (is_chosen (named r choice)) r.posted id f)

@@ -1,12 +1,10 @@
 -- What a lawful script has of the calls of one rank.
-use Rattle.run_laws.proofs.Words.{◌≡◌, ℕ, zero, suc, ◌+◌, ◌≤◌, refl, sym, ap, List, [], ◌∷◌, length, map, true, Some, arith, bytes_eq-Decides, slice_get, fold, list_all, enumerate_from, same_Some, passes_at, Call, Script, MeetKind, kinds, kind_number, is_lawful, is_lawful_call, agree, kind_numbers, are_different, posted_ids, most_calls, IsLawful, kinds_of, le_two, lawful_parts, nat_tests}
+use Rattle.run_laws.proofs.Words.{◌≡◌, ℕ, zero, suc, ◌+◌, ◌≤◌, refl, sym, ap, List, [], ◌∷◌, length, map, true, Some, arith, bytes_eq-Decides, slice_get, fold, list_all, enumerate_from, same_Some, passes_at, Call, Script, MeetKind, kinds, kind_number, is_lawful, is_lawful_call, agree, kind_numbers, are_different, posted_ids, most_calls, IsLawful, kinds_of, le_two, lawful_parts, nat_tests, entry_map, entry_numbered, ◌∙◌}
 
 -- ---- tests and lists
 
 pub get_enumerate : {X : Type 0} (xs : List X) (a q n : ℕ) (x : X) → slice_get xs q ≡ Some x → a + q ≡ n → slice_get (enumerate_from a xs) q ≡ Some (n, x)
-get_enumerate [] a q n x e l = cc
-get_enumerate (x' ∷ xs) a zero n x e l = let b : x' ≡ x = cc in let c : a ≡ n = omega arith in λ i. Some (c i, b i)
-get_enumerate (x' ∷ xs) a (suc q) n x e l = get_enumerate xs _ q n x e (omega arith)
+get_enumerate xs a q n x e l = entry_numbered a xs q x e ∙ ap (λ (k : ℕ). Some (k, x)) l
 
 sum_low : (n : ℕ) (xs : List ℕ) → n ≤ fold (λ a x. a + x) n xs
 sum_low n [] = omega arith
@@ -16,11 +14,6 @@ sum_has : (n : ℕ) (xs : List ℕ) (r x : ℕ) → slice_get xs r ≡ Some x �
 sum_has n [] r x e = cc
 sum_has n (y ∷ xs) zero x e = let a : y ≡ x = same_Some y x e in let h = sum_low (n + y) xs in omega arith
 sum_has n (y ∷ xs) (suc r) x e = let h = sum_has (n + y) xs r x e in omega arith
-
-get_length : (calls : List (List Call)) (r : ℕ) (own : List Call) → slice_get calls r ≡ Some own → slice_get (map (λ o. length o) calls) r ≡ Some (length own)
-get_length [] r own e = cc
-get_length (o ∷ calls) zero own e = ap (λ (l : List Call). Some (length l)) (same_Some o own e)
-get_length (o ∷ calls) (suc r) own e = get_length calls r own e
 
 -- ---- the ranks agree
 
@@ -57,7 +50,7 @@ pub record Ranks (script : Script) : Type 0 where
 
 own_few : (script : Script) (r : ℕ) (own : List Call) → IsLawful script → slice_get script.calls r ≡ Some own → length own ≤ most_calls
 own_few script r own t e =
-    let h = sum_has 0 (map (λ o. length o) script.calls) r (length own) (get_length script.calls r own e) in
+    let h = sum_has 0 (map (λ o. length o) script.calls) r (length own) (entry_map (λ o. length o) script.calls r own e) in
     le_two (length own) _ most_calls (from_zero _ _ h) t.few_calls
   where
     from_zero : (a b : ℕ) → 0 + a ≤ b → a ≤ b

@@ -14,17 +14,18 @@ pub use Rattle.std.specs.List.{cons_option, enumerate_from, list_all, list_any}
 pub use Rattle.std.specs.Prelude.{IfSome, bytes_eq, filter, find, fold, if◌then◌else◌, is_none, is_some, nat_lt, option_map, slice_get, zip, ◌==◌}
 pub use Rattle.list_laws.proofs.Appends.{long_push}
 pub use Rattle.list_laws.proofs.Each.{passes_at}
-pub use Rattle.list_laws.proofs.Maps.{map_map}
+pub use Rattle.list_laws.proofs.Maps.{entry_map, map_map}
 pub use Rattle.list_laws.proofs.Numbers.{le_two}
 pub use Rattle.list_laws.proofs.Optional.{none_of_test, value_of_some}
-pub use Rattle.list_laws.proofs.Places.{entry_below, entry_set, first_same, set_own}
-pub use Rattle.list_laws.proofs.Truth.{and_first, and_second}
+pub use Rattle.list_laws.proofs.Places.{entry_below, entry_numbered, entry_set, first_same, set_own}
+pub use Rattle.list_laws.proofs.Truth.{and_first, and_second, either}
 pub use Rattle.nc_base.specs.declared.answer.Answer.{Answer}
 pub use Rattle.nc_base.specs.declared.answer.Code.{Code}
 pub use Rattle.nc_base.specs.declared.header.Header.{Header}
 pub use Rattle.nc_base.specs.declared.plan.Batch.{Batch}
 pub use Rattle.nc_base.specs.declared.plan.Post.{Post}
 pub use Rattle.nc_base.specs.declared.request.Call.{Call}
+pub use Rattle.nc_base.specs.declared.request.Choice.{Choice}
 pub use Rattle.nc_base.specs.declared.script.Hints.{Hints}
 pub use Rattle.nc_base.specs.declared.script.Script.{Script}
 pub use Rattle.nc_base.specs.declared.step.DiskCall.{DiskCall}
