@@ -1,21 +1,7 @@
 -- The words of this crate's proofs, from where they stand.
-pub use Rattle.std.proofs.Common.{Bool, Err, List, None, Ok, Option, Result, Some, [], ap, append_assoc, arith, cond, drop, false, get_or, inl, inr, length, length-append, map, max, min, refl, rules, subst, suc, sym, take, true, vec_capacity, zero, ℕ, ◌%◌, ◌&&◌, ◌*◌, ◌++◌, ◌+◌, ◌-◌, ◌/◌, ◌<◌, ◌^◌, ◌||◌, ◌↔◌, ◌∙◌, ◌∷◌, ◌≡◌, ◌≤◌, ◌⊎◌}
+pub use Rattle.list_laws.proofs.Std.{AllZip, Bool, Err, IfSome, IsErrOf, IsPermutation, List, None, Ok, OnOk, Option, Result, Some, Vec, [], and_from, and_parts, ap, append-nil, append_assoc, arith, byte_len, cases_lt, common_steps, cond, drop, drop-take, drop_more, enumerate_from, ext_get_or, false, filter, flat_map, flat_map-append, flat_map-map, flat_map_more, get_or, get_or-append_right, get_or_append_left, get_or_past, inl, inr, is_none, le-leb, leb-true, length, length-append, length-drop, length-map, length-range_with_len, length-replicate, length-take, length_push, list_any, lt-leb, lt-ltb, map, map-append, max, min, mul-le, mul_comm, nat_le, nat_lt, nat_tests, on_err_weaker, on_ok_weaker, option_copied, option_map, option_or, or_right, range_with_len, refl, reverse, reverse-append, rules, same_Some, slice_get, slice_get_within, slice_index_or, subst, suc, sym, take, take-append-drop, take-take, take_all, take_more, true, vec_capacity, w32, w64, zero, zip, ℕ, ◌%◌, ◌&&◌, ◌*◌, ◌++◌, ◌+◌, ◌-◌, ◌/◌, ◌<◌, ◌==◌, ◌^◌, ◌||◌, ◌↔◌, ◌∙◌, ◌∷◌, ◌≡◌, ◌≤◌, ◌⊎◌}
 pub use Rattle.std.proofs.Math.ListN.{get_or-map}
-pub use Rattle.std.proofs.Math.Nat.{mul_comm}
-pub use Rattle.std.proofs.lemmas.Bool.{and_from, and_parts, cases_lt, le-leb, leb-true, lt-leb, lt-ltb, or_right}
-pub use Rattle.std.proofs.lemmas.Bool.Decides.{nat_tests}
-pub use Rattle.std.proofs.lemmas.Grind.{common_steps, flat_map-append}
-pub use Rattle.std.proofs.lemmas.List.{append-nil, drop-take, drop_more, ext_get_or, flat_map_more, get_or-append_right, get_or_append_left, get_or_past, length-drop, length-map, length-replicate, length-take, length_push, map-append, reverse-append, take-append-drop, take-take, take_all, take_more}
-pub use Rattle.std.proofs.lemmas.List.Folds.{flat_map-map}
-pub use Rattle.std.proofs.lemmas.List.FromFn.{length-range_with_len}
-pub use Rattle.std.proofs.lemmas.Nat.{mul-le}
-pub use Rattle.std.proofs.lemmas.Option.{same_Some, slice_get_within}
-pub use Rattle.std.proofs.lemmas.Result.{on_err_weaker, on_ok_weaker}
-pub use Rattle.std.specs.Int.{byte_len, w32, w64}
-pub use Rattle.std.specs.List.{AllZip, enumerate_from, list_any, range_with_len}
-pub use Rattle.std.specs.List.Sorted.{IsPermutation}
-pub use Rattle.std.specs.Option.{option_copied, option_or}
-pub use Rattle.std.specs.Prelude.{IfSome, IsErrOf, OnOk, Vec, filter, flat_map, is_none, nat_le, nat_lt, not, option_map, replicate, reverse, slice_get, slice_index_or, zip, ◌==◌}
+pub use Rattle.std.specs.Prelude.{not, replicate}
 pub use Rattle.std.specs.declared.alloc.Global.{Global}
 pub use Rattle.aggregator_rounds.proofs.EntryCells.{entries_within}
 pub use Rattle.aggregator_rounds.proofs.ReadParts.{got_whole}
@@ -40,93 +26,18 @@ pub use Rattle.file_domains.specs.Rounds.{bytes_in}
 pub use Rattle.get_exchange.proofs.CollectLaws.{in_request}
 pub use Rattle.get_exchange.specs.Blobs.{AreAsLong, FitTable, HasRead, HaveOnePlaces, blob_at, of_request}
 pub use Rattle.get_exchange.specs.Gets.{HasGot, IsGetPlan, get_turns}
-pub use Rattle.list_laws.proofs.Each.{zip_weaker}
-pub use Rattle.list_laws.proofs.Maps.{entry_map, map_map, next_numbered}
-pub use Rattle.list_laws.proofs.Optional.{both_none, if_some_at, neither_some, no_none_some, none_of_test, told_unless}
-pub use Rattle.list_laws.proofs.Places.{entry_below, entry_numbered, entry_read}
-pub use Rattle.list_laws.proofs.Ranges.{range_append, range_first, range_rest, spans_long}
-pub use Rattle.list_laws.proofs.Results.{on_err}
-pub use Rattle.list_laws.proofs.Truth.{and_first, and_second, equal_true, no_both, no_false, or_first_false, or_second_false}
-pub use Rattle.nc_base.specs.declared.answer.Pair.{Pair}
-pub use Rattle.nc_base.specs.declared.header.Header.{Header}
-pub use Rattle.nc_base.specs.declared.header.Var.{Var}
-pub use Rattle.nc_base.specs.declared.plan.Batch.{Batch}
-pub use Rattle.nc_base.specs.declared.plan.Extent.{Extent}
-pub use Rattle.nc_base.specs.declared.plan.Owned.{Owned}
-pub use Rattle.nc_base.specs.declared.plan.Post.{Post}
-pub use Rattle.nc_base.specs.declared.request.Direction.{Direction}
-pub use Rattle.nc_base.specs.declared.request.Direction.TheVariants.{Get, Put}
-pub use Rattle.nc_base.specs.declared.request.Region.{Region}
-pub use Rattle.nc_base.specs.declared.script.Hints.{Hints}
-pub use Rattle.nc_base.specs.declared.script.OverlapRule.{OverlapRule}
-pub use Rattle.nc_base.specs.declared.script.OverlapRule.TheVariants.{Refuse, Serial}
-pub use Rattle.nc_base.specs.declared.step.DiskCall.{DiskCall}
-pub use Rattle.nc_base.specs.declared.step.DiskCall.TheVariants.{Grow}
+pub use Rattle.list_laws.proofs.Common.{and_first, and_second, both_none, entry_below, entry_map, entry_numbered, entry_read, equal_true, if_some_at, map_map, neither_some, next_numbered, no_both, no_false, no_none_some, none_of_test, on_err, or_first_false, or_second_false, range_append, range_first, range_rest, spans_long, told_unless, zip_weaker}
+pub use Rattle.list_laws.proofs.Types.{Batch, Direction, Disk, DiskCall, Extent, Get, Grow, Header, Hints, OverlapRule, Owned, Pair, Post, Put, Refuse, Region, Serial, StepErr, Var}
 pub use Rattle.nc_outside.proofs.Across.{laid_none}
 pub use Rattle.nc_outside.proofs.ToldLaws.{after-after, after-same, told_as, with_end-nil}
 pub use Rattle.nc_outside.specs.Cause.{HasDiskCause, Rose, both_faults}
 pub use Rattle.nc_outside.specs.DiskState.{PartlyWritten}
 pub use Rattle.nc_outside.specs.Told.{BothTold, after, joined, with_end}
-pub use Rattle.nc_base.specs.declared.step.StepErr.{StepErr}
-pub use Rattle.nc_base.specs.declared.step.StepErr.TheVariants.{Disk}
 pub use Rattle.overlap_report.proofs.OriginSteps.{of_says, origin_at, says_of}
 pub use Rattle.overlap_report.specs.Parts.{IsPartOfOne}
-pub use Rattle.overlay_laws.proofs.CoverLaws.{cover_in_order, hull_told, same_ascending, spans_ascend}
-pub use Rattle.overlay_laws.proofs.DomainLaws.{filter_two}
-pub use Rattle.overlay_laws.proofs.EntryLaws.{enumerate_joined, gathered_says, get_collected, list_says, same_permuted, says_cases, says_moved, says_place}
-pub use Rattle.overlay_laws.proofs.HolderLaws.{entries_pair}
-pub use Rattle.overlay_laws.proofs.HullLaws.{any_in, ceil_covers, first_least, flat_in, in_either, in_flat, in_in_order, in_left, in_order_ascends, in_order_in, in_range, in_right, last_most, range_high, range_low}
-pub use Rattle.overlay_laws.proofs.Members.{each_in, in_map, map_in, numbered_from, read_in}
-pub use Rattle.overlay_laws.proofs.OriginLaws.{cells_by_origins, greatest_once, origins_moved, resolved_says, said_mapped}
-pub use Rattle.overlay_laws.proofs.PartLaws.{parts_done}
-pub use Rattle.overlay_laws.proofs.ReadLaws.{read_slice}
-pub use Rattle.overlay_laws.proofs.RoomLaws.{puts_room}
-pub use Rattle.overlay_laws.proofs.SaidLaws.{cells_long, said_is, same_file, same_said, says_some}
-pub use Rattle.overlay_laws.proofs.ShareLaws.{no_pair_once}
-pub use Rattle.overlay_laws.proofs.WalkLaws.{filter_all, filter_none, filter_same, windows_walked}
-pub use Rattle.overlay_laws.proofs.WindowLaws.{clips_from, clips_in, clips_within, moved_said, none_below, within_lowered}
-pub use Rattle.overlay_laws.specs.Changes.{IsBetween, load_calls, store_calls}
-pub use Rattle.overlay_laws.specs.Entries.{AreOf, HaveSame, In, IsGathered, IsRun, IsRunFrom, Source, cell_of, cells_of_puts, got_cell, ranges}
-pub use Rattle.overlay_laws.specs.Hulls.{AreHints}
-pub use Rattle.overlay_laws.specs.Lines.{EndBelow, IsByPlace, IsInLine, extents}
-pub use Rattle.overlay_laws.specs.Origins.{AreFound, AtMost, IsInOrder, IsOnceEach, IsResolved, Origin, byte_at, origins}
-pub use Rattle.overlay_laws.specs.Walks.{IsCover, end_after, first_at, told_of}
-pub use Rattle.overlay_laws.specs.Windows.{clips}
+pub use Rattle.overlay_laws.proofs.Common.{AreFound, AreHints, AreOf, AtMost, EndBelow, HaveSame, In, IsBetween, IsByPlace, IsCover, IsGathered, IsInLine, IsInOrder, IsOnceEach, IsResolved, IsRun, IsRunFrom, Origin, Source, any_in, byte_at, ceil_covers, cell_of, cells_by_origins, cells_long, cells_of_puts, clips, clips_from, clips_in, clips_within, cover_in_order, each_in, end_after, entries_pair, enumerate_joined, extents, filter_all, filter_none, filter_same, filter_two, first_at, first_least, flat_in, gathered_says, get_collected, got_cell, greatest_once, hull_told, in_either, in_flat, in_in_order, in_left, in_map, in_order_ascends, in_order_in, in_range, in_right, last_most, list_says, load_calls, map_in, moved_said, no_pair_once, none_below, numbered_from, origins, origins_moved, parts_done, puts_room, range_high, range_low, ranges, read_in, read_slice, resolved_says, said_is, said_mapped, same_ascending, same_file, same_permuted, same_said, says_cases, says_moved, says_place, says_some, spans_ascend, store_calls, told_of, windows_walked, within_lowered}
 pub use Rattle.put_exchange.specs.Put.{HasPut, put_part}
-pub use Rattle.serial_spec.proofs.AcceptLaws.{accepted_elements, post_inside}
-pub use Rattle.serial_spec.proofs.ApartLaws.{elements_past_header}
-pub use Rattle.serial_spec.proofs.CountLaws.{greatest_joined, raised_file, some_limit}
-pub use Rattle.serial_spec.proofs.ElementLaws.{length-coordinates}
-pub use Rattle.serial_spec.proofs.FileLaws.{at-longer, at-written_after, at-written_before, longer_long}
-pub use Rattle.serial_spec.proofs.GrowLaws.{after_grows, after_long, raised_grows, written_grows}
-pub use Rattle.serial_spec.proofs.KeepLaws.{after_keeps}
-pub use Rattle.serial_spec.proofs.LawfulTests.{within_is}
-pub use Rattle.serial_spec.proofs.LengthLaws.{size_most, size_pos}
-pub use Rattle.serial_spec.proofs.MemberLaws.{at_in, filter_in, in_at, in_filter}
-pub use Rattle.serial_spec.proofs.RoomLaws.{end_grows}
-pub use Rattle.serial_spec.proofs.SaidLaws.{cells_said, puts_are_cells, puts_say}
-pub use Rattle.serial_spec.specs.DeviceCalls.{collective_windows, domain_size, domains, first_of, get_bytes, grow_to, in_order, last_of, loads, not_empty, overlays, put_calls, sieved, sieving_windows, store_records, windows}
-pub use Rattle.serial_spec.specs.Extents.{spans}
-pub use Rattle.serial_spec.specs.ExternalForm.{size_of}
-pub use Rattle.serial_spec.specs.File.{at, longer, read}
-pub use Rattle.serial_spec.specs.FileStep.{Setting, after_puts, end_for, get_post, needs, raised, told, told_under}
-pub use Rattle.serial_spec.specs.HeaderBytes.{count, count_width, dimension, header_len, is_version, list_of, tag}
-pub use Rattle.serial_spec.specs.HeaderFaults.{bad_id, fault_if, first_check, first_with, is_too_large, keeps_bound, measure, past_bound, record_later, two_record_dims}
-pub use Rattle.serial_spec.specs.HeaderGrammar.{all_ones}
-pub use Rattle.serial_spec.specs.Lawful.{are_lawful_hints, is_alignment, is_within}
-pub use Rattle.serial_spec.specs.Layout.{end_of, end_of_var, greatest, is_record, last_share, product, record_share, recsize, share, sharing, sharing_from, sharing_with, vsize}
-pub use Rattle.serial_spec.specs.Limits.{file_limit, record_limit}
-pub use Rattle.serial_spec.specs.Lists.{is_empty}
-pub use Rattle.serial_spec.specs.Owner.{needed_now}
-pub use Rattle.serial_spec.specs.Place.{IsElementBelow, place}
-pub use Rattle.serial_spec.specs.RankSide.{wanted}
-pub use Rattle.serial_spec.specs.Records.{needed, needed_by, records_of, records_of_some, with_records}
-pub use Rattle.serial_spec.specs.RegionCheck.{check_some}
-pub use Rattle.serial_spec.specs.Request.{cells, coordinates, elements, places}
-pub use Rattle.serial_spec.specs.Said.{Cell, IsFrom, IsOneValued, IsWithin, Says, byte_or, moved_down, said_at, said_by, write_cells}
-pub use Rattle.serial_spec.specs.SharedByte.{IsOwnOnce, Puts, bytes_of, bytes_of_some, covered, holdings, holdings_of_entries, said_by_puts, shared_pair, shared_pair_of}
-pub use Rattle.serial_spec.specs.SoundHeaders.{counts_are_small, is_sound}
-pub use Rattle.serial_spec.specs.Torn.{IsTorn, may_change}
+pub use Rattle.serial_spec.proofs.Common.{Cell, IsElementBelow, IsFrom, IsOneValued, IsOwnOnce, IsTorn, IsWithin, Puts, Says, Setting, accepted_elements, after_grows, after_keeps, after_long, after_puts, all_ones, are_lawful_hints, at, at-longer, at-written_after, at-written_before, at_in, bad_id, byte_or, bytes_of, bytes_of_some, cells, cells_said, check_some, collective_windows, coordinates, count, count_width, counts_are_small, covered, dimension, domain_size, domains, elements, elements_past_header, end_for, end_grows, end_of, end_of_var, fault_if, file_limit, filter_in, first_check, first_of, first_with, get_bytes, get_post, greatest, greatest_joined, grow_to, header_len, holdings, holdings_of_entries, in_at, in_filter, in_order, is_alignment, is_empty, is_record, is_sound, is_too_large, is_version, is_within, keeps_bound, last_of, last_share, length-coordinates, list_of, loads, longer, longer_long, may_change, measure, moved_down, needed, needed_by, needed_now, needs, not_empty, overlays, past_bound, place, places, post_inside, product, put_calls, puts_are_cells, puts_say, raised, raised_file, raised_grows, read, record_later, record_limit, record_share, records_of, records_of_some, recsize, said_at, said_by, said_by_puts, share, shared_pair, shared_pair_of, sharing, sharing_from, sharing_with, sieved, sieving_windows, size_most, size_of, size_pos, some_limit, spans, store_records, tag, told, told_under, two_record_dims, vsize, wanted, windows, with_records, within_is, write_cells, written_grows}
 pub use Rattle.var_layout.proofs.ElementPlaces.{sound_end}
 pub use Rattle.var_layout.proofs.Soundness.{measured}
 pub use Rattle.var_layout.proofs.WrittenLengths.{canon_len}

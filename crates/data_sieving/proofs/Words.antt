@@ -1,16 +1,8 @@
 -- The words of this crate's proofs, from where they stand.
-pub use Rattle.std.proofs.Common.{Bool, List, None, Option, Some, [], ap, append_assoc, arith, cond, drop, false, get_or, inl, inr, length, map, max, min, refl, rules, set, slice_get, subst, sym, take, true, ℕ, ◌++◌, ◌+◌, ◌-◌, ◌<◌, ◌^◌, ◌∙◌, ◌∷◌, ◌≡◌, ◌≢◌, ◌≤◌, ◌&&◌, ◌⊎◌}
-pub use Rattle.std.proofs.Math.Seq.{take-add, take-append_seam}
-pub use Rattle.std.proofs.lemmas.Bool.{cases_lt, le-leb, leb-true, lt-leb, lt-ltb}
-pub use Rattle.std.proofs.lemmas.Bool.Decides.{nat_tests}
-pub use Rattle.std.proofs.lemmas.Grind.{common_steps, fold-append}
-pub use Rattle.std.proofs.lemmas.List.{append-nil, drop_at, get_or-set_other, get_or-set_same, length-append, length-drop, length-set, length-take, map-append, take-append-le, take_all, take_at, take_min, take_more}
-pub use Rattle.std.proofs.lemmas.List.Elements.{filter-append}
-pub use Rattle.std.proofs.lemmas.List.FromFn.{length-range_with_len}
-pub use Rattle.std.proofs.lemmas.Option.{same_Some, slice_get-get_or}
-pub use Rattle.std.specs.List.{range_with_len, refill}
-pub use Rattle.std.specs.Option.{option_map, option_or}
-pub use Rattle.std.specs.Prelude.{IfSome, filter, flat_map, nat_le, nat_lt, ◌==◌}
+pub use Rattle.list_laws.proofs.Std.{Bool, IfSome, List, None, Option, Some, [], ap, append-nil, append_assoc, arith, cases_lt, common_steps, cond, drop, drop_at, false, filter, filter-append, flat_map, fold-append, get_or, get_or-set_other, get_or-set_same, inl, inr, le-leb, leb-true, length, length-drop, length-range_with_len, length-set, length-take, lt-leb, lt-ltb, map, map-append, max, min, nat_le, nat_lt, nat_tests, option_or, range_with_len, refill, refl, rules, same_Some, set, slice_get-get_or, subst, sym, take, take-add, take-append-le, take-append_seam, take_all, take_at, take_min, take_more, true, ℕ, ◌&&◌, ◌++◌, ◌+◌, ◌-◌, ◌<◌, ◌==◌, ◌^◌, ◌∙◌, ◌∷◌, ◌≡◌, ◌≢◌, ◌≤◌, ◌⊎◌}
+pub use Rattle.std.proofs.Common.{slice_get}
+pub use Rattle.std.proofs.lemmas.List.{length-append}
+pub use Rattle.std.specs.Option.{option_map}
 pub use Rattle.aggregator_rounds.proofs.CoveredBytes.{covered_below, covered_front, covered_left, covered_past, front_covered, hole_short, in_ranges, past_covered, ranges_in}
 pub use Rattle.aggregator_rounds.proofs.EntryCells.{covered_place, entries_from, entries_two, entries_within, entry_cells, unsaid}
 pub use Rattle.aggregator_rounds.proofs.PartSteps.{found_at, laid_cell, slot_below}
@@ -25,33 +17,9 @@ pub use Rattle.data_sieving.specs.Sieving.{AreAsLong, FitBlobs, HasGot, HaveOneP
 pub use Rattle.data_sieving.specs.Walked.{AreLeft, HasDone, HasGotPart, IsHull, IsNext, LieAcross, Reach, bytes_from, entries_in, windows_from}
 pub use Rattle.file_domains.proofs.WalkSteps.{walked_enough}
 pub use Rattle.file_domains.specs.declared.walk.Window.{Window}
-pub use Rattle.list_laws.proofs.Maps.{filter_at_most}
-pub use Rattle.list_laws.proofs.Optional.{first_counts, second_counts, some_or_none}
-pub use Rattle.list_laws.proofs.Results.{on_err}
-pub use Rattle.list_laws.proofs.Truth.{equal_below, equal_true}
-pub use Rattle.nc_base.specs.declared.plan.Extent.{Extent}
-pub use Rattle.nc_base.specs.declared.plan.Owned.{Owned}
-pub use Rattle.nc_base.specs.declared.plan.Post.{Post}
-pub use Rattle.nc_base.specs.declared.step.DiskCall.{DiskCall}
+pub use Rattle.list_laws.proofs.Common.{equal_below, equal_true, filter_at_most, first_counts, on_err, second_counts, some_or_none}
+pub use Rattle.list_laws.proofs.Types.{DiskCall, Extent, Owned, Post}
 pub use Rattle.nc_outside.proofs.ToldLaws.{no_calls, with_end-with_end}
 pub use Rattle.nc_outside.specs.Told.{BothTold, after, with_end}
-pub use Rattle.overlay_laws.proofs.CoverLaws.{same_ascending, triple_same}
-pub use Rattle.overlay_laws.proofs.EntryLaws.{in_extents, says_cases, says_left, says_right}
-pub use Rattle.overlay_laws.proofs.HullLaws.{filter_ascends, first_least, in_either, in_in_order, in_left, in_order_ascends, in_order_in, in_range, in_right, last_below, last_most, range_ascends, range_high, range_low}
-pub use Rattle.overlay_laws.proofs.Members.{entry_in}
-pub use Rattle.overlay_laws.proofs.SaidLaws.{cells_long, said_in_any_order, said_is, same_said}
-pub use Rattle.overlay_laws.proofs.WalkLaws.{drop_first, filter_all, sieved_walked}
-pub use Rattle.overlay_laws.proofs.WindowLaws.{append_within, clips_from, clips_in, clips_within, moved_said, none_below, none_past, said_by_joined, said_joined, within_lowered, within_more}
-pub use Rattle.overlay_laws.specs.Changes.{IsBegun, IsBetween, load_calls, store_calls}
-pub use Rattle.overlay_laws.specs.Entries.{In, Source, ranges}
-pub use Rattle.overlay_laws.specs.Hulls.{IsAscending}
-pub use Rattle.overlay_laws.specs.Lines.{EndBelow, IsByPlace, extents}
-pub use Rattle.overlay_laws.specs.Origins.{AreFound}
-pub use Rattle.overlay_laws.specs.Walks.{told_of}
-pub use Rattle.overlay_laws.specs.Windows.{clips}
-pub use Rattle.serial_spec.proofs.FileLaws.{length-written_inside}
-pub use Rattle.serial_spec.proofs.MemberLaws.{at_in, filter_in, in_filter}
-pub use Rattle.serial_spec.proofs.SaidLaws.{cells_said}
-pub use Rattle.serial_spec.specs.DeviceCalls.{first_of, hull_len, in_order, loads, overlays, sieved, sieving_windows}
-pub use Rattle.serial_spec.specs.File.{at, read, written}
-pub use Rattle.serial_spec.specs.Said.{Cell, IsFrom, IsOneValued, IsWithin, Says, byte_or, moved_down, said_at, said_by, write_cells}
+pub use Rattle.overlay_laws.proofs.Common.{AreFound, EndBelow, In, IsAscending, IsBegun, IsBetween, IsByPlace, Source, append_within, cells_long, clips, clips_from, clips_in, clips_within, drop_first, entry_in, extents, filter_all, filter_ascends, first_least, in_either, in_extents, in_in_order, in_left, in_order_ascends, in_order_in, in_range, in_right, last_below, last_most, load_calls, moved_said, none_below, none_past, range_ascends, range_high, range_low, ranges, said_by_joined, said_in_any_order, said_is, said_joined, same_ascending, same_said, says_cases, says_left, says_right, sieved_walked, store_calls, told_of, triple_same, within_lowered, within_more}
+pub use Rattle.serial_spec.proofs.Common.{Cell, IsFrom, IsOneValued, IsWithin, Says, at, at_in, byte_or, cells_said, filter_in, first_of, hull_len, in_filter, in_order, length-written_inside, loads, moved_down, overlays, read, said_at, said_by, sieved, sieving_windows, write_cells, written}

@@ -1,31 +1,11 @@
 -- The words of this crate's proofs, from where they stand.
-pub use Rattle.std.proofs.Common.{Bool, List, None, Some, [], ap, arith, cond, drop, false, get_or, inl, inr, length, length-drop, max, min, refl, slice_get, slice_index_or, subst, suc, sym, take, true, zero, ℕ, ◌&&◌, ◌*◌, ◌++◌, ◌+◌, ◌-◌, ◌/◌, ◌<◌, ◌^◌, ◌↔◌, ◌∙◌, ◌∷◌, ◌≡◌, ◌≤◌, ◌⊎◌}
-pub use Rattle.std.proofs.lemmas.Bool.{cases_lt, le-leb, le-ltb, leb-false, leb-true, lt-leb, lt-ltb}
-pub use Rattle.std.proofs.lemmas.Bool.Decides.{nat_tests}
-pub use Rattle.std.proofs.lemmas.List.{get_or_default, take_all}
-pub use Rattle.std.proofs.lemmas.List.Elements.{filter-append}
-pub use Rattle.std.proofs.lemmas.Nat.{div-add-mod', div_below, le-div, mod_below}
-pub use Rattle.std.proofs.lemmas.Option.{same_Some, slice_get-get_or}
-pub use Rattle.std.specs.List.{AllWithin, range_with_len}
-pub use Rattle.std.specs.List.Sorted.{IsPartitionedBy}
-pub use Rattle.std.specs.Prelude.{filter, map, nat_le, nat_lt, ◌==◌}
+pub use Rattle.list_laws.proofs.Std.{AllWithin, Bool, IsPartitionedBy, List, None, Some, [], ap, arith, cases_lt, cond, div-add-mod', div_below, drop, false, filter, filter-append, get_or, get_or_default, inl, inr, le-div, le-leb, le-ltb, leb-false, leb-true, length, lt-leb, lt-ltb, max, min, mod_below, nat_le, nat_lt, nat_tests, range_with_len, refl, same_Some, slice_get-get_or, subst, suc, sym, take, take_all, true, zero, ℕ, ◌&&◌, ◌*◌, ◌++◌, ◌+◌, ◌-◌, ◌/◌, ◌<◌, ◌==◌, ◌^◌, ◌↔◌, ◌∙◌, ◌∷◌, ◌≡◌, ◌≤◌, ◌⊎◌}
+pub use Rattle.std.proofs.Common.{length-drop, slice_get, slice_index_or}
+pub use Rattle.std.specs.Prelude.{map}
 pub use Rattle.file_domains.specs.Domains.{border, low_of, share_of}
 pub use Rattle.file_domains.specs.Rounds.{IsLeft, IsWalk, round_windows, window_told, windows_left}
 pub use Rattle.file_domains.specs.declared.walk.Window.{Window}
-pub use Rattle.list_laws.proofs.Maps.{filter_at_most}
-pub use Rattle.list_laws.proofs.Optional.{no_none_some}
-pub use Rattle.list_laws.proofs.Truth.{equal_above}
-pub use Rattle.list_laws.proofs.Walks.{goes_on}
-pub use Rattle.nc_base.specs.declared.plan.Extent.{Extent}
-pub use Rattle.overlay_laws.proofs.CoverLaws.{below_told, past_round, range_above_none, range_first, spans_above, spans_ascend, spans_below, spans_below_none, spans_past, triple_same}
-pub use Rattle.overlay_laws.proofs.DomainLaws.{filter_two}
-pub use Rattle.overlay_laws.proofs.HullLaws.{filter_ascends, flat_in, in_either, range_high, range_low}
-pub use Rattle.overlay_laws.proofs.Members.{entry_in}
-pub use Rattle.overlay_laws.proofs.WalkLaws.{drop_first, filter_same, take_first, windows_walked}
-pub use Rattle.overlay_laws.specs.Entries.{In}
-pub use Rattle.overlay_laws.specs.Hulls.{IsAscending}
-pub use Rattle.overlay_laws.specs.Lines.{EndBelow}
-pub use Rattle.overlay_laws.specs.Walks.{IsCover, above, below, end_after, first_at, is_single, round_end, told_of, walked}
-pub use Rattle.serial_spec.proofs.MemberLaws.{at_in, filter_in}
-pub use Rattle.serial_spec.specs.DeviceCalls.{first_of}
-pub use Rattle.serial_spec.specs.Extents.{spans}
+pub use Rattle.list_laws.proofs.Common.{equal_above, filter_at_most, goes_on, no_none_some}
+pub use Rattle.list_laws.proofs.Types.{Extent}
+pub use Rattle.overlay_laws.proofs.Common.{EndBelow, In, IsAscending, IsCover, above, below, below_told, drop_first, end_after, entry_in, filter_ascends, filter_same, filter_two, first_at, flat_in, in_either, is_single, past_round, range_above_none, range_first, range_high, range_low, round_end, spans_above, spans_ascend, spans_below, spans_below_none, spans_past, take_first, told_of, triple_same, walked, windows_walked}
+pub use Rattle.serial_spec.proofs.Common.{at_in, filter_in, first_of, spans}

@@ -1,17 +1,9 @@
 -- The words of this crate's proofs, from where they stand.
-pub use Rattle.std.proofs.Common.{Bool, Err, List, None, Ok, Option, Result, Some, [], ap, append_assoc, arith, cond, drop, false, get_or, inl, inr, length, length-set, map, min, refl, rules, set, subst, suc, sym, take, true, vec_capacity, zero, ℕ, ◌&&◌, ◌++◌, ◌+◌, ◌-◌, ◌<◌, ◌^◌, ◌∙◌, ◌∷◌, ◌≡◌, ◌≢◌, ◌≤◌, ◌⊎◌}
+pub use Rattle.list_laws.proofs.Std.{AllZip, AllZip-long, Bool, Err, IfErr, IfNone, IfSome, IsErrOf, IsOk, List, None, Ok, OnOk, Option, Result, Some, [], and_from, ap, append-nil, append_assoc, arith, common_steps, cond, drop, drop_all, ext_get_or, false, filter-append, flat_map, fold-append, get_or, get_or-set_other, get_or-set_same, get_or_default, inl, inr, is_some, length, length-drop, length-map, length-take, length-zip, map, map-append, map-set_same, min, nat_tests, refl, result_and, rules, same_Some, set, slice_get, slice_get-get_or, slice_get_within, subst, suc, sym, take, take_all, take_more, take_rest, true, vec_capacity, zero, zip, ℕ, ◌&&◌, ◌++◌, ◌+◌, ◌-◌, ◌<◌, ◌==◌, ◌^◌, ◌∙◌, ◌∷◌, ◌≡◌, ◌≢◌, ◌≤◌, ◌⊎◌}
+pub use Rattle.std.proofs.Common.{length-set}
 pub use Rattle.std.proofs.Math.ListN.{get_or-map}
-pub use Rattle.std.proofs.Math.Seq.{map-set_same}
-pub use Rattle.std.proofs.lemmas.Bool.{and_from}
-pub use Rattle.std.proofs.lemmas.Grind.{common_steps, fold-append}
-pub use Rattle.std.proofs.lemmas.List.{append-nil, drop_all, ext_get_or, get_or-set_other, get_or-set_same, get_or_default, length-append, length-drop, length-map, length-take, map-append, take_all, take_more, take_rest}
-pub use Rattle.std.proofs.lemmas.List.Elements.{filter-append}
-pub use Rattle.std.proofs.lemmas.Option.{same_Some, slice_get-get_or, slice_get_within}
-pub use Rattle.std.proofs.lemmas.Slice.Zip.{AllZip-long, length-zip}
-pub use Rattle.std.specs.List.{AllZip}
-pub use Rattle.std.specs.Prelude.{IfErr, IfNone, IfSome, IsErrOf, IsOk, OnOk, flat_map, is_some, replicate, slice_get, zip, ◌==◌}
-pub use Rattle.std.specs.Result.{result_and}
-pub use Rattle.std.proofs.lemmas.Bool.Decides.{nat_tests}
+pub use Rattle.std.proofs.lemmas.List.{length-append}
+pub use Rattle.std.specs.Prelude.{replicate}
 pub use Rattle.aggregator_rounds.proofs.PastSteps.{all_left, past_extents, past_twice, walk_begin}
 pub use Rattle.aggregator_rounds.proofs.ReadParts.{IsRead, buffer_cells, got_says, got_whole, parts_within, read_as, read_once, says_got, whole_parts}
 pub use Rattle.aggregator_rounds.proofs.SplitSteps.{dropped_past, entry_ends, extents_left, extents_right, sorted_right}
@@ -46,28 +38,10 @@ pub use Rattle.get_exchange.specs.declared.reading.Reading.{Reading}
 pub use Rattle.get_exchange.specs.declared.reading.Reading.TheVariants.{Hull}
 pub use Rattle.get_exchange.specs.declared.shelf.Shelf.{Shelf}
 pub use Rattle.get_exchange.specs.declared.walk.ReadWalk.{ReadWalk}
-pub use Rattle.list_laws.proofs.Each.{zip_weaker}
-pub use Rattle.list_laws.proofs.Places.{drop_at, entry_below, entry_set, entry_set_other, middle_at}
-pub use Rattle.list_laws.proofs.Refills.{refilled}
-pub use Rattle.list_laws.proofs.Truth.{and_first, and_second, equal_true, no_both}
-pub use Rattle.nc_base.specs.declared.plan.Extent.{Extent}
-pub use Rattle.nc_base.specs.declared.plan.Owned.{Owned}
-pub use Rattle.nc_base.specs.declared.step.DiskCall.{DiskCall}
+pub use Rattle.list_laws.proofs.Common.{and_first, and_second, drop_at, entry_below, entry_set, entry_set_other, equal_true, middle_at, no_both, refilled, zip_weaker}
+pub use Rattle.list_laws.proofs.Types.{Disk, DiskCall, Extent, Memory, Owned, StepErr}
 pub use Rattle.nc_outside.proofs.ToldLaws.{with_end-nil, with_end-with_end}
 pub use Rattle.nc_outside.specs.Cause.{Rose}
 pub use Rattle.nc_outside.specs.Told.{with_end}
-pub use Rattle.nc_base.specs.declared.step.StepErr.{StepErr}
-pub use Rattle.nc_base.specs.declared.step.StepErr.TheVariants.{Disk, Memory}
-pub use Rattle.overlay_laws.proofs.EntryLaws.{in_extents, says_cases, says_left, says_right}
-pub use Rattle.overlay_laws.proofs.HullLaws.{in_either, in_left, in_right}
-pub use Rattle.overlay_laws.proofs.Members.{entry_in, in_map, in_zip, map_in, zip_in}
-pub use Rattle.overlay_laws.proofs.SaidLaws.{said_in_any_order, same_said}
-pub use Rattle.overlay_laws.proofs.WindowLaws.{append_within, said_by_joined}
-pub use Rattle.overlay_laws.specs.Changes.{load_calls}
-pub use Rattle.overlay_laws.specs.Entries.{In, got_cell}
-pub use Rattle.overlay_laws.specs.Lines.{EndBelow, extents}
-pub use Rattle.serial_spec.proofs.CellLaws.{read_at, read_long, read_same}
-pub use Rattle.serial_spec.proofs.FileLaws.{length-written_inside}
-pub use Rattle.serial_spec.proofs.MemberLaws.{at_in, filter_in, in_at, in_filter}
-pub use Rattle.serial_spec.specs.File.{at, read, written}
-pub use Rattle.serial_spec.specs.Said.{Cell, IsOneValued, IsWithin, Says, said_at, said_by, write_cells}
+pub use Rattle.overlay_laws.proofs.Common.{EndBelow, In, append_within, entry_in, extents, got_cell, in_either, in_extents, in_left, in_map, in_right, in_zip, load_calls, map_in, said_by_joined, said_in_any_order, same_said, says_cases, says_left, says_right, zip_in}
+pub use Rattle.serial_spec.proofs.Common.{Cell, IsOneValued, IsWithin, Says, at, at_in, filter_in, in_at, in_filter, length-written_inside, read, read_at, read_long, read_same, said_at, said_by, write_cells, written}

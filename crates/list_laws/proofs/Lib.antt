@@ -12,3 +12,6 @@ pub mod Fronts
 pub mod Refills
 pub mod Walks
 pub mod Parts
+pub mod Std
+pub mod Types
+pub mod Common

@@ -10,5 +10,4 @@ pub use Rattle.nc_outside.specs.Cause.{Rose}
 pub use Rattle.nc_outside.specs.Chains.{items, passed, spread}
 pub use Rattle.nc_outside.specs.Told.{BothTold, after, with_end}
 pub use Rattle.nc_outside.specs.declared.chain.Chain.{Chain}
-pub use Rattle.serial_spec.proofs.FileLaws.{written-inside}
-pub use Rattle.serial_spec.specs.File.{written}
+pub use Rattle.serial_spec.proofs.Common.{written, written-inside}

@@ -1,12 +1,7 @@
 -- The words of this crate's proofs, from where they stand.
-pub use Rattle.std.proofs.Common.{Bool, List, [], ap, append_assoc, arith, drop, false, get_or, length, map, max, min, refl, subst, sym, take, true, ℕ, ◌*◌, ◌++◌, ◌+◌, ◌-◌, ◌<◌, ◌==◌, ◌^◌, ◌∙◌, ◌∷◌, ◌≡◌, ◌≤◌}
+pub use Rattle.list_laws.proofs.Std.{Bool, List, [], ap, append-nil, append_assoc, arith, both_ways, drop, false, flat_map, flat_map-append, get_or, length, map, map-append, max, min, on_ok_weaker, range_with_len, refl, reverse, slice_get, subst, sym, take, true, ℕ, ◌*◌, ◌++◌, ◌+◌, ◌-◌, ◌<◌, ◌^◌, ◌∙◌, ◌∷◌, ◌≡◌, ◌≤◌}
+pub use Rattle.std.proofs.Common.{◌==◌}
 pub use Rattle.std.proofs.Math.Seq.{take_all}
-pub use Rattle.std.proofs.lemmas.Bool.{both_ways}
-pub use Rattle.std.proofs.lemmas.Grind.{flat_map-append}
-pub use Rattle.std.proofs.lemmas.List.{append-nil, map-append}
-pub use Rattle.std.proofs.lemmas.Result.{on_ok_weaker}
-pub use Rattle.std.specs.List.{range_with_len}
-pub use Rattle.std.specs.Prelude.{flat_map, reverse, slice_get}
 pub use Rattle.dataset_start.proofs.Keeping.{kept_created, kept_hints, kept_wr_buffer}
 pub use Rattle.dataset_start.proofs.ReadyLaws.{no_extras, some_extras, start-created}
 pub use Rattle.dataset_start.proofs.Redefinable.{redefined_sound}
@@ -16,17 +11,10 @@ pub use Rattle.dataset_start.specs.Readiness.{blank_file, dataset_end, empty_end
 pub use Rattle.fill_records.proofs.TornLaws.{filled_long}
 pub use Rattle.fill_records.proofs.VariableLaws.{fill_stores_more, fixed_end, fixed_stores, got, known_at, record_stores}
 pub use Rattle.fill_records.specs.Filling.{variable_stores}
-pub use Rattle.list_laws.proofs.Optional.{if_some_at}
-pub use Rattle.list_laws.proofs.Ranges.{range_append}
-pub use Rattle.list_laws.proofs.Truth.{and_first, and_second}
-pub use Rattle.nc_base.specs.declared.header.Header.{Header}
-pub use Rattle.nc_base.specs.declared.script.Extra.{Extra}
-pub use Rattle.nc_base.specs.declared.script.Script.{Script}
-pub use Rattle.nc_base.specs.declared.step.DiskCall.{DiskCall}
-pub use Rattle.nc_base.specs.declared.step.DiskCall.TheVariants.{Grow, Load, Store}
+pub use Rattle.list_laws.proofs.Common.{and_first, and_second, if_some_at, range_append}
+pub use Rattle.list_laws.proofs.Types.{DiskCall, Extra, Grow, Header, Load, Script, Store}
 pub use Rattle.opening_plan.specs.Opening.{AreLow, added_calls, carry_calls}
-pub use Rattle.overlay_laws.proofs.WindowCounts.{count_is, stores_before}
-pub use Rattle.overlay_laws.specs.Entries.{In}
+pub use Rattle.overlay_laws.proofs.Common.{In, count_is, stores_before}
 pub use Rattle.redef_laws.proofs.AppliedLaws.{applied_falls, applied_moved, applied_risen, applied_shifted, applied_zeros}
 pub use Rattle.redef_laws.proofs.MovedLaws.{writable_is_sound}
 pub use Rattle.redef_laws.proofs.RisingLaws.{rising_all}
@@ -42,14 +30,6 @@ pub use Rattle.redef_mover.proofs.MovesLaws.{below, called_append, fixed_last, f
 pub use Rattle.redef_mover.proofs.WindowLaws.{all_called, calls_before, window_called}
 pub use Rattle.redef_mover.specs.Moves.{AreSpaced, all_calls, behind, further, gap_calls, gaps_before, listed, slab_calls, slab_of, window_calls}
 pub use Rattle.redef_mover.specs.declared.slabs.Shift.{Shift}
-pub use Rattle.serial_spec.proofs.FileLaws.{longer-enough, longer_long}
-pub use Rattle.serial_spec.proofs.LawfulTests.{within_is}
-pub use Rattle.serial_spec.specs.DeviceCalls.{Slab, grow_to, head_load, move_calls, opening_calls, redefining_calls, stores, zero_calls}
-pub use Rattle.serial_spec.specs.File.{longer}
-pub use Rattle.serial_spec.specs.HeaderBytes.{canon, header_len}
-pub use Rattle.serial_spec.specs.Layout.{end_of, fixed_variables, is_record, slab}
-pub use Rattle.serial_spec.specs.Redefinition.{brought, redefined}
-pub use Rattle.serial_spec.specs.SerialEnd.{start}
-pub use Rattle.serial_spec.specs.SoundHeaders.{is_sound}
+pub use Rattle.serial_spec.proofs.Common.{Slab, brought, canon, end_of, fixed_variables, grow_to, head_load, header_len, is_record, is_sound, longer, longer-enough, longer_long, move_calls, opening_calls, redefined, redefining_calls, slab, start, stores, within_is, zero_calls}
 pub use Rattle.var_layout.proofs.ElementPlaces.{sound_end}
 pub use Rattle.var_layout.proofs.Soundness.{header_short, if_there}

@@ -19,3 +19,4 @@ pub mod ReadLaws
 pub mod WindowCounts
 pub mod WindowHulls
 pub mod ChangeLaws
+pub mod Common

@@ -1,12 +1,8 @@
 -- The words of this crate's proofs, from where they stand.
-pub use Rattle.std.proofs.Common.{Bool, List, None, Option, Some, [], ap, ap₂, arith, false, inl, inr, length, min, refl, replicate, rules, subst, sym, take, true, ℕ, ◌++◌, ◌-◌, ◌<◌, ◌==◌, ◌^◌, ◌∙◌, ◌≡◌, ◌≤◌, ◌⊎◌}
-pub use Rattle.std.proofs.Math.Seq.{take-append_seam}
-pub use Rattle.std.proofs.lemmas.Bool.{both_ways, cases_lt}
-pub use Rattle.std.proofs.lemmas.List.{append-nil, length-append, length-replicate, take_all}
-pub use Rattle.std.proofs.lemmas.Result.{IfOk-weaker}
-pub use Rattle.std.specs.Borrow.{Bor}
-pub use Rattle.std.specs.Prelude.{Err, IfErr, IfOk, IfSome, IsErrOf, IsSomeAnd, Ok, Result, option_map}
-pub use Rattle.std.specs.Result.{IsErrAnd}
+pub use Rattle.list_laws.proofs.Std.{Bool, Bor, IfErr, IfOk, IfOk-weaker, IfSome, IsErrAnd, IsErrOf, IsSomeAnd, List, None, Option, Some, [], ap, append-nil, ap₂, arith, both_ways, cases_lt, false, inl, inr, length, length-replicate, min, option_map, refl, replicate, rules, subst, sym, take, take-append_seam, take_all, true, ℕ, ◌++◌, ◌-◌, ◌<◌, ◌^◌, ◌∙◌, ◌≡◌, ◌≤◌, ◌⊎◌}
+pub use Rattle.std.proofs.Common.{◌==◌}
+pub use Rattle.std.proofs.lemmas.List.{length-append}
+pub use Rattle.std.specs.Prelude.{Err, Ok, Result}
 pub use Rattle.cdf_header.specs.Decoded.{BeginsWith}
 pub use Rattle.dataset_start.proofs.Keeping.{kept_created, kept_extras, kept_hints, kept_records, kept_whole_extras, read_kept}
 pub use Rattle.dataset_start.proofs.Opened.{faultless, tells}
@@ -17,15 +13,8 @@ pub use Rattle.dataset_start.specs.Limits.{TakesAtMost, most_taken}
 pub use Rattle.dataset_start.specs.Readiness.{IsFaultless, IsOpened}
 pub use Rattle.dataset_start.specs.Stops.{IsOfLayout, IsOfRedefinition, IsOfTaking, status_of, stop_of_header}
 pub use Rattle.dataset_start.specs.declared.stop.Stop.{Stop}
-pub use Rattle.list_laws.proofs.Optional.{some_not_none}
-pub use Rattle.list_laws.proofs.Truth.{and_second}
-pub use Rattle.nc_base.specs.declared.errors.HeaderErr.{HeaderErr}
-pub use Rattle.nc_base.specs.declared.errors.LayoutErr.{LayoutErr}
-pub use Rattle.nc_base.specs.declared.errors.RedefErr.{RedefErr}
-pub use Rattle.nc_base.specs.declared.errors.ScriptErr.{ScriptErr}
-pub use Rattle.nc_base.specs.declared.header.Header.{Header}
-pub use Rattle.nc_base.specs.declared.script.Script.{Script}
-pub use Rattle.nc_base.specs.declared.step.DiskCall.{DiskCall}
+pub use Rattle.list_laws.proofs.Common.{and_second, some_not_none}
+pub use Rattle.list_laws.proofs.Types.{DiskCall, Header, HeaderErr, LayoutErr, RedefErr, Script, ScriptErr}
 pub use Rattle.nc_outside.specs.Cause.{Rose}
 pub use Rattle.nc_outside.specs.Told.{after, with_end}
 pub use Rattle.opening_plan.specs.Opening.{IsOpeningOf}
@@ -42,9 +31,5 @@ pub use Rattle.plan_cli.specs.declared.start.Prepared.{Prepared}
 pub use Rattle.redef_laws.proofs.MovedLaws.{writable_is_sound}
 pub use Rattle.redef_laws.specs.Applied.{IsApplied}
 pub use Rattle.run_plan.specs.declared.run.Opening.{Opening}
-pub use Rattle.script_spec.specs.ScriptGrammar.{Reads, fault_of, script_fault}
-pub use Rattle.script_spec.specs.Texts.{header_line, layout_line, redef_line, script_line}
-pub use Rattle.serial_spec.proofs.LawfulTests.{within_is}
-pub use Rattle.serial_spec.specs.HeaderFaults.{HasFault}
-pub use Rattle.serial_spec.specs.Redefinition.{redefined_fault}
-pub use Rattle.serial_spec.specs.SoundHeaders.{is_sound}
+pub use Rattle.script_spec.proofs.Common.{Reads, fault_of, header_line, layout_line, redef_line, script_fault, script_line}
+pub use Rattle.serial_spec.proofs.Common.{HasFault, is_sound, redefined_fault, within_is}

@@ -1,18 +1,9 @@
 -- The words of this crate's proofs, from where they stand.
-pub use Rattle.std.proofs.Common.{Bool, Err, List, None, Ok, Option, Result, Some, [], ap, append_assoc, arith, cond, drop, false, get_or, inl, inr, length, length-set, map, min, refl, rules, set, subst, suc, sym, take, true, vec_capacity, zero, ℕ, ◌&&◌, ◌++◌, ◌+◌, ◌-◌, ◌<◌, ◌^◌, ◌∙◌, ◌∷◌, ◌≡◌, ◌≤◌, ◌⊎◌}
-pub use Rattle.std.proofs.Math.Seq.{drop-append_seam, take-append_seam}
-pub use Rattle.std.proofs.lemmas.Bool.{and_from, and_parts, and_right, eqb-true, le-ltb, lt-ltb, ltb-false, ltb-true}
-pub use Rattle.std.proofs.lemmas.Bool.Decides.{eqb_tells, nat_tests}
-pub use Rattle.std.proofs.lemmas.Grind.{common_steps, fold-append}
-pub use Rattle.std.proofs.lemmas.List.{append-nil, drop_all, length-append, length-drop, length-map, length-take, map-append, take_more, take_rest}
+pub use Rattle.list_laws.proofs.Std.{AllZip, Bool, Err, IfNone, IfSome, IsErr, IsErrOf, IsOk, List, None, Ok, OnOk, Option, Result, Some, Vec, [], and_from, and_parts, and_right, ap, append-nil, append_assoc, arith, common_steps, cond, drop, drop-append_seam, drop_all, enumerate_from, eqb-true, eqb_tells, false, filter, filter-append, flat_map, fold-append, get_or, inl, inr, le-ltb, length, length-drop, length-map, length-range_with_len, length-take, lt-ltb, ltb-false, ltb-true, map, map-append, min, nat_lt, nat_tests, range_with_len, refl, result_and, rules, same_Some, set, slice_get, slice_get-get_or, slice_get_within, subst, suc, sym, take, take-append_seam, take_more, take_rest, true, vec_capacity, zero, zip, ℕ, ◌&&◌, ◌++◌, ◌+◌, ◌-◌, ◌<◌, ◌==◌, ◌^◌, ◌∙◌, ◌∷◌, ◌≡◌, ◌≤◌, ◌⊎◌}
+pub use Rattle.std.proofs.Common.{length-set}
+pub use Rattle.std.proofs.lemmas.List.{length-append}
 pub use Rattle.std.proofs.lemmas.List.Concat.{flat_map-append}
-pub use Rattle.std.proofs.lemmas.List.Elements.{filter-append}
-pub use Rattle.std.proofs.lemmas.List.FromFn.{length-range_with_len}
-pub use Rattle.std.proofs.lemmas.Option.{same_Some, slice_get-get_or, slice_get_within}
-pub use Rattle.std.specs.List.{AllZip, enumerate_from, range_with_len}
 pub use Rattle.std.specs.declared.alloc.Global.{Global}
-pub use Rattle.std.specs.Result.{result_and}
-pub use Rattle.std.specs.Prelude.{IfNone, IfSome, Vec, IsErr, IsErrOf, IsOk, OnOk, filter, flat_map, nat_lt, slice_get, zip, ◌==◌}
 pub use Rattle.aggregator_rounds.proofs.EntryCells.{covered_place, entry_cells}
 pub use Rattle.aggregator_rounds.proofs.PartSteps.{part_bytes, slot_bytes, slot_in}
 pub use Rattle.aggregator_rounds.proofs.PastSteps.{past_extents, past_none, past_same, past_sorted, past_twice}
@@ -39,35 +30,13 @@ pub use Rattle.exchange_crew.specs.declared.walk.TurnWalk.{TurnWalk}
 pub use Rattle.file_domains.specs.Rounds.{IsWalk}
 pub use Rattle.file_domains.specs.declared.walk.Window.{Window}
 pub use Rattle.file_domains.specs.declared.walk.WindowWalk.{WindowWalk}
-pub use Rattle.list_laws.proofs.Each.{zip_weaker}
-pub use Rattle.list_laws.proofs.Optional.{no_none_some}
-pub use Rattle.list_laws.proofs.Places.{drop_at, each_more, left_more, middle_at}
-pub use Rattle.list_laws.proofs.Ranges.{range_push}
-pub use Rattle.list_laws.proofs.Truth.{equal_true}
-pub use Rattle.nc_base.specs.declared.plan.Batch.{Batch}
-pub use Rattle.nc_base.specs.declared.plan.Extent.{Extent}
-pub use Rattle.nc_base.specs.declared.plan.Job.{Job}
-pub use Rattle.nc_base.specs.declared.plan.Owned.{Owned}
-pub use Rattle.nc_base.specs.declared.plan.Post.{Post}
-pub use Rattle.nc_base.specs.declared.step.DiskCall.{DiskCall}
+pub use Rattle.list_laws.proofs.Common.{drop_at, each_more, equal_true, left_more, middle_at, no_none_some, range_push, zip_weaker}
+pub use Rattle.list_laws.proofs.Types.{Batch, Disk, DiskCall, Extent, Job, Owned, Post, StepErr}
 pub use Rattle.nc_outside.proofs.ToldLaws.{calls_more, with_end-nil}
 pub use Rattle.nc_outside.specs.Cause.{Rose}
 pub use Rattle.nc_outside.specs.Told.{BothTold, after, with_end}
 pub use Rattle.nc_outside.specs.declared.disk.Disk.{Ghosts as DiskGhosts}
-pub use Rattle.nc_base.specs.declared.step.StepErr.{StepErr}
-pub use Rattle.nc_base.specs.declared.step.StepErr.TheVariants.{Disk}
-pub use Rattle.overlay_laws.proofs.ChangeLaws.{between_next}
-pub use Rattle.overlay_laws.proofs.EntryLaws.{says_cases, says_left, says_right}
-pub use Rattle.overlay_laws.proofs.HullLaws.{flat_in, in_flat, in_left, in_range, in_right}
-pub use Rattle.overlay_laws.proofs.Members.{entry_in, in_map, map_in}
-pub use Rattle.overlay_laws.proofs.SaidLaws.{cells_long, one_said, said_is, same_file}
-pub use Rattle.overlay_laws.proofs.WalkLaws.{filter_none}
-pub use Rattle.overlay_laws.proofs.WindowLaws.{clips_from, clips_in, clips_within, moved_said, none_below, none_past, within_lowered, within_more}
-pub use Rattle.overlay_laws.specs.Changes.{IsBetween, store_calls}
-pub use Rattle.overlay_laws.specs.Entries.{In, Source, cell_of}
-pub use Rattle.overlay_laws.specs.Lines.{EndBelow, IsByPlace, extents}
-pub use Rattle.overlay_laws.specs.Origins.{AreFound}
-pub use Rattle.overlay_laws.specs.Windows.{IsPart, clip, clips}
+pub use Rattle.overlay_laws.proofs.Common.{AreFound, EndBelow, In, IsBetween, IsByPlace, IsPart, Source, between_next, cell_of, cells_long, clip, clips, clips_from, clips_in, clips_within, entry_in, extents, filter_none, flat_in, in_flat, in_left, in_map, in_range, in_right, map_in, moved_said, none_below, none_past, one_said, said_is, same_file, says_cases, says_left, says_right, store_calls, within_lowered, within_more}
 pub use Rattle.put_exchange.specs.Dues.{AreDue, counts_due, turns_due}
 pub use Rattle.put_exchange.specs.Feeds.{HasRound, HasSent, HaveFed, IsNotBefore, earlier_of, feed_left, next_round_of, number_of, rounds_in, sent_in}
 pub use Rattle.put_exchange.specs.Helped.{HasServed, IsPlanOn}
@@ -80,7 +49,4 @@ pub use Rattle.put_exchange.specs.declared.laying.Due.{Due}
 pub use Rattle.put_exchange.specs.declared.message.Cut.{Cut}
 pub use Rattle.put_exchange.specs.declared.packing.Round.{Round}
 pub use Rattle.put_exchange.specs.declared.sending.Feed.{Feed}
-pub use Rattle.serial_spec.proofs.MemberLaws.{at_in, filter_in, in_filter}
-pub use Rattle.serial_spec.proofs.SaidLaws.{cells_said}
-pub use Rattle.serial_spec.specs.File.{at, written}
-pub use Rattle.serial_spec.specs.Said.{Cell, IsFrom, IsOneValued, IsWithin, Says, byte_or, moved_down, said_at, said_by, write_cells}
+pub use Rattle.serial_spec.proofs.Common.{Cell, IsFrom, IsOneValued, IsWithin, Says, at, at_in, byte_or, cells_said, filter_in, in_filter, moved_down, said_at, said_by, write_cells, written}

@@ -1,76 +1,19 @@
 -- The words of this crate's proofs, from where they stand.
-pub use Rattle.std.proofs.Common.{Bool, List, None, Option, Some, [], ap, append-nil, append_assoc, arith, cond, drop, false, get_or, inl, inr, length, length-append, map, max, min, refl, reverse, subst, suc, sym, take, true, true≢false, zero, ℕ, ◌%◌, ◌&&◌, ◌*◌, ◌++◌, ◌+◌, ◌-◌, ◌/◌, ◌<◌, ◌^◌, ◌||◌, ◌↔◌, ◌∙◌, ◌∷◌, ◌≡◌, ◌≤◌, ◌⊎◌}
-pub use Rattle.std.proofs.Math.Nat.{mul-pos}
-pub use Rattle.std.proofs.Math.Seq.{take-append_seam}
-pub use Rattle.std.proofs.lemmas.Bool.{and_from, and_parts, and_right, cases_eq, cases_lt, eqb-true, le-leb, le-ltb, leb-false, leb-true, lt-leb, lt-ltb, ltb-false, ltb-true, ne_eqb, not-false, not-true, or_cases, or_left, or_parts, or_right}
-pub use Rattle.std.proofs.lemmas.Bool.Decides.{nat_tests}
-pub use Rattle.std.proofs.lemmas.Grind.{reverse_onto, same_number_lists}
-pub use Rattle.std.proofs.lemmas.Iterator.Adapters.{position_from-zero}
-pub use Rattle.std.proofs.lemmas.List.{get_or-take, length-map, take-append-drop}
-pub use Rattle.std.proofs.lemmas.List.Elements.{filter-append}
-pub use Rattle.std.proofs.lemmas.List.Filters.{sum_by-filter_both}
-pub use Rattle.std.proofs.lemmas.List.Folds.{find-append}
-pub use Rattle.std.proofs.lemmas.List.FromFn.{length-range_with_len}
-pub use Rattle.std.proofs.lemmas.List.Sums.{length-filter, sum_by-append, sum_by-cons}
-pub use Rattle.std.proofs.lemmas.Nat.{div-add-mod', div_below, mod_below, mul-le, row_fits}
-pub use Rattle.std.proofs.lemmas.Option.{slice_get_within}
-pub use Rattle.std.specs.Int.{Width, byte_len, to_be_bytes, w32, w64}
-pub use Rattle.std.specs.List.{AllByRecursion, enumerate_from, list_all, list_any, position_from, range_with_len}
-pub use Rattle.std.specs.Option.{option_or}
-pub use Rattle.std.specs.Prelude.{MatchBool, bytes_eq, count_by, filter, find, flat_map, fold, is_none, nat_le, nat_lt, not, option_map, position, replicate, slice_get, sum_by, unwrap_or, zip, ◌==◌}
+pub use Rattle.list_laws.proofs.Std.{AllByRecursion, Bool, List, MatchBool, None, Option, Some, Width, [], and_from, and_parts, and_right, ap, append_assoc, arith, byte_len, cases_eq, cases_lt, cond, count_by, div-add-mod', div_below, drop, enumerate_from, eqb-true, false, filter, filter-append, find, find-append, flat_map, fold, get_or, get_or-take, inl, inr, is_none, le-leb, le-ltb, leb-false, leb-true, length, length-append, length-filter, length-map, length-range_with_len, list_all, list_any, lt-leb, lt-ltb, ltb-false, ltb-true, map, max, min, mod_below, mul-le, mul-pos, nat_le, nat_lt, nat_tests, ne_eqb, not-false, not-true, option_map, option_or, or_cases, or_left, or_parts, or_right, position, position_from, position_from-zero, range_with_len, refl, reverse_onto, row_fits, same_number_lists, slice_get, slice_get_within, subst, suc, sum_by, sum_by-append, sum_by-cons, sum_by-filter_both, sym, take, take-append-drop, take-append_seam, to_be_bytes, true, true≢false, unwrap_or, w32, w64, zero, zip, ℕ, ◌%◌, ◌&&◌, ◌*◌, ◌++◌, ◌+◌, ◌-◌, ◌/◌, ◌<◌, ◌==◌, ◌^◌, ◌||◌, ◌↔◌, ◌∙◌, ◌∷◌, ◌≡◌, ◌≤◌, ◌⊎◌}
+pub use Rattle.std.proofs.Common.{append-nil, reverse}
+pub use Rattle.std.specs.Prelude.{bytes_eq, not, replicate}
 pub use Rattle.cdf_header.proofs.Pieces.{no_fault, right_number}
 pub use Rattle.cdf_header.proofs.Walks.{back_4, back_8, drop_on}
 pub use Rattle.cdf_header.specs.Decoded.{BeginsWith}
-pub use Rattle.list_laws.proofs.Each.{each_append, each_at, each_fails, each_later, each_map, each_passes, each_push, each_weaker, fails_each, passes_each}
-pub use Rattle.list_laws.proofs.Maps.{entry_map}
-pub use Rattle.list_laws.proofs.Numbers.{some_factor}
-pub use Rattle.list_laws.proofs.Optional.{both_none, neither_some, none_before_map, none_of_test, told_else, untold}
-pub use Rattle.list_laws.proofs.Places.{entry_below, get_left}
-pub use Rattle.list_laws.proofs.Ranges.{range_append}
-pub use Rattle.list_laws.proofs.Truth.{and_first, and_second, equal_above, equal_suc, equal_true, no_both, not_zero}
-pub use Rattle.nc_base.specs.declared.errors.HeaderErr.{HeaderErr}
-pub use Rattle.nc_base.specs.declared.errors.RedefErr.{RedefErr}
-pub use Rattle.nc_base.specs.declared.header.Attr.{Attr}
-pub use Rattle.nc_base.specs.declared.header.Dim.{Dim}
-pub use Rattle.nc_base.specs.declared.header.Header.{Header}
-pub use Rattle.nc_base.specs.declared.header.NcType.{NcType}
-pub use Rattle.nc_base.specs.declared.header.NcType.TheVariants.{Byte, Char, Double, Float, Int, Int64, Short, UByte, UInt, UInt64, UShort}
-pub use Rattle.nc_base.specs.declared.header.Var.{Var}
-pub use Rattle.nc_base.specs.declared.script.Extra.{Extra}
-pub use Rattle.nc_base.specs.declared.step.DiskCall.{DiskCall}
-pub use Rattle.nc_base.specs.declared.step.DiskCall.TheVariants.{Store}
-pub use Rattle.overlay_laws.proofs.HullLaws.{flat_in, in_either, in_flat, in_left, in_range, in_right, range_high, range_low}
-pub use Rattle.overlay_laws.proofs.Members.{each_in, in_map, in_numbered, in_zip, map_in, numbered_at, numbered_in, zip_in, zip_left}
-pub use Rattle.overlay_laws.proofs.WalkLaws.{filter_all, filter_none, filter_same}
-pub use Rattle.overlay_laws.specs.Entries.{HaveSame, In}
+pub use Rattle.list_laws.proofs.Common.{and_first, and_second, both_none, each_append, each_at, each_fails, each_later, each_map, each_passes, each_push, each_weaker, entry_below, entry_map, equal_above, equal_suc, equal_true, fails_each, get_left, neither_some, no_both, none_before_map, none_of_test, not_zero, passes_each, range_append, some_factor, told_else, untold}
+pub use Rattle.list_laws.proofs.Types.{Attr, Byte, Char, Dim, DiskCall, Double, Extra, Float, Header, HeaderErr, Int, Int64, NcType, RedefErr, Short, Store, UByte, UInt, UInt64, UShort, Var}
+pub use Rattle.overlay_laws.proofs.Common.{HaveSame, In, each_in, filter_all, filter_none, filter_same, flat_in, in_either, in_flat, in_left, in_map, in_numbered, in_range, in_right, in_zip, map_in, numbered_at, numbered_in, range_high, range_low, zip_in}
+pub use Rattle.overlay_laws.proofs.Members.{zip_left}
 pub use Rattle.redef_laws.specs.Applied.{IsApplied}
 pub use Rattle.redef_laws.specs.RisingSlabs.{IsRisen, changes, first_slab, fixed_slabs, gaps, in_record, lowest_first, record_slabs, rising, slabs_of_record, stands_below}
 pub use Rattle.redef_laws.specs.Shifted.{AreShifted, IsLower, IsMoved, IsShifted, new_end}
-pub use Rattle.serial_spec.proofs.AddedLaws.{in_front, redefined_keeps}
-pub use Rattle.serial_spec.proofs.ApartLaws.{none_from, none_shared, past_header, share_by, slab_fits}
-pub use Rattle.serial_spec.proofs.CellLaws.{read_at}
-pub use Rattle.serial_spec.proofs.FaultLaws.{EndsWrong, ends_later, fault_only}
-pub use Rattle.serial_spec.proofs.LengthLaws.{size_pos, width_long}
-pub use Rattle.serial_spec.proofs.MemberLaws.{any_member, filter_in, in_filter}
-pub use Rattle.serial_spec.proofs.MoveLaws.{redefined_is}
-pub use Rattle.serial_spec.proofs.RoomLaws.{end_holds, index_is_element, known_of, none_later, slab_below, slab_shared, some_record}
-pub use Rattle.serial_spec.proofs.RowLaws.{row_below}
-pub use Rattle.serial_spec.specs.DeviceCalls.{Slab, first_of, highest_first, run_before, runs, slabs, slabs_of, stands_above, stores, window_count, zero_calls}
-pub use Rattle.serial_spec.specs.ExternalForm.{size_of}
-pub use Rattle.serial_spec.specs.File.{at}
-pub use Rattle.serial_spec.specs.HeaderBytes.{attribute, begin_width, count, count_width, dimension, header_len, is_version, list_of, magic, name, number_of, padded, tag, variable}
-pub use Rattle.serial_spec.specs.HeaderFaults.{Ask, Attributes, Block, Count, DimLength, Dimensions, Field, Magic, Many, NameLength, One, Records, Tag, Variables, after_field, asked, bad_id, big_endian, block, fault_if, field_fault, field_len, field_number, first_check, first_with, is_record_id, is_too_large, keeps_bound, many, measure, record_later, stands, the_header, two_record_dims, version_of, wrong, wrong_at}
-pub use Rattle.serial_spec.specs.HeaderGrammar.{AttributeOf, DimensionOf, Each, Exactly, Joined, ListOf, NameOf, Number, Padded, RecordsOf, VariableOf, all_ones, ◌▹◌}
-pub use Rattle.serial_spec.specs.Lawful.{is_lawful_extra, is_whole_extra}
-pub use Rattle.serial_spec.specs.Layout.{end_of_var, inner_lengths, is_record, last_share, length_of, lengths, meet, product, record_share, record_size, record_variables, records_meet, recsize, round_up, share, sharing, sharing_from, sharing_with, slab, starts_with_zero, vsize, without_record}
-pub use Rattle.serial_spec.specs.Limits.{file_limit, most_dims, most_dims_of_var, most_header_bytes, most_vars, record_limit}
-pub use Rattle.serial_spec.specs.Lists.{inserted_by}
-pub use Rattle.serial_spec.specs.Looks.{find_dim}
-pub use Rattle.serial_spec.specs.Place.{AreApart, HasRecord, IsElementBelow, IsIndex, place, record_of, row, within_record}
-pub use Rattle.serial_spec.specs.Redefinition.{IsRedefined, KeepsVars, Moves, Numbered, added, begin_at, begin_of_number, begins_before, begins_by_number, by_begin, dim_id, extra_fault, extras_fault, extras_from, first_record, fixed_begins, fixed_of, fixed_order, front_after, has_bad_kind, has_bad_shape, is_bad_begin, is_far_begin, is_large_var, is_one_too_many, is_taken, is_unknown, new_of, old_of, record_begins, records_in, redefined, redefined_fault, redefined_header, size_fault, with_begins, with_extra, with_var_attr}
-pub use Rattle.serial_spec.specs.RegionCheck.{known_lengths}
-pub use Rattle.serial_spec.specs.SharedByte.{least}
-pub use Rattle.serial_spec.specs.SoundHeaders.{counts_are_small, fits_count, fits_field, is_redefinable, is_redefinable_var, is_sound, is_type, is_writable, is_writable_attr, is_writable_dim, is_writable_list, is_writable_var}
+pub use Rattle.serial_spec.proofs.Common.{AreApart, Ask, AttributeOf, Attributes, Block, Count, DimLength, DimensionOf, Dimensions, Each, EndsWrong, Exactly, Field, HasRecord, IsElementBelow, IsIndex, IsRedefined, Joined, KeepsVars, ListOf, Magic, Many, Moves, NameLength, NameOf, Number, Numbered, One, Padded, Records, RecordsOf, Slab, Tag, VariableOf, Variables, added, after_field, all_ones, any_member, asked, at, attribute, bad_id, begin_at, begin_of_number, begin_width, begins_before, begins_by_number, big_endian, block, by_begin, count, count_width, counts_are_small, dim_id, dimension, end_holds, end_of_var, ends_later, extra_fault, extras_fault, extras_from, fault_if, fault_only, field_fault, field_len, field_number, file_limit, filter_in, find_dim, first_check, first_of, first_record, first_with, fits_count, fits_field, fixed_begins, fixed_of, fixed_order, front_after, has_bad_kind, has_bad_shape, header_len, highest_first, in_filter, in_front, index_is_element, inner_lengths, inserted_by, is_bad_begin, is_far_begin, is_large_var, is_lawful_extra, is_one_too_many, is_record, is_record_id, is_redefinable, is_redefinable_var, is_sound, is_taken, is_too_large, is_type, is_unknown, is_version, is_whole_extra, is_writable, is_writable_attr, is_writable_dim, is_writable_list, is_writable_var, keeps_bound, known_lengths, known_of, last_share, least, length_of, lengths, list_of, magic, many, measure, meet, most_dims, most_dims_of_var, most_header_bytes, most_vars, name, new_of, none_from, none_later, none_shared, number_of, old_of, padded, past_header, place, product, read_at, record_begins, record_later, record_limit, record_of, record_share, record_size, record_variables, records_in, records_meet, recsize, redefined, redefined_fault, redefined_header, redefined_is, redefined_keeps, round_up, row, row_below, run_before, runs, share, sharing, sharing_from, sharing_with, size_fault, size_of, size_pos, slab, slab_below, slab_fits, slab_shared, slabs, slabs_of, some_record, stands, stands_above, starts_with_zero, stores, tag, the_header, two_record_dims, variable, version_of, vsize, width_long, window_count, with_begins, with_extra, with_var_attr, within_record, without_record, wrong, wrong_at, zero_calls, ◌▹◌}
+pub use Rattle.serial_spec.proofs.ApartLaws.{share_by}
 pub use Rattle.var_layout.proofs.CreatedFiles.{at_begin}
 pub use Rattle.var_layout.proofs.ElementPlaces.{row_below_bytes}
 pub use Rattle.var_layout.proofs.LaidApart.{count_two, fixed_then_record, no_sharing_from, record_then_fixed, shares_by}

@@ -1,11 +1,6 @@
 -- The words of this crate's proofs, from where they stand.
-pub use Rattle.std.proofs.Common.{Bool, List, None, Option, Some, [], ap, append_assoc, arith, cond, drop, false, get_or, inl, inr, length, map, max, refl, rules, set, subst, suc, sym, take, true, true≢false, zero, ℕ, ◌++◌, ◌+◌, ◌-◌, ◌<◌, ◌^◌, ◌∙◌, ◌∷◌, ◌≡◌, ◌≤◌}
-pub use Rattle.std.proofs.lemmas.Grind.{flat_map-append, fold-append}
-pub use Rattle.std.proofs.lemmas.List.{append-nil, drop_more, length-map, map-append, set-set, with_items_is}
-pub use Rattle.std.proofs.lemmas.Option.{same_Some, slice_get_within}
-pub use Rattle.std.specs.Int.{byte_len, w32, w64}
-pub use Rattle.std.specs.List.{enumerate_from, list_all}
-pub use Rattle.std.specs.Prelude.{Err, IfOk, Ok, Result, flat_map, fold, nat_lt, replicate, slice_get, slice_index_or, ◌==◌}
+pub use Rattle.list_laws.proofs.Std.{Bool, IfOk, List, None, Option, Some, [], ap, append-nil, append_assoc, arith, byte_len, cond, drop, drop_more, enumerate_from, false, flat_map, flat_map-append, fold, fold-append, get_or, inl, inr, length, length-map, list_all, map, map-append, max, nat_lt, refl, rules, same_Some, set, set-set, slice_get, slice_get_within, slice_index_or, subst, suc, sym, take, true, true≢false, w32, w64, with_items_is, zero, ℕ, ◌++◌, ◌+◌, ◌-◌, ◌<◌, ◌==◌, ◌^◌, ◌∙◌, ◌∷◌, ◌≡◌, ◌≤◌}
+pub use Rattle.std.specs.Prelude.{Err, Ok, Result, replicate}
 pub use Rattle.collective_round.proofs.GetLaws.{batch_gets, zero_row, zero_rows}
 pub use Rattle.collective_round.proofs.NeedLaws.{field_inside, greatest_more}
 pub use Rattle.collective_round.proofs.PutLaws.{covered_below, laid_needs, rises, shared_needs}
@@ -13,28 +8,9 @@ pub use Rattle.collective_round.specs.Blobs.{blobs_for}
 pub use Rattle.collective_round.specs.Rounds.{ArePuts, counted, gets_in, puts_in}
 pub use Rattle.join_laws.proofs.StandsAlike.{close_alike, offers_beside, same_beside}
 pub use Rattle.join_laws.specs.Alike.{AllBeside, AreAlikeEnds, AreNear, IsLike, blank, blank_item}
-pub use Rattle.list_laws.proofs.Each.{all_joined}
-pub use Rattle.list_laws.proofs.Maps.{map_map}
-pub use Rattle.list_laws.proofs.Optional.{value_of_some}
-pub use Rattle.list_laws.proofs.Places.{entry_set, set_own}
-pub use Rattle.nc_base.specs.declared.answer.Answer.{Answer}
-pub use Rattle.nc_base.specs.declared.answer.Item.{Item}
-pub use Rattle.nc_base.specs.declared.answer.Pair.{Pair}
-pub use Rattle.nc_base.specs.declared.header.Header.{Header}
-pub use Rattle.nc_base.specs.declared.plan.Batch.{Batch}
-pub use Rattle.nc_base.specs.declared.plan.Extent.{Extent}
-pub use Rattle.nc_base.specs.declared.plan.Post.{Post}
-pub use Rattle.nc_base.specs.declared.request.Call.{Call}
-pub use Rattle.nc_base.specs.declared.script.Hints.{Hints}
-pub use Rattle.nc_base.specs.declared.script.Script.{Script}
-pub use Rattle.nc_base.specs.declared.step.DiskCall.{DiskCall}
-pub use Rattle.nc_base.specs.declared.step.Mark.{Mark}
-pub use Rattle.nc_base.specs.declared.step.Mark.TheVariants.{Meet, Solo}
-pub use Rattle.nc_base.specs.declared.step.Offer.{Offer}
-pub use Rattle.nc_base.specs.declared.step.Reply.{Reply}
-pub use Rattle.overlay_laws.proofs.RoomLaws.{puts_room}
-pub use Rattle.overlay_laws.proofs.SaidLaws.{cells_long}
-pub use Rattle.overlay_laws.specs.Entries.{In, cells_of_puts}
+pub use Rattle.list_laws.proofs.Common.{all_joined, entry_set, map_map, set_own, value_of_some}
+pub use Rattle.list_laws.proofs.Types.{Answer, Batch, Call, DiskCall, Extent, Header, Hints, Item, Mark, Meet, Offer, Pair, Post, Reply, Script, Solo}
+pub use Rattle.overlay_laws.proofs.Common.{In, cells_long, cells_of_puts, puts_room}
 pub use Rattle.run_laws.proofs.ArrivalLaws.{first_up}
 pub use Rattle.run_laws.proofs.LawfulLaws.{ranks_lawful}
 pub use Rattle.run_laws.proofs.TogetherLaws.{call_number}
@@ -46,24 +22,7 @@ pub use Rattle.run_plan.specs.Planned.{AreStepsOf, Follows, HasPlanned, HasPlann
 pub use Rattle.run_plan.specs.Runs.{HasEnded, IsPlanOf, greatest_known, item_without_values, without_values}
 pub use Rattle.run_plan.specs.declared.run.RunPlan.{RunPlan}
 pub use Rattle.run_plan.specs.declared.steps.Progress.{Progress}
-pub use Rattle.serial_spec.proofs.CountLaws.{raised_records}
-pub use Rattle.serial_spec.proofs.FileLaws.{length-written_inside, longer_long}
-pub use Rattle.serial_spec.proofs.KeepLaws.{count_long}
-pub use Rattle.serial_spec.proofs.LawfulTests.{lawful_hints}
-pub use Rattle.serial_spec.proofs.SaidLaws.{puts_are_cells}
-pub use Rattle.serial_spec.specs.DeviceCalls.{collective_windows, get_bytes, gets_of, loads, meeting_calls, put_calls, run_calls, sieving_windows, store_records}
-pub use Rattle.serial_spec.specs.File.{longer}
-pub use Rattle.serial_spec.specs.FileStep.{Counted, Setting, after_puts, end_for, meeting, needs, puts_of, raised, told}
-pub use Rattle.serial_spec.specs.HeaderBytes.{count, header_len}
-pub use Rattle.serial_spec.specs.History.{IsLegal}
-pub use Rattle.serial_spec.specs.Lawful.{is_lawful, most_calls}
-pub use Rattle.serial_spec.specs.Layout.{greatest}
-pub use Rattle.serial_spec.specs.Owner.{needed_now}
-pub use Rattle.serial_spec.specs.RankSide.{wanted}
-pub use Rattle.serial_spec.specs.Records.{needed_by, with_records}
-pub use Rattle.serial_spec.specs.SerialEnd.{End, Going, advance, close_by, hears, offers_of, serial_from, setting_of}
-pub use Rattle.serial_spec.specs.SharedByte.{Puts}
-pub use Rattle.serial_spec.specs.SoundHeaders.{is_sound}
+pub use Rattle.serial_spec.proofs.Common.{Counted, End, Going, IsLegal, Puts, Setting, advance, after_puts, close_by, collective_windows, count, count_long, end_for, get_bytes, gets_of, greatest, header_len, hears, is_lawful, is_sound, lawful_hints, length-written_inside, loads, longer, longer_long, meeting, meeting_calls, most_calls, needed_by, needed_now, needs, offers_of, put_calls, puts_are_cells, puts_of, raised, raised_records, run_calls, serial_from, setting_of, sieving_windows, store_records, told, wanted, with_records}
 pub use Rattle.step_plan.specs.Steps.{count_call, file_calls, grow_call, windows_in}
 pub use Rattle.step_plan.specs.declared.plan.Caller.{Caller}
 pub use Rattle.step_plan.specs.declared.plan.FilePlan.{FilePlan}

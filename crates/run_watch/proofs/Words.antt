@@ -13,4 +13,4 @@ pub use Rattle.run_watch.specs.Heard.{BeginOneList, IsBeginning, longer, opened,
 pub use Rattle.run_watch.specs.contracts.view.View.{the_row}
 pub use Rattle.run_watch.specs.declared.rule.Heard.{Heard}
 pub use Rattle.run_watch.specs.declared.rule.Shown.{Shown}
-pub use Rattle.serial_spec.specs.Readings.{last_count}
+pub use Rattle.serial_spec.proofs.Common.{last_count}

@@ -7,9 +7,6 @@ pub use Rattle.nc_base.specs.declared.errors.ScriptKind.{ScriptKind}
 pub use Rattle.nc_base.specs.declared.request.Call.{Call}
 pub use Rattle.nc_base.specs.declared.step.MeetKind.{MeetKind}
 unfoldable pub use Rattle.script_calls.specs.CallWords.{call_by, called_by, get_by, line_by, new_id_by, plain_by, post_by, post_or_plain_by, post_values_by, put_by, region_by, values_by}
-pub use Rattle.script_spec.proofs.TextLaws.{none_posted, one_posted}
-pub use Rattle.script_spec.specs.ScriptCalls.{Called, call_of, called_after, calls_of, differs_at, first_difference, id_of_post, ids, is_difference, is_posted, posted}
-pub use Rattle.script_spec.specs.ScriptSteps.{next, ◌>>=◌}
-pub use Rattle.script_spec.specs.ScriptWords.{Word}
+pub use Rattle.script_spec.proofs.Common.{Called, Word, call_of, called_after, calls_of, differs_at, first_difference, id_of_post, ids, is_difference, is_posted, next, none_posted, one_posted, posted, ◌>>=◌}
 pub use Rattle.script_words.specs.Given.{Gives}
-pub use Rattle.serial_spec.specs.History.{kind_of_call, kinds}
+pub use Rattle.serial_spec.proofs.Common.{kind_of_call, kinds}

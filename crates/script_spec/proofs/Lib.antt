@@ -2,3 +2,4 @@ mod Words
 pub mod CallTableLaws
 pub mod NumeralLaws
 pub mod TextLaws
+pub mod Common

@@ -1,55 +1,8 @@
 -- The words of this crate's proofs, from where they stand.
-pub use Rattle.std.proofs.Common.{Bool, List, None, Option, Some, [], ap, append_assoc, arith, cond, drop, false, get_or, inl, inr, length, length-append, lit<, map, max, min, negsuc, not, pos, refl, replicate, set, subst, suc, sym, take, true, zero, ℕ, ℤ, ◌%◌, ◌&&◌, ◌*◌, ◌++◌, ◌+◌, ◌-◌, ◌/◌, ◌<◌, ◌^◌, ◌||◌, ◌∙◌, ◌∷◌, ◌≡◌, ◌≤◌, ◌⊎◌}
-pub use Rattle.std.proofs.Math.Nat.{add-mul, le_of_mul-le-mul_right, mul-le-mul_right}
-pub use Rattle.std.proofs.Math.Seq.{drop-append-add, take-append-add}
-pub use Rattle.std.proofs.lemmas.Bool.{and_from, cases_eq, eq-eqb, eqb-false, eqb-true, le-leb, leb-false, leb-true, lt-ltb, not-false, not-true, not_from_false, or_cases, or_left, or_right}
-pub use Rattle.std.proofs.lemmas.Bool.Decides.{leb_tells, nat_tests}
-pub use Rattle.std.proofs.lemmas.Grind.{common_steps, flat_map-append, fold-append, same_number_lists}
-pub use Rattle.std.proofs.lemmas.Int.{to_z-of_z}
-pub use Rattle.std.proofs.lemmas.Iterator.Adapters.{position_from-zero}
-pub use Rattle.std.proofs.lemmas.List.{append-nil, drop-append-le, drop-drop, get_or-append_right, get_or-drop, get_or-take, get_or_append_left, length-drop, length-map, length-replicate, length-take, map-append, take-append-drop, take-append-le}
-pub use Rattle.std.proofs.lemmas.List.Folds.{list_any-append}
-pub use Rattle.std.proofs.lemmas.List.FromFn.{length-range_with_len}
-pub use Rattle.std.proofs.lemmas.Nat.{div-add-mod', from_be_bytes-to_be_bytes_2, from_be_bytes-to_be_bytes_4, from_be_bytes-to_be_bytes_8, le-div, mod_below, mul-add-lt, mul-le, row_fits, same_from_place}
-pub use Rattle.std.specs.Int.{Width, byte_len, cast_signed, cast_unsigned, from_be_bytes, to_be_bytes, w128, w16, w32, w64, w8}
-pub use Rattle.std.specs.List.{AllByRecursion, enumerate_from, list_all, list_any, position_from, range_with_len}
-pub use Rattle.std.specs.Option.{option_or}
-pub use Rattle.std.specs.Prelude.{FitsSigned, IsTrue, MatchBool, bytes_eq, filter, find, flat_map, fold, if◌then◌else◌, nat_le, nat_lt, option_map, position, slice_get, slice_index, sum, sum_by, zip, ◌==◌}
-pub use Rattle.list_laws.proofs.Appends.{append_parts}
-pub use Rattle.list_laws.proofs.Each.{each_append, each_flat_map, each_map, each_weaker, fails_each}
-pub use Rattle.list_laws.proofs.Maps.{entry_map, flat_same, map_map}
-pub use Rattle.list_laws.proofs.Numbers.{le_two, some_factor}
-pub use Rattle.list_laws.proofs.Optional.{both_none, first_counts, if_some_at, neither_some, no_none_some, none_before_map, none_last, none_of_test, option_or_assoc, second_counts, some_or_none, told_else}
-pub use Rattle.list_laws.proofs.Parts.{part, part_joined, part_map, part_none}
-pub use Rattle.list_laws.proofs.Places.{entry_numbered, get_left, get_right, take_at_most}
-pub use Rattle.list_laws.proofs.Ranges.{pieces_long}
-pub use Rattle.list_laws.proofs.Truth.{and_first, and_second, either, equal_above, equal_below, equal_itself, equal_suc, equal_zero, holds_or_not, no_false, or_first_false, or_second_false}
-pub use Rattle.nc_base.specs.declared.answer.Answer.{Answer}
-pub use Rattle.nc_base.specs.declared.answer.Code.{Code}
-pub use Rattle.nc_base.specs.declared.answer.Code.TheVariants.{Ok}
-pub use Rattle.nc_base.specs.declared.answer.Pair.{Pair}
-pub use Rattle.nc_base.specs.declared.errors.HeaderErr.{HeaderErr}
-pub use Rattle.nc_base.specs.declared.errors.HeaderErr.TheVariants.{Truncated}
-pub use Rattle.nc_base.specs.declared.header.Attr.{Attr}
-pub use Rattle.nc_base.specs.declared.header.Dim.{Dim}
-pub use Rattle.nc_base.specs.declared.header.Header.{Header}
-pub use Rattle.nc_base.specs.declared.header.NcType.{NcType}
-pub use Rattle.nc_base.specs.declared.header.NcType.TheVariants.{Byte, Char, Double, Float, Int, Int64, Short, UByte, UInt, UInt64, UShort}
-pub use Rattle.nc_base.specs.declared.header.Var.{Var}
-pub use Rattle.nc_base.specs.declared.plan.Post.{Post}
-pub use Rattle.nc_base.specs.declared.request.Direction.{Direction}
-pub use Rattle.nc_base.specs.declared.request.Direction.TheVariants.{Get, Put}
-pub use Rattle.nc_base.specs.declared.request.Part.{Part}
-pub use Rattle.nc_base.specs.declared.request.Region.{Region}
-pub use Rattle.nc_base.specs.declared.request.Value.{Value}
-pub use Rattle.nc_base.specs.declared.script.Extra.{Extra}
-pub use Rattle.nc_base.specs.declared.script.Extra.TheVariants.{Att}
-pub use Rattle.nc_base.specs.declared.script.Script.{Script}
-pub use Rattle.nc_base.specs.declared.step.Mark.{Mark}
-pub use Rattle.nc_base.specs.declared.step.Mark.TheVariants.{Meet, Solo}
-pub use Rattle.nc_base.specs.declared.step.Offer.{Offer}
-pub use Rattle.nc_base.specs.declared.step.OfferKind.{OfferKind}
-pub use Rattle.nc_base.specs.declared.step.StepErr.TheVariants.{Disk}
+pub use Rattle.list_laws.proofs.Std.{AllByRecursion, Bool, IsTrue, List, MatchBool, None, Option, Some, Width, [], add-mul, and_from, ap, append-nil, append_assoc, arith, byte_len, cases_eq, cast_signed, cast_unsigned, common_steps, cond, div-add-mod', drop, drop-append-add, drop-append-le, drop-drop, enumerate_from, eq-eqb, eqb-false, eqb-true, false, filter, find, flat_map, flat_map-append, fold, fold-append, from_be_bytes, from_be_bytes-to_be_bytes_2, from_be_bytes-to_be_bytes_4, from_be_bytes-to_be_bytes_8, get_or, get_or-append_right, get_or-drop, get_or-take, get_or_append_left, if◌then◌else◌, inl, inr, le-div, le-leb, le_of_mul-le-mul_right, leb-false, leb-true, leb_tells, length, length-append, length-drop, length-map, length-range_with_len, length-replicate, length-take, list_all, list_any, list_any-append, lit<, lt-ltb, map, map-append, max, min, mod_below, mul-add-lt, mul-le, mul-le-mul_right, nat_le, nat_lt, nat_tests, negsuc, not, not-false, not-true, not_from_false, option_map, option_or, or_cases, or_left, or_right, pos, position, position_from, position_from-zero, range_with_len, refl, replicate, row_fits, same_from_place, same_number_lists, set, slice_get, slice_index, subst, suc, sum_by, sym, take, take-append-add, take-append-drop, take-append-le, to_be_bytes, to_z-of_z, true, w128, w16, w32, w64, w8, zero, zip, ℕ, ℤ, ◌%◌, ◌&&◌, ◌*◌, ◌++◌, ◌+◌, ◌-◌, ◌/◌, ◌<◌, ◌==◌, ◌^◌, ◌||◌, ◌∙◌, ◌∷◌, ◌≡◌, ◌≤◌, ◌⊎◌}
+pub use Rattle.std.specs.Prelude.{FitsSigned, bytes_eq, sum}
+pub use Rattle.list_laws.proofs.Common.{and_first, and_second, append_parts, both_none, each_append, each_flat_map, each_map, each_weaker, either, entry_map, entry_numbered, equal_above, equal_below, equal_itself, equal_suc, equal_zero, fails_each, first_counts, flat_same, get_left, get_right, holds_or_not, if_some_at, le_two, map_map, neither_some, no_false, no_none_some, none_before_map, none_last, none_of_test, option_or_assoc, or_first_false, or_second_false, part, part_joined, part_map, part_none, pieces_long, second_counts, some_factor, some_or_none, take_at_most, told_else}
+pub use Rattle.list_laws.proofs.Types.{Answer, Att, Attr, Byte, Char, Code, Dim, Direction, Disk, Double, Extra, Float, Get, Header, HeaderErr, Int, Int64, Mark, Meet, NcType, Offer, OfferKind, Ok, Pair, Part, Post, Put, Region, Script, Short, Solo, Truncated, UByte, UInt, UInt64, UShort, Value, Var}
 pub use Rattle.serial_spec.specs.EdgeExamples.{dataset_a_at, file_a, met_by_the_last, two_fixed_at, var_at, whole_then_ends}
 pub use Rattle.serial_spec.specs.Examples.{dataset_a, dataset_aq, dim, file_halves, header_a, header_a_with, int_bytes, more_var, odd_header_a, title, two_alone, var, word}
 pub use Rattle.serial_spec.specs.ExternalForm.{Class, Pattern, Signed, Text, Unsigned, code_of, ext, fits, fits_in, size_of, val, value_of, width_of}

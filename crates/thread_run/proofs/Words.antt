@@ -1,15 +1,6 @@
 -- The words of this crate's proofs, from where they stand.
-pub use Rattle.std.proofs.Common.{All, Bool, Err, List, None, Ok, Option, Result, Some, [], ap, append_assoc, arith, cond, drop, false, get_or, inl, inr, length, length-append, map, max, of_calls, refl, replicate, rules, set, subst, suc, sym, take, true, vec_capacity, zero, ℕ, ◌*◌, ◌++◌, ◌+◌, ◌-◌, ◌<◌, ◌^◌, ◌∙◌, ◌∷◌, ◌≡◌, ◌≤◌, ◌⊎◌}
-pub use Rattle.std.proofs.lemmas.Bool.{ltb-false, or_from}
-pub use Rattle.std.proofs.lemmas.Bool.Decides.{eqb_tells, nat_tests}
-pub use Rattle.std.proofs.lemmas.List.{append-nil, append_cancel_left, length-map, length-replicate, length-set, length-take-le, map-append, take-append-drop, with_items_is}
-pub use Rattle.std.proofs.lemmas.List.Elements.{All-head, All-push, All-tail, filter-append}
-pub use Rattle.std.proofs.lemmas.List.Folds.{list_all-append}
-pub use Rattle.std.proofs.lemmas.Option.{same_Some, slice_get-get_or, slice_get-map, slice_get_within}
-pub use Rattle.std.proofs.lemmas.Slice.Eq.{bytes_eq-Decides}
-pub use Rattle.std.specs.Int.{byte_len}
-pub use Rattle.std.specs.List.{enumerate_from, list_all, list_any, range_with_len}
-pub use Rattle.std.specs.Prelude.{IfSome, IsTrue, filter, flat_map, fold, is_err, is_some, nat_lt, not, slice_get, ◌&&◌, ◌==◌}
+pub use Rattle.list_laws.proofs.Std.{All, All-head, All-push, All-tail, Bool, Err, IfSome, IsTrue, List, None, Ok, Option, Result, Some, [], ap, append-nil, append_assoc, append_cancel_left, arith, byte_len, bytes_eq-Decides, cond, drop, enumerate_from, eqb_tells, false, filter, filter-append, flat_map, fold, get_or, inl, inr, is_err, is_some, length, length-append, length-map, length-replicate, length-set, length-take-le, list_all, list_all-append, list_any, ltb-false, map, map-append, max, nat_lt, nat_tests, of_calls, or_from, range_with_len, refl, replicate, rules, same_Some, set, slice_get, slice_get-get_or, slice_get-map, slice_get_within, subst, suc, sym, take, take-append-drop, true, vec_capacity, with_items_is, zero, ℕ, ◌*◌, ◌++◌, ◌+◌, ◌-◌, ◌<◌, ◌==◌, ◌^◌, ◌∙◌, ◌∷◌, ◌≡◌, ◌≤◌, ◌⊎◌}
+pub use Rattle.std.specs.Prelude.{not, ◌&&◌}
 pub use Rattle.collective_round.proofs.CountedLaws.{counted_sound, put_needed}
 pub use Rattle.collective_round.proofs.TornFiles.{AreSides, torn_sides, torn_still}
 pub use Rattle.collective_round.specs.Rounds.{as_setting, counted}
@@ -37,46 +28,14 @@ pub use Rattle.join_laws.proofs.TurnLaws.{ArePaired}
 pub use Rattle.join_laws.proofs.WholeLaws.{lawful_agrees, whole_run}
 pub use Rattle.join_laws.specs.Alike.{AreAlike, AreNear, blank}
 pub use Rattle.join_laws.specs.Begun.{HasOffered, IsBeginning}
-pub use Rattle.list_laws.proofs.Appends.{long_push}
-pub use Rattle.list_laws.proofs.Each.{passes_at}
-pub use Rattle.list_laws.proofs.Fronts.{first_of, front_or_all, prefix_long}
-pub use Rattle.list_laws.proofs.Maps.{entry_map, map_map, mapped_entry, rows_same}
-pub use Rattle.list_laws.proofs.Numbers.{le_two}
-pub use Rattle.list_laws.proofs.Optional.{if_some_at, some_or_none}
-pub use Rattle.list_laws.proofs.Places.{each_more, entry_below, entry_beside, entry_replicate, entry_set, entry_set_other, left_more}
-pub use Rattle.list_laws.proofs.Truth.{and_first, and_second, or_first_false, or_second_false}
-pub use Rattle.nc_base.specs.declared.answer.Answer.{Answer}
-pub use Rattle.nc_base.specs.declared.answer.Pair.{Pair}
-pub use Rattle.nc_base.specs.declared.header.Header.{Header}
-pub use Rattle.nc_base.specs.declared.header.Var.{Var}
+pub use Rattle.list_laws.proofs.Common.{and_first, and_second, each_more, entry_below, entry_beside, entry_map, entry_replicate, entry_set, entry_set_other, first_of, front_or_all, if_some_at, le_two, left_more, long_push, map_map, mapped_entry, or_first_false, or_second_false, passes_at, prefix_long, rows_same, some_or_none}
+pub use Rattle.list_laws.proofs.Types.{Answer, Call, Direction, DiskCall, Header, Hints, Mark, Meet, MeetKind, Offer, OfferKind, OwnerItem, Pair, Post, RankEnd, RankItem, RankStop, Region, RunEnd, Script, ServeEnd, Solo, StepErr, Stop, Var, Want}
 pub use Rattle.nc_base.specs.declared.memory.Memory.{Memory}
-pub use Rattle.nc_base.specs.declared.plan.Post.{Post}
-pub use Rattle.nc_base.specs.declared.request.Call.{Call}
-pub use Rattle.nc_base.specs.declared.request.Direction.{Direction}
-pub use Rattle.nc_base.specs.declared.request.Region.{Region}
-pub use Rattle.nc_base.specs.declared.run.RankEnd.{RankEnd}
-pub use Rattle.nc_base.specs.declared.run.RankStop.{RankStop}
-pub use Rattle.nc_base.specs.declared.run.RunEnd.{RunEnd}
-pub use Rattle.nc_base.specs.declared.run.ServeEnd.{ServeEnd}
-pub use Rattle.nc_base.specs.declared.script.Hints.{Hints}
-pub use Rattle.nc_base.specs.declared.script.Script.{Script}
-pub use Rattle.nc_base.specs.declared.step.DiskCall.{DiskCall}
-pub use Rattle.nc_base.specs.declared.step.Mark.{Mark}
-pub use Rattle.nc_base.specs.declared.step.Mark.TheVariants.{Meet, Solo}
-pub use Rattle.nc_base.specs.declared.step.MeetKind.{MeetKind}
-pub use Rattle.nc_base.specs.declared.step.Offer.{Offer}
-pub use Rattle.nc_base.specs.declared.step.OfferKind.{OfferKind}
-pub use Rattle.nc_base.specs.declared.step.OwnerItem.{OwnerItem}
-pub use Rattle.nc_base.specs.declared.step.OwnerItem.TheVariants.{Reply, Stop}
-pub use Rattle.nc_base.specs.declared.step.RankItem.{RankItem}
-pub use Rattle.nc_base.specs.declared.step.StepErr.{StepErr}
-pub use Rattle.nc_base.specs.declared.step.Want.{Want}
+pub use Rattle.nc_base.specs.declared.step.OwnerItem.TheVariants.{Reply}
 pub use Rattle.nc_outside.proofs.ToldLaws.{rose_before, with_end-with_end}
 pub use Rattle.nc_outside.specs.Cause.{Rose}
 pub use Rattle.nc_outside.specs.Told.{BothTold, after, with_end}
-pub use Rattle.overlay_laws.proofs.HullLaws.{in_left}
-pub use Rattle.overlay_laws.proofs.SaidLaws.{same_file}
-pub use Rattle.overlay_laws.specs.Entries.{In}
+pub use Rattle.overlay_laws.proofs.Common.{In, in_left, same_file}
 pub use Rattle.rank_core.specs.Fit.{fits_gets}
 pub use Rattle.rank_core.specs.Offered.{IsSoundOffer}
 pub use Rattle.rank_items.proofs.OwnLaws.{own_elements}
@@ -90,34 +49,9 @@ pub use Rattle.run_laws.proofs.TogetherLaws.{call_number, call_waits}
 pub use Rattle.run_laws.proofs.WayLaws.{way_begins, way_hears}
 pub use Rattle.run_laws.specs.Ahead.{calls_so_far}
 pub use Rattle.run_laws.specs.Ways.{IsOnWay, meetings}
-pub use Rattle.serial_spec.proofs.CountLaws.{raised_records}
-pub use Rattle.serial_spec.proofs.GrowLaws.{mark_grows, raised_grows}
-pub use Rattle.serial_spec.proofs.LawfulTests.{lawful_hints}
-pub use Rattle.serial_spec.proofs.MemberLaws.{at_in}
-pub use Rattle.serial_spec.proofs.RoomLaws.{end_grows}
-pub use Rattle.serial_spec.specs.DeviceCalls.{mark_calls, meeting_calls, run_calls, solo_calls, store_records}
-pub use Rattle.serial_spec.specs.ExternalForm.{size_of}
-pub use Rattle.serial_spec.specs.File.{at}
-pub use Rattle.serial_spec.specs.FileStep.{Counted, Setting, meeting, needs, puts_of, raised, solo, told}
-pub use Rattle.serial_spec.specs.HeaderBytes.{count_width, header_len}
-pub use Rattle.serial_spec.specs.History.{Arrival, IsLegal, is_offer}
-pub use Rattle.serial_spec.specs.Joined.{HasEnd, IsAgreed, IsJoined, IsTied, back_of, close_by, opening_owner, rank_ends, run_of}
-pub use Rattle.serial_spec.specs.Lawful.{is_lawful, most_calls}
-pub use Rattle.serial_spec.specs.Layout.{end_of, greatest, product}
-pub use Rattle.serial_spec.specs.Limits.{record_limit}
-pub use Rattle.serial_spec.specs.Owner.{Client, Ending, Event, Owner, at_item, at_offer, does_meeting, does_solo, event_at, first_owner, free_client, freed, given_along, has_ended, has_held, holds, keeps, left_behind, meets_if, needed_now, offers_at, offers_held, offers_in, offers_met, owed, own_items, refused, served, some_true, step_offers, stop_held, stops, to_each}
-unfoldable pub use Rattle.serial_spec.specs.Owner.{event, is_strange, strange_offer}
-pub use Rattle.serial_spec.specs.RankMachine.{Open, Rank, hear, step}
-pub use Rattle.serial_spec.specs.RankSide.{end_by, fits_offer, offered, offered_by, rank_end, rank_stop, stop_by, waiting, waiting_end, waiting_stop, wanted}
-pub use Rattle.serial_spec.specs.Readings.{told_of}
-pub use Rattle.serial_spec.specs.Records.{needed}
-pub use Rattle.serial_spec.specs.RegionCheck.{check_some}
-pub use Rattle.serial_spec.specs.SerialEnd.{Going, advance, after_mark, closed, first_going, first_state, go, hears, offers_of, rank_offer, serial_from, setting_of, state_after}
-pub use Rattle.serial_spec.specs.SharedByte.{Puts, covered}
-pub use Rattle.serial_spec.specs.SoundHeaders.{is_sound}
-pub use Rattle.serial_spec.specs.Torn.{Begins, HasAnswers, HasAnswersOfEach, IsCutRun, IsLeft, IsTorn, OwnerStoodAt, StoodAt, bytes_of_mark}
-pub use Rattle.serial_spec.specs.Torn.OwnerStoodAt.{at_arrival, between_arrivals}
-pub use Rattle.serial_spec.specs.Torn.StoodAt.{in_close, in_step}
+pub use Rattle.serial_spec.proofs.Common.{Arrival, Begins, Client, Counted, Ending, Event, Going, HasAnswers, HasAnswersOfEach, HasEnd, IsAgreed, IsCutRun, IsJoined, IsLeft, IsLegal, IsTied, IsTorn, Open, Owner, OwnerStoodAt, Puts, Rank, Setting, StoodAt, advance, after_mark, at, at_arrival, at_in, at_item, at_offer, back_of, between_arrivals, bytes_of_mark, check_some, closed, count_width, covered, does_meeting, does_solo, end_by, end_grows, end_of, event_at, first_going, first_owner, first_state, fits_offer, free_client, freed, given_along, go, greatest, has_ended, has_held, header_len, hear, hears, holds, in_close, in_step, is_lawful, is_offer, is_sound, keeps, lawful_hints, left_behind, mark_calls, mark_grows, meeting, meeting_calls, meets_if, most_calls, needed, needed_now, needs, offered, offered_by, offers_at, offers_held, offers_in, offers_met, offers_of, opening_owner, owed, own_items, product, puts_of, raised, raised_grows, raised_records, rank_end, rank_ends, rank_offer, rank_stop, record_limit, refused, run_calls, run_of, serial_from, served, setting_of, size_of, solo, solo_calls, some_true, state_after, step, step_offers, stop_by, stop_held, stops, store_records, to_each, told, told_of, waiting, waiting_end, waiting_stop, wanted}
+pub use Rattle.serial_spec.specs.Joined.{close_by}
+unfoldable pub use Rattle.serial_spec.proofs.Common.{event, is_strange, strange_offer}
 pub use Rattle.thread_run.specs.RankHandle.{AreOf, AreRankHandles, AreSettled, IsOf, IsRankHandle, IsSettled, IsSettledOf, IsToldToGo}
 pub use Rattle.thread_run.specs.RankSides.{HasAttended, HasBroken, HasFinished, HasStood, IsAccounted, IsBroken}
 pub use Rattle.thread_run.specs.declared.rank_handle.RankHandle.{RankHandle}

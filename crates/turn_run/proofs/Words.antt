@@ -1,20 +1,6 @@
 -- The words of this crate's proofs, from where they stand.
-pub use Rattle.std.proofs.Common.{Bool, Err, List, None, Ok, Option, Result, Some, [], ap, append_assoc, arith, cond, drop, false, get_or, inl, inr, length, length-append, map, max, not, refl, replicate, rules, set, subst, suc, sym, take, true, true≢false, vec_capacity, zero, ℕ, ◌*◌, ◌++◌, ◌+◌, ◌-◌, ◌<◌, ◌^◌, ◌||◌, ◌∙◌, ◌∷◌, ◌≡◌, ◌≢◌, ◌≤◌, ◌⊎◌}
-pub use Rattle.std.proofs.Math.Seq.{drop-append-add, drop-append_seam, take-append_seam}
-pub use Rattle.std.proofs.lemmas.Bool.{and_from, and_parts, eqb-true}
-pub use Rattle.std.proofs.lemmas.Bool.Decides.{eqb_tells, nat_tests}
-pub use Rattle.std.proofs.lemmas.Grind.{flat_map-append, fold-append}
-pub use Rattle.std.proofs.lemmas.List.{append-nil, append_cancel_left, ext_get_or, length-map, length-replicate, length-set, map-append, set-set, with_items_is}
-pub use Rattle.std.proofs.lemmas.List.Elements.{filter-append}
-pub use Rattle.std.proofs.lemmas.List.Folds.{list_all-append}
-pub use Rattle.std.proofs.lemmas.List.Sums.{sum_by-append}
-pub use Rattle.std.proofs.lemmas.Option.{IfSome_then, same_Some, slice_get-get_or, slice_get_within}
-pub use Rattle.std.proofs.lemmas.Result.{err_from_is_err_and, on_err_weaker}
-pub use Rattle.std.specs.Int.{byte_len}
-pub use Rattle.std.specs.List.{AllByRecursion, enumerate_from, list_all, list_any}
-pub use Rattle.std.specs.Option.{option_to_list}
-pub use Rattle.std.specs.Prelude.{IfSome, IsErrAnd, OnErr, OnOk, filter, flat_map, fold, if◌then◌else◌, is_some, nat_lt, slice_get, slice_index, slice_index_or, zip, ◌&&◌, ◌==◌}
-pub use Rattle.std.specs.Result.{result_err}
+pub use Rattle.list_laws.proofs.Std.{AllByRecursion, Bool, Err, IfSome, IfSome_then, List, None, Ok, OnErr, OnOk, Option, Result, Some, [], and_from, and_parts, ap, append-nil, append_assoc, append_cancel_left, arith, byte_len, cond, drop, drop-append-add, drop-append_seam, enumerate_from, eqb-true, eqb_tells, err_from_is_err_and, ext_get_or, false, filter, filter-append, flat_map, flat_map-append, fold, fold-append, get_or, if◌then◌else◌, inl, inr, is_some, length, length-append, length-map, length-replicate, length-set, list_all, list_all-append, list_any, map, map-append, max, nat_lt, nat_tests, not, on_err_weaker, option_to_list, refl, replicate, result_err, rules, same_Some, set, set-set, slice_get, slice_get-get_or, slice_get_within, slice_index, slice_index_or, subst, suc, sum_by-append, sym, take, take-append_seam, true, true≢false, vec_capacity, with_items_is, zero, zip, ℕ, ◌*◌, ◌++◌, ◌+◌, ◌-◌, ◌<◌, ◌==◌, ◌^◌, ◌||◌, ◌∙◌, ◌∷◌, ◌≡◌, ◌≢◌, ◌≤◌, ◌⊎◌}
+pub use Rattle.std.specs.Prelude.{IsErrAnd, ◌&&◌}
 pub use Rattle.collective_round.proofs.CountedLaws.{counted_sound, put_needed}
 pub use Rattle.collective_round.proofs.PutLaws.{no_calls, none_windows}
 pub use Rattle.collective_round.proofs.TornFiles.{counted_past, torn_by, torn_sides, torn_wider}
@@ -30,45 +16,12 @@ pub use Rattle.join_laws.proofs.RankLaws.{said_at}
 pub use Rattle.join_laws.proofs.ReplyLaws.{gots_long}
 pub use Rattle.join_laws.proofs.StandsAlike.{AllTell, close_alike, meets_like, same_beside, solo_like}
 pub use Rattle.join_laws.specs.Alike.{AreAlikeEnds, IsLike, blank}
-pub use Rattle.list_laws.proofs.Each.{all_joined}
-pub use Rattle.list_laws.proofs.Maps.{entry_map, entry_map_none, map_map, map_more, mapped_entry}
-pub use Rattle.list_laws.proofs.Numbers.{le_two}
-pub use Rattle.list_laws.proofs.Optional.{if_some_at, value_of_some}
-pub use Rattle.list_laws.proofs.Places.{drop_at, each_more, entry_below, entry_read, entry_replicate, entry_set, entry_set_other, left_more, set_own, take_next}
-pub use Rattle.list_laws.proofs.Results.{on_err, on_ok}
-pub use Rattle.list_laws.proofs.Truth.{and_first, and_second, equal_itself, equal_suc, equal_zero, or_first_false}
-pub use Rattle.nc_base.specs.declared.answer.Answer.{Answer}
-pub use Rattle.nc_base.specs.declared.answer.Pair.{Pair}
-pub use Rattle.nc_base.specs.declared.header.Header.{Header}
-pub use Rattle.nc_base.specs.declared.header.Var.{Var}
-pub use Rattle.nc_base.specs.declared.plan.Batch.{Batch}
-pub use Rattle.nc_base.specs.declared.plan.Job.{Job}
-pub use Rattle.nc_base.specs.declared.plan.Post.{Post}
-pub use Rattle.nc_base.specs.declared.request.Call.{Call}
-pub use Rattle.nc_base.specs.declared.request.Direction.TheVariants.{Get, Put}
-pub use Rattle.nc_base.specs.declared.run.RankEnd.{RankEnd}
-pub use Rattle.nc_base.specs.declared.run.RankStop.{RankStop}
-pub use Rattle.nc_base.specs.declared.run.RunEnd.{RunEnd}
-pub use Rattle.nc_base.specs.declared.run.ServeEnd.{ServeEnd}
-pub use Rattle.nc_base.specs.declared.script.Hints.{Hints}
-pub use Rattle.nc_base.specs.declared.script.OverlapRule.{OverlapRule}
-pub use Rattle.nc_base.specs.declared.script.OverlapRule.TheVariants.{Refuse, Serial}
-pub use Rattle.nc_base.specs.declared.script.Script.{Script}
-pub use Rattle.nc_base.specs.declared.step.DiskCall.{DiskCall}
-pub use Rattle.nc_base.specs.declared.step.Mark.{Mark}
-pub use Rattle.nc_base.specs.declared.step.Mark.TheVariants.{Meet, Solo}
-pub use Rattle.nc_base.specs.declared.step.Offer.{Offer}
-pub use Rattle.nc_base.specs.declared.step.OfferKind.{OfferKind}
-pub use Rattle.nc_base.specs.declared.step.Reply.{Reply}
-pub use Rattle.nc_base.specs.declared.step.StepErr.{StepErr}
-pub use Rattle.nc_base.specs.declared.step.StepErr.TheVariants.{Disk, Memory}
-pub use Rattle.nc_base.specs.declared.step.Want.{Want}
+pub use Rattle.list_laws.proofs.Common.{all_joined, and_first, and_second, drop_at, each_more, entry_below, entry_map, entry_map_none, entry_read, entry_replicate, entry_set, entry_set_other, equal_itself, equal_suc, equal_zero, if_some_at, le_two, left_more, map_map, map_more, mapped_entry, on_err, on_ok, or_first_false, set_own, take_next, value_of_some}
+pub use Rattle.list_laws.proofs.Types.{Answer, Batch, Call, Disk, DiskCall, Get, Header, Hints, Job, Mark, Meet, Memory, Offer, OfferKind, OverlapRule, Pair, Post, Put, RankEnd, RankStop, Refuse, Reply, RunEnd, Script, Serial, ServeEnd, Solo, StepErr, Var, Want}
 pub use Rattle.nc_outside.proofs.ToldLaws.{rose_before, told_as, with_end-nil, with_end-with_end}
 pub use Rattle.nc_outside.specs.Cause.{HasDiskCause, Rose}
 pub use Rattle.nc_outside.specs.Told.{BothTold, after, with_end}
-pub use Rattle.overlay_laws.proofs.HullLaws.{in_either}
-pub use Rattle.overlay_laws.proofs.SaidLaws.{same_file}
-pub use Rattle.overlay_laws.specs.Entries.{In}
+pub use Rattle.overlay_laws.proofs.Common.{In, in_either, same_file}
 pub use Rattle.rank_core.specs.Offered.{IsSoundOffer, IsSoundWant, posts_offered}
 pub use Rattle.rank_core.specs.Ranked.{Ranked}
 pub use Rattle.run_laws.proofs.ArrivalLaws.{arrival_step, arrival_steps, calls_of_arrivals, first_up, gone_up, offer_of, serial_of_arrivals, stand_at, state_at}
@@ -81,33 +34,7 @@ pub use Rattle.run_laws.specs.Ahead.{answered, is_solo_of}
 pub use Rattle.run_laws.specs.Arrivals.{Arrived, Stand, all_calls_over, calls_over, ended_from, heard, solo_to, step_calls, step_to}
 pub use Rattle.run_laws.specs.Requests.{posts_held}
 pub use Rattle.run_laws.specs.Ways.{AsksAlone, IsOnWay, meetings}
-pub use Rattle.serial_spec.proofs.AcceptLaws.{accepted}
-pub use Rattle.serial_spec.proofs.CountLaws.{greatest_joined, no_need, raised_records, some_limit}
-pub use Rattle.serial_spec.proofs.FileLaws.{at-written_before, longer-enough, written-front}
-pub use Rattle.serial_spec.proofs.GrowLaws.{after_grows, raised_grows}
-pub use Rattle.serial_spec.proofs.KeepLaws.{after_keeps, count_long}
-pub use Rattle.serial_spec.proofs.LawfulTests.{lawful_hints, some_rank}
-pub use Rattle.serial_spec.proofs.RoomLaws.{end_grows}
-pub use Rattle.serial_spec.proofs.SaidLaws.{taken_long}
-pub use Rattle.serial_spec.specs.DeviceCalls.{collective_windows, get_bytes, gets_of, loads, meeting_calls, put_calls, run_calls, solo_calls, store_records}
-pub use Rattle.serial_spec.specs.File.{at, longer, written}
-pub use Rattle.serial_spec.specs.FileStep.{Counted, Setting, after_puts, end_for, get_post, known_by, meeting, needs, puts_of, raised, solo, told, told_under}
-pub use Rattle.serial_spec.specs.HeaderBytes.{count, count_width, header_len}
-pub use Rattle.serial_spec.specs.History.{IsLegal, concerns, is_meeting, is_of_rank_below, marks}
-pub use Rattle.serial_spec.specs.Lawful.{is_lawful, most_calls, most_parts}
-pub use Rattle.serial_spec.specs.Layout.{end_of, greatest, lengths, product, starts_with_zero}
-pub use Rattle.serial_spec.specs.Limits.{record_limit}
-pub use Rattle.serial_spec.specs.Lists.{is_empty}
-pub use Rattle.serial_spec.specs.Owner.{IsSingleOffer, needed_now}
-pub use Rattle.serial_spec.specs.RankMachine.{Open, hear, step}
-pub use Rattle.serial_spec.specs.RankSide.{wanted}
-pub use Rattle.serial_spec.specs.Readings.{told_of}
-pub use Rattle.serial_spec.specs.Records.{needed, records_of_some, with_records}
-pub use Rattle.serial_spec.specs.RegionCheck.{bad_edge, bound, check_some, some_edge}
-pub use Rattle.serial_spec.specs.SerialEnd.{End, Going, advance, after_mark, close_by, closed, first_going, first_state, go, hears, offers_of, serial_from, setting_of, solo_of, state_after}
-pub use Rattle.serial_spec.specs.SharedByte.{Holding, IsOwnOnce, Puts, bytes_of, covered, holdings}
-pub use Rattle.serial_spec.specs.SoundHeaders.{is_sound}
-pub use Rattle.serial_spec.specs.Torn.{Begins, HasAnswers, HasAnswersOfEach, IsCutRun, IsLeft, IsTorn, StoodAt, bytes_of_mark, may_change}
+pub use Rattle.serial_spec.proofs.Common.{Begins, Counted, End, Going, HasAnswers, HasAnswersOfEach, Holding, IsCutRun, IsLeft, IsLegal, IsOwnOnce, IsSingleOffer, IsTorn, Open, Puts, Setting, StoodAt, accepted, advance, after_grows, after_keeps, after_mark, after_puts, at, at-written_before, bad_edge, bound, bytes_of, bytes_of_mark, check_some, close_by, closed, collective_windows, concerns, count, count_long, count_width, covered, end_for, end_grows, end_of, first_going, first_state, get_bytes, get_post, gets_of, go, greatest, greatest_joined, header_len, hear, hears, holdings, is_empty, is_lawful, is_meeting, is_of_rank_below, is_sound, known_by, lawful_hints, lengths, loads, longer, longer-enough, marks, may_change, meeting, meeting_calls, most_calls, most_parts, needed, needed_now, needs, no_need, offers_of, product, put_calls, puts_of, raised, raised_grows, raised_records, record_limit, records_of_some, run_calls, serial_from, setting_of, solo, solo_calls, solo_of, some_edge, some_limit, some_rank, starts_with_zero, state_after, step, store_records, taken_long, told, told_of, told_under, wanted, with_records, written, written-front}
 pub use Rattle.turn_run.specs.Begun.{HasBegun}
 pub use Rattle.turn_run.specs.Counts.{IsAsked, IsCount, IsFit, IsRise, raises}
 pub use Rattle.turn_run.specs.Cuts.{HasStopped, IsNext, MayFollow, StopsAt, bytes_at}

@@ -1,71 +1,17 @@
 -- The words of this crate's proofs, from where they stand.
-pub use Rattle.std.proofs.Common.{Bool, List, None, Option, Some, [], add-one, ap, append_assoc, arith, cond, drop, false, get_or, inl, inr, length, ltb, map, max, not, option_map, refl, replicate, set, subst, suc, sym, take, true, zero, ℕ, ◌%◌, ◌&&◌, ◌*◌, ◌++◌, ◌+◌, ◌-◌, ◌/◌, ◌<◌, ◌^◌, ◌||◌, ◌∙◌, ◌∷◌, ◌≡◌, ◌≤◌, ◌⊎◌}
-pub use Rattle.std.proofs.Math.Bool.{and-false}
-pub use Rattle.std.proofs.Math.Nat.{mul-div_cancel, mul-le-mul_left}
-pub use Rattle.std.proofs.Math.Seq.{drop-append-add, take_all}
-pub use Rattle.std.proofs.lemmas.Bool.{cases_lt, leb-true, lt-ltb, ltb-false, or_cases, or_from}
-pub use Rattle.std.proofs.lemmas.Bool.Decides.{eqb_tells, nat_tests}
-pub use Rattle.std.proofs.lemmas.Grind.{common_steps, flat_map-append, fold-append}
-pub use Rattle.std.proofs.lemmas.List.{append-nil, get_or-replicate, get_or_past, length-append, length-map, length-replicate, length-set, map-append, take_at}
-pub use Rattle.std.proofs.lemmas.List.Folds.{fold-map}
-pub use Rattle.std.proofs.lemmas.List.Sums.{sum_by-cons}
-pub use Rattle.std.proofs.lemmas.Option.{same_Some, slice_get_within}
-pub use Rattle.std.specs.Int.{byte_len}
-pub use Rattle.std.specs.List.{AllByRecursion, cons_option, enumerate_from, list_all, list_any, range_with_len}
-pub use Rattle.std.specs.Option.{option_or}
-pub use Rattle.std.specs.Prelude.{MatchBool, filter, flat_map, fold, is_none, is_some, nat_le, nat_lt, slice_get, zip, ℤ, ◌==◌}
+pub use Rattle.list_laws.proofs.Std.{AllByRecursion, Bool, List, MatchBool, None, Option, Some, [], add-one, and-false, ap, append-nil, append_assoc, arith, byte_len, cases_lt, common_steps, cond, cons_option, drop, drop-append-add, enumerate_from, eqb_tells, false, filter, flat_map, flat_map-append, fold, fold-append, fold-map, get_or, get_or-replicate, get_or_past, inl, inr, is_none, is_some, leb-true, length, length-map, length-replicate, length-set, list_all, list_any, lt-ltb, ltb, ltb-false, map, map-append, max, mul-div_cancel, mul-le-mul_left, nat_le, nat_lt, nat_tests, not, option_or, or_cases, or_from, range_with_len, refl, replicate, same_Some, set, slice_get, slice_get_within, subst, suc, sum_by-cons, sym, take, take_at, true, zero, zip, ℕ, ◌%◌, ◌&&◌, ◌*◌, ◌++◌, ◌+◌, ◌-◌, ◌/◌, ◌<◌, ◌==◌, ◌^◌, ◌||◌, ◌∙◌, ◌∷◌, ◌≡◌, ◌≤◌, ◌⊎◌}
+pub use Rattle.std.proofs.Common.{option_map}
+pub use Rattle.std.proofs.Math.Seq.{take_all}
+pub use Rattle.std.proofs.lemmas.List.{length-append}
+pub use Rattle.std.specs.Prelude.{ℤ}
 pub use Rattle.join_laws.proofs.Completing.{collective_kind}
 pub use Rattle.join_laws.proofs.GoodLaws.{Fit, good_first, heard_fits, most_posts_held, offer_fits}
 pub use Rattle.join_laws.proofs.QuietLaws.{IsQuiet, quiet_step}
 pub use Rattle.join_laws.proofs.RankLaws.{Kinded, Went, at_meeting, at_solo, go_went, hear_known, hear_length, hear_mode}
 pub use Rattle.join_laws.proofs.StepLaws.{going_after, goings_long, meeting_within, replied, replies_long, solo_of_is}
-pub use Rattle.list_laws.proofs.Appends.{cons_rest, nil_cons}
-pub use Rattle.list_laws.proofs.Each.{each_weaker, fails_at, fails_each}
-pub use Rattle.list_laws.proofs.Maps.{any_map, entry_map, map_map}
-pub use Rattle.list_laws.proofs.Numbers.{le_two, same_le}
-pub use Rattle.list_laws.proofs.Optional.{first_counts, second_counts, some_or_none}
-pub use Rattle.list_laws.proofs.Parts.{part, part_joined, part_none}
-pub use Rattle.list_laws.proofs.Places.{entry_below, entry_set, entry_set_other, get_left, get_right}
-pub use Rattle.list_laws.proofs.Truth.{and_first, and_second, equal_itself, no_both, no_false, or_first_false, or_second_false}
-pub use Rattle.nc_base.specs.Values.{count_of}
-pub use Rattle.nc_base.specs.declared.answer.Answer.{Answer}
-pub use Rattle.nc_base.specs.declared.answer.Code.{Code}
-pub use Rattle.nc_base.specs.declared.answer.Pair.{Pair}
-pub use Rattle.nc_base.specs.declared.header.Header.{Header}
-pub use Rattle.nc_base.specs.declared.header.NcType.{NcType}
-pub use Rattle.nc_base.specs.declared.header.Var.{Var}
-pub use Rattle.nc_base.specs.declared.plan.Batch.{Batch}
-pub use Rattle.nc_base.specs.declared.plan.Post.{Post}
-pub use Rattle.nc_base.specs.declared.request.Call.{Call}
-pub use Rattle.nc_base.specs.declared.request.Direction.{Direction}
-pub use Rattle.nc_base.specs.declared.request.Direction.TheVariants.{Get, Put}
-pub use Rattle.nc_base.specs.declared.request.Form.{Form}
-pub use Rattle.nc_base.specs.declared.request.Form.TheVariants.{Varn}
-pub use Rattle.nc_base.specs.declared.request.Given.{Given}
-pub use Rattle.nc_base.specs.declared.request.Part.{Part}
-pub use Rattle.nc_base.specs.declared.request.Region.{Region}
-pub use Rattle.nc_base.specs.declared.request.Value.{Value}
-pub use Rattle.nc_base.specs.declared.request.Values.{Values}
-pub use Rattle.nc_base.specs.declared.request.Values.TheVariants.{Bits, Numbers, Text}
-pub use Rattle.nc_base.specs.declared.script.Extra.{Extra}
-pub use Rattle.nc_base.specs.declared.script.Hints.{Hints}
-pub use Rattle.nc_base.specs.declared.script.OverlapRule.{OverlapRule}
-pub use Rattle.nc_base.specs.declared.script.OverlapRule.TheVariants.{Refuse, Serial}
-pub use Rattle.nc_base.specs.declared.script.Script.{Script}
-pub use Rattle.nc_base.specs.declared.step.DiskCall.{DiskCall}
-pub use Rattle.nc_base.specs.declared.step.DiskCall.TheVariants.{Grow, Load, Store}
-pub use Rattle.nc_base.specs.declared.step.Mark.{Mark}
-pub use Rattle.nc_base.specs.declared.step.Mark.TheVariants.{Meet, Solo}
-pub use Rattle.nc_base.specs.declared.step.MeetKind.{MeetKind}
-pub use Rattle.nc_base.specs.declared.step.Offer.{Offer}
-pub use Rattle.nc_base.specs.declared.step.OfferKind.{OfferKind}
-pub use Rattle.nc_base.specs.declared.step.Reply.{Reply}
-pub use Rattle.nc_base.specs.declared.step.Want.{Want}
-pub use Rattle.overlay_laws.proofs.HullLaws.{any_in, div_grows, filter_ascends, flat_in, in_either, in_flat, in_order_ascends, in_range, last_below, range_low}
-pub use Rattle.overlay_laws.proofs.Members.{each_in, in_map, map_in, numbered_in}
-pub use Rattle.overlay_laws.proofs.SaidLaws.{same_file}
-pub use Rattle.overlay_laws.proofs.WindowHulls.{window_short}
-pub use Rattle.overlay_laws.specs.Hulls.{IsAscending}
+pub use Rattle.list_laws.proofs.Common.{and_first, and_second, any_map, cons_rest, each_weaker, entry_below, entry_map, entry_set, entry_set_other, equal_itself, fails_at, fails_each, first_counts, get_left, get_right, le_two, map_map, nil_cons, no_both, no_false, or_first_false, or_second_false, part, part_joined, part_none, same_le, second_counts, some_or_none}
+pub use Rattle.list_laws.proofs.Types.{Answer, Batch, Bits, Call, Code, Direction, DiskCall, Extra, Form, Get, Given, Grow, Header, Hints, Load, Mark, Meet, MeetKind, NcType, Numbers, Offer, OfferKind, OverlapRule, Pair, Part, Post, Put, Refuse, Region, Reply, Script, Serial, Solo, Store, Text, Value, Values, Var, Varn, Want, count_of}
+pub use Rattle.overlay_laws.proofs.Common.{IsAscending, any_in, div_grows, each_in, filter_ascends, flat_in, in_either, in_flat, in_map, in_order_ascends, in_range, last_below, map_in, numbered_in, range_low, same_file, window_short}
 pub use Rattle.owner_laws.proofs.HeldClients.{set_cases}
 pub use Rattle.rank_core.proofs.FillLaws.{share_grows, share_within}
 pub use Rattle.rank_core.proofs.FillLookLaws.{posts_filled}
@@ -78,48 +24,7 @@ pub use Rattle.run_laws.proofs.OrderLaws.{state_more, states_more}
 pub use Rattle.run_laws.proofs.StandingLaws.{comes_to_meeting, solo_goes}
 pub use Rattle.run_laws.proofs.WayLaws.{kinds_skip, kinds_take, marks_alone, marks_meet, marks_solo}
 pub use Rattle.run_laws.specs.Ways.{kinds_of}
-pub use Rattle.serial_spec.proofs.AcceptLaws.{accepted_elements, coordinates_all}
-pub use Rattle.serial_spec.proofs.AddedLaws.{redefined_keeps}
-pub use Rattle.serial_spec.proofs.ApartLaws.{elements_apart, elements_past_header}
-pub use Rattle.serial_spec.proofs.BoxLaws.{boxes_right}
-pub use Rattle.serial_spec.proofs.CellLaws.{IsOrApart}
-pub use Rattle.serial_spec.proofs.CountLaws.{greatest_joined, raised_records}
-pub use Rattle.serial_spec.proofs.ElementLaws.{coordinates_at, length-coordinates}
-pub use Rattle.serial_spec.proofs.FileLaws.{at-longer, longer-enough, longer_long}
-pub use Rattle.serial_spec.proofs.GrowLaws.{after_grows, mark_grows, raised_grows, written_grows}
-pub use Rattle.serial_spec.proofs.KeepLaws.{after_keeps, count_long, puts_keep, raised_keeps}
-pub use Rattle.serial_spec.proofs.KeyLaws.{key_equal}
-pub use Rattle.serial_spec.proofs.LawfulTests.{lawful_parts, some_rank}
-pub use Rattle.serial_spec.proofs.MemberLaws.{at_in, filter_in, in_at, in_filter}
-pub use Rattle.serial_spec.proofs.MoveLaws.{redefined_is, resized}
-pub use Rattle.serial_spec.proofs.PairLaws.{pair_found, pair_none}
-pub use Rattle.serial_spec.proofs.RoomLaws.{element_inside, end_grows, index_is_element, known_of}
-pub use Rattle.serial_spec.proofs.RowLaws.{row_once}
-pub use Rattle.serial_spec.proofs.SaidLaws.{at-written_inside, byte_or_later, cells_said, post_says, puts_said, said_append, said_below, said_inside, said_past}
-pub use Rattle.serial_spec.proofs.ValueLaws.{found_long}
-pub use Rattle.serial_spec.specs.DeviceCalls.{calls_from, collective_windows, domain_size, domains, first_of, get_bytes, gets_of, grow_to, hull_len, in_order, last_of, loads, mark_calls, meeting_calls, not_empty, overlays, put_calls, run_calls, sieved, sieving_windows, solo_calls, store_records, windows}
-pub use Rattle.serial_spec.specs.ExternalForm.{Class, class_of, size_of, val}
-pub use Rattle.serial_spec.specs.File.{at, longer, read, written}
-pub use Rattle.serial_spec.specs.FileStep.{Counted, Setting, after_puts, end_for, get_post, known_by, meeting, needs, put_post, put_some, puts_of, raised, raises, solo, told, told_under}
-pub use Rattle.serial_spec.specs.Fill.{box_indices, fill_bytes, fill_var, filled, share_begin, shifted}
-pub use Rattle.serial_spec.specs.HeaderBytes.{canon, count, count_width, header_len}
-pub use Rattle.serial_spec.specs.History.{IsLegal, concerns, is_collective, is_data, is_meeting, is_of_rank_below, kind_of_call, kind_of_meeting, kinds, marks, marks_from, mode_after}
-pub use Rattle.serial_spec.specs.Lawful.{is_lawful, is_within}
-pub use Rattle.serial_spec.specs.Layout.{fixed_variables, greatest, inner_lengths, is_record, lengths, product}
-pub use Rattle.serial_spec.specs.Limits.{most_elements}
-pub use Rattle.serial_spec.specs.Lists.{In, is_empty}
-pub use Rattle.serial_spec.specs.Looks.{box_post, box_region, data_bytes, data_code, direction_of, fills, find_var, is_record_past, is_varn, kind_code, look, look_at, look_fill, look_parts, look_record, look_region, part_posts, parts_code, some_fits, values_bytes, values_code}
-pub use Rattle.serial_spec.specs.Owner.{refused, wrong_length}
-pub use Rattle.serial_spec.specs.Place.{AreApart, HasRecord, IsElement, IsElementBelow, IsIndex, place, row, within_record}
-pub use Rattle.serial_spec.specs.RankMachine.{Open, Rank, answer, answers, batch_of, code_of_look, got_values, hear, hear_open, kind_at, meets_refused, offers_look, posts_of, step, values_for, with_more}
-pub use Rattle.serial_spec.specs.Records.{needed, needed_by, records_of, with_records}
-pub use Rattle.serial_spec.specs.Redefinition.{IsRedefined, KeepsVars, Moves, added, redefined, with_extra}
-pub use Rattle.serial_spec.specs.RegionCheck.{asks_too_much, bound, check_parts, check_some, check_var, elements_of_all, first_code, has_element, is_ok_code, other_shape, part_region, part_regions, some_edge, some_start, widen}
-pub use Rattle.serial_spec.specs.Request.{cells, coordinates, elements, ext_of, index_at, packed_bytes, places, spread, value_at}
-pub use Rattle.serial_spec.specs.Said.{Cell, byte_or, said_at, said_by, write_cells}
-pub use Rattle.serial_spec.specs.SerialEnd.{Going, advance, after_mark, after_meeting, after_solo, closed, first_going, first_state, go, hears, offers_of, rank_offer, serial, serial_from, setting_of, solo_of, start, state_after}
-pub use Rattle.serial_spec.specs.SharedByte.{Holding, Holds, IsSharedPair, IsUnshared, Key, Puts, bytes_of, bytes_of_some, covered, first_end, has_byte, holdings, key_below, said_by_puts, same_key, second_end, shared_pair}
-pub use Rattle.serial_spec.specs.SoundHeaders.{is_sound}
+pub use Rattle.serial_spec.proofs.Common.{AreApart, Cell, Class, Counted, Going, HasRecord, Holding, Holds, In, IsElement, IsElementBelow, IsIndex, IsLegal, IsOrApart, IsRedefined, IsSharedPair, IsUnshared, KeepsVars, Key, Moves, Open, Puts, Rank, Setting, accepted_elements, added, advance, after_grows, after_keeps, after_mark, after_meeting, after_puts, after_solo, answer, answers, asks_too_much, at, at-longer, at-written_inside, at_in, batch_of, bound, box_indices, box_post, box_region, boxes_right, byte_or, byte_or_later, bytes_of, bytes_of_some, calls_from, canon, cells, cells_said, check_parts, check_some, check_var, class_of, closed, code_of_look, collective_windows, concerns, coordinates, coordinates_all, coordinates_at, count, count_long, count_width, covered, data_bytes, data_code, direction_of, domain_size, domains, element_inside, elements, elements_apart, elements_of_all, elements_past_header, end_for, end_grows, ext_of, fill_bytes, fill_var, filled, fills, filter_in, find_var, first_code, first_end, first_going, first_of, first_state, fixed_variables, found_long, get_bytes, get_post, gets_of, go, got_values, greatest, greatest_joined, grow_to, has_byte, has_element, header_len, hear, hear_open, hears, holdings, hull_len, in_at, in_filter, in_order, index_at, index_is_element, inner_lengths, is_collective, is_data, is_empty, is_lawful, is_meeting, is_of_rank_below, is_ok_code, is_record, is_record_past, is_sound, is_varn, is_within, key_below, key_equal, kind_at, kind_code, kind_of_call, kind_of_meeting, kinds, known_by, known_of, last_of, lawful_parts, length-coordinates, lengths, loads, longer, longer-enough, longer_long, look, look_at, look_fill, look_parts, look_record, look_region, mark_calls, mark_grows, marks, marks_from, meeting, meeting_calls, meets_refused, mode_after, most_elements, needed, needed_by, needs, not_empty, offers_look, offers_of, other_shape, overlays, packed_bytes, pair_found, pair_none, part_posts, part_region, part_regions, parts_code, place, places, post_says, posts_of, product, put_calls, put_post, put_some, puts_keep, puts_of, puts_said, raised, raised_grows, raised_keeps, raised_records, raises, rank_offer, read, records_of, redefined, redefined_is, redefined_keeps, refused, resized, row, row_once, run_calls, said_append, said_at, said_below, said_by, said_by_puts, said_inside, said_past, same_key, second_end, serial, serial_from, setting_of, share_begin, shared_pair, shifted, sieved, sieving_windows, size_of, solo, solo_calls, solo_of, some_edge, some_fits, some_rank, some_start, spread, start, state_after, step, store_records, told, told_under, val, value_at, values_bytes, values_code, values_for, widen, windows, with_extra, with_more, with_records, within_record, write_cells, written, written_grows, wrong_length}
 pub use Rattle.var_layout.proofs.ElementPlaces.{same_len}
 pub use Rattle.var_layout.proofs.WrittenLengths.{canon_len}
 pub use Rattle.whole_run_laws.specs.Completed.{IsBesideCount, completed, completed_from, completed_puts, is_held, puts_asked, puts_at, puts_met, unless_told}

@@ -1,10 +1,6 @@
 -- The words of this crate's proofs, from where they stand.
-pub use Rattle.std.proofs.Common.{Bool, List, [], ap, append_assoc, arith, cond, false, get_or, inl, inr, length, map, max, min, refl, rules, subst, suc, sym, take, true, ℕ, ◌++◌, ◌+◌, ◌-◌, ◌<◌, ◌^◌, ◌∙◌, ◌∷◌, ◌≡◌, ◌≤◌}
-pub use Rattle.std.proofs.lemmas.Bool.Decides.{nat_tests}
-pub use Rattle.std.proofs.lemmas.Grind.{flat_map-append}
-pub use Rattle.std.proofs.lemmas.List.{append-nil, flat_map_more, map-append, take_more}
-pub use Rattle.std.specs.List.{flat_map, range_with_len}
-pub use Rattle.std.specs.Prelude.{nat_lt}
+pub use Rattle.list_laws.proofs.Std.{Bool, List, [], ap, append-nil, append_assoc, arith, cond, false, flat_map-append, flat_map_more, get_or, inl, inr, length, map, map-append, max, min, nat_lt, nat_tests, range_with_len, refl, rules, subst, suc, sym, take, take_more, true, ℕ, ◌++◌, ◌+◌, ◌-◌, ◌<◌, ◌^◌, ◌∙◌, ◌∷◌, ◌≡◌, ◌≤◌}
+pub use Rattle.std.specs.List.{flat_map}
 pub use Rattle.aggregator_rounds.proofs.PastSteps.{all_left, past_twice, walk_begin}
 pub use Rattle.aggregator_rounds.proofs.SplitSteps.{entry_ends, extents_left, sorted_right}
 pub use Rattle.aggregator_rounds.specs.Left.{IsPast, entries_left}
@@ -22,13 +18,9 @@ pub use Rattle.exchange_crew.specs.Turns.{Told, turns_ahead, turns_of}
 pub use Rattle.file_domains.specs.Rounds.{IsWalk}
 pub use Rattle.file_domains.specs.declared.walk.Window.{Window}
 pub use Rattle.file_domains.specs.declared.walk.WindowWalk.{WindowWalk}
-pub use Rattle.list_laws.proofs.Ranges.{range_push}
-pub use Rattle.nc_base.specs.declared.plan.Extent.{Extent}
-pub use Rattle.nc_base.specs.declared.plan.Owned.{Owned}
-pub use Rattle.overlay_laws.proofs.HullLaws.{in_either, in_right}
-pub use Rattle.overlay_laws.specs.Entries.{In}
-pub use Rattle.overlay_laws.specs.Lines.{extents}
-pub use Rattle.overlay_laws.specs.Walks.{told_of}
+pub use Rattle.list_laws.proofs.Common.{range_push}
+pub use Rattle.list_laws.proofs.Types.{Extent, Owned}
+pub use Rattle.overlay_laws.proofs.Common.{In, extents, in_either, in_right, told_of}
 pub use Rattle.window_plan.specs.Windows.{AreShared, bytes_for, get_calls, own_bytes, owner_between, owner_in, owners_in, plan_of, put_calls, ranks_in, share_of, some_share, told_plan}
 pub use Rattle.window_plan.specs.declared.plan.Owner.{Owner}
 pub use Rattle.window_plan.specs.declared.plan.Share.{Share}
