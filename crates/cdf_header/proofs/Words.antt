@@ -12,6 +12,6 @@ pub use Rattle.cdf_header.specs.declared.spans.Span.{Span}
 pub use Rattle.cdf_header.specs.declared.stop.Stop.{Stop}
 pub use Rattle.list_laws.proofs.Common.{all_three, and_first, and_second, equal_itself, none_of_test, not_zero, passes_each, told_else}
 pub use Rattle.list_laws.proofs.Types.{Attr, Byte, Char, Dim, Double, Float, Header, HeaderErr, Int, Int64, NcType, Short, UByte, UInt, UInt64, UShort, Var}
-pub use Rattle.serial_spec.proofs.Common.{AnyBytes, Ask, AttrCount, AttrType, AttributeOf, Attributes, Begin, Block, Count, DimCount, DimId, DimLength, DimensionOf, Dimensions, Each, EndsWrong, Entries, Field, HasFault, HasFieldFault, Ids, Joined, ListOf, Magic, Many, NameLength, NameOf, Number, One, Padded, Records, RecordsOf, Run, Spells, Tag, TypeOf, VarType, VariableOf, Variables, Vsize, after_field, all_ones, asked, attribute, bad_id, bad_type, begin_width, big_endian, block, both, canon_spelled, count, count_width, counts_are_small, dimension, ends_on, fault_if, fault_only, field_fault, field_len, field_number, file_limit, first_check, first_field, fits_count, fits_field, header_len, inner_lengths, is_above, is_negative, is_record, is_record_id, is_sound, is_too_large, is_type, is_version, is_writable, is_writable_attr, is_writable_dim, is_writable_list, is_writable_var, keeps_bound, known_version, last_type, len_pos, length_of, list_of, magic, many, measure, most_dims, most_dims_of_var, most_header_bytes, most_of, most_vars, name, number_of, other_fields, padded, past_bound, product, record_later, record_limit, record_share, recsize, right_fits, round_up, run_on, run_whole, sharing, sharing_from, sharing_with, size_of, size_pos, slab, spelling_long, spells_once, stands, tag, tag_of, takes, the_header, two_record_dims, type_size, variable, version_of, vsize, width_long, without_record, wrong, wrong_at}
+pub use Rattle.serial_spec.proofs.Common.{AnyBytes, Ask, AttrCount, AttrType, AttributeOf, Attributes, Begin, Block, Count, DimCount, DimId, DimLength, DimensionOf, Dimensions, Each, EndsWrong, Entries, Field, HasFault, HasFieldFault, Ids, Joined, ListOf, Magic, Many, NameLength, NameOf, Number, One, Padded, Records, RecordsOf, Run, Spells, Tag, TypeOf, VarType, VariableOf, Variables, Vsize, after_field, all_ones, asked, attribute, bad_id, bad_type, begin_width, big_endian, block, both, canon_spelled, count, count_width, counts_are_small, dimension, ends_on, fault_if, fault_only, field_fault, field_len, field_number, file_limit, first_check, first_field, fits_count, fits_field, header_len, inner_lengths, is_above, is_negative, is_record, is_record_id, is_sound, is_too_large, is_type, is_version, is_writable, is_writable_attr, is_writable_dim, is_writable_list, is_writable_var, keeps_bound, known_version, last_type, len_pos, length_of, list_of, magic, many, measure, most_dims, most_dims_of_var, most_of, most_vars, name, number_of, other_fields, padded, past_bound, product, record_later, record_limit, record_share, recsize, right_fits, round_up, run_on, run_whole, sharing, sharing_from, sharing_with, size_of, size_pos, slab, spelling_long, spells_once, stands, tag, tag_of, takes, the_header, two_record_dims, type_size, variable, version_of, vsize, width_long, without_record, wrong, wrong_at}
 unfoldable pub use Rattle.serial_spec.proofs.Common.{canon}
 pub use Rattle.var_layout.proofs.Soundness.{measured, recsize_below}

@@ -1,5 +1,5 @@
 -- The words of this crate's proofs, from where they stand.
-pub use Rattle.list_laws.proofs.Std.{Bool, IfSome, List, None, Option, Some, [], ap, append-nil, append_assoc, arith, cases_lt, common_steps, cond, drop, drop_at, false, filter, filter-append, flat_map, fold-append, get_or, get_or-set_other, get_or-set_same, inl, inr, le-leb, leb-true, length, length-drop, length-range_with_len, length-set, length-take, lt-leb, lt-ltb, map, map-append, max, min, nat_le, nat_lt, nat_tests, option_or, range_with_len, refill, refl, rules, same_Some, set, slice_get-get_or, subst, sym, take, take-add, take-append-le, take-append_seam, take_all, take_at, take_min, take_more, true, ℕ, ◌&&◌, ◌++◌, ◌+◌, ◌-◌, ◌<◌, ◌==◌, ◌^◌, ◌∙◌, ◌∷◌, ◌≡◌, ◌≢◌, ◌≤◌, ◌⊎◌}
+pub use Rattle.list_laws.proofs.Std.{Bool, IfSome, List, None, Option, Some, [], ap, append-nil, append_assoc, arith, cases_lt, common_steps, cond, drop, drop_at, false, filter, filter-append, flat_map, fold-append, get_or, get_or-set_other, get_or-set_same, inl, inr, le-leb, leb-true, length, length-drop, length-range_with_len, length-set, length-take, lt-leb, lt-ltb, map, map-append, max, min, nat_le, nat_lt, nat_tests, option_or, range_with_len, refill, refl, rules, same_Some, set, slice_get-get_or, subst, sym, take, take-add, take-append-le, take-append_seam, take_all, take_at, take_min, take_more, true, ℕ, ◌&&◌, ◌++◌, ◌+◌, ◌-◌, ◌<◌, ◌==◌, ◌^◌, ◌∙◌, ◌∷◌, ◌≡◌, ◌≤◌, ◌⊎◌}
 pub use Rattle.std.proofs.Common.{slice_get}
 pub use Rattle.std.proofs.lemmas.List.{length-append}
 pub use Rattle.std.specs.Option.{option_map}
@@ -22,4 +22,4 @@ pub use Rattle.list_laws.proofs.Types.{DiskCall, Extent, Owned, Post}
 pub use Rattle.nc_outside.proofs.ToldLaws.{no_calls, with_end-with_end}
 pub use Rattle.nc_outside.specs.Told.{BothTold, after, with_end}
 pub use Rattle.overlay_laws.proofs.Common.{AreFound, EndBelow, In, IsAscending, IsBegun, IsBetween, IsByPlace, Source, append_within, cells_long, clips, clips_from, clips_in, clips_within, drop_first, entry_in, extents, filter_all, filter_ascends, first_least, in_either, in_extents, in_in_order, in_left, in_order_ascends, in_order_in, in_range, in_right, last_below, last_most, load_calls, moved_said, none_below, none_past, range_ascends, range_high, range_low, ranges, said_by_joined, said_in_any_order, said_is, said_joined, same_ascending, same_said, says_cases, says_left, says_right, sieved_walked, store_calls, told_of, triple_same, within_lowered, within_more}
-pub use Rattle.serial_spec.proofs.Common.{Cell, IsFrom, IsOneValued, IsWithin, Says, at, at_in, byte_or, cells_said, filter_in, first_of, hull_len, in_filter, in_order, length-written_inside, loads, moved_down, overlays, read, said_at, said_by, sieved, sieving_windows, write_cells, written}
+pub use Rattle.serial_spec.proofs.Common.{Cell, IsFrom, IsOneValued, IsWithin, Says, at, at_in, cells_said, filter_in, first_of, hull_len, in_filter, in_order, length-written_inside, loads, moved_down, overlays, read, said_at, said_by, sieved, sieving_windows, write_cells, written}

@@ -1,5 +1,5 @@
 -- The words of this crate's proofs, from where they stand.
-pub use Rattle.list_laws.proofs.Std.{AllByRecursion, Bool, Err, IfSome, IsTrue, List, None, Ok, OnOk, Option, Result, Some, [], and_right, any_passes_from_place, ap, append-nil, append_assoc, arith, byte_len, cases_eq, common_steps, drop, drop-append_seam, enumerate_from, eqb_tells, false, filter, flat_map, get_or, get_or_from_slice_get, inl, inr, is_some, length, length-map, length-replicate, length-set, list_all, list_any, map, map-append, max, nat_le, nat_lt, nat_tests, not, not-false, on_err_weaker, on_ok_weaker, option_and_then, option_map, option_to_list, or_parts, refl, replicate, rules, same_Some, set, slice_get, slice_get-get_or, subst, suc, sym, take, true, zero, ℕ, ◌&&◌, ◌*◌, ◌++◌, ◌+◌, ◌<◌, ◌==◌, ◌^◌, ◌||◌, ◌∙◌, ◌∷◌, ◌≡◌, ◌≤◌, ◌⊎◌}
+pub use Rattle.list_laws.proofs.Std.{AllByRecursion, Bool, Err, IfSome, List, None, OnOk, Option, Result, Some, [], and_right, any_passes_from_place, ap, append-nil, append_assoc, arith, byte_len, cases_eq, common_steps, drop, drop-append_seam, enumerate_from, eqb_tells, false, filter, flat_map, get_or, get_or_from_slice_get, inl, inr, is_some, length, length-map, length-replicate, length-set, list_all, list_any, map, map-append, max, nat_lt, nat_tests, not, not-false, on_err_weaker, on_ok_weaker, option_map, option_to_list, or_parts, refl, replicate, rules, same_Some, set, slice_get, slice_get-get_or, subst, suc, sym, take, true, zero, ℕ, ◌&&◌, ◌*◌, ◌++◌, ◌+◌, ◌<◌, ◌==◌, ◌^◌, ◌||◌, ◌∙◌, ◌∷◌, ◌≡◌, ◌≤◌, ◌⊎◌}
 pub use Rattle.std.proofs.lemmas.List.{length-append}
 pub use Rattle.std.specs.Prelude.{◌≢◌}
 pub use Rattle.collective_round.proofs.TornFiles.{torn_by, torn_wider}
@@ -9,16 +9,16 @@ pub use Rattle.file_owner.specs.Halted.{HasFinished, HasHaltCause, HasHalted, Ha
 pub use Rattle.file_owner.specs.Lent.{AreSame}
 pub use Rattle.file_owner.specs.Owned.{AreOfOneKind, AreSingle, GoesAlike, GoesSo, Grows, HasDone, HasMovedOnce, HasRun, HoldAll, HoldSingle, IsAlone, IsHeld, IsSingle, IsSingleOffer, IsSteady, IsTogether, Standing, calls_at, calls_at_offer, calls_if, each_told, event_calls, first_standing, opening_standing, owner_at, owner_calls, owner_of, owner_told, replies, run, standing, standing_at}
 pub use Rattle.file_owner.specs.Refused.{HasCutService, IsFaultAt, IsRefusedAlone, IsRefusedArrival, IsRefusedTogether}
-pub use Rattle.file_owner.specs.Service.{HasFailed, HasTaken, HasToldAlong, HavePut, IsCutOff, IsDone, IsDoneSo, arrived, gained, more_on, opening, passed}
+pub use Rattle.file_owner.specs.Service.{HasFailed, HasTaken, HasToldAlong, HavePut, IsCutOff, IsDone, IsDoneSo, arrived, gained, opening, passed}
 pub use Rattle.file_owner.specs.Stops.{AllHaveEnded, HaveEnded, HaveMet, IsMore, held_stops, put_one, stop_each, stops_for}
-pub use Rattle.file_owner.specs.Strange.{fails_as_offer, fails_test, leaves_behind, leaves_with}
+pub use Rattle.file_owner.specs.Strange.{fails_as_offer, fails_test, leaves_behind}
 pub use Rattle.file_owner.specs.declared.lent.Outlets.{Outlets}
 pub use Rattle.file_owner.specs.declared.service.Halt.{Halt}
 pub use Rattle.join_laws.proofs.BegunLaws.{own_two}
 pub use Rattle.join_laws.proofs.ClientTurns.{client_ended, client_held}
 pub use Rattle.join_laws.proofs.EventLaws.{own_here, own_other}
 pub use Rattle.join_laws.proofs.GoingOnLaws.{given_on}
-pub use Rattle.join_laws.proofs.JoinLaws.{ServedOn, owed_on, owed_stop, served_on, stranger_on}
+pub use Rattle.join_laws.proofs.JoinLaws.{owed_on, owed_stop, served_on, stranger_on}
 pub use Rattle.join_laws.proofs.OwnerAlikeLaws.{alike_same, alike_two}
 pub use Rattle.join_laws.proofs.ReplyLaws.{gots_long}
 pub use Rattle.join_laws.proofs.StepLaws.{offers_long}
@@ -26,7 +26,7 @@ pub use Rattle.join_laws.proofs.StrangeLaws.{event_is}
 pub use Rattle.join_laws.proofs.TieLaws.{one_if, owed_count}
 pub use Rattle.join_laws.specs.Alike.{AreAlike, TellAlike}
 pub use Rattle.list_laws.proofs.Common.{and_first, and_second, entry_below, entry_read, entry_replicate, entry_set, entry_set_other, equal_itself, fails_at, if_some_at, left_more, map_map, not_some, on_err, or_false, some_or_none, take_next}
-pub use Rattle.list_laws.proofs.Types.{Batch, Direction, DiskCall, Header, Hints, Mark, Meet, MeetKind, Memory, Offer, OfferKind, OwnerItem, Pair, Post, RankItem, Solo, StepErr, Stop, Var}
+pub use Rattle.list_laws.proofs.Types.{Batch, Direction, DiskCall, Header, Hints, Mark, Meet, MeetKind, Memory, Offer, OfferKind, OwnerItem, Pair, Post, RankItem, Solo, StepErr, Stop}
 pub use Rattle.nc_base.specs.declared.step.OwnerItem.TheVariants.{Reply}
 pub use Rattle.nc_outside.proofs.ToldLaws.{with_end-nil, with_end-with_end}
 pub use Rattle.nc_outside.specs.Cause.{Rose}
@@ -37,7 +37,7 @@ pub use Rattle.rank_core.specs.Offered.{IsPut, IsSoundOffer}
 pub use Rattle.rank_items.proofs.OwnBytes.{own_bytes}
 pub use Rattle.rank_items.specs.Own.{HasOwnElements, HasOwnPuts}
 pub use Rattle.ruled_line.specs.Ends.{End, Receiver, with_item}
-pub use Rattle.serial_spec.proofs.Common.{Arrival, Client, Counted, Event, HasEnd, IsGivenInPart, IsTorn, Owner, OwnerStoodAt, Puts, Setting, after_puts, at_arrival, at_in, at_item, at_offer, bad_batch, between_arrivals, check, count_width, covered, differs, does_meeting, does_solo, event, free_client, freed, get_post, given_along, greatest, greatest_joined, has_ended, has_held, has_left, holds, is_offer, is_ok_code, is_sound, keeps, kind_held, kind_of_meeting, known_by, known_less, left_behind, left_by, meeting, meeting_calls, meeting_kind, meets_if, needed_now, offer_of, offers_at, offers_held, offers_in, offers_met, owed, own_items, product, puts_of, raised_records, refused, same_kind, served, size_of, solo, solo_calls, some_true, step_offers, stop_held, stops, to_each, to_one, told, wanted, wrong_length}
+pub use Rattle.serial_spec.proofs.Common.{Arrival, Client, Counted, Event, HasEnd, IsGivenInPart, IsTorn, Owner, OwnerStoodAt, Puts, Setting, after_puts, at_arrival, at_in, at_item, at_offer, bad_batch, between_arrivals, check, count_width, covered, differs, does_meeting, does_solo, event, free_client, freed, get_post, given_along, greatest_joined, has_ended, has_held, has_left, holds, is_offer, is_ok_code, is_sound, keeps, kind_held, kind_of_meeting, known_less, left_behind, meeting, meeting_calls, meeting_kind, meets_if, needed_now, offer_of, offers_at, offers_held, offers_in, owed, own_items, product, puts_of, raised_records, refused, same_kind, served, size_of, solo, solo_calls, some_true, step_offers, stop_held, stops, to_each, to_one, told, wanted, wrong_length}
 unfoldable pub use Rattle.serial_spec.proofs.Common.{is_strange, strange_offer}
 pub use Rattle.turn_run.proofs.CountLaws.{count_less, count_longer, count_max}
 pub use Rattle.turn_run.proofs.CutMeet.{met_count, met_done, met_torn}

@@ -5,14 +5,13 @@ pub use Rattle.std.proofs.lemmas.List.{length-append}
 pub use Rattle.std.proofs.lemmas.List.Concat.{flat_map-append}
 pub use Rattle.std.proofs.lemmas.List.Sums.{fold-append}
 pub use Rattle.std.specs.List.{flat_map, zip}
-pub use Rattle.std.specs.Prelude.{neg_ℤ, negsuc, unsigned_abs, ℤ, ◌*ℤ◌}
+pub use Rattle.std.specs.Prelude.{neg_ℤ, unsigned_abs, ℤ, ◌*ℤ◌}
 pub use Rattle.generated_run.specs.Counting.{FindsGiven, call_done, item_done, posted_given}
 unfoldable pub use Rattle.generated_run.specs.Made.{calls_of_rank, calls_of_record, columns_of, depths, precip_band, precip_row, region_of_band, temp_band, temp_row, temps}
 pub use Rattle.list_laws.proofs.Common.{pieces_long, take_next, then_append}
 pub use Rattle.list_laws.proofs.Types.{Answer, BitRun, Bits, Bput, Call, Every, Extra, Given, NumberRun, Numbers, bit_steps, bit_steps_more, bits_of_run, bits_of_runs, numbers_of_run, numbers_of_runs, steps, steps_more}
 pub use Rattle.script_laws.proofs.ListLaws.{sum_cons, sum_more}
 pub use Rattle.script_spec.proofs.Common.{call_got, call_put, default_hints, elements_given, first_row, has_counts, is_counted, line, made_calls, made_header, made_script, over_calls, posted_elements, precip_at, refusals, sum_given, sum_of, temp_at}
-pub use Rattle.script_spec.specs.Generator.{block}
 unfoldable pub use Rattle.serial_spec.proofs.Common.{canon}
-pub use Rattle.serial_spec.proofs.Common.{agree, are_different, are_sizes, is_given, is_lawful, is_lawful_call, is_number, kind_numbers, layout_fault, most_calls, most_elements, most_values, posted_ids, product, values_in_call, values_in_script}
+pub use Rattle.serial_spec.proofs.Common.{agree, are_different, is_given, is_lawful, is_lawful_call, is_number, kind_numbers, layout_fault, most_calls, most_values, posted_ids, product, values_in_call, values_in_script}
 pub use Rattle.var_layout.proofs.ElementPlaces.{sound_end}

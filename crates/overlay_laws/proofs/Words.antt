@@ -14,4 +14,4 @@ pub use Rattle.overlay_laws.specs.Parts.{joined, written_parts}
 pub use Rattle.overlay_laws.specs.Steps.{HasRoom, HaveStrides, LieApart}
 pub use Rattle.overlay_laws.specs.Walks.{IsCover, above, below, end_after, extents_walked, first_at, hull_of, is_single, round_end, told_of, walked}
 pub use Rattle.overlay_laws.specs.Windows.{AreParts, HasEach, IsInOne, IsPart, SomeSays, all_read_overlaid, clip, clips, read_overlaid}
-pub use Rattle.serial_spec.proofs.Common.{AreApart, Cell, Holding, Holds, IsElement, IsFrom, IsIndex, IsOnce, IsOneValued, IsOwnOnce, IsUnshared, IsWithin, Key, Puts, Says, Setting, after_puts, at, at-written_after, at-written_before, at-written_inside, at_in, byte_or, bytes_of, bytes_of_some, cells, cells_said, collective_windows, coordinates, covered, domain_size, domains, elements, elements_apart, end_for, filter_in, first_of, get_post, get_some, greatest, has_byte, holdings, holdings_of_entries, hull_len, in_at, in_filter, in_order, index_at, is_empty, is_sound, key_itself, last_of, length-coordinates, length-written_inside, longer, moved_down, needed_by, not_empty, one_hit, one_says, pair_none, place, places, product, put_post, puts_are_cells, puts_say, range_and_rest, read, read_at, read_long, row, said_append, said_at, said_below, said_by, said_by_puts, said_inside, said_past, same_key, same_pair, shared_pair, shared_pair_of, sieved, sieving_windows, size_of, size_pos, spans, window_count, windows, write_cells, written}
+pub use Rattle.serial_spec.proofs.Common.{AreApart, Cell, Holding, Holds, IsElement, IsFrom, IsIndex, IsOnce, IsOneValued, IsOwnOnce, IsUnshared, IsWithin, Key, Puts, Says, Setting, after_puts, at, at-written_after, at-written_before, at-written_inside, at_in, byte_or, bytes_of, bytes_of_some, cells, cells_said, collective_windows, coordinates, covered, domain_size, domains, elements, elements_apart, end_for, filter_in, first_of, get_post, get_some, has_byte, holdings, holdings_of_entries, hull_len, in_at, in_filter, in_order, index_at, is_empty, is_sound, key_itself, last_of, length-coordinates, length-written_inside, longer, moved_down, needed_by, not_empty, one_hit, one_says, pair_none, place, places, product, put_post, puts_are_cells, puts_say, range_and_rest, read, read_at, read_long, row, said_append, said_at, said_below, said_by, said_by_puts, said_inside, said_past, same_key, same_pair, shared_pair, shared_pair_of, sieved, sieving_windows, size_of, size_pos, spans, window_count, windows, write_cells, written}

@@ -5,11 +5,11 @@ pub use Rattle.std.proofs.lemmas.List.{length-append}
 pub use Rattle.std.proofs.lemmas.List.Concat.{flat_map-append}
 pub use Rattle.std.specs.declared.alloc.Global.{Global}
 pub use Rattle.aggregator_rounds.proofs.EntryCells.{covered_place, entry_cells}
-pub use Rattle.aggregator_rounds.proofs.PartSteps.{part_bytes, slot_bytes, slot_in}
+pub use Rattle.aggregator_rounds.proofs.PartSteps.{part_bytes, slot_in}
 pub use Rattle.aggregator_rounds.proofs.PastSteps.{past_extents, past_none, past_same, past_sorted, past_twice}
 pub use Rattle.aggregator_rounds.proofs.RoundLaws.{from_less, window_refused_by, window_told_by}
 pub use Rattle.aggregator_rounds.proofs.SplitSteps.{entry_ends}
-pub use Rattle.aggregator_rounds.specs.EntryParts.{IsCovered, part_at, part_in}
+pub use Rattle.aggregator_rounds.specs.EntryParts.{IsCovered}
 pub use Rattle.aggregator_rounds.specs.Left.{IsPast}
 pub use Rattle.aggregator_rounds.specs.ToldWindows.{told_window}
 pub use Rattle.exchange_crew.proofs.BackLaws.{and_failed, and_first_ok, and_second_ok, at_index, back_more, both_long, each_new, err_not_ok, failed_more, map_new, middle_in, slice_kept, zip_push, zip_same}
@@ -27,9 +27,7 @@ pub use Rattle.exchange_crew.specs.Plan.{IsDomainOf, IsPlan, planned_turns, sour
 pub use Rattle.exchange_crew.specs.Turns.{IsTurnWalk, Told, puts_of_some, source_of, turns_ahead, turns_of}
 pub use Rattle.exchange_crew.specs.declared.plan.PutPlan.{PutPlan}
 pub use Rattle.exchange_crew.specs.declared.walk.TurnWalk.{TurnWalk}
-pub use Rattle.file_domains.specs.Rounds.{IsWalk}
 pub use Rattle.file_domains.specs.declared.walk.Window.{Window}
-pub use Rattle.file_domains.specs.declared.walk.WindowWalk.{WindowWalk}
 pub use Rattle.list_laws.proofs.Common.{drop_at, each_more, equal_true, left_more, middle_at, no_none_some, range_push, zip_weaker}
 pub use Rattle.list_laws.proofs.Types.{Batch, Disk, DiskCall, Extent, Job, Owned, Post, StepErr}
 pub use Rattle.nc_outside.proofs.ToldLaws.{calls_more, with_end-nil}
@@ -38,10 +36,10 @@ pub use Rattle.nc_outside.specs.Told.{BothTold, after, with_end}
 pub use Rattle.nc_outside.specs.declared.disk.Disk.{Ghosts as DiskGhosts}
 pub use Rattle.overlay_laws.proofs.Common.{AreFound, EndBelow, In, IsBetween, IsByPlace, IsPart, Source, between_next, cell_of, cells_long, clip, clips, clips_from, clips_in, clips_within, entry_in, extents, filter_none, flat_in, in_flat, in_left, in_map, in_range, in_right, map_in, moved_said, none_below, none_past, one_said, said_is, same_file, says_cases, says_left, says_right, store_calls, within_lowered, within_more}
 pub use Rattle.put_exchange.specs.Dues.{AreDue, counts_due, turns_due}
-pub use Rattle.put_exchange.specs.Feeds.{HasRound, HasSent, HaveFed, IsNotBefore, earlier_of, feed_left, next_round_of, number_of, rounds_in, sent_in}
+pub use Rattle.put_exchange.specs.Feeds.{HasRound, HasSent, HaveFed, IsNotBefore, earlier_of, next_round_of, number_of, rounds_in, sent_in}
 pub use Rattle.put_exchange.specs.Helped.{HasServed, IsPlanOn}
 pub use Rattle.put_exchange.specs.Put.{HasPut, put_part}
-pub use Rattle.put_exchange.specs.Sent.{AreCuts, IsCut, Sent, binned, bytes_of, cells_in, cells_of, cut_in, cuts_by, has_pieces, hull_of, message_counts, messages_in, messages_of, planned_messages, posts_of, sent, sent_by}
+pub use Rattle.put_exchange.specs.Sent.{AreCuts, Sent, binned, bytes_of, cells_in, cells_of, cut_in, cuts_by, has_pieces, hull_of, message_counts, messages_in, messages_of, posts_of, sent, sent_by}
 pub use Rattle.put_exchange.specs.Taken.{AreFor, Carry, HasLaid, HasPutTaken, HasTaken, IsFilledBy, pieces_in_all, put_window, turn_due}
 pub use Rattle.put_exchange.specs.Workers.{HasFed, IsFed, IsFresh, IsStartedFor, domain_of, part_of}
 pub use Rattle.put_exchange.specs.declared.handing.Worker.{Worker}

@@ -3,7 +3,7 @@ pub use Rattle.list_laws.proofs.Std.{All, All-push, Bool, List, [], ap, append-n
 pub use Rattle.std.proofs.Common.{eq-eqb, ne_eqb}
 pub use Rattle.atomic_table.proofs.Lists.{at_set}
 pub use Rattle.crossbeam_channel.specs.Claims.{IsSeatAt, view}
-pub use Rattle.crossbeam_channel.specs.Ends.{receives_on, ruled_capacity, sends_on}
+pub use Rattle.crossbeam_channel.specs.Ends.{ruled_capacity, sends_on}
 pub use Rattle.crossbeam_channel.specs.Fifo.{Forks, Learns, Merges, Pops, Pushes}
 pub use Rattle.list_laws.proofs.Common.{no_false, range_push}
 pub use Rattle.ruled_line.specs.Ends.{Line, Sender, items_under, line_of}

@@ -40,6 +40,6 @@ pub use Rattle.turn_run.proofs.TurnRuns.{calls_from_first, first_count, first_fr
 pub use Rattle.turn_run.proofs.TurnSteps.{below_other, calls_there, get_arrived, get_at, grown_meetings, runners_step, set_arrived, set_each}
 pub use Rattle.turn_run.specs.Counts.{IsCount, IsRise}
 pub use Rattle.turn_run.specs.Running.{AreFree, AreRunners, HasArrived, HaveArrived, IsRunner, asking, between, calls_of}
-pub use Rattle.turn_run.specs.Stages.{IsGrownBy, LeadsAlike, arrived, arrived_all}
-pub use Rattle.turn_run.specs.Steps.{batches_of, first_runner, held_offers, known_of, met}
+pub use Rattle.turn_run.specs.Stages.{IsGrownBy, arrived, arrived_all}
+pub use Rattle.turn_run.specs.Steps.{batches_of, first_runner, held_offers, met}
 pub use Rattle.turn_run.specs.declared.runners.Runner.{Runner}

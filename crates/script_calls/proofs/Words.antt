@@ -1,8 +1,8 @@
 -- The words of this crate's proofs, from where they stand.
-pub use Rattle.std.proofs.Common.{Bool, List, None, Ok, Option, Result, Some, [], ap, append-nil, arith, cond, false, find, get_or, is_some, length, length-append, map, option_map, refl, replicate, subst, suc, sym, take, true, zero, ℕ, ◌++◌, ◌+◌, ◌-◌, ◌<◌, ◌==◌, ◌^◌, ◌∙◌, ◌∷◌, ◌≡◌, ◌≤◌}
+pub use Rattle.std.proofs.Common.{Bool, List, None, Ok, Option, Result, Some, [], ap, append-nil, arith, cond, false, find, get_or, is_some, length, length-append, map, option_map, refl, replicate, subst, suc, sym, take, true, zero, ℕ, ◌++◌, ◌+◌, ◌-◌, ◌<◌, ◌^◌, ◌∙◌, ◌∷◌, ◌≡◌, ◌≤◌}
 pub use Rattle.std.proofs.lemmas.List.{take_more}
 pub use Rattle.std.proofs.lemmas.List.Elements.{filter_map-append}
-pub use Rattle.std.specs.List.{All, list_any, range_with_len}
+pub use Rattle.std.specs.List.{All, range_with_len}
 pub use Rattle.nc_base.specs.declared.errors.ScriptKind.{ScriptKind}
 pub use Rattle.nc_base.specs.declared.request.Call.{Call}
 pub use Rattle.nc_base.specs.declared.step.MeetKind.{MeetKind}

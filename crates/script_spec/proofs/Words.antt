@@ -6,7 +6,7 @@ pub use Rattle.list_laws.proofs.Common.{and_first, and_second, each_at}
 pub use Rattle.list_laws.proofs.Types.{Call, Choice, ScriptErr, ScriptKind}
 pub use Rattle.script_spec.specs.CallTable.{Behind, CallRow, Family, Record, Size, call_table, in_row, of_behind, plain_word, row_of, row_of_text}
 pub use Rattle.script_spec.specs.ScriptCalls.{call_of, id_of_post, mismatch, posted, row_call}
-pub use Rattle.script_spec.specs.ScriptGrammar.{fault_of, finish}
+pub use Rattle.script_spec.specs.ScriptGrammar.{finish}
 pub use Rattle.script_spec.specs.ScriptSteps.{or_fault}
 pub use Rattle.script_spec.specs.ScriptWords.{Line, Word, below, digits_value, first_word, hex_sum, is_digit, is_digits, natural_of, size_of_text, without_empty_end}
 pub use Rattle.script_spec.specs.Shown.{call_words, choice_words, words_behind}

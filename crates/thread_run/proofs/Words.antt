@@ -1,8 +1,8 @@
 -- The words of this crate's proofs, from where they stand.
 pub use Rattle.list_laws.proofs.Std.{All, All-head, All-push, All-tail, Bool, Err, IfSome, IsTrue, List, None, Ok, Option, Result, Some, [], ap, append-nil, append_assoc, append_cancel_left, arith, byte_len, bytes_eq-Decides, cond, drop, enumerate_from, eqb_tells, false, filter, filter-append, flat_map, fold, get_or, inl, inr, is_err, is_some, length, length-append, length-map, length-replicate, length-set, length-take-le, list_all, list_all-append, list_any, ltb-false, map, map-append, max, nat_lt, nat_tests, of_calls, or_from, range_with_len, refl, replicate, rules, same_Some, set, slice_get, slice_get-get_or, slice_get-map, slice_get_within, subst, suc, sym, take, take-append-drop, true, vec_capacity, with_items_is, zero, ℕ, ◌*◌, ◌++◌, ◌+◌, ◌-◌, ◌<◌, ◌==◌, ◌^◌, ◌∙◌, ◌∷◌, ◌≡◌, ◌≤◌, ◌⊎◌}
-pub use Rattle.std.specs.Prelude.{not, ◌&&◌}
+pub use Rattle.std.specs.Prelude.{not}
 pub use Rattle.collective_round.proofs.CountedLaws.{counted_sound, put_needed}
-pub use Rattle.collective_round.proofs.TornFiles.{AreSides, torn_sides, torn_still}
+pub use Rattle.collective_round.proofs.TornFiles.{torn_still}
 pub use Rattle.collective_round.specs.Rounds.{as_setting, counted}
 pub use Rattle.file_owner.proofs.AlikeLaws.{alike_long, alike_take}
 pub use Rattle.file_owner.proofs.OwnerRuns.{calls_on, goes_on, stops_at, told_on, told_stop}
@@ -18,7 +18,7 @@ pub use Rattle.join_laws.proofs.EventLaws.{get_set, own_here, own_other, to_one_
 pub use Rattle.join_laws.proofs.GoingOnLaws.{given_on}
 pub use Rattle.join_laws.proofs.GoodLaws.{Good, good_first, lasting}
 pub use Rattle.join_laws.proofs.JoinLaws.{Arrived, Joins, ServedOn, Stands, fold_two, join, owed_stop, served_on, stranger_on}
-pub use Rattle.join_laws.proofs.QuietLaws.{IsQuiet, quiet_step}
+pub use Rattle.join_laws.proofs.QuietLaws.{quiet_step}
 pub use Rattle.join_laws.proofs.ReplyLaws.{fit_passes, meeting_fits, solo_fits}
 pub use Rattle.join_laws.proofs.StepLaws.{Replied, going_after, goings_after, goings_long, meeting_is, meeting_within, offer_at, offers_long, replied, same_offers, solo_of_is, solo_within}
 pub use Rattle.join_laws.proofs.StrangeLaws.{event_is, not_ended, strange_alone}
@@ -29,13 +29,13 @@ pub use Rattle.join_laws.proofs.WholeLaws.{lawful_agrees, whole_run}
 pub use Rattle.join_laws.specs.Alike.{AreAlike, AreNear, blank}
 pub use Rattle.join_laws.specs.Begun.{HasOffered, IsBeginning}
 pub use Rattle.list_laws.proofs.Common.{and_first, and_second, each_more, entry_below, entry_beside, entry_map, entry_replicate, entry_set, entry_set_other, first_of, front_or_all, if_some_at, le_two, left_more, long_push, map_map, mapped_entry, or_first_false, or_second_false, passes_at, prefix_long, rows_same, some_or_none}
-pub use Rattle.list_laws.proofs.Types.{Answer, Call, Direction, DiskCall, Header, Hints, Mark, Meet, MeetKind, Offer, OfferKind, OwnerItem, Pair, Post, RankEnd, RankItem, RankStop, Region, RunEnd, Script, ServeEnd, Solo, StepErr, Stop, Var, Want}
+pub use Rattle.list_laws.proofs.Types.{Answer, Call, Direction, DiskCall, Header, Hints, Mark, Meet, MeetKind, Offer, OfferKind, OwnerItem, Pair, Post, RankEnd, RankItem, RankStop, Region, RunEnd, Script, ServeEnd, Solo, StepErr, Stop, Var}
 pub use Rattle.nc_base.specs.declared.memory.Memory.{Memory}
 pub use Rattle.nc_base.specs.declared.step.OwnerItem.TheVariants.{Reply}
 pub use Rattle.nc_outside.proofs.ToldLaws.{rose_before, with_end-with_end}
 pub use Rattle.nc_outside.specs.Cause.{Rose}
 pub use Rattle.nc_outside.specs.Told.{BothTold, after, with_end}
-pub use Rattle.overlay_laws.proofs.Common.{In, in_left, same_file}
+pub use Rattle.overlay_laws.proofs.Common.{In, in_left}
 pub use Rattle.rank_core.specs.Fit.{fits_gets}
 pub use Rattle.rank_core.specs.Offered.{IsSoundOffer}
 pub use Rattle.rank_items.proofs.OwnLaws.{own_elements}
@@ -49,7 +49,7 @@ pub use Rattle.run_laws.proofs.TogetherLaws.{call_number, call_waits}
 pub use Rattle.run_laws.proofs.WayLaws.{way_begins, way_hears}
 pub use Rattle.run_laws.specs.Ahead.{calls_so_far}
 pub use Rattle.run_laws.specs.Ways.{IsOnWay, meetings}
-pub use Rattle.serial_spec.proofs.Common.{Arrival, Begins, Client, Counted, Ending, Event, Going, HasAnswers, HasAnswersOfEach, HasEnd, IsAgreed, IsCutRun, IsJoined, IsLeft, IsLegal, IsTied, IsTorn, Open, Owner, OwnerStoodAt, Puts, Rank, Setting, StoodAt, advance, after_mark, at, at_arrival, at_in, at_item, at_offer, back_of, between_arrivals, bytes_of_mark, check_some, closed, count_width, covered, does_meeting, does_solo, end_by, end_grows, end_of, event_at, first_going, first_owner, first_state, fits_offer, free_client, freed, given_along, go, greatest, has_ended, has_held, header_len, hear, hears, holds, in_close, in_step, is_lawful, is_offer, is_sound, keeps, lawful_hints, left_behind, mark_calls, mark_grows, meeting, meeting_calls, meets_if, most_calls, needed, needed_now, needs, offered, offered_by, offers_at, offers_held, offers_in, offers_met, offers_of, opening_owner, owed, own_items, product, puts_of, raised, raised_grows, raised_records, rank_end, rank_ends, rank_offer, rank_stop, record_limit, refused, run_calls, run_of, serial_from, served, setting_of, size_of, solo, solo_calls, some_true, state_after, step, step_offers, stop_by, stop_held, stops, store_records, to_each, told, told_of, waiting, waiting_end, waiting_stop, wanted}
+pub use Rattle.serial_spec.proofs.Common.{Arrival, Begins, Client, Counted, Ending, Event, Going, HasAnswers, HasEnd, IsAgreed, IsCutRun, IsJoined, IsLeft, IsLegal, IsTied, IsTorn, Open, Owner, OwnerStoodAt, Puts, Rank, Setting, StoodAt, advance, after_mark, at_arrival, at_in, at_item, at_offer, back_of, between_arrivals, bytes_of_mark, check_some, count_width, covered, does_meeting, does_solo, end_by, end_grows, end_of, first_going, first_owner, first_state, fits_offer, free_client, freed, given_along, go, greatest, header_len, hear, hears, holds, in_close, in_step, is_lawful, is_offer, is_sound, keeps, lawful_hints, mark_grows, meeting, meeting_calls, meets_if, most_calls, needed, needed_now, needs, offered, offered_by, offers_at, offers_held, offers_in, offers_of, opening_owner, owed, own_items, product, puts_of, raised, raised_grows, raised_records, rank_end, rank_ends, record_limit, refused, run_calls, run_of, serial_from, served, setting_of, size_of, solo, some_true, state_after, step_offers, stop_held, stops, store_records, to_each, told, told_of, waiting, waiting_end, waiting_stop, wanted}
 pub use Rattle.serial_spec.specs.Joined.{close_by}
 unfoldable pub use Rattle.serial_spec.proofs.Common.{event, is_strange, strange_offer}
 pub use Rattle.thread_run.specs.RankHandle.{AreOf, AreRankHandles, AreSettled, IsOf, IsRankHandle, IsSettled, IsSettledOf, IsToldToGo}

@@ -21,8 +21,8 @@ pub use Rattle.list_laws.proofs.Types.{Answer, Batch, Call, Disk, DiskCall, Get,
 pub use Rattle.nc_outside.proofs.ToldLaws.{rose_before, told_as, with_end-nil, with_end-with_end}
 pub use Rattle.nc_outside.specs.Cause.{HasDiskCause, Rose}
 pub use Rattle.nc_outside.specs.Told.{BothTold, after, with_end}
-pub use Rattle.overlay_laws.proofs.Common.{In, in_either, same_file}
-pub use Rattle.rank_core.specs.Offered.{IsSoundOffer, IsSoundWant, posts_offered}
+pub use Rattle.overlay_laws.proofs.Common.{In, in_either}
+pub use Rattle.rank_core.specs.Offered.{IsSoundWant, posts_offered}
 pub use Rattle.rank_core.specs.Ranked.{Ranked}
 pub use Rattle.run_laws.proofs.ArrivalLaws.{arrival_step, arrival_steps, calls_of_arrivals, first_up, gone_up, offer_of, serial_of_arrivals, stand_at, state_at}
 pub use Rattle.run_laws.proofs.CallLaws.{alone_keeps, hears_keeps, meets_keeps, says_at, solo_keeps}
