@@ -77,6 +77,10 @@ pub met_done : (s : Setting) (batches : List Batch) (r known : ℕ) (held now : 
 met_done s batches r known None now e = e
 met_done s batches r known (Some old) now e = ((met s batches known (counted old r)).file, e, met_torn s batches r known old)
 
+pub met_done_of : (s : Setting) (batches : List Batch) (r known : ℕ) (held now : Option (List ℕ)) → now ≡ after (λ file. (met s batches known (counted file r)).file) held
+    → (known ≡ 0) ⊎ (puts_in batches ≡ []) → BothTold (MetTorn s batches r known) held now
+met_done_of s batches r known held now e one = met_done s batches r known held now e
+
 -- what is torn between a file and itself is that file
 pub torn_same : (bytes : List ℕ) (field : ℕ) (old left : List ℕ) → IsTorn bytes field old old left → left ≡ old
 torn_same bytes field old left t =
@@ -160,6 +164,9 @@ stopped_deaf {F} {s} {fault} k {before} {now} {held} {left} {calls} {runners} {b
     }
 
 -- the count that is left where that of the ranks was not written
+pub count_kept : (s : Setting) (puts : Puts) (r n known : ℕ) → n ≡ r → (known ≡ 0) ⊎ (puts ≡ []) → (n ≡ r) ⊎ (n ≡ max r (max (needed_now s puts) known))
+count_kept s puts r n known e one = inl e
+
 pub count_left : (s : Setting) (puts : Puts) (r n m known : ℕ) → n ≡ max r (needed_now s puts) → m ≡ n → (known ≡ 0) ⊎ (puts ≡ []) → (m ≡ r) ⊎ (m ≡ max r (max (needed_now s puts) known))
 count_left s puts r n m known e f (inl z) = inr (omega arith)
 count_left s puts r n m known e f (inr z) = let none = needed_of_none s puts z in inl (omega arith)

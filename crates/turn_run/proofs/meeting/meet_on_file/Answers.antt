@@ -1,8 +1,8 @@
 -- The puts raise the count of the file, and then the ranks.
-use Rattle.turn_run.proofs.Words.{◌≡◌, ◌≤◌, ℕ, ◌∙◌, arith, puts_in, setting, on_err, inl}
+use Rattle.turn_run.proofs.Words.{◌≡◌, ◌≤◌, ℕ, ◌∙◌, arith, puts_in, setting, on_err}
 use Rattle.turn_run.proofs.CountLaws.{count_begins, count_longer, count_small, count_still, rise_small}
 use Rattle.turn_run.proofs.MeetFile.{met_bytes, met_called, met_count, round_count}
-use Rattle.turn_run.proofs.CutMeet.{round_met, count_met, count_left, count_all, met_done}
+use Rattle.turn_run.proofs.CutMeet.{round_met, count_met, met_done_of, count_left, count_kept, count_all}
 use Rattle.turn_run.proofs.meeting.meet_on_file.Goals as goal
 
 no_less : (a b : ℕ) → b ≡ a → a ≤ b
@@ -78,7 +78,7 @@ returns-in_err-end-clause-refused g c =
     c.in_err-end.ensures.refused)
 
 pub returns-in_err-end-clause-kept : goal.returns-in_err-end-clause-kept
-returns-in_err-end-clause-kept g c = on_err _ (λ one. inl c.in_err-end.ensures.kept)
+returns-in_err-end-clause-kept g c = on_err _ (count_kept (setting c.args.dataset.now.header.now c.args.dataset.now.hints.now) (puts_in c.args.job.now.batches) c.args.records.now c.put_half.new.records c.args.known c.in_err-end.ensures.kept)
 
 pub returns-in_err-raise_records-clause-refused : goal.returns-in_err-raise_records-clause-refused
 returns-in_err-raise_records-clause-refused g c =
@@ -93,7 +93,7 @@ returns-in_err-raise_records-clause-kept g c =
 
 pub returns-in_err-table-clause-refused : goal.returns-in_err-table-clause-refused
 returns-in_err-table-clause-refused g c =
-    on_err _ (λ one. met_done (setting c.args.dataset.now.header.now c.args.dataset.now.hints.now) c.args.job.now.batches c.args.records.now c.args.known (g.D.Disk.held c.args.disk.now) (g.D.Disk.held c.get_half.new.disk)
+    on_err _ (met_done_of (setting c.args.dataset.now.header.now c.args.dataset.now.hints.now) c.args.job.now.batches c.args.records.now c.args.known (g.D.Disk.held c.args.disk.now) (g.D.Disk.held c.get_half.new.disk)
     (met_bytes (setting c.args.dataset.now.header.now c.args.dataset.now.hints.now) c.args.job.now.batches c.args.records.now c.put_half.new.records c.args.known _ _ _ _
     c.in_ok-end.ensures.bytes c.in_ok-end.ensures.records c.in_ok-raise_records.ensures.bytes c.in_err-table.ensures.bytes))
 
