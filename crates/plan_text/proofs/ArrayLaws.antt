@@ -1,14 +1,6 @@
 -- Arrays that are written item by item, and objects that are written in two parts.
-use Rattle.plan_text.proofs.Cited.{◌≡◌, ℕ, zero, suc, ◌+◌, ◌<◌, ◌≤◌, List, [], ◌∷◌, ◌++◌, length, map, take, get_or, refl, sym, ap, ◌∙◌, arith, map_more, common_steps, joined, closed, comma}
+use Rattle.plan_text.proofs.Cited.{◌≡◌, ℕ, ◌+◌, ◌<◌, List, [], ◌∷◌, ◌++◌, length, map, take, get_or, refl, sym, ap, ◌∙◌, arith, map_more, common_steps, joined, closed, comma}
 use Rattle.std.proofs.lemmas.List.{append_assoc}
-
-pub comma_first : (n : ℕ) → n ≤ 0 → comma n ≡ []
-comma_first zero h = refl
-comma_first (suc n) h = absurd (omega arith)
-
-pub comma_later : (n : ℕ) → 0 < n → comma n ≡ 44 ∷ []
-comma_later zero h = absurd (omega arith)
-comma_later (suc n) h = refl
 
 -- one part more
 joined_push : (ws : List (List ℕ)) (w : List ℕ) → joined 44 (ws ++ w ∷ []) ≡ joined 44 ws ++ (comma (length ws) ++ w)

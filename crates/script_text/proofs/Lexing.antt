@@ -53,9 +53,6 @@ below_16 c = omega arith
 escaped_again : (c : ℕ) (rest text tail : List ℕ) → c < 256 → text_from Between rest ≡ Some (text, tail) → text_from Between ((92 ∷ 120 ∷ hex 2 c) ++ rest) ≡ Some (c ∷ text, tail)
 escaped_again c rest text tail small h = grind (arith, nat_tests, below_16)
 
-abbrev pub char_else : Bool → ℕ → List ℕ
-char_else b c = cond b (c ∷ []) (92 ∷ 120 ∷ hex 2 c)
-
 char_again : (rest text tail : List ℕ) → text_from Between rest ≡ Some (text, tail) → (c : ℕ) → c < 256 → IsAgain rest text tail c
 char_again rest text tail h c small =
     grind (
