@@ -27,10 +27,18 @@ pub fetch_begin : (from len : ℕ) (all : List Told) (put : List Reading) (held 
     → IsFetching from len all all put held calls calls
 fetch_begin from len all put held calls on none = grind (arith, nat_tests)
 
--- where the next window lies
-pub ahead_on : (from len : ℕ) (all ahead rest : List Told) (t : Told) (put : List Reading) (held : Option (List ℕ)) (calls made : Option (List DiskCall))
+ahead_on : (from len : ℕ) (all ahead rest : List Told) (t : Told) (put : List Reading) (held : Option (List ℕ)) (calls made : Option (List DiskCall))
     → IsFetching from len all ahead put held calls made → ahead ≡ t ∷ rest → (from ≤ t.0) × (t.0 + t.1 ≤ from + len)
 ahead_on from len all ahead rest t put held calls made s e = s.on_part t (subst (λ (ts : List Told). In ts t) (sym e) (inl refl))
+
+-- where the next window lies
+pub fetch_low : (from here len : ℕ) (all ahead rest : List Told) (t : Told) (put : List Reading) (held : Option (List ℕ)) (calls made : Option (List DiskCall))
+    → IsFetching from len all ahead put held calls made → ahead ≡ t ∷ rest → here ≡ from → here ≤ t.0
+fetch_low from here len all ahead rest t put held calls made s e same = let on = (ahead_on from len all ahead rest t put held calls made s e).0 in omega arith
+
+pub fetch_high : (from here len long : ℕ) (all ahead rest : List Told) (t : Told) (put : List Reading) (held : Option (List ℕ)) (calls made : Option (List DiskCall))
+    → IsFetching from len all ahead put held calls made → ahead ≡ t ∷ rest → here ≡ from → long ≡ len → t.0 + t.1 ≤ here + long
+fetch_high from here len long all ahead rest t put held calls made s e same last = let on = (ahead_on from len all ahead rest t put held calls made s e).1 in omega arith
 
 -- one window more
 pub fetch_next : (from here len : ℕ) (all ahead rest : List Told) (t : Told) (put now : List Reading) (hull : List ℕ) (held told : Option (List ℕ)) (calls made drawn : Option (List DiskCall))

@@ -1,5 +1,5 @@
 -- The windows of all parts, each read of its own part, are the file's bytes of all entries.
-use Rattle.get_exchange.proofs.Words.{zip_weaker, ◌≡◌, ℕ, ◌+◌, ◌-◌, ◌<◌, ◌≤◌, ◌⊎◌, inl, inr, refl, sym, ◌∙◌, ap, subst, List, [], ◌∷◌, ◌++◌, length, map, Option, Some, None, Result, Ok, Err, arith, slice_get_within, append-nil, length-map, slice_get, zip, IfErr, IfSome, IsErrOf, IsOk, OnOk, AllZip, result_and, entry_below, Extent, StepErr, Disk, Memory, at, read, read_at, read_same, In, in_either, in_left, in_right, at_in, in_at, in_map, in_zip, map_in, zip_in, IsCovered, AreAsLong, FitTable, HasRead, HaveOnePlaces, get_turns, AreRead, HasGot, IsGetPlanned, told_in, HasReadParts, HasReadTurns, HasTaken, HaveTakenTurns, IsKept, IsReadOf, Log, IsDomainOf, PartState, domain_of, part_of, turns_due, IsFresh, Told, ReadWorker, GetPlan, map_new, AreOf, domain_part, domain_windows, nat_tests}
+use Rattle.get_exchange.proofs.Words.{◌≡◌, ℕ, ◌+◌, ◌-◌, ◌<◌, ◌≤◌, ◌⊎◌, inl, inr, refl, sym, ◌∙◌, ap, subst, List, [], ◌∷◌, ◌++◌, length, map, Option, Some, None, Result, Ok, Err, arith, slice_get_within, append-nil, length-map, slice_get, zip, IfErr, IfSome, IsErrOf, IsOk, OnOk, AllZip, result_and, entry_below, Extent, StepErr, Disk, Memory, at, read, read_at, read_same, In, in_either, in_left, in_right, at_in, in_at, in_map, in_zip, map_in, zip_in, IsCovered, AreAsLong, FitTable, HasRead, HaveOnePlaces, get_turns, AreRead, HasGot, IsGetPlanned, told_in, HasReadParts, HasReadTurns, HasTaken, HaveTakenTurns, IsKept, IsReadOf, Log, IsDomainOf, PartState, domain_of, part_of, turns_due, IsFresh, Told, ReadWorker, GetPlan, map_new, AreOf, domain_part, domain_windows, nat_tests}
 use Rattle.get_exchange.proofs.FetchLaws.{got_later}
 use Rattle.get_exchange.proofs.ReadLaws.{log_joined, read_law}
 use Rattle.get_exchange.proofs.TakeLaws.{items_read}
@@ -178,7 +178,10 @@ kept_domains old new long kept = map_new (λ worker. domain_of worker) (λ a b. 
 -- reads that were done, where the later end is no better
 pub all_got_later : {D T E : Type 0} (turns : D × Extent → List Told) (state : D → PartState) (pairs : List (D × Extent)) (back : List D) (end came : Result T E) → OnOk came (IsOk end)
     → AllZip (λ p d. HasGot (turns p) (state p.0) (state d) end) pairs back → AllZip (λ p d. HasGot (turns p) (state p.0) (state d) came) pairs back
-all_got_later turns state pairs back end came ok h = zip_weaker _ (λ p d. HasGot (turns p) (state p.0) (state d) came) pairs back (λ p d g. got_later (turns p) (state p.0) (state d) end came ok g) h
+all_got_later turns state [] [] end came ok h = h
+all_got_later turns state [] (d ∷ back) end came ok h = h
+all_got_later turns state (p ∷ pairs) [] end came ok h = h
+all_got_later turns state (p ∷ pairs) (d ∷ back) end came ok h = (got_later _ _ _ _ came ok h.0, all_got_later turns state pairs back end came ok h.1)
 
 pub all_read : {D T E : Type 0} (from : D → ℕ) (held : D → Option (List ℕ)) (plan : GetPlan) (mid last : List (ReadWorker D)) (parts : List D) (domains : List Extent)
     (old now : List (List (List ℕ))) (end came : Result T E) → AreOf (λ worker. part_of worker) (λ worker. domain_of worker) last parts domains → length last ≡ length mid

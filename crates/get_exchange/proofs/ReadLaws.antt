@@ -11,16 +11,14 @@ meets_served list begun lo hi x o s m l h b e = in_served list begun lo hi o s m
 from_0 : (list : List Owned) (o : Owned) → In list o → 0 ≤ o.extent.at
 from_0 list o m = omega arith
 
--- what the entries of a request say of a hull
-abbrev hull_says : List ℕ → ℕ → ℕ → ℕ → ℕ → List Owned → List (ℕ × ℕ)
-hull_says file rank slot lo hi list = said_by (got_cells 0 file (map (λ o. part_in lo hi o) (of_request rank slot list)))
-
 hull_said : (file : List ℕ) (rank slot lo hi : ℕ) (list begun : List Owned) (y : ℕ) → IsOneValued (places_of (of_request rank slot list)) → AreServed list begun lo hi
-    → said_at (hull_says file rank slot lo hi list) y ≡ said_at (hull_says file rank slot lo hi begun) y
-hull_said file rank slot lo hi list begun y once served =
-    said_in_any_order (hull_says file rank slot lo hi list) (hull_says file rank slot lo hi begun) (read_once 0 file lo hi (of_request rank slot list) (from_0 (of_request rank slot list)) once) there back y
+    → said_at (said_by (got_cells 0 file (map (λ o. part_in lo hi o) (of_request rank slot list)))) y ≡ said_at (said_by (got_cells 0 file (map (λ o. part_in lo hi o) (of_request rank slot begun)))) y
+hull_said file rank slot lo hi list begun y once served = said_in_any_order (said_by (got_cells 0 file (map (λ o. part_in lo hi o) (of_request rank slot list))))
+    (said_by (got_cells 0 file (map (λ o. part_in lo hi o) (of_request rank slot begun))))
+    (read_once 0 file lo hi (of_request rank slot list) (from_0 (of_request rank slot list)) once) there back y
   where
-    there : (x v : ℕ) → Says (hull_says file rank slot lo hi list) x v → Says (hull_says file rank slot lo hi begun) x v
+    there : (x v : ℕ) → Says (said_by (got_cells 0 file (map (λ o. part_in lo hi o) (of_request rank slot list)))) x v
+        → Says (said_by (got_cells 0 file (map (λ o. part_in lo hi o) (of_request rank slot begun)))) x v
     there x v h =
         let r = got_says 0 file lo hi (of_request rank slot list) x v (from_0 (of_request rank slot list)) h in
         let m = in_request rank slot list r.by r.inside in
@@ -28,7 +26,8 @@ hull_said file rank slot lo hi list begun y once served =
         (read_as 0 file lo hi lo hi (of_request rank slot list) (of_request rank slot begun) x v r r.low r.high
         (request_in rank slot begun r.by (meets_served list begun lo hi r.place r.by served m.0 r.low r.high r.begin r.end) m.1 m.2))
 
-    back : (x v : ℕ) → Says (hull_says file rank slot lo hi begun) x v → Says (hull_says file rank slot lo hi list) x v
+    back : (x v : ℕ) → Says (said_by (got_cells 0 file (map (λ o. part_in lo hi o) (of_request rank slot begun)))) x v
+        → Says (said_by (got_cells 0 file (map (λ o. part_in lo hi o) (of_request rank slot list)))) x v
     back x v h =
         let r = got_says 0 file lo hi (of_request rank slot begun) x v (from_0 (of_request rank slot begun)) h in
         let m = in_request rank slot begun r.by r.inside in

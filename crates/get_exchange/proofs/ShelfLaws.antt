@@ -6,10 +6,6 @@ pub shelf_first : (list left : List Owned) (room : ℕ) (next : Option Window) (
     → IfSome next (λ _. IsWalk walk.windows) → IfSome next (λ w. ahead ≡ told_window w ∷ turns_ahead walk.windows) → IsShelfOf list room next walk
 shelf_first list left room next ahead walk a same ready some = grind (arith, nat_tests)
 
--- the window that comes next
-pub next_up : (list : List Owned) (shelf : Shelf) (window : Window) → shelf.next ≡ Some window → (r : IsShelfIn list shelf) → IsNextUp list r.0 window shelf.walk
-next_up list shelf window is r = subst (λ (o : Option Window). IsShelfOf list r.0 o shelf.walk) is r.1
-
 pub due_next : (next : Option Window) (ahead : List Told) (rest : WindowWalk) → IfNone next (ahead ≡ []) → IfSome next (λ w. ahead ≡ told_window w ∷ turns_ahead rest) → turns_due_of next rest ≡ ahead
 due_next None ahead rest none some = sym none
 due_next (Some w) ahead rest none some = sym some

@@ -47,30 +47,36 @@ taken_more {D} list olds mids k mid new before between now long at h t = record 
     wider : (o s : ReadWorker D) → HasTakenOf h.log o.shelf s.shelf → HasTakenOf (h.log ++ t.own) o.shelf s.shelf
     wider o s w = record { own = w.own; taken = w.taken; inside = λ e m. in_left h.log t.own e (w.inside e m) }
 
-    more : (e : Told × List ℕ) (o : ReadWorker D) (own : Log) → slice_get olds k ≡ Some o → HasTaken own o.shelf mid.shelf → In (own ++ t.own) e → IsTakenOf olds (set mids k new) e
-    more e o own first taken inside = record {
-      number = k;
-      old = o;
-      new = new;
-      at_old = first;
-      at_new = entry_set mids k mid new at;
-      own = own ++ t.own;
-      taken = taken_twice own t.own o.shelf mid.shelf new.shelf taken t.taken;
-      inside = inside;
-    }
-
     newest : (e : Told × List ℕ) → In t.own e → IsTakenOf olds (set mids k new) e
     newest e m =
         let low = slice_get_within mids k mid at in
         let first = entry_below olds k (omega arith) in
         let w = h.each k first.0 mid first.1 at in
-        more e first.0 w.own first.1 w.taken (in_right w.own t.own e m)
+        record {
+          number = k;
+          old = first.0;
+          new = new;
+          at_old = first.1;
+          at_new = entry_set mids k mid new at;
+          own = w.own ++ t.own;
+          taken = taken_twice w.own t.own first.0.shelf mid.shelf new.shelf w.taken t.taken;
+          inside = in_right w.own t.own e m;
+        }
 
     by_number : (e : Told × List ℕ) (r : IsTakenOf olds mids e) (b : Bool) → (r.number == k) ≡ b → IsTakenOf olds (set mids k new) e
     by_number e r true f =
         let same : r.number ≡ k = eqb-true _ _ f in
         let own : r.new ≡ mid = same_Some r.new mid (sym r.at_new ∙ ap (λ (n : ℕ). slice_get mids n) same ∙ at) in
-        more e r.old r.own (ap (λ (n : ℕ). slice_get olds n) (sym same) ∙ r.at_old) (subst (λ (s : ReadWorker D). HasTaken r.own r.old.shelf s.shelf) own r.taken) (in_left r.own t.own e r.inside)
+        record {
+          number = k;
+          old = r.old;
+          new = new;
+          at_old = ap (λ (n : ℕ). slice_get olds n) (sym same) ∙ r.at_old;
+          at_new = entry_set mids k mid new at;
+          own = r.own ++ t.own;
+          taken = taken_twice r.own t.own r.old.shelf mid.shelf new.shelf (subst (λ (s : ReadWorker D). HasTaken r.own r.old.shelf s.shelf) own r.taken) t.taken;
+          inside = in_left r.own t.own e r.inside;
+        }
     by_number e r false f = record {
       number = r.number;
       old = r.old;

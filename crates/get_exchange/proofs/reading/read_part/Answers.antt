@@ -1,6 +1,6 @@
 -- Each window is read, and its hull put on the line.
 use Rattle.get_exchange.proofs.Words.{◌∙◌, ◌++◌, ◌∷◌, [], ℕ, List, ap, refl, map, false, get_or, arith, drop_all, told_window, at_index, Window, Hull, rules, common_steps}
-use Rattle.get_exchange.proofs.FetchLaws.{ahead_on, fetch_begin, fetch_end, fetch_next, windows_left}
+use Rattle.get_exchange.proofs.FetchLaws.{fetch_begin, fetch_end, fetch_high, fetch_low, fetch_next, windows_left}
 use Rattle.get_exchange.proofs.reading.read_part.Goals as goal
 
 abbrev none : Window
@@ -21,15 +21,14 @@ pub read_turn-requires-clause-low : goal.read_turn-requires-clause-low
 read_turn-requires-clause-low g c κs within =
     let windows = c.args.windows.now in
     let i = c.loop-window.window-index in
-    let on = ahead_on _ _ _ _ _ _ _ _ _ _ c.loop-window.invariant.fetching (windows_left windows i _ (at_index windows i i none c.loop-window-test.true refl)) in
-    omega (arith, on.0, c.loop-window.invariant.from)
+    fetch_low _ _ _ _ _ _ _ _ _ _ _ c.loop-window.invariant.fetching (windows_left windows i _ (at_index windows i i none c.loop-window-test.true refl)) c.loop-window.invariant.from
 
 pub read_turn-requires-clause-high : goal.read_turn-requires-clause-high
 read_turn-requires-clause-high g c κs within =
     let windows = c.args.windows.now in
     let i = c.loop-window.window-index in
-    let on = ahead_on _ _ _ _ _ _ _ _ _ _ c.loop-window.invariant.fetching (windows_left windows i _ (at_index windows i i none c.loop-window-test.true refl)) in
-    omega (arith, on.1, c.loop-window.invariant.from, c.loop-window.invariant.len)
+    fetch_high _ _ _ _ _ _ _ _ _ _ _ _ c.loop-window.invariant.fetching (windows_left windows i _ (at_index windows i i none c.loop-window-test.true refl)) c.loop-window.invariant.from
+    c.loop-window.invariant.len
 
 pub loop-window-preserved : goal.loop-window-preserved
 loop-window-preserved g c =
@@ -59,6 +58,14 @@ returns g c =
       of = first_of (search rules, grind (arith, common_steps));
       many = got.0;
       read = got.1;
-      got = record { from = c.loop-window.invariant.from; len = c.loop-window.invariant.len; held = c.loop-window.invariant.held; device = got.2; later = c.loop-window.invariant.later };
+      got = record {
+        from = c.loop-window.invariant.from;
+        len = c.loop-window.invariant.len;
+        held = c.loop-window.invariant.held;
+        device =
+            (fetch_end _ _ _ _ _ _ _ _ c.loop-window.invariant.fetching (ap (λ (ws : List Window). map told_window ws) (drop_all i windows c.loop-window-test.false))).2;
+        later =
+            c.loop-window.invariant.later;
+      };
       failed = first_of (search rules, grind (arith, common_steps));
     }
