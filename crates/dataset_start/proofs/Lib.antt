@@ -6,4 +6,5 @@ pub mod RedefinedLaws
 pub mod Redefinable
 pub mod ReadyLaws
 pub mod NotReady
+pub mod Asked
 pub mod Untold
