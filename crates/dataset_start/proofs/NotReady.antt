@@ -1,5 +1,5 @@
 -- A dataset that was not made ready.
-use Rattle.dataset_start.proofs.Words.{◌≡◌, ℕ, ◌≤◌, ◌==◌, ◌⊎◌, inl, inr, refl, sym, ◌∙◌, ap, subst, List, [], length, Bool, true, false, Option, Some, None, arith, IfSome, HeaderErr, Extra, PartlyWritten, after, BothTold, at, longer, written, canon, header_len, HasFault, start, redefined, IsBegun, IsLengthened, IsTornCreation, IsTornRedefinition, at-longer, longer_long, IsBetween, filled_long, IsApplied, new_end, KeepsPlaces, created_header, creation_fault, front, header_of_run, AreHeadersOf, Asks, blank_file, dataset_end, filled_if, IsCutRedefinition, IsLeftUnready, IsNotReady, IsOpened, IsPartlyOpened, IsPartlyRedefined, IsUnready, told_as, both_ways, nat_tests}
+use Rattle.dataset_start.proofs.Words.{◌≡◌, ℕ, ◌≤◌, ◌==◌, ◌⊎◌, inl, inr, refl, sym, ◌∙◌, ap, subst, List, [], length, Bool, true, false, Option, Some, None, arith, IfSome, HeaderErr, Extra, PartlyWritten, after, BothTold, at, longer, written, canon, header_len, HasFault, start, redefined, IsBegun, IsLengthened, IsTornCreation, IsTornRedefinition, at-longer, longer_long, IsBetween, filled_long, IsApplied, new_end, KeepsPlaces, created_header, creation_fault, front, AreHeadersOf, Asks, blank_file, dataset_end, filled_if, IsCutRedefinition, IsLeftUnready, IsNotReady, IsOpened, IsPartlyOpened, IsPartlyRedefined, IsUnready, told_as, both_ways, holds_or_not, nat_tests}
 use Rattle.nc_base.specs.declared.header.Header as head
 use Rattle.nc_base.specs.declared.script.Script as script_type
 use Rattle.dataset_start.proofs.Created.{front-of-zeros}
@@ -111,12 +111,8 @@ heads_of : (script : script_type.Script) (old header : head.Header) (file : List
 heads_of script old header file f o same changed = record {
   created = λ c. absurd (both_ways script.fresh f c);
   opened = λ _. at_front (Some file) old o;
-  made = by_extras (length script.extra == 0) refl;
+  made = elim (holds_or_not (length script.extra == 0)) [ inl e ↦ same e ∙ sym (header-kept script old e) | inr e ↦ header-changed script old header e (changed e) ];
 }
-  where
-    by_extras : (b : Bool) → (length script.extra == 0) ≡ b → header ≡ header_of_run script old
-    by_extras true e = same e ∙ sym (header-kept script old e)
-    by_extras false e = header-changed script old header e (changed e)
 
 pub lengthen_refused : (script : script_type.Script) (header : head.Header) (held mid now : Option (List ℕ)) → script.fresh ≡ false → (length script.extra == 0) ≡ true
     → IsOpened held header → IfSome held (λ file. (e : HeaderErr) → HasFault (front file) e → ⊥) → mid ≡ held

@@ -1,5 +1,5 @@
 -- The front of a file that is opened, and the file made longer.
-use Rattle.dataset_start.proofs.Words.{◌≡◌, ℕ, ◌^◌, ◌≤◌, ◌<◌, List, [], ◌++◌, length, take, drop, min, Option, Some, None, refl, sym, ap, inl, inr, ◌⊎◌, subst, ◌∙◌, arith, IfSome, Result, Ok, Err, IsErrAnd, cases_lt, DiskCall, after, with_end, head_load, take-append-drop, take_all, HeaderErr, IsOpened, stop_of_header, Stop, Memory, Spells, first_check, HasFault, fault_only, spells_once, BeginsWith, nat_tests}
+use Rattle.dataset_start.proofs.Words.{◌≡◌, ℕ, ◌^◌, ◌≤◌, List, [], ◌++◌, length, take, drop, min, Option, Some, None, refl, sym, ap, inl, inr, ◌⊎◌, subst, ◌∙◌, arith, IfSome, Result, Ok, Err, IsErrAnd, cases_lt, DiskCall, after, with_end, head_load, take-append-drop, take_all, HeaderErr, IsOpened, stop_of_header, Stop, Memory, Spells, first_check, HasFault, fault_only, spells_once, BeginsWith, nat_tests}
 use Rattle.dataset_start.specs.Dataset as headline
 use Rattle.dataset_start.specs.declared.stop.Stop.TheVariants.{Header}
 use Rattle.nc_base.specs.declared.errors.HeaderErr.TheVariants as fault
@@ -26,11 +26,10 @@ no_fault header bytes n b e (inr (h, front, rest, s, t, u, f)) = other header by
 
 -- as many bytes as there are, and no more than the front has, are the front
 pub front_is : (bytes : List ℕ) (n : ℕ) → n ≡ min (length bytes) (2 ^ 20) → take n (drop 0 bytes) ≡ headline.front bytes
-front_is bytes n e = by_size (cases_lt (2 ^ 20) (length bytes))
-  where
-    by_size : (2 ^ 20 < length bytes) ⊎ (length bytes ≤ 2 ^ 20) → take n (drop 0 bytes) ≡ headline.front bytes
-    by_size (inl h) = let own : n ≡ 2 ^ 20 = omega (arith, e, h) in ap (λ (k : ℕ). take k bytes) own
-    by_size (inr h) = grind (arith, nat_tests, take_all (length bytes) bytes (omega arith), take_all (2 ^ 20) bytes h)
+front_is bytes n e = elim (cases_lt (2 ^ 20) (length bytes)) [
+  | inl h ↦ let own : n ≡ 2 ^ 20 = omega (arith, e, h) in ap (λ (k : ℕ). take k bytes) own
+  | inr h ↦ grind (arith, nat_tests, take_all (length bytes) bytes (omega arith), take_all (2 ^ 20) bytes h)
+]
 
 -- what is read of a file that is told
 pub read_front : (held : Option (List ℕ)) (len n : ℕ) (read : List ℕ) → IfSome held (λ bytes. length bytes ≡ len) → n ≡ min len (2 ^ 20)
@@ -67,14 +66,12 @@ pub tells : (held : Option (List ℕ)) (bytes : List ℕ) (result : Result head.
     → (err ≡ fault.Memory) ⊎ HasFault bytes err → IsErrAnd result (λ stop. stop ≡ stop_of_header err) → result ≡ Err (Header e)
     → IfSome held (λ file. HasFault (headline.front file) e)
 tells held bytes (Ok header) err e f why s r = absurd s
-tells held bytes (Err stop) err e f why s r = by_cause why
-  where
-    same : Header e ≡ stop_of_header err
-    same = cc
-
-    by_cause : (err ≡ fault.Memory) ⊎ HasFault bytes err → IfSome held (λ file. HasFault (headline.front file) e)
-    by_cause (inl m) = absurd (no_memory err e same m)
-    by_cause (inr h) = of_fault held bytes e f (subst (λ (x : HeaderErr). HasFault bytes x) (same_header err e same) h)
+tells held bytes (Err stop) err e f why s r =
+    let same : Header e ≡ stop_of_header err = cc in
+    elim why [
+      | inl m ↦ absurd (no_memory err e same m)
+      | inr h ↦ of_fault held bytes e f (subst (λ (x : HeaderErr). HasFault bytes x) (same_header err e same) h)
+    ]
 
 -- ---- the calls of an opening
 

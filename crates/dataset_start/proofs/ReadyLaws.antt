@@ -202,9 +202,7 @@ bad-header-stop : (script : script_type.Script) (held : Option (List ℕ)) (stop
     → status_of stop ≡ 4 → IfSome (line_of stop) (TellsDataset script held)
 bad-header-stop script held (stops.Header e) f h o s =
     record { created = λ c. absurd (both_ways script.fresh f c); opened = λ _. inl (e, (h e refl, refl)) }
-bad-header-stop script held stops.Disk f h o s = absurd (omega (arith, s))
-bad-header-stop script held stops.Memory f h o s = absurd (omega (arith, s))
-bad-header-stop script held _ f h o s = absurd o
+bad-header-stop script held stop f h o s = absurd (grind (arith, nat_tests))
 
 pub bad-header : {T U : Type 0} (script : script_type.Script) (held : Option (List ℕ)) (result : Result T Stop) (err : Stop) (left : Result U Stop) → script.fresh ≡ false
     → result ≡ Err err → ((e : HeaderErr) → result ≡ Err (stops.Header e) → IfSome held (λ file. HasFault (front file) e)) → IfErr result IsOfHeader
@@ -226,9 +224,7 @@ bad-redefinition-stop : (script : script_type.Script) (old : head.Header) (held 
     → status_of stop ≡ 4 → IfSome (line_of stop) (TellsDataset script held)
 bad-redefinition-stop script old held (stops.Redefinition e) f x p h o s =
     record { created = λ c. absurd (both_ways script.fresh f c); opened = λ _. inr (e, (redefinition-told script old held e x p (h e refl), refl)) }
-bad-redefinition-stop script old held stops.Disk f x p h o s = absurd (omega (arith, s))
-bad-redefinition-stop script old held stops.Memory f x p h o s = absurd (omega (arith, s))
-bad-redefinition-stop script old held _ f x p h o s = absurd o
+bad-redefinition-stop script old held stop f x p h o s = absurd (grind (arith, nat_tests))
 
 pub bad-redefinition : (script : script_type.Script) (old : head.Header) (held : Option (List ℕ)) (result : Result head.Header Stop) → script.fresh ≡ false
     → AddsNothing script false → IsOpened held old
