@@ -1,5 +1,5 @@
 -- The end of a plan that is asked for.
-use Rattle.plan_cli.proofs.Words.{◌≡◌, ◌<◌, ℕ, List, None, inl, inr, ◌⊎◌, sym, ◌∙◌, take, arith, IfSome, with_end, Script, Asks, most_taken, TakesAtMost, IsFaultless, status_of, Stop, HasEnded, line_of, Planned, DatasetFailed, GivesLine, Seen, SinkFailed, SourceFailed, IsStoppedBy, Wanted}
+use Rattle.plan_cli.proofs.Words.{◌≡◌, ◌<◌, ℕ, List, None, inl, inr, ◌⊎◌, sym, ◌∙◌, take, arith, IfSome, with_end, Script, Asks, most_taken, TakesAtMost, IsFaultless, status_of, Stop, HasEnded, line_of, Planned, DatasetFailed, GivesLine, Seen, SinkFailed, SourceFailed, IsStoppedBy, Wanted, not_mislaid, not_unread, not_wrong}
 use Rattle.plan_cli.proofs.EarlyEnds as early
 
 -- what is so of the stop's status, or of want of memory
@@ -54,8 +54,8 @@ given wanted before now Untouched status text script asks faultless p few ended 
   script = λ s. no_other status 3 ended s (λ x. omega (arith, x)) (λ x. omega (arith, x));
   dataset = λ s. no_other status 4 ended s (λ x. omega (arith, x)) (λ x. omega (arith, x));
   unread = λ s. no_other status 7 ended s (λ x. omega (arith, x)) (λ x. omega (arith, x));
-  refused = λ f _. early.not_unread before.left script asks f;
-  mislaid = λ a _. early.not_mislaid before.left before.held script asks faultless a;
-  faulty = λ a _ _. early.not_wrong before.left before.held script asks faultless a;
+  refused = λ f _. not_unread before.left script asks f;
+  mislaid = λ a _. not_mislaid before.left before.held script asks faultless a;
+  faulty = λ a _ _. not_wrong before.left before.held script asks faultless a;
   complete = λ _ _ s _. early.whole status ended (λ x. s (sink x));
 }

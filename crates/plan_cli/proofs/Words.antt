@@ -4,11 +4,12 @@ pub use Rattle.std.proofs.Common.{◌==◌}
 pub use Rattle.std.proofs.lemmas.List.{length-append}
 pub use Rattle.std.specs.Prelude.{Err, Ok, Result}
 pub use Rattle.cdf_header.specs.Decoded.{BeginsWith}
+pub use Rattle.dataset_start.proofs.Asked.{not_mislaid, not_unread, not_wrong, read-faulty}
 pub use Rattle.dataset_start.proofs.Keeping.{kept_created, kept_extras, kept_hints, kept_records, kept_whole_extras, read_kept}
 pub use Rattle.dataset_start.proofs.Opened.{faultless, tells}
 pub use Rattle.dataset_start.proofs.ReadyLaws.{at_front, created-faultless, created_long, fault-none, fault-some, header-changed, header-kept, laid-mislaid, no_extras, of_bad_layout, opened-faultless, same_script, some_extras}
 pub use Rattle.dataset_start.proofs.Redefinable.{redefined_sound}
-pub use Rattle.dataset_start.specs.Dataset.{Asks, AsksFor, AsksForBadLayout, HasRedefinitionFault, IsBadDataset, IsBeforeStart, IsFaultyFile, IsFaultyText, IsRight, IsSoundFile, IsWrong, TellsScript, created_header, creation_fault, front}
+pub use Rattle.dataset_start.specs.Dataset.{Asks, AsksFor, AsksForBadLayout, HasRedefinitionFault, IsBadDataset, IsBeforeStart, IsFaultyFile, IsFaultyText, IsRight, IsSoundFile, IsWrong, TellsDataset, TellsScript, created_header, creation_fault, front}
 pub use Rattle.dataset_start.specs.Limits.{TakesAtMost, most_taken}
 pub use Rattle.dataset_start.specs.Readiness.{IsFaultless, IsOpened}
 pub use Rattle.dataset_start.specs.Stops.{IsOfLayout, IsOfRedefinition, IsOfTaking, status_of, stop_of_header}
@@ -31,5 +32,5 @@ pub use Rattle.plan_cli.specs.declared.start.Prepared.{Prepared}
 pub use Rattle.redef_laws.proofs.MovedLaws.{writable_is_sound}
 pub use Rattle.redef_laws.specs.Applied.{IsApplied}
 pub use Rattle.run_plan.specs.declared.run.Opening.{Opening}
-pub use Rattle.script_spec.proofs.Common.{Reads, fault_of, header_line, layout_line, redef_line, script_fault, script_line}
+pub use Rattle.script_spec.proofs.Common.{Reads, header_line, layout_line, redef_line, script_fault, script_line}
 pub use Rattle.serial_spec.proofs.Common.{HasFault, is_sound, redefined_fault, within_is}
