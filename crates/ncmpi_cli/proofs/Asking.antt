@@ -1,5 +1,5 @@
 -- Every form ends as the words ask for.
-use Rattle.ncmpi_cli.proofs.Words.{◌≡◌, ◌⊎◌, ◌==◌, ◌||◌, ◌∙◌, ℕ, Bool, true, false, List, [], Option, Some, None, inl, inr, refl, subst, sym, arith, eqb-true, Mark, EndsAs, IsOfReadHeader, Seen, Asked, run, offsets, generate, most_taken, TakesAtMost}
+use Rattle.ncmpi_cli.proofs.Words.{◌≡◌, ℕ, List, [], Option, Some, None, inl, inr, refl, subst, sym, arith, nat_tests, Mark, EndsAs, IsOfReadHeader, Seen, Asked, run, offsets, generate, most_taken, TakesAtMost}
 use Rattle.ncmpi_cli.proofs.CutOff.{made_unready}
 use Rattle.ncmpi_cli.proofs.Made.{made_begins_none}
 
@@ -13,19 +13,8 @@ pub ends : (form asked : Option Asked) (before now : Seen) (Untouched : Type 0) 
     → EndsAs asked before now Untouched status order readings → EndsAs form before now Untouched status order readings
 ends form asked before now Untouched status order readings e h = subst (λ (f : Option Asked). EndsAs f before now Untouched status order readings) e h
 
--- words of no form are told as that, or want of memory is
-by_test : (n status : ℕ) (two : Bool) → (n == 2) ≡ two → (two || n == 8) ≡ true → status ≡ n → (status ≡ 2) ⊎ (status ≡ 8)
-by_test n status true is t e = inl (e ∙ eqb-true n 2 is)
-by_test n status false is t e = inr (e ∙ eqb-true n 8 t)
-
-pub no_form_status : (n status : ℕ) → (n == 2 || n == 8) ≡ true → (status ≡ n) ⊎ (status ≡ 8) → (status ≡ 2) ⊎ (status ≡ 8)
-no_form_status n status t (inl e) = by_test n status (n == 2) refl t e
-no_form_status n status t (inr e) = inr e
-
 not_read : (status : ℕ) → status ≡ 8 → IsOfReadHeader status → ⊥
-not_read status e (inl s) = absurd (omega (arith, e, s))
-not_read status e (inr (inl s)) = absurd (omega (arith, e, s))
-not_read status e (inr (inr s)) = absurd (omega (arith, e, s))
+not_read status e s = grind (arith, nat_tests)
 
 -- want of memory before anything was done is an end of every form
 pub wanting : (form : Option Asked) (before now : Seen) (Untouched : Type 0) (status : ℕ) (order : List Mark) (readings : List (List ℕ)) → now.left ≡ before.left

@@ -1,7 +1,8 @@
 -- A run of a made script.
-use Rattle.ncmpi_cli.proofs.Words.{◌≡◌, ℕ, ◌≤◌, true, List, [], length, Option, Some, None, inl, inr, ◌⊎◌, refl, sym, ap, ap₂, subst, ◌∙◌, arith, IfSome_then, IfSome, Result, Ok, Err, IfErr, IsErrAnd, Answer, LayoutErr, Header, RunEnd, Script, DiskCall, Mark, after, with_end, all_calls, run_calls, IsLegal, layout_fault, End, serial, serial_from, AreAlikeEnds, HasBegun, IsRun, seen, has_counts, made_script, summary_text, header_line, layout_line, redef_line, made_counted, made_lawful, made_laid, IsMadeStatus, new_end, RanMade, script_made, summed, end_of_run, file_at_start, Output, align_of, created_header, IsKept, TellsDataset, IsReady, IsOfDataset, line_of, status_of, Stop, file-kept, header-kept}
+use Rattle.ncmpi_cli.proofs.Words.{◌≡◌, ℕ, ◌≤◌, true, List, [], length, Option, Some, None, inr, ◌⊎◌, refl, sym, ap, ap₂, subst, ◌∙◌, arith, nat_tests, IfSome_then, IfSome, some_not_none, Result, Ok, Err, IfErr, IsErrAnd, Answer, Header, RunEnd, Script, DiskCall, Mark, after, with_end, all_calls, run_calls, IsLegal, layout_fault, End, serial, serial_from, AreAlikeEnds, HasBegun, IsRun, seen, has_counts, made_script, summary_text, header_line, layout_line, redef_line, made_counted, made_lawful, made_laid, IsMadeStatus, new_end, RanMade, script_made, summed, end_of_run, file_at_start, Output, align_of, created_header, IsKept, TellsDataset, IsReady, IsOfDataset, line_of, status_of, Stop, file-kept, header-kept}
 use Rattle.std.specs.Prelude.{◌==◌}
 use Rattle.dataset_start.specs.declared.stop.Stop.TheVariants as stops
+use Rattle.ncmpi_cli.proofs.Statuses.{by_cause, IsTold}
 use Rattle.ncmpi_cli.proofs.Ran.{all_told, any_end, at_start, if_any, told_end}
 
 -- ---- what is so of the script
@@ -33,21 +34,14 @@ module _ (seed size : ℕ) where
 
   -- nothing is told of its layout
   no_line : (held : Option (List ℕ)) (line : List ℕ) → TellsDataset (script_made seed size) held line → ⊥
-  no_line held line t = let told = t.created made_fresh in clash told.0 (sym told.1.0 ∙ made_fits)
-    where
-      clash : (e : LayoutErr) → Some e ≡ None → ⊥
-      clash e x = cc
+  no_line held line t = let told = t.created made_fresh in some_not_none told.0 _ told.1.0 made_fits
 
   pub never_told : (script : Script) (held : Option (List ℕ)) (stop : Stop) → script ≡ script_made seed size
       → (status_of stop ≡ 4 → IfSome (line_of stop) (TellsDataset script held)) → status_of stop ≡ 4 → ⊥
   never_told script held (stops.Header e) is bad s = no_line held (header_line e) (subst (λ (x : Script). TellsDataset x held (header_line e)) is (bad s))
   never_told script held (stops.Layout e) is bad s = no_line held (layout_line e) (subst (λ (x : Script). TellsDataset x held (layout_line e)) is (bad s))
   never_told script held (stops.Redefinition e) is bad s = no_line held (redef_line e) (subst (λ (x : Script). TellsDataset x held (redef_line e)) is (bad s))
-  never_told script held (stops.Script e) is bad s = absurd (omega (arith, s))
-  never_told script held stops.Usage is bad s = absurd (omega (arith, s))
-  never_told script held stops.Source is bad s = absurd (omega (arith, s))
-  never_told script held stops.Disk is bad s = absurd (omega (arith, s))
-  never_told script held stops.Memory is bad s = absurd (omega (arith, s))
+  never_told script held stop is bad s = absurd (omega (arith, s))
 
 -- ---- the run of a made script
 
@@ -133,28 +127,14 @@ made_begins_none seed size order e =
     subst (λ (o : List Mark). HasBegun (script_made seed size) o) (sym e) (record { known_ranks = refl; each_rank = λ q h. (_, refl) })
 
 -- where nothing is at fault before the ranks begin, memory is wanting
-pub made_wants : (stop : Stop) (status : ℕ) → (status ≡ status_of stop) ⊎ (status ≡ 8) → IsOfDataset stop → (status_of stop ≡ 4 → ⊥) → (stop ≡ stops.Disk → ⊥)
+pub made_wants : (stop : Stop) (status : ℕ) → IsTold stop status → IsOfDataset stop → (status_of stop ≡ 4 → ⊥) → (stop ≡ stops.Disk → ⊥)
     → (status ≡ 0) ⊎ (status ≡ 8)
-made_wants stop status (inr m) only laid still = inr m
-made_wants stops.Memory status (inl own) only laid still = inr own
-made_wants stops.Disk status (inl own) only laid still = absurd (still refl)
-made_wants (stops.Header e) status (inl own) only laid still = absurd (laid refl)
-made_wants (stops.Layout e) status (inl own) only laid still = absurd (laid refl)
-made_wants (stops.Redefinition e) status (inl own) only laid still = absurd (laid refl)
-made_wants stops.Usage status (inl own) only laid still = absurd only
-made_wants (stops.Script e) status (inl own) only laid still = absurd only
-made_wants stops.Source status (inl own) only laid still = absurd only
+made_wants stop status told only laid still =
+    by_cause stop status told (λ x. subst IsOfDataset x only) (λ x. subst IsOfDataset x only) (λ e x own. absurd (subst IsOfDataset x only))
+    (λ four own. absurd (laid four)) (λ x own. absurd (still x)) inr
 
-pub made_status : (stop : Stop) (status : ℕ) → (status ≡ status_of stop) ⊎ (status ≡ 8) → IsOfDataset stop → (status_of stop ≡ 4 → ⊥) → IsMadeStatus status
-made_status stop status (inr m) only laid = inr (inr (inr m))
-made_status stops.Memory status (inl own) only laid = inr (inr (inr own))
-made_status stops.Disk status (inl own) only laid = inr (inr (inl own))
-made_status (stops.Header e) status (inl own) only laid = absurd (laid refl)
-made_status (stops.Layout e) status (inl own) only laid = absurd (laid refl)
-made_status (stops.Redefinition e) status (inl own) only laid = absurd (laid refl)
-made_status stops.Usage status (inl own) only laid = absurd only
-made_status (stops.Script e) status (inl own) only laid = absurd only
-made_status stops.Source status (inl own) only laid = absurd only
+pub made_status : (stop : Stop) (status : ℕ) → IsTold stop status → IsOfDataset stop → (status_of stop ≡ 4 → ⊥) → IsMadeStatus status
+made_status stop status told only laid = grind (arith, nat_tests)
 
 -- what ended the making of the dataset did so for another cause than its layout
 pub never_four : {T : Type 0} (result : Result T Stop) (err : Stop) → IsErrAnd result (λ stop. stop ≡ err) → (status_of err ≡ 4 → ⊥)

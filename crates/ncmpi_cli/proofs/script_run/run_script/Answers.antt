@@ -1,11 +1,11 @@
-use Rattle.ncmpi_cli.proofs.Words.{◌≡◌, ◌∙◌, ap, inl, inr, refl, List, [], length, ℕ, Some, arith, rules, Err, RunEnd, Script, Stop, read_lawful, pairs_of, readings_of, rose_before}
+use Rattle.ncmpi_cli.proofs.Words.{◌≡◌, ◌∙◌, ap, inl, inr, refl, List, [], length, ℕ, Some, arith, rules, Err, RunEnd, Script, Stop, read_lawful, not_mislaid, not_unread, not_wrong, pairs_of, readings_of, rose_before}
 use Rattle.nc_base.specs.declared.step.StepErr.TheVariants as fault
 use Rattle.dataset_start.specs.declared.stop.Stop.TheVariants as stops
 use Rattle.ncmpi_cli.proofs.CutOff.{cut_off}
 use Rattle.ncmpi_cli.proofs.Ran.{have_begun, nobody_read, ran}
 use Rattle.ncmpi_cli.proofs.Reading.{read, told_by_no_text, untold}
 use Rattle.ncmpi_cli.proofs.Statuses.{before_start, ended_late, ended_line, ended_status, five_source, four_untouched, seven_disk, silent_end, silent_stop, stop_status, told_line, two_usage}
-use Rattle.ncmpi_cli.proofs.Telling.{dataset, faulty, mislaid, no_dataset, no_disk, no_script, not_mislaid, not_unread, not_wrong, refused, told_script, wants_memory, whole_or_memory, IsToldBy}
+use Rattle.ncmpi_cli.proofs.Telling.{dataset, faulty, mislaid, no_disk, refused, told_script, wants_memory, whole_or_memory, IsToldBy}
 use Rattle.ncmpi_cli.proofs.script_run.run_script.Goals as goal
 
 pub run_beside-run-requires-clause-lawful : goal.run_beside-run-requires-clause-lawful
@@ -30,13 +30,13 @@ returns-in-Err-clause-ends g c =
       taken = own.few;
       script = told_script left stop status told faulted c.tell.ensures.line;
       dataset = dataset left held stop status told own.bad c.tell.ensures.line;
-      refused = λ asks source. refused _ left held stop status told formed (λ x. source (own.source (ap (λ (s : Stop). Err s) x))) own.bad own.asked asks;
-      mislaid = λ asks source. mislaid left stop status told formed (λ x. source (own.source (ap (λ (s : Stop). Err s) x))) faulted own.asked asks;
+      refused = λ asks source. refused left held stop status told formed (λ x. source (own.source (ap (λ (s : Stop). Err s) x))) _ own.bad own.asked asks;
+      mislaid = λ asks source. mislaid left held stop status told formed (λ x. source (own.source (ap (λ (s : Stop). Err s) x))) faulted own.asked asks;
       unlaid = own.unlaid;
       faulty = λ asks source disk.
           faulty left held stop status told formed (λ x. source (own.source (ap (λ (s : Stop). Err s) x))) (λ x. disk (own.disk (ap (λ (s : Stop). Err s) x))) faulted asks;
       complete = λ asks source sink disk.
-          wants_memory _ left held stop status told formed (λ x. source (own.source (ap (λ (s : Stop). Err s) x))) (λ x. disk (own.disk (ap (λ (s : Stop). Err s) x)))
+          wants_memory left held stop status told formed (λ x. source (own.source (ap (λ (s : Stop). Err s) x))) _ (λ x. disk (own.disk (ap (λ (s : Stop). Err s) x)))
           faulted own.bad asks;
       began = inl none;
       unread = λ _. none;
@@ -107,8 +107,8 @@ returns-in-None-clause-ends g c =
         given = (finished.front s).1;
       };
       taken = own.few;
-      script = λ s. no_script status finished.statuses s;
-      dataset = λ s. no_dataset status finished.statuses s;
+      script = λ s. ended_late status finished.statuses (inl (inr (inl s)));
+      dataset = λ s. ended_late status finished.statuses (inr s);
       refused = λ asks _. not_unread left script own.asks asks;
       mislaid = λ asks _. not_mislaid left held script own.asks own.ready.faultless asks;
       unlaid = not_mislaid left held script own.asks own.ready.faultless;

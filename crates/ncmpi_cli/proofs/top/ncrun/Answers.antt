@@ -1,7 +1,7 @@
 use Rattle.ncmpi_cli.proofs.Words.{◌≡◌, ap, option_map, None, refl, rules, Some, sym, ◌∙◌, asked_of, form_of, generate, offsets, run, texts}
 use Rattle.program_words.specs.declared.command.Form.TheVariants as form
 use Rattle.dataset_start.specs.declared.stop.Stop.TheVariants as stops
-use Rattle.ncmpi_cli.proofs.Asking.{ends, no_form_status, wanting}
+use Rattle.ncmpi_cli.proofs.Asking.{ends, wanting}
 use Rattle.ncmpi_cli.proofs.Reading.{told_by_no_text, untold, unwatched, watched}
 use Rattle.ncmpi_cli.proofs.top.ncrun.Goals as goal
 
@@ -41,7 +41,7 @@ pub returns-in-Ok-None-clause-ends : goal.returns-in-Ok-None-clause-ends
 returns-in-Ok-None-clause-ends g c =
     let is : c.in-Ok-None.field-0 ≡ None = search rules in
     ends (form_of (texts c.args.words.now)) None _ _ _ _ _ _ (sym (ap (option_map asked_of) is) ∙ c.in-Ok-None.ensures.asked)
-    (no_form_status _ _ refl c.tell.ensures.status, c.tell.ensures.order ∙ c.new.ensures)
+    (c.tell.ensures.status, c.tell.ensures.order ∙ c.new.ensures)
 
 -- want of memory
 pub returns-in-Err-clause-ends : goal.returns-in-Err-clause-ends
