@@ -16,39 +16,35 @@ sum_up-outcome-requires-clause-counted g c = subst (λ (s : Script). has_counts 
 
 -- ---- where the ranks didn't begin
 
-pub returns-in-Err-clause-statuses : goal.returns-in-Err-clause-statuses
-returns-in-Err-clause-statuses g c = made_status c.in-Err.stop c.tell.result.status c.tell.ensures.status c.in-Err.ensures.only c.in-Err.ensures.laid
-
-pub returns-in-Err-clause-ends : goal.returns-in-Err-clause-ends
-returns-in-Err-clause-ends g c =
+pub returns-in-Err : goal.returns-in-Err
+returns-in-Err g c =
     let stop : Stop = c.in-Err.stop in
     let status : ℕ = c.tell.result.status in
     let told = c.tell.ensures.status in
     let own = c.in-Err.ensures in
     let none : c.tell.result.order ≡ [] = c.tell.ensures.order ∙ c.new.ensures in
     record {
+      ends = record {
+        statuses = made_status stop status told own.only own.laid;
+        well = λ s. absurd (told_by_no_text stop status told (inl s));
+        cut = λ s. absurd (told_by_no_text stop status told (inr s));
+        complete = λ _ disk. made_wants stop status told own.only own.laid (λ x. disk (own.disk (ap (λ (s : Stop). Err s) x)));
+        steps = made_begins_none c.args.seed c.args.size c.tell.result.order none;
+        torn = λ _. inl (none, own.torn);
+        wanting = λ _. inl (inl (none, own.torn));
+      };
       statuses = made_status stop status told own.only own.laid;
-      well = λ s. absurd (told_by_no_text stop status told (inl s));
-      cut = λ s. absurd (told_by_no_text stop status told (inr s));
-      complete = λ _ disk. made_wants stop status told own.only own.laid (λ x. disk (own.disk (ap (λ (s : Stop). Err s) x)));
-      steps = made_begins_none c.args.seed c.args.size c.tell.result.order none;
-      torn = λ _. inl (none, own.torn);
-      wanting = λ _. inl (inl (none, own.torn));
+      sink = λ s. absurd (told_by_no_text stop status told (inr s));
+      disk = λ s. own.disk (ap (λ (s : Stop). Err s) (seven_disk stop status told s));
+      silent = c.tell.ensures.silent;
+      readings = c.tell.ensures.readings;
+      told = told_line _ stop status told c.tell.ensures.line;
     }
-
-pub returns-in-Err-clause-sink : goal.returns-in-Err-clause-sink
-returns-in-Err-clause-sink g c = λ s. absurd (told_by_no_text c.in-Err.stop c.tell.result.status c.tell.ensures.status (inr s))
-
-pub returns-in-Err-clause-disk : goal.returns-in-Err-clause-disk
-returns-in-Err-clause-disk g c = λ s. c.in-Err.ensures.disk (ap (λ (s : Stop). Err s) (seven_disk c.in-Err.stop c.tell.result.status c.tell.ensures.status s))
-
-pub returns-in-Err-clause-told : goal.returns-in-Err-clause-told
-returns-in-Err-clause-told g c = told_line _ c.in-Err.stop c.tell.result.status c.tell.ensures.status c.tell.ensures.line
 
 -- ---- where their run ended without a fault
 
-pub returns-in-None-clause-ends : goal.returns-in-None-clause-ends
-returns-in-None-clause-ends g c =
+pub returns-in-None : goal.returns-in-None
+returns-in-None g c =
     let seed : ℕ = c.args.seed in
     let size : ℕ = c.args.size in
     let mid = g.D.Disk.held c.begin_made.new.disk in
@@ -62,23 +58,22 @@ returns-in-None-clause-ends g c =
     let now : Output = output_at g.D.Disk g.K.Sink c.run_ranks-end.new.disk c.sum_up-outcome.new.out in
     let did = made_ran seed size c.in-Ok.ready.script c.in-Ok.ready.header before now mid calls _ _ c.run_ranks-end.new.records end c.sum_up-outcome.result.order own.script own.ready summed.order run c.in-None.is in
     record {
+      ends = record {
+        statuses = made_end status summed.statuses;
+        well = λ s. record { text = _; ran = did; given = summed.whole s };
+        cut = λ s. record { text = _; count = (summed.front s).0; ran = did; given = (summed.front s).1 };
+        complete = λ sink _. whole_or_memory status summed.statuses (λ s. sink (summed.sink s));
+        steps = made_begins seed size c.in-Ok.ready.script _ end.order own.script summed.order run.begun;
+        torn = λ s. no_disk status summed.statuses s;
+        wanting = λ _. inr (_, did);
+      };
       statuses = made_end status summed.statuses;
-      well = λ s. record { text = _; ran = did; given = summed.whole s };
-      cut = λ s. record { text = _; count = (summed.front s).0; ran = did; given = (summed.front s).1 };
-      complete = λ sink _. whole_or_memory status summed.statuses (λ s. sink (summed.sink s));
-      steps = made_begins seed size c.in-Ok.ready.script _ end.order own.script summed.order run.begun;
-      torn = λ s. no_disk status summed.statuses s;
-      wanting = λ _. inr (_, did);
+      sink = summed.sink;
+      disk = λ s. no_disk status summed.statuses s;
+      silent = summed.silent;
+      readings = summed.readings;
+      told = ended_line _ status summed.statuses;
     }
-
-pub returns-in-None-clause-statuses : goal.returns-in-None-clause-statuses
-returns-in-None-clause-statuses g c = made_end c.sum_up-outcome.result.status c.sum_up-outcome.ensures.statuses
-
-pub returns-in-None-clause-disk : goal.returns-in-None-clause-disk
-returns-in-None-clause-disk g c = λ s. no_disk c.sum_up-outcome.result.status c.sum_up-outcome.ensures.statuses s
-
-pub returns-in-None-clause-told : goal.returns-in-None-clause-told
-returns-in-None-clause-told g c = ended_line _ c.sum_up-outcome.result.status c.sum_up-outcome.ensures.statuses
 
 -- ---- where the disk failed
 

@@ -13,8 +13,8 @@ run_beside-run-requires-clause-lawful g c = λ _ _. read_lawful c.in-Ok.ensures.
 
 -- ---- where the ranks didn't begin
 
-pub returns-in-Err-clause-ends : goal.returns-in-Err-clause-ends
-returns-in-Err-clause-ends g c =
+pub returns-in-Err : goal.returns-in-Err
+returns-in-Err g c =
     let left = g.S.Source.left c.args.script.now in
     let held = g.D.Disk.held c.args.disk.now in
     let stop : Stop = c.in-Err.stop in
@@ -25,60 +25,43 @@ returns-in-Err-clause-ends g c =
     let formed : stop ≡ stops.Usage → ⊥ = λ x. own.formed (ap (λ (s : Stop). Err s) x) in
     let faulted : IsToldBy left stop = λ e x. own.refused e (ap (λ (s : Stop). Err s) x) in
     record {
-      well = λ s. absurd (told_by_no_text stop status told (inl s));
-      cut = λ s. absurd (told_by_no_text stop status told (inr s));
-      taken = own.few;
-      script = told_script left stop status told faulted c.tell.ensures.line;
-      dataset = dataset left held stop status told own.bad c.tell.ensures.line;
-      refused = λ asks source. refused left held stop status told formed (λ x. source (own.source (ap (λ (s : Stop). Err s) x))) _ own.bad own.asked asks;
-      mislaid = λ asks source. mislaid left held stop status told formed (λ x. source (own.source (ap (λ (s : Stop). Err s) x))) faulted own.asked asks;
-      unlaid = own.unlaid;
-      faulty = λ asks source disk.
-          faulty left held stop status told formed (λ x. source (own.source (ap (λ (s : Stop). Err s) x))) (λ x. disk (own.disk (ap (λ (s : Stop). Err s) x))) faulted asks;
-      complete = λ asks source sink disk.
-          wants_memory left held stop status told formed (λ x. source (own.source (ap (λ (s : Stop). Err s) x))) _ (λ x. disk (own.disk (ap (λ (s : Stop). Err s) x)))
-          faulted own.bad asks;
-      began = inl none;
-      unread = λ _. none;
-      unfit = λ _. none;
-      torn = λ _. inl (none, own.torn);
-      wanting = λ _. inl (inl (none, own.torn));
+      ends = record {
+        well = λ s. absurd (told_by_no_text stop status told (inl s));
+        cut = λ s. absurd (told_by_no_text stop status told (inr s));
+        taken = own.few;
+        script = told_script left stop status told faulted c.tell.ensures.line;
+        dataset = dataset left held stop status told own.bad c.tell.ensures.line;
+        refused = λ asks source. refused left held stop status told formed (λ x. source (own.source (ap (λ (s : Stop). Err s) x))) _ own.bad own.asked asks;
+        mislaid = λ asks source. mislaid left held stop status told formed (λ x. source (own.source (ap (λ (s : Stop). Err s) x))) faulted own.asked asks;
+        unlaid = own.unlaid;
+        faulty = λ asks source disk.
+            faulty left held stop status told formed (λ x. source (own.source (ap (λ (s : Stop). Err s) x))) (λ x. disk (own.disk (ap (λ (s : Stop). Err s) x))) faulted asks;
+        complete = λ asks source sink disk.
+            wants_memory left held stop status told formed (λ x. source (own.source (ap (λ (s : Stop). Err s) x))) _ (λ x. disk (own.disk (ap (λ (s : Stop). Err s) x)))
+            faulted own.bad asks;
+        began = inl none;
+        unread = λ _. none;
+        unfit = λ _. none;
+        torn = λ _. inl (none, own.torn);
+        wanting = λ _. inl (inl (none, own.torn));
+      };
+      readings = untold c.args.watchers status (length c.tell.result.order) c.tell.result.readings (told_by_no_text stop status told) c.tell.ensures.readings;
+      statuses = stop_status stop status told;
+      formed = λ s. formed (two_usage stop status told s);
+      source = λ s. own.source (ap (λ (s : Stop). Err s) (five_source stop status told s));
+      sink = λ s. absurd (told_by_no_text stop status told (inr s));
+      disk = λ s. own.disk (ap (λ (s : Stop). Err s) (seven_disk stop status told s));
+      not_started = before_start stop status told own.not_started;
+      unchanged = four_untouched stop status told own.unchanged;
+      silent = silent_stop stop status told c.tell.ensures.unlined c.tell.ensures.silent;
+      no_step = λ _. none;
+      told = told_line _ stop status told c.tell.ensures.line;
     }
-
-pub returns-in-Err-clause-statuses : goal.returns-in-Err-clause-statuses
-returns-in-Err-clause-statuses g c = stop_status c.in-Err.stop c.tell.result.status c.tell.ensures.status
-
-pub returns-in-Err-clause-formed : goal.returns-in-Err-clause-formed
-returns-in-Err-clause-formed g c = λ s. c.in-Err.ensures.formed (ap (λ (s : Stop). Err s) (two_usage c.in-Err.stop c.tell.result.status c.tell.ensures.status s))
-
-pub returns-in-Err-clause-source : goal.returns-in-Err-clause-source
-returns-in-Err-clause-source g c = λ s. c.in-Err.ensures.source (ap (λ (s : Stop). Err s) (five_source c.in-Err.stop c.tell.result.status c.tell.ensures.status s))
-
-pub returns-in-Err-clause-sink : goal.returns-in-Err-clause-sink
-returns-in-Err-clause-sink g c = λ s. absurd (told_by_no_text c.in-Err.stop c.tell.result.status c.tell.ensures.status (inr s))
-
-pub returns-in-Err-clause-disk : goal.returns-in-Err-clause-disk
-returns-in-Err-clause-disk g c = λ s. c.in-Err.ensures.disk (ap (λ (s : Stop). Err s) (seven_disk c.in-Err.stop c.tell.result.status c.tell.ensures.status s))
-
-pub returns-in-Err-clause-not_started : goal.returns-in-Err-clause-not_started
-returns-in-Err-clause-not_started g c = before_start c.in-Err.stop c.tell.result.status c.tell.ensures.status c.in-Err.ensures.not_started
-
-pub returns-in-Err-clause-unchanged : goal.returns-in-Err-clause-unchanged
-returns-in-Err-clause-unchanged g c = four_untouched c.in-Err.stop c.tell.result.status c.tell.ensures.status c.in-Err.ensures.unchanged
-
-pub returns-in-Err-clause-silent : goal.returns-in-Err-clause-silent
-returns-in-Err-clause-silent g c = silent_stop c.in-Err.stop c.tell.result.status c.tell.ensures.status c.tell.ensures.unlined c.tell.ensures.silent
-
-pub returns-in-Err-clause-no_step : goal.returns-in-Err-clause-no_step
-returns-in-Err-clause-no_step g c = λ _. c.tell.ensures.order ∙ c.new.ensures
-
-pub returns-in-Err-clause-told : goal.returns-in-Err-clause-told
-returns-in-Err-clause-told g c = told_line _ c.in-Err.stop c.tell.result.status c.tell.ensures.status c.tell.ensures.line
 
 -- ---- where their run ended without a fault
 
-pub returns-in-None-clause-ends : goal.returns-in-None-clause-ends
-returns-in-None-clause-ends g c =
+pub returns-in-None : goal.returns-in-None
+returns-in-None g c =
     let left = g.S.Source.left c.args.script.now in
     let held = g.D.Disk.held c.args.disk.now in
     let mid = g.D.Disk.held c.begin.new.disk in
@@ -93,64 +76,51 @@ returns-in-None-clause-ends g c =
     let finished = c.finish-outcome.ensures in
     let status : ℕ = c.finish-outcome.result.status in
     record {
-      well = λ s. record {
-        text = _;
-        ran = ran script c.in-Ok.ready.header _ _ mid calls _ _ c.run_beside-run.new.records end c.finish-outcome.result.order c.finish-outcome.result.readings readings pairs
-            own.asks own.ready own.taken run c.in-None.is finished.order (finished.readings (inl s)) c.run_beside-run.ensures.counted;
-        given = finished.whole s;
+      ends = record {
+        well = λ s. record {
+          text = _;
+          ran = ran script c.in-Ok.ready.header _ _ mid calls _ _ c.run_beside-run.new.records end c.finish-outcome.result.order c.finish-outcome.result.readings readings pairs
+              own.asks own.ready own.taken run c.in-None.is finished.order (finished.readings (inl s)) c.run_beside-run.ensures.counted;
+          given = finished.whole s;
+        };
+        cut = λ s. record {
+          text = _;
+          count = (finished.front s).0;
+          ran = ran script c.in-Ok.ready.header _ _ mid calls _ _ c.run_beside-run.new.records end c.finish-outcome.result.order c.finish-outcome.result.readings readings pairs
+              own.asks own.ready own.taken run c.in-None.is finished.order (finished.readings (inr s)) c.run_beside-run.ensures.counted;
+          given = (finished.front s).1;
+        };
+        taken = own.few;
+        script = λ s. ended_late status finished.statuses (inl (inr (inl s)));
+        dataset = λ s. ended_late status finished.statuses (inr s);
+        refused = λ asks _. not_unread left script own.asks asks;
+        mislaid = λ asks _. not_mislaid left held script own.asks own.ready.faultless asks;
+        unlaid = not_mislaid left held script own.asks own.ready.faultless;
+        faulty = λ asks _ _. not_wrong left held script own.asks own.ready.faultless asks;
+        complete = λ _ _ sink _. whole_or_memory status finished.statuses (λ s. sink (finished.sink s));
+        began = inr (have_begun script c.in-Ok.ready.header _ _ mid calls _ end.order own.asks own.ready own.taken finished.order run.begun);
+        unread = λ asks. not_unread left script own.asks asks;
+        unfit = λ asks. not_wrong left held script own.asks own.ready.faultless asks;
+        torn = λ s. no_disk status finished.statuses s;
+        wanting = λ _. inr (
+          _,
+          ran script c.in-Ok.ready.header _ _ mid calls _ _ c.run_beside-run.new.records end c.finish-outcome.result.order [] [] []
+              own.asks own.ready own.taken run c.in-None.is finished.order refl (nobody_read mid),
+        );
       };
-      cut = λ s. record {
-        text = _;
-        count = (finished.front s).0;
-        ran = ran script c.in-Ok.ready.header _ _ mid calls _ _ c.run_beside-run.new.records end c.finish-outcome.result.order c.finish-outcome.result.readings readings pairs
-            own.asks own.ready own.taken run c.in-None.is finished.order (finished.readings (inr s)) c.run_beside-run.ensures.counted;
-        given = (finished.front s).1;
-      };
-      taken = own.few;
-      script = λ s. ended_late status finished.statuses (inl (inr (inl s)));
-      dataset = λ s. ended_late status finished.statuses (inr s);
-      refused = λ asks _. not_unread left script own.asks asks;
-      mislaid = λ asks _. not_mislaid left held script own.asks own.ready.faultless asks;
-      unlaid = not_mislaid left held script own.asks own.ready.faultless;
-      faulty = λ asks _ _. not_wrong left held script own.asks own.ready.faultless asks;
-      complete = λ _ _ sink _. whole_or_memory status finished.statuses (λ s. sink (finished.sink s));
-      began = inr (have_begun script c.in-Ok.ready.header _ _ mid calls _ end.order own.asks own.ready own.taken finished.order run.begun);
-      unread = λ asks. not_unread left script own.asks asks;
-      unfit = λ asks. not_wrong left held script own.asks own.ready.faultless asks;
-      torn = λ s. no_disk status finished.statuses s;
-      wanting = λ _. inr (
-        _,
-        ran script c.in-Ok.ready.header _ _ mid calls _ _ c.run_beside-run.new.records end c.finish-outcome.result.order [] [] []
-            own.asks own.ready own.taken run c.in-None.is finished.order refl (nobody_read mid),
-      );
+      readings = read c.args.watchers status c.finish-outcome.result.order end.order c.finish-outcome.result.readings c.run_beside-run.result.seen
+          finished.statuses finished.order finished.seen finished.readings finished.none c.run_beside-run.ensures.readings;
+      statuses = ended_status status finished.statuses;
+      formed = λ s. ended_late status finished.statuses (inl (inl s));
+      source = λ s. ended_late status finished.statuses (inl (inr (inr s)));
+      sink = finished.sink;
+      disk = λ s. no_disk status finished.statuses s;
+      not_started = λ s. ended_late status finished.statuses (inl s);
+      unchanged = λ s. ended_late status finished.statuses (inr s);
+      silent = silent_end status finished.statuses finished.silent;
+      no_step = λ s. ended_late status finished.statuses s;
+      told = ended_line _ status finished.statuses;
     }
-
-pub returns-in-None-clause-statuses : goal.returns-in-None-clause-statuses
-returns-in-None-clause-statuses g c = ended_status c.finish-outcome.result.status c.finish-outcome.ensures.statuses
-
-pub returns-in-None-clause-formed : goal.returns-in-None-clause-formed
-returns-in-None-clause-formed g c = λ s. ended_late c.finish-outcome.result.status c.finish-outcome.ensures.statuses (inl (inl s))
-
-pub returns-in-None-clause-source : goal.returns-in-None-clause-source
-returns-in-None-clause-source g c = λ s. ended_late c.finish-outcome.result.status c.finish-outcome.ensures.statuses (inl (inr (inr s)))
-
-pub returns-in-None-clause-disk : goal.returns-in-None-clause-disk
-returns-in-None-clause-disk g c = λ s. no_disk c.finish-outcome.result.status c.finish-outcome.ensures.statuses s
-
-pub returns-in-None-clause-not_started : goal.returns-in-None-clause-not_started
-returns-in-None-clause-not_started g c = λ s. ended_late c.finish-outcome.result.status c.finish-outcome.ensures.statuses (inl s)
-
-pub returns-in-None-clause-unchanged : goal.returns-in-None-clause-unchanged
-returns-in-None-clause-unchanged g c = λ s. ended_late c.finish-outcome.result.status c.finish-outcome.ensures.statuses (inr s)
-
-pub returns-in-None-clause-silent : goal.returns-in-None-clause-silent
-returns-in-None-clause-silent g c = silent_end c.finish-outcome.result.status c.finish-outcome.ensures.statuses c.finish-outcome.ensures.silent
-
-pub returns-in-None-clause-no_step : goal.returns-in-None-clause-no_step
-returns-in-None-clause-no_step g c = λ s. ended_late c.finish-outcome.result.status c.finish-outcome.ensures.statuses s
-
-pub returns-in-None-clause-told : goal.returns-in-None-clause-told
-returns-in-None-clause-told g c = ended_line _ c.finish-outcome.result.status c.finish-outcome.ensures.statuses
 
 -- ---- where the disk failed
 
@@ -226,16 +196,6 @@ returns-in-Some-Memory-clause-ends g c =
     }
 
 -- ---- what watchers read
-
-pub returns-in-Err-clause-readings : goal.returns-in-Err-clause-readings
-returns-in-Err-clause-readings g c =
-    untold c.args.watchers c.tell.result.status (length c.tell.result.order) c.tell.result.readings
-    (told_by_no_text c.in-Err.stop c.tell.result.status c.tell.ensures.status) c.tell.ensures.readings
-
-pub returns-in-None-clause-readings : goal.returns-in-None-clause-readings
-returns-in-None-clause-readings g c =
-    read c.args.watchers c.finish-outcome.result.status c.finish-outcome.result.order c.run_beside-run.result.end.order c.finish-outcome.result.readings c.run_beside-run.result.seen
-    c.finish-outcome.ensures.statuses c.finish-outcome.ensures.order c.finish-outcome.ensures.seen c.finish-outcome.ensures.readings c.finish-outcome.ensures.none c.run_beside-run.ensures.readings
 
 pub returns-in-Some-Disk-clause-readings : goal.returns-in-Some-Disk-clause-readings
 returns-in-Some-Disk-clause-readings g c =
