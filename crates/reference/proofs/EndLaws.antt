@@ -56,7 +56,10 @@ own_stands script header order n q k before after legal e h heard same =
     subst (λ (o : List Mark). IsStanding script header o after) (sym (take_next order n (mark.Solo q k) e)) (record {
       all = heard.long ∙ h.all;
       records = subst (λ (m : ℕ). m < record_limit header.version) (sym same) h.records;
-      each = λ r b f. by_place r b f (cases_eq r q);
+      each = λ r b f. elim (cases_eq r q) [
+        | inl at ↦ subst (λ (z : ℕ). IsRunner script header (take n order ++ mark.Solo q k ∷ []) z b) (sym at) (own b (ap (slice_get after.runners.items) (sym at) ∙ f))
+        | inr other ↦ beside_runner script header (take n order) r q k b (λ z. other (sym z)) (h.each r b (sym (heard.others r other) ∙ f))
+      ];
     })
   where
     own : (b : Runner) → slice_get after.runners.items q ≡ Some b → IsRunner script header (take n order ++ mark.Solo q k ∷ []) q b
@@ -66,11 +69,6 @@ own_stands script header order n q k before after legal e h heard same =
         let a = entry_below before.runners.items q (omega arith) in
         own_runner script header (take n order) (drop (n + 1) order) q k a.0 b (legal_split script order n (mark.Solo q k) e legal)
         (below_all script header (take n order) before q a.0 h a.1) (h.each q a.0 a.1) (heard.own a.0 b a.1 f)
-
-    by_place : (r : ℕ) (b : Runner) → slice_get after.runners.items r ≡ Some b → (r ≡ q) ⊎ (r ≡ q → ⊥) → IsRunner script header (take n order ++ mark.Solo q k ∷ []) r b
-    by_place r b f (inl at) = grind (arith, nat_tests, own b (ap (slice_get after.runners.items) (sym at) ∙ f))
-    by_place r b f (inr other) =
-        beside_runner script header (take n order) r q k b (λ z. other (sym z)) (h.each r b (sym (heard.others r other) ∙ f))
 
 -- ---- the close
 

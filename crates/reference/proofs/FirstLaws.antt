@@ -1,5 +1,5 @@
 -- The ranks before the first step, one after another.
-use Rattle.reference.proofs.Words.{◌≡◌, ℕ, ◌+◌, ◌<◌, ◌≤◌, refl, sym, ◌∙◌, ap, subst, List, [], ◌∷◌, ◌++◌, length, map, take, get_or, Bool, true, false, Some, length-append, arith, nat_tests, map-append, take_all, take_more, get_or_from_slice_get, same_Some, slice_get_read, slice_get_within, slice_get, nat_lt, Header, Call, Script, is_sound, is_lawful, record_limit, advance, first_going, sound_small, Arrived, first_stand, ranks_lawful, way_begins, counted, going_of, HasGone, IsRunner, MayGoOn, all_arrived, IsStanding, Runner, Stand, get_left, get_right}
+use Rattle.reference.proofs.Words.{◌≡◌, ℕ, ◌+◌, ◌<◌, ◌≤◌, refl, sym, ◌∙◌, ap, subst, inl, inr, ◌⊎◌, cases_lt, List, [], ◌∷◌, ◌++◌, length, map, take, get_or, Bool, true, false, Some, length-append, arith, nat_tests, map-append, take_all, take_more, get_or_from_slice_get, same_Some, slice_get_read, slice_get_within, slice_get, nat_lt, Header, Call, Script, is_sound, is_lawful, record_limit, advance, first_going, sound_small, Arrived, first_stand, ranks_lawful, way_begins, counted, going_of, HasGone, IsRunner, MayGoOn, all_arrived, IsStanding, Runner, Stand, get_left, get_right}
 
 -- the first ranks of a script, gone up to their first offers
 pub record AreFirst (script : Script) (header : Header) (n : ℕ) (runners : List Runner) : Type 0 where
@@ -32,7 +32,7 @@ first_more script header n runners more own runner sound lawful e same gone push
     subst (λ (xs : List Runner). AreFirst script header (n + 1) xs) (sym pushed) (record {
       long = let l = length-append runners (runner ∷ []) in let m = are.long in omega arith;
       arrived = map-append _ runners (runner ∷ []) ∙ (λ i. are.arrived i ++ gone.arrived i ∷ []) ∙ sym (map-append go (take n script.calls) (own ∷ [])) ∙ ap (map go) (sym taken);
-      each = λ r x f. by_place r x f (nat_lt r n) refl;
+      each = λ r x f. by_place r x f (cases_lt r n);
     })
   where
     go : List Call → Arrived
@@ -42,14 +42,10 @@ first_more script header n runners more own runner sound lawful e same gone push
     taken = take_more script.calls n own (slice_get_within script.calls n own e)
         ∙ ap (λ (x : List Call). take n script.calls ++ x ∷ []) (get_or_from_slice_get script.calls n own own e)
 
-    by_place : (r : ℕ) (x : Runner) → slice_get (runners ++ runner ∷ []) r ≡ Some x → (t : Bool) → nat_lt r n ≡ t → IsRunner script header [] r x
-    by_place r x f true t =
+    by_place : (r : ℕ) (x : Runner) → slice_get (runners ++ runner ∷ []) r ≡ Some x → (r < n) ⊎ (n ≤ r) → IsRunner script header [] r x
+    by_place r x f (inl below) = let l = are.long in are.each r x (sym (get_left runners (runner ∷ []) r (omega arith)) ∙ f)
+    by_place r x f (inr above) =
         let l = are.long in
-        let below : r < n = grind (arith, nat_tests) in
-        are.each r x (sym (get_left runners (runner ∷ []) r (omega arith)) ∙ f)
-    by_place r x f false t =
-        let l = are.long in
-        let above : n ≤ r = grind (arith, nat_tests) in
         let within = slice_get_within (runners ++ runner ∷ []) r x f in
         let both = length-append runners (runner ∷ []) in
         let last : r ≡ length runners + 0 = omega arith in

@@ -45,13 +45,10 @@ own_right header rank o p right m = grind (arith, nat_tests, map_in)
 pub puts_right : (header : Header) (n : ℕ) (offers : List Offer) (p : ℕ × Post) → ((o : Offer) → In offers o → IsRight header o)
     → In (flat_map puts_of (enumerate_from n offers)) p → IsPut header p.1
 puts_right header n [] p right m = absurd m
-puts_right header n (o ∷ offers) p right m =
-    by_side (in_either (puts_of (n, o)) (flat_map puts_of (enumerate_from (n + 1) offers)) p m) (puts_right header (n + 1) offers p (λ q k. right q (inr k)))
-  where
-    by_side : In (puts_of (n, o)) p ⊎ In (flat_map puts_of (enumerate_from (n + 1) offers)) p
-        → (In (flat_map puts_of (enumerate_from (n + 1) offers)) p → IsPut header p.1) → IsPut header p.1
-    by_side (inl h) others = own_right header n o p (right o (inl refl)) h
-    by_side (inr h) others = others h
+puts_right header n (o ∷ offers) p right m = elim (in_either (puts_of (n, o)) (flat_map puts_of (enumerate_from (n + 1) offers)) p m) [
+  | inl h ↦ own_right header n o p (right o (inl refl)) h
+  | inr h ↦ puts_right header (n + 1) offers p (λ q k. right q (inr k)) h
+]
 
 -- ---- file and count
 

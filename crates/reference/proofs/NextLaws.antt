@@ -78,12 +78,9 @@ waits_with : (script : Script) (header : Header) (done : List Mark) (r : ℕ) (r
 waits_with script header done r runner o lawful below is e = record {
   of_header = is.of_header;
   low = is.low;
-  asked = some_asked runner.held o e is.asked;
+  asked = grind (arith, nat_tests, is.asked);
   ready = ready_after script header done r (going_of runner) o lawful below (subst (λ (m : Option Offer). IsPlaced script header done r (going_of runner) m) e is.placed);
 }
-  where
-    some_asked : (held : Option Offer) (x : Offer) → held ≡ Some x → IfSome held (IsAsked header runner.rank.state) → IsSomeAnd held (IsAsked header runner.rank.state)
-    some_asked held x f h = grind (arith, nat_tests)
 
 pub meeting_waits : (script : Script) (header : Header) (done rest : List Mark) (r k : ℕ) (runner : Runner) → IsLegal script (done ++ mark.Meet k ∷ rest) → is_lawful script ≡ true
     → r < script.ranks → IsRunner script header done r runner → IsWaiting header runner

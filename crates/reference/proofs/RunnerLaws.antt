@@ -96,14 +96,13 @@ gone_alone header s t next o c calls h e f few sound =
 pub gone_offer : (header same : Header) (s t : Going) (next : machine.Rank) (o : Offer) (w : Want) (c : Call) (calls : List Call) → Comes header s t → t.calls ≡ c ∷ calls
     → same ≡ header → (next, w) ≡ machine.step same t.rank c → KeepsFew t.rank next c → IsSoundWant same w → (w ≡ want.Meet o) ⊎ (w ≡ want.Solo o)
     → HasGone header s (asking t next calls) (Some o)
-gone_offer header same s t next o w c calls h e as_one step few sound kind = by kind
-  where
-    sound_at : (v : Want) → w ≡ v → IsSoundWant header v
-    sound_at v is = subst (λ (k : Header). IsSoundWant k v) as_one (subst (λ (x : Want). IsSoundWant same x) is sound)
-
-    by : (w ≡ want.Meet o) ⊎ (w ≡ want.Solo o) → HasGone header s (asking t next calls) (Some o)
-    by (inl is) = gone_meeting header s t next o c calls h e (said_at header same t.rank next c w (want.Meet o) as_one step is) few (sound_at (want.Meet o) is)
-    by (inr is) = gone_alone header s t next o c calls h e (said_at header same t.rank next c w (want.Solo o) as_one step is) few (sound_at (want.Solo o) is)
+gone_offer header same s t next o w c calls h e as_one step few sound kind =
+    let sound_at : (v : Want) → w ≡ v → IsSoundWant header v
+    = λ v is. subst (λ (k : Header). IsSoundWant k v) as_one (subst (λ (x : Want). IsSoundWant same x) is sound) in
+    elim kind [
+      | inl is ↦ gone_meeting header s t next o c calls h e (said_at header same t.rank next c w (want.Meet o) as_one step is) few (sound_at (want.Meet o) is)
+      | inr is ↦ gone_alone header s t next o c calls h e (said_at header same t.rank next c w (want.Solo o) as_one step is) few (sound_at (want.Solo o) is)
+    ]
 
 -- a rank that holds no offer has made its calls
 pub gone_over : (header : Header) (s t : Going) (held : Option Offer) → Comes header s t → length t.calls < 1 → held ≡ None → HasGone header s t held

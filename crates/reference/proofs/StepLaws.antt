@@ -1,5 +1,5 @@
 -- The steps of a run: the offers of its ranks, the replies to them, and the ranks that have heard.
-use Rattle.reference.proofs.Words.{◌≡◌, ℕ, zero, suc, ◌+◌, ◌-◌, ◌<◌, ◌≤◌, refl, sym, ◌∙◌, ap, subst, inl, inr, List, [], ◌∷◌, ◌++◌, length, map, max, set, drop, get_or, Bool, true, false, Option, Some, append_assoc, append-nil, length-set, arith, nat_tests, drop_all, drop_more, map-set, same_Some, slice_get-map, slice_get, nat_lt, zip, flat_map, IfSome, enumerate_from, entry_set, entry_set_other, Header, Offer, Reply, Counted, Setting, meeting, needs, puts_of, solo, told, record_limit, In, wanted, DoesFit, hears, offers_of, counted, IsRight, less_max, meeting_fits, solo_fits, meeting_within, replied, replies_long, at_in, heard, step_to, arrived, going_of, HasGone, IsAsked, IsWaiting, MayGoOn, all_arrived, AllHear, AreWaiting, DoFit, HasHeard, HaveHeard, Heard, HeardOne, Runner, some_limit}
+use Rattle.reference.proofs.Words.{◌≡◌, ℕ, zero, suc, ◌+◌, ◌-◌, ◌<◌, ◌≤◌, refl, sym, ◌∙◌, ap, subst, inl, inr, List, [], ◌∷◌, ◌++◌, length, map, max, set, drop, get_or, Bool, true, false, Option, Some, append_assoc, append-nil, length-set, arith, nat_tests, cases_lt, drop_all, drop_more, map-set, same_Some, slice_get-map, slice_get, nat_lt, zip, flat_map, IfSome, enumerate_from, entry_set, entry_set_other, Header, Offer, Reply, Counted, Setting, meeting, needs, puts_of, solo, told, record_limit, In, wanted, DoesFit, hears, offers_of, counted, IsRight, less_max, meeting_fits, solo_fits, meeting_within, replied, replies_long, at_in, heard, step_to, arrived, going_of, HasGone, IsAsked, IsWaiting, MayGoOn, all_arrived, AllHear, AreWaiting, DoFit, HasHeard, HaveHeard, Heard, HeardOne, Runner, some_limit}
 use Rattle.reference.proofs.MeetSteps.{needs_low, own_right, puts_right}
 use Rattle.nc_base.specs.declared.step.Mark.TheVariants as mark
 
@@ -58,11 +58,11 @@ pub offered_in : (header : Header) (runners : List Runner) (o : Offer) → AreWa
 offered_in header [] o all m = absurd m
 offered_in header (runner ∷ runners) o all m =
     let h = holds_one header runner (all 0 runner refl) in
-    by h (offered_in header runners o (λ r x f. all (suc r) x f)) (subst (λ (os : List Offer). In os o) (first_offer runner runners h.offer h.is) m)
-  where
-    by : (h : Holds header runner) → (In (offers_of (all_arrived runners)) o → Offered header o) → In (h.offer ∷ offers_of (all_arrived runners)) o → Offered header o
-    by h others (inl e) = subst (λ (p : Offer). Offered header p) e (asked_offer header runner h.offer h.asked (all 0 runner refl).low)
-    by h others (inr n) = others n
+    let others = offered_in header runners o (λ r x f. all (suc r) x f) in
+    elim (subst (λ (os : List Offer). In os o) (first_offer runner runners h.offer h.is) m) [
+      | inl e ↦ subst (λ (p : Offer). Offered header p) e (asked_offer header runner h.offer h.asked (all 0 runner refl).low)
+      | inr n ↦ others n
+    ]
 
 -- ---- counts
 
@@ -143,20 +143,8 @@ pub hear_more : (header : Header) (replies : List Reply) (old now : List Runner)
     → slice_get replies i ≡ Some y → Heard header y a b
     → ((r : ℕ) (x z : Runner) (w : Reply) → r < i → slice_get old r ≡ Some x → slice_get now r ≡ Some z → slice_get replies r ≡ Some w → Heard header w x z)
     → (r : ℕ) (x z : Runner) (w : Reply) → r < i + 1 → slice_get old r ≡ Some x → slice_get (set now i b) r ≡ Some z → slice_get replies r ≡ Some w → Heard header w x z
-hear_more header replies old now i a b y e f g heard each r x z w l h k m = by_place (nat_lt r i) refl
-  where
-    here : r ≡ i → Heard header w x z
-    here at =
-        let was : a ≡ x = same_Some a x (sym e ∙ ap (slice_get old) (sym at) ∙ h) in
-        let is : b ≡ z = same_Some b z (sym (entry_set now i a b f) ∙ ap (slice_get (set now i b)) (sym at) ∙ k) in
-        let said : y ≡ w = same_Some y w (sym g ∙ ap (slice_get replies) (sym at) ∙ m) in
-        subst (λ (v : Reply). Heard header v x z) said (subst (λ (c : Runner). Heard header y x c) is (subst (λ (c : Runner). Heard header y c b) was heard))
-
-    by_place : (t : Bool) → nat_lt r i ≡ t → Heard header w x z
-    by_place true t =
-        let below : r < i = grind (arith, nat_tests) in
-        each r x z w below h (sym (entry_set_other now i r b (λ s. absurd (omega arith))) ∙ k) m
-    by_place false t = here (grind (arith, nat_tests))
+hear_more header replies old now i a b y e f g heard each r x z w l h k m =
+    grind (arith, nat_tests, cases_lt r i, each r x z w, entry_set_other now i r b, entry_set now i a b f, same_Some)
 
 -- what a rank heard, under the same header
 pub heard_by : (header : Header) (a b : Runner) (y : Reply) → a.rank.header ≡ header → b.rank.header ≡ a.rank.header

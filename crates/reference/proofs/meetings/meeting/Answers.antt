@@ -20,8 +20,8 @@ raise-requires c =
     let known = known_low c.args.offers.now _ (some_limit c.args.header.now.version) c.requires.known in
     record { needed = omega (arith, needed, is, known, c.known_of.ensures, c.max.ensures) }
 
-pub returns-clause-file : goal.returns-clause-file
-returns-clause-file c =
+pub returns : goal.returns
+returns c =
     let s = setting c.args.header.now c.args.overlap in
     let done : Done s c.args.offers.now c.args.file.now.items c.do_puts.new.file.items c.in_ok-needed.needed c.known_of.result c.in_ok-puts.puts.items c.in_ok-pair.pair = record {
       puts_are = c.in_ok-puts.ensures;
@@ -30,36 +30,14 @@ returns-clause-file c =
       needs = c.in_ok-needed.ensures.needs s refl ∙ ap (λ (ps : Puts). needs s ps c.in_ok-pair.pair) c.as_slice-2.ensures.value;
       known = c.known_of.ensures;
     } in
-    meeting_file s c.args.offers.now c.args.file.now.items c.do_puts.new.file.items _ c.args.records.now c.in_ok-needed.needed c.known_of.result c.max.result _ _ done
-    c.max.ensures c.in_ok-raise.ensures.file
-
-pub returns-clause-records : goal.returns-clause-records
-returns-clause-records c =
-    let s = setting c.args.header.now c.args.overlap in
-    let done : Done s c.args.offers.now c.args.file.now.items c.do_puts.new.file.items c.in_ok-needed.needed c.known_of.result c.in_ok-puts.puts.items c.in_ok-pair.pair = record {
-      puts_are = c.in_ok-puts.ensures;
-      pair_is = c.in_ok-pair.ensures ∙ ap (λ (ps : Puts). told s ps) c.as_slice.ensures.value;
-      file = c.in_ok-needed.ensures.file s refl ∙ ap (λ (ps : Puts). after_puts s ps c.in_ok-pair.pair c.args.file.now.items) c.as_slice-2.ensures.value;
-      needs = c.in_ok-needed.ensures.needs s refl ∙ ap (λ (ps : Puts). needs s ps c.in_ok-pair.pair) c.as_slice-2.ensures.value;
-      known = c.known_of.ensures;
-    } in
-    meeting_records s c.args.offers.now c.args.file.now.items c.do_puts.new.file.items c.args.records.now _ c.in_ok-needed.needed c.known_of.result c.max.result _ _ done
-    c.max.ensures c.in_ok-raise.ensures.records
-
-pub returns-clause-replies : goal.returns-clause-replies
-returns-clause-replies c =
-    let s = setting c.args.header.now c.args.overlap in
-    let done : Done s c.args.offers.now c.args.file.now.items c.do_puts.new.file.items c.in_ok-needed.needed c.known_of.result c.in_ok-puts.puts.items c.in_ok-pair.pair = record {
-      puts_are = c.in_ok-puts.ensures;
-      pair_is = c.in_ok-pair.ensures ∙ ap (λ (ps : Puts). told s ps) c.as_slice.ensures.value;
-      file = c.in_ok-needed.ensures.file s refl ∙ ap (λ (ps : Puts). after_puts s ps c.in_ok-pair.pair c.args.file.now.items) c.as_slice-2.ensures.value;
-      needs = c.in_ok-needed.ensures.needs s refl ∙ ap (λ (ps : Puts). needs s ps c.in_ok-pair.pair) c.as_slice-2.ensures.value;
-      known = c.known_of.ensures;
-    } in
-    meeting_replies s c.args.offers.now c.args.file.now.items c.do_puts.new.file.items c.raise.new.file.items c.args.records.now c.raise.new.records c.in_ok-needed.needed c.known_of.result
-    _ _ _ done
-    (meeting_file s c.args.offers.now c.args.file.now.items c.do_puts.new.file.items _ c.args.records.now c.in_ok-needed.needed c.known_of.result c.max.result _ _ done
-    c.max.ensures c.in_ok-raise.ensures.file)
-    (meeting_records s c.args.offers.now c.args.file.now.items c.do_puts.new.file.items c.args.records.now _ c.in_ok-needed.needed c.known_of.result c.max.result _ _ done
-    c.max.ensures c.in_ok-raise.ensures.records)
-    (c.in_ok-all.ensures s refl ∙ ap (λ (f : List ℕ). map (reply_to s c.in_ok-pair.pair c.raise.new.records f) c.args.offers.now) c.as_slice-3.ensures.value)
+    let file = meeting_file s c.args.offers.now c.args.file.now.items c.do_puts.new.file.items _ c.args.records.now c.in_ok-needed.needed c.known_of.result c.max.result _ _ done
+    c.max.ensures c.in_ok-raise.ensures.file in
+    let records = meeting_records s c.args.offers.now c.args.file.now.items c.do_puts.new.file.items c.args.records.now _ c.in_ok-needed.needed c.known_of.result c.max.result _ _ done
+    c.max.ensures c.in_ok-raise.ensures.records in
+    record {
+      file = file;
+      records = records;
+      replies = meeting_replies s c.args.offers.now c.args.file.now.items c.do_puts.new.file.items c.raise.new.file.items c.args.records.now c.raise.new.records c.in_ok-needed.needed
+          c.known_of.result _ _ _ done file records
+          (c.in_ok-all.ensures s refl ∙ ap (λ (f : List ℕ). map (reply_to s c.in_ok-pair.pair c.raise.new.records f) c.args.offers.now) c.as_slice-3.ensures.value);
+    }

@@ -3,18 +3,8 @@ use Rattle.reference.proofs.Words.{◌≡◌, ◌∙◌, refl, sym, subst, lengt
 use Rattle.reference.proofs.StepLaws.{hear_more, heard_by, hears_fit, holds_one, may_hear}
 use Rattle.reference.proofs.stand.hear_all.Goals as goal
 
-pub hear-requires-clause-waits : goal.hear-requires-clause-waits
-hear-requires-clause-waits c =
-    let i = c.loop-number.number in
-    let now = c.loop-number.runners in
-    let long = c.loop-number.auto.runners in
-    let test = c.loop-number-test.true in
-    let runner = get_or now i c.index-runners-number.result in
-    let there = sym (c.loop-number.invariant.left i (omega arith)) ∙ slice_get-get_or now i c.index-runners-number.result (omega arith) in
-    (holds_one c.args.header.now runner (c.requires.waiting i runner there)).asked.waits
-
-pub hear-requires-clause-fits : goal.hear-requires-clause-fits
-hear-requires-clause-fits c =
+pub hear-requires : goal.hear-requires
+hear-requires c =
     let i = c.loop-number.number in
     let now = c.loop-number.runners in
     let long = c.loop-number.auto.runners in
@@ -25,18 +15,12 @@ hear-requires-clause-fits c =
     let waits = c.requires.waiting i runner there in
     let holds = holds_one c.args.header.now runner waits in
     let said = slice_get_read c.args.replies.now (length c.args.replies.now) i c.index-replies-number.result refl (omega arith) c.index-replies-number.is in
-    hears_fit c.args.header.now runner holds.offer c.in_ok-clone.field-0 waits holds.is
-    (c.requires.fit i runner holds.offer c.in_ok-clone.field-0 there holds.is (subst (λ (y : Reply). slice_get c.args.replies.now i ≡ Some y) (sym c.in_ok-clone.ensures) said))
-
-pub hear-requires-clause-ready : goal.hear-requires-clause-ready
-hear-requires-clause-ready c =
-    let i = c.loop-number.number in
-    let now = c.loop-number.runners in
-    let long = c.loop-number.auto.runners in
-    let test = c.loop-number-test.true in
-    let runner = get_or now i c.index-runners-number.result in
-    let there = sym (c.loop-number.invariant.left i (omega arith)) ∙ slice_get-get_or now i c.index-runners-number.result (omega arith) in
-    may_hear c.args.header.now runner c.in_ok-clone.field-0 (c.requires.waiting i runner there)
+    record {
+      waits = holds.asked.waits;
+      fits = hears_fit c.args.header.now runner holds.offer c.in_ok-clone.field-0 waits holds.is
+          (c.requires.fit i runner holds.offer c.in_ok-clone.field-0 there holds.is (subst (λ (y : Reply). slice_get c.args.replies.now i ≡ Some y) (sym c.in_ok-clone.ensures) said));
+      ready = may_hear c.args.header.now runner c.in_ok-clone.field-0 waits;
+    }
 
 pub loop-number-preserved : goal.loop-number-preserved
 loop-number-preserved c =

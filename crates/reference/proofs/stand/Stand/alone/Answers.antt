@@ -10,59 +10,37 @@ solo-requires-clause-right c =
     let there = slice_get_read runners (length runners) c.args.rank runner refl c.requires.rank c.index_mut-runner.ensures.value in
     (runner_offer c.args.header.now runner c.in-Some.offer (c.requires.waiting runner there) c.in-Some.is).right
 
-pub hear-requires-clause-waits : goal.hear-requires-clause-waits
-hear-requires-clause-waits c =
+pub hear-requires : goal.hear-requires
+hear-requires c =
     let runners = c.args.self.now.runners.items in
     let runner = c.index_mut-runner.result.now in
-    let there = slice_get_read runners (length runners) c.args.rank runner refl c.requires.rank c.index_mut-runner.ensures.value in
-    (held_asked c.args.header.now runner c.in-Some.offer (c.requires.waiting runner there) c.in-Some.is).waits
+    let waiting = c.requires.waiting runner (slice_get_read runners (length runners) c.args.rank runner refl c.requires.rank c.index_mut-runner.ensures.value) in
+    record {
+      waits = (held_asked c.args.header.now runner c.in-Some.offer waiting c.in-Some.is).waits;
+      fits = own_fits (setting c.args.header.now c.args.overlap) c.args.rank c.in-Some.offer c.args.self.now.file.items runner c.in_ok-reply.reply waiting c.in-Some.is
+          c.in_ok-reply.ensures.reply;
+      ready = may_hear c.args.header.now runner c.in_ok-reply.reply waiting;
+    }
 
-pub hear-requires-clause-fits : goal.hear-requires-clause-fits
-hear-requires-clause-fits c =
-    let runners = c.args.self.now.runners.items in
-    let runner = c.index_mut-runner.result.now in
-    let there = slice_get_read runners (length runners) c.args.rank runner refl c.requires.rank c.index_mut-runner.ensures.value in
-    own_fits (setting c.args.header.now c.args.overlap) c.args.rank c.in-Some.offer c.args.self.now.file.items runner c.in_ok-reply.reply (c.requires.waiting runner there) c.in-Some.is
-    c.in_ok-reply.ensures.reply
-
-pub hear-requires-clause-ready : goal.hear-requires-clause-ready
-hear-requires-clause-ready c =
-    let runners = c.args.self.now.runners.items in
-    let runner = c.index_mut-runner.result.now in
-    let there = slice_get_read runners (length runners) c.args.rank runner refl c.requires.rank c.index_mut-runner.ensures.value in
-    may_hear c.args.header.now runner c.in_ok-reply.reply (c.requires.waiting runner there)
-
-pub returns-in_ok-hear-clause-step : goal.returns-in_ok-hear-clause-step
-returns-in_ok-hear-clause-step c = λ n.
+pub returns-in_ok-hear : goal.returns-in_ok-hear
+returns-in_ok-hear c =
+    let s = setting c.args.header.now c.args.overlap in
     let runners = c.args.self.now.runners.items in
     let runner = c.index_mut-runner.result.now in
     let there = slice_get_read runners (length runners) c.args.rank runner refl c.requires.rank c.index_mut-runner.ensures.value in
     let waits = c.requires.waiting runner there in
-    alone_step (setting c.args.header.now c.args.overlap) runners runner c.hear.new.self c.in-Some.offer c.in_ok-reply.reply c.args.self.now.file.items c.solo.new.file.items
-    c.args.self.now.records c.args.rank n there c.in-Some.is c.in_ok-reply.ensures.file c.in_ok-reply.ensures.reply
-    (heard_by c.args.header.now runner c.hear.new.self c.in_ok-reply.reply waits.of_header c.in_ok-hear.ensures.header c.in_ok-hear.ensures.gone)
+    let heard = heard_by c.args.header.now runner c.hear.new.self c.in_ok-reply.reply waits.of_header c.in_ok-hear.ensures.header c.in_ok-hear.ensures.gone in
+    record {
+      step = λ n. alone_step s runners runner c.hear.new.self c.in-Some.offer c.in_ok-reply.reply c.args.self.now.file.items c.solo.new.file.items c.args.self.now.records c.args.rank n
+          there c.in-Some.is c.in_ok-reply.ensures.file c.in_ok-reply.ensures.reply heard;
+      heard = has_heard c.args.header.now c.args.rank runners runner c.hear.new.self there
+          (own_reply s c.args.rank c.in-Some.offer c.args.self.now.file.items runner c.hear.new.self c.in_ok-reply.reply
+          (runner_offer c.args.header.now runner c.in-Some.offer waits c.in-Some.is) c.in_ok-reply.ensures.reply heard);
+      records = refl;
+    }
 
-pub returns-in_ok-hear-clause-heard : goal.returns-in_ok-hear-clause-heard
-returns-in_ok-hear-clause-heard c =
-    let runners = c.args.self.now.runners.items in
-    let runner = c.index_mut-runner.result.now in
-    let there = slice_get_read runners (length runners) c.args.rank runner refl c.requires.rank c.index_mut-runner.ensures.value in
-    let waits = c.requires.waiting runner there in
-    has_heard c.args.header.now c.args.rank runners runner c.hear.new.self there
-    (own_reply (setting c.args.header.now c.args.overlap) c.args.rank c.in-Some.offer c.args.self.now.file.items runner c.hear.new.self c.in_ok-reply.reply
-    (runner_offer c.args.header.now runner c.in-Some.offer waits c.in-Some.is) c.in_ok-reply.ensures.reply
-    (heard_by c.args.header.now runner c.hear.new.self c.in_ok-reply.reply waits.of_header c.in_ok-hear.ensures.header c.in_ok-hear.ensures.gone))
-
-pub returns-in_default-clause-step : goal.returns-in_default-clause-step
-returns-in_default-clause-step c = λ n.
-    let runners = c.args.self.now.runners.items in
-    let runner = c.index_mut-runner.result.now in
-    let there = slice_get_read runners (length runners) c.args.rank runner refl c.requires.rank c.index_mut-runner.ensures.value in
-    let holds = holds_one c.args.header.now runner (c.requires.waiting runner there) in
-    absurd (c.in_default.not-Some holds.offer holds.is)
-
-pub returns-in_default-clause-heard : goal.returns-in_default-clause-heard
-returns-in_default-clause-heard c =
+pub returns-in_default : goal.returns-in_default
+returns-in_default c =
     let runners = c.args.self.now.runners.items in
     let runner = c.index_mut-runner.result.now in
     let there = slice_get_read runners (length runners) c.args.rank runner refl c.requires.rank c.index_mut-runner.ensures.value in

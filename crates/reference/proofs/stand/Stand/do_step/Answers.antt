@@ -15,32 +15,28 @@ alone-requires-clause-waiting c = λ runner e.
     own_wait c.args.script.now c.args.header.now c.args.order.now c.args.place c.in-Solo.rank c.in-Solo.field-1 c.args.self.now runner c.requires.lawful c.requires.legal there
     c.requires.stands e
 
-pub returns-in-Meet-clause-step : goal.returns-in-Meet-clause-step
-returns-in-Meet-clause-step c =
+pub returns-in-Meet : goal.returns-in-Meet
+returns-in-Meet c =
     let there = slice_get-get_or c.args.order.now c.args.place (mark.Meet 0) c.requires.place ∙ ap (λ (m : Mark). Some m) c.in-Meet.is in
-    on_ok_weaker c.meet.result (λ step. λ m e.
-    subst (λ (x : Mark). stand_of c.meet.new.self ≡ step_to (setting_of c.args.script.now c.args.header.now) (stand_of c.args.self.now) x)
-    (same_Some (mark.Meet c.in-Meet.field-0) m (sym there ∙ e)) (step c.in-Meet.field-0)) c.meet.ensures.step
+    record {
+      step = on_ok_weaker c.meet.result (λ step. λ m e.
+          subst (λ (x : Mark). stand_of c.meet.new.self ≡ step_to (setting_of c.args.script.now c.args.header.now) (stand_of c.args.self.now) x)
+          (same_Some (mark.Meet c.in-Meet.field-0) m (sym there ∙ e)) (step c.in-Meet.field-0)) c.meet.ensures.step;
+      stands = ok_both c.meet.result (λ _. HaveHeard c.args.header.now c.args.self.now.runners.items c.meet.new.self.runners.items)
+          (λ _. c.meet.new.self.records < record_limit c.args.header.now.version)
+          (λ _. IsStanding c.args.script.now c.args.header.now (take (c.args.place + 1) c.args.order.now) c.meet.new.self)
+          (λ _ heard low. meeting_stands c.args.script.now c.args.header.now c.args.order.now c.args.place c.in-Meet.field-0 c.args.self.now c.meet.new.self c.requires.legal there
+          c.requires.stands heard low) c.meet.ensures.heard c.meet.ensures.records;
+    }
 
-pub returns-in-Meet-clause-stands : goal.returns-in-Meet-clause-stands
-returns-in-Meet-clause-stands c =
-    let there = slice_get-get_or c.args.order.now c.args.place (mark.Meet 0) c.requires.place ∙ ap (λ (m : Mark). Some m) c.in-Meet.is in
-    ok_both c.meet.result (λ _. HaveHeard c.args.header.now c.args.self.now.runners.items c.meet.new.self.runners.items)
-    (λ _. c.meet.new.self.records < record_limit c.args.header.now.version)
-    (λ _. IsStanding c.args.script.now c.args.header.now (take (c.args.place + 1) c.args.order.now) c.meet.new.self)
-    (λ _ heard low. meeting_stands c.args.script.now c.args.header.now c.args.order.now c.args.place c.in-Meet.field-0 c.args.self.now c.meet.new.self c.requires.legal there
-    c.requires.stands heard low) c.meet.ensures.heard c.meet.ensures.records
-
-pub returns-in-Solo-clause-step : goal.returns-in-Solo-clause-step
-returns-in-Solo-clause-step c =
+pub returns-in-Solo : goal.returns-in-Solo
+returns-in-Solo c =
     let there = slice_get-get_or c.args.order.now c.args.place (mark.Meet 0) c.requires.place ∙ ap (λ (m : Mark). Some m) c.in-Solo.is in
-    on_ok_weaker c.alone.result (λ step. λ m e.
-    subst (λ (x : Mark). stand_of c.alone.new.self ≡ step_to (setting_of c.args.script.now c.args.header.now) (stand_of c.args.self.now) x)
-    (same_Some (mark.Solo c.in-Solo.rank c.in-Solo.field-1) m (sym there ∙ e)) (step c.in-Solo.field-1)) c.alone.ensures.step
-
-pub returns-in-Solo-clause-stands : goal.returns-in-Solo-clause-stands
-returns-in-Solo-clause-stands c =
-    let there = slice_get-get_or c.args.order.now c.args.place (mark.Meet 0) c.requires.place ∙ ap (λ (m : Mark). Some m) c.in-Solo.is in
-    on_ok_weaker c.alone.result (λ heard.
-    own_stands c.args.script.now c.args.header.now c.args.order.now c.args.place c.in-Solo.rank c.in-Solo.field-1 c.args.self.now c.alone.new.self c.requires.legal there
-    c.requires.stands heard c.alone.ensures.records) c.alone.ensures.heard
+    record {
+      step = on_ok_weaker c.alone.result (λ step. λ m e.
+          subst (λ (x : Mark). stand_of c.alone.new.self ≡ step_to (setting_of c.args.script.now c.args.header.now) (stand_of c.args.self.now) x)
+          (same_Some (mark.Solo c.in-Solo.rank c.in-Solo.field-1) m (sym there ∙ e)) (step c.in-Solo.field-1)) c.alone.ensures.step;
+      stands = on_ok_weaker c.alone.result (λ heard.
+          own_stands c.args.script.now c.args.header.now c.args.order.now c.args.place c.in-Solo.rank c.in-Solo.field-1 c.args.self.now c.alone.new.self c.requires.legal there
+          c.requires.stands heard c.alone.ensures.records) c.alone.ensures.heard;
+    }
