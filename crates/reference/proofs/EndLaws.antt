@@ -1,84 +1,63 @@
 -- The order of a run step by step, and its end.
-use Rattle.reference.proofs.Words.{◌≡◌, ℕ, suc, ◌+◌, ◌<◌, ◌≤◌, refl, sym, ◌∙◌, ap, subst, inl, inr, ◌⊎◌, List, [], ◌∷◌, ◌++◌, length, map, max, drop, take, fold, get_or, true, cond, Some, arith, cases_eq, nat_tests, drop_all, drop_more, take_all, take-append-drop, get_or_from_slice_get, slice_get_within, slice_get, nat_lt, map_map, entry_below, take_next, Answer, Header, Script, Mark, Setting, IsLegal, is_lawful, record_limit, with_records, serial_from, setting_of, close_by, counted, less_max, first_stand, step_to, serial_of_arrivals, most_known, AreLow, going_of, IsRunner, IsWaiting, stand_of, AreWaiting, HasHeard, HaveHeard, IsStanding, Runner, Stand, some_limit}
+use Rattle.reference.proofs.Words.{◌≡◌, ℕ, suc, ◌+◌, ◌<◌, ◌≤◌, refl, sym, ◌∙◌, ap, subst, inl, inr, List, [], ◌∷◌, ◌++◌, length, map, max, drop, take, fold, true, cond, Some, arith, cases_eq, nat_tests, drop_more, take_all, take-append-drop, get_or_from_slice_get, slice_get_within, slice_get, nat_lt, map_map, entry_below, take_next, Answer, Header, Script, Mark, Setting, IsLegal, concerns, equal_itself, is_lawful, record_limit, with_records, serial_from, setting_of, close_by, counted, less_max, first_stand, step_to, serial_of_arrivals, most_known, AreLow, going_of, IsRunner, IsWaiting, stand_of, HasHeard, HaveHeard, HeardOne, IsStanding, Runner, Stand, some_limit}
 use Rattle.nc_base.specs.declared.step.Mark.TheVariants as mark
 use Rattle.serial_spec.specs.RankMachine as machine
 use Rattle.run_laws.specs.Arrivals as arrivals
-use Rattle.reference.proofs.NextLaws.{beside_runner, meeting_runner, meeting_waits, own_runner, own_waits}
+use Rattle.reference.proofs.NextLaws.{beside_runner, heard_next, waits_next}
 
--- ---- the order
+-- ---- the next mark of an order
 
-order_split : (order : List Mark) (n : ℕ) (m : Mark) → slice_get order n ≡ Some m → take n order ++ m ∷ drop (n + 1) order ≡ order
-order_split order n m e =
-    grind (arith, nat_tests, get_or_from_slice_get order n m m e, drop_more order n m (slice_get_within order n m e), take-append-drop n order, slice_get_within)
+module _ (script : Script) (header : Header) (order : List Mark) (n : ℕ) (m : Mark) (legal : IsLegal script order) (e : slice_get order n ≡ Some m) where
+  order_split : take n order ++ m ∷ drop (n + 1) order ≡ order
+  order_split = grind (arith, nat_tests, get_or_from_slice_get order n m m e, drop_more order n m (slice_get_within order n m e), take-append-drop n order, slice_get_within)
 
-legal_split : (script : Script) (order : List Mark) (n : ℕ) (m : Mark) → slice_get order n ≡ Some m → IsLegal script order → IsLegal script (take n order ++ m ∷ drop (n + 1) order)
-legal_split script order n m e legal = subst (λ (o : List Mark). IsLegal script o) (sym (order_split order n m e)) legal
+  legal_split : IsLegal script (take n order ++ m ∷ drop (n + 1) order)
+  legal_split = subst (λ (o : List Mark). IsLegal script o) (sym order_split) legal
 
-below_all : (script : Script) (header : Header) (order : List Mark) (stand : Stand) (r : ℕ) (runner : Runner) → IsStanding script header order stand
-    → slice_get stand.runners.items r ≡ Some runner → r < script.ranks
-below_all script header order stand r runner h e = let l = slice_get_within stand.runners.items r runner e in let all = h.all in omega arith
+  below_all : (stand : Stand) (r : ℕ) (runner : Runner) → IsStanding script header (take n order) stand → slice_get stand.runners.items r ≡ Some runner → r < script.ranks
+  below_all stand r runner h f = let l = slice_get_within stand.runners.items r runner f in let all = h.all in omega arith
 
--- ---- a meeting
+  pub wait_next : (stand : Stand) (r : ℕ) (runner : Runner) → is_lawful script ≡ true → IsStanding script header (take n order) stand → slice_get stand.runners.items r ≡ Some runner
+      → concerns r m ≡ true → IsWaiting header runner
+  wait_next stand r runner lawful h f own =
+      waits_next script header (take n order) (drop (n + 1) order) m r runner lawful legal_split own (below_all stand r runner h f) (h.each r runner f)
 
-pub meeting_all_wait : (script : Script) (header : Header) (order : List Mark) (n k : ℕ) (stand : Stand) → is_lawful script ≡ true → IsLegal script order
-    → slice_get order n ≡ Some (mark.Meet k) → IsStanding script header (take n order) stand → AreWaiting header stand.runners.items
-meeting_all_wait script header order n k stand lawful legal e h r runner f =
-    meeting_waits script header (take n order) (drop (n + 1) order) r k runner (legal_split script order n (mark.Meet k) e legal) lawful
-    (below_all script header (take n order) stand r runner h f) (h.each r runner f)
+  module _ (before after : Stand) (h : IsStanding script header (take n order) before) where
+    -- a rank whose offer the mark was has heard the reply
+    heard_runner : (r : ℕ) (b : Runner) → length after.runners.items ≡ length before.runners.items
+        → ((a : Runner) → slice_get before.runners.items r ≡ Some a → HeardOne header a b) → concerns r m ≡ true → slice_get after.runners.items r ≡ Some b
+        → IsRunner script header (take n order ++ m ∷ []) r b
+    heard_runner r b long heard own f =
+        let l = slice_get_within after.runners.items r b f in
+        let a = entry_below before.runners.items r (omega arith) in
+        heard_next script header (take n order) (drop (n + 1) order) m r a.0 b legal_split own (below_all before r a.0 h a.1) (h.each r a.0 a.1) (heard a.0 a.1)
+
+    stands_next : length after.runners.items ≡ length before.runners.items → after.records < record_limit header.version
+        → ((r : ℕ) (b : Runner) → slice_get after.runners.items r ≡ Some b → IsRunner script header (take n order ++ m ∷ []) r b)
+        → IsStanding script header (take (n + 1) order) after
+    stands_next long low each =
+        subst (λ (o : List Mark). IsStanding script header o after) (sym (take_next order n m e)) (record { all = long ∙ h.all; records = low; each = each })
 
 pub meeting_stands : (script : Script) (header : Header) (order : List Mark) (n k : ℕ) (before after : Stand) → IsLegal script order → slice_get order n ≡ Some (mark.Meet k)
     → IsStanding script header (take n order) before → HaveHeard header before.runners.items after.runners.items → after.records < record_limit header.version
     → IsStanding script header (take (n + 1) order) after
 meeting_stands script header order n k before after legal e h heard low =
-    subst (λ (o : List Mark). IsStanding script header o after) (sym (take_next order n (mark.Meet k) e)) (record {
-      all = heard.long ∙ h.all;
-      records = low;
-      each = λ r b f.
-          let l = slice_get_within after.runners.items r b f in
-          let long = heard.long in
-          let a = entry_below before.runners.items r (omega arith) in
-          meeting_runner script header (take n order) (drop (n + 1) order) r k a.0 b (legal_split script order n (mark.Meet k) e legal)
-          (below_all script header (take n order) before r a.0 h a.1) (h.each r a.0 a.1) (heard.each r a.0 b a.1 f);
-    })
-
--- ---- a step of one rank alone
-
-pub own_wait : (script : Script) (header : Header) (order : List Mark) (n q k : ℕ) (stand : Stand) (runner : Runner) → is_lawful script ≡ true → IsLegal script order
-    → slice_get order n ≡ Some (mark.Solo q k) → IsStanding script header (take n order) stand → slice_get stand.runners.items q ≡ Some runner → IsWaiting header runner
-own_wait script header order n q k stand runner lawful legal e h f =
-    own_waits script header (take n order) (drop (n + 1) order) q k runner (legal_split script order n (mark.Solo q k) e legal) lawful
-    (below_all script header (take n order) stand q runner h f) (h.each q runner f)
+    stands_next script header order n (mark.Meet k) legal e before after h heard.long low
+    (λ r b f. heard_runner script header order n (mark.Meet k) legal e before after h r b heard.long (λ a g. heard.each r a b g f) refl f)
 
 pub own_stands : (script : Script) (header : Header) (order : List Mark) (n q k : ℕ) (before after : Stand) → IsLegal script order → slice_get order n ≡ Some (mark.Solo q k)
     → IsStanding script header (take n order) before → HasHeard header q before.runners.items after.runners.items → after.records ≡ before.records
     → IsStanding script header (take (n + 1) order) after
 own_stands script header order n q k before after legal e h heard same =
-    subst (λ (o : List Mark). IsStanding script header o after) (sym (take_next order n (mark.Solo q k) e)) (record {
-      all = heard.long ∙ h.all;
-      records = subst (λ (m : ℕ). m < record_limit header.version) (sym same) h.records;
-      each = λ r b f. elim (cases_eq r q) [
-        | inl at ↦ subst (λ (z : ℕ). IsRunner script header (take n order ++ mark.Solo q k ∷ []) z b) (sym at) (own b (ap (slice_get after.runners.items) (sym at) ∙ f))
-        | inr other ↦ beside_runner script header (take n order) r q k b (λ z. other (sym z)) (h.each r b (sym (heard.others r other) ∙ f))
-      ];
-    })
-  where
-    own : (b : Runner) → slice_get after.runners.items q ≡ Some b → IsRunner script header (take n order ++ mark.Solo q k ∷ []) q b
-    own b f =
-        let l = slice_get_within after.runners.items q b f in
-        let long = heard.long in
-        let a = entry_below before.runners.items q (omega arith) in
-        own_runner script header (take n order) (drop (n + 1) order) q k a.0 b (legal_split script order n (mark.Solo q k) e legal)
-        (below_all script header (take n order) before q a.0 h a.1) (h.each q a.0 a.1) (heard.own a.0 b a.1 f)
+    let own : (b : Runner) → slice_get after.runners.items q ≡ Some b → IsRunner script header (take n order ++ mark.Solo q k ∷ []) q b
+    = λ b f. heard_runner script header order n (mark.Solo q k) legal e before after h q b heard.long (λ a g. heard.own a b g f) (equal_itself q) f in
+    stands_next script header order n (mark.Solo q k) legal e before after h heard.long (subst (λ (m : ℕ). m < record_limit header.version) (sym same) h.records)
+    (λ r b f. elim (cases_eq r q) [
+      | inl at ↦ subst (λ (z : ℕ). IsRunner script header (take n order ++ mark.Solo q k ∷ []) z b) (sym at) (own b (ap (slice_get after.runners.items) (sym at) ∙ f))
+      | inr other ↦ beside_runner script header (take n order) r q k b (λ z. other (sym z)) (h.each r b (sym (heard.others r other) ∙ f))
+    ])
 
 -- ---- the close
-
--- the count that one rank more knows
-pub known_step : (runners : List Runner) (i : ℕ) (runner : Runner) (known own more : ℕ) → i < length runners → runner ≡ get_or runners i runner → own ≡ runner.rank.state.known
-    → more ≡ max known own → max known (most_known (drop i runners)) ≡ most_known runners → max more (most_known (drop (i + 1) runners)) ≡ most_known runners
-known_step runners i runner known own more l e k m h = grind (arith, nat_tests, drop_more)
-
-pub known_end : (runners : List Runner) (i known : ℕ) → length runners ≤ i → max known (most_known (drop i runners)) ≡ most_known runners → known ≡ most_known runners
-known_end runners i known l h = grind (arith, nat_tests, drop_all)
 
 pub known_low : (header : Header) (runners : List Runner) → AreLow header runners → most_known runners < record_limit header.version
 known_low header [] all = some_limit header.version

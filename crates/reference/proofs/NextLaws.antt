@@ -1,5 +1,5 @@
 -- The next step of a legal order finds its ranks at their offers, and leaves each where the order with that step says.
-use Rattle.reference.proofs.Words.{◌≡◌, ℕ, ◌<◌, ◌≢◌, refl, sym, ◌∙◌, ap, subst, inl, inr, List, [], ◌∷◌, ◌++◌, length, Bool, true, cond, Option, None, Some, append_assoc, append_cancel_left, filter-append, filter, IfSome, IsSomeAnd, if_some_at, equal_itself, Header, Script, Mark, Offer, Reply, IsLegal, concerns, marks, is_lawful, record_limit, hear, Going, hears, less_max, meetings, marks_left, IsOnWay, AsksAlone, hears_keeps, way_beside, way_hears, way_solo, IsAsked, IsPlaced, IsRunner, IsWaiting, MayGoOn, going_of, HeardOne, Runner, arith, nat_tests}
+use Rattle.reference.proofs.Words.{◌≡◌, ℕ, ◌<◌, ◌≢◌, refl, sym, ◌∙◌, ap, subst, inl, inr, List, [], ◌∷◌, ◌++◌, length, Bool, true, cond, Option, None, Some, append_assoc, append_cancel_left, filter-append, filter, IfSome, IsSomeAnd, if_some_at, equal_itself, first_same, Header, Script, Mark, Offer, Reply, IsLegal, concerns, marks, is_lawful, record_limit, hear, Going, hears, less_max, meetings, marks_left, IsOnWay, AsksAlone, hears_keeps, way_beside, way_hears, way_solo, IsAsked, IsPlaced, IsRunner, IsWaiting, going_of, HeardOne, Runner, arith, nat_tests}
 use Rattle.nc_base.specs.declared.step.Mark.TheVariants as mark
 
 -- ---- after the reply
@@ -15,11 +15,6 @@ alone_done script header order r s o y asks =
     let heard = hear header s.rank y in
     way_solo script order r header (record { rank = asks.before; answers = s.answers; calls = asks.call ∷ s.calls }) s.rank heard.0 o y heard.1 asks.call s.calls
     asks.way refl asks.step asks.few refl
-
-pub ready_after : (script : Script) (header : Header) (order : List Mark) (r : ℕ) (s : Going) (o : Offer) → is_lawful script ≡ true → r < script.ranks
-    → IsPlaced script header order r s (Some o) → (y : Reply) → MayGoOn (hears header s y)
-ready_after script header order r s o lawful below (inl way) y = grind (arith, nat_tests, meeting_done script header order r s o y way)
-ready_after script header order r s o lawful below (inr asks) y = grind (arith, nat_tests, alone_done script header order r s o y asks)
 
 -- ---- the next mark
 
@@ -45,71 +40,57 @@ alone_left script header done r s o y rest asks left =
 no_reply : Reply
 no_reply = record { pair = None; records = 0; got = [] }
 
-pub record AtMeeting (script : Script) (done : List Mark) (r k : ℕ) (s : Going) (held : Option Offer) : Type 0 where
+-- the rank holds the offer of the next mark, and after the reply it is where the order with that mark says
+record AtNext (script : Script) (header : Header) (done : List Mark) (m : Mark) (r : ℕ) (s : Going) (held : Option Offer) : Type 0 where
   pub offer : Offer
   pub holds : held ≡ Some offer
-  pub way : IsOnWay script done r s (Some offer)
-  pub number : meetings done ≡ k
+  pub way : (y : Reply) → IsOnWay script (done ++ m ∷ []) r (hears header s y) None
 
-meeting_next : (script : Script) (header : Header) (done : List Mark) (r k : ℕ) (s : Going) (held : Option Offer) (rest : List Mark) → Left script done r (mark.Meet k ∷ rest)
-    → IsPlaced script header done r s held → AtMeeting script done r k s held
-meeting_next script header done r k s None rest left (way, ended) = grind (arith, nat_tests)
-meeting_next script header done r k s (Some o) rest left (inl way) = grind (arith, nat_tests)
-meeting_next script header done r k s (Some o) rest left (inr asks) =
-    grind (arith, nat_tests, alone_left script header done r s o no_reply (mark.Meet k ∷ rest) asks left, no_reply)
-
-pub record AtOwn (script : Script) (header : Header) (done : List Mark) (r n : ℕ) (s : Going) (held : Option Offer) : Type 0 where
-  pub offer : Offer
-  pub holds : held ≡ Some offer
-  pub asks : AsksAlone script header done r s offer
-  pub number : length s.answers ≡ n
-
-own_next : (script : Script) (header : Header) (done : List Mark) (r n : ℕ) (s : Going) (held : Option Offer) (rest : List Mark) → Left script done r (mark.Solo r n ∷ rest)
-    → IsPlaced script header done r s held → AtOwn script header done r n s held
-own_next script header done r n s None rest left (way, ended) = grind (arith, nat_tests)
-own_next script header done r n s (Some o) rest left (inl way) = grind (arith, nat_tests)
-own_next script header done r n s (Some o) rest left (inr asks) =
-    grind (arith, nat_tests, alone_left script header done r s o no_reply (mark.Solo r n ∷ rest) asks left, no_reply)
+at_next : (script : Script) (header : Header) (done : List Mark) (m : Mark) (r : ℕ) (s : Going) (held : Option Offer) (rest : List Mark) → Left script done r (m ∷ rest)
+    → IsPlaced script header done r s held → AtNext script header done m r s held
+at_next script header done m r s None rest left (way, ended) = grind (arith, nat_tests, left (marks_left r (meetings done) s None) way.marks)
+at_next script header done m r s (Some o) rest left (inl way) = record {
+  offer = o;
+  holds = refl;
+  way = λ y. subst (λ (n : Mark). IsOnWay script (done ++ n ∷ []) r (hears header s y) None) (first_same _ m _ rest (left (marks_left r (meetings done) s (Some o)) way.marks))
+      (meeting_done script header done r s o y way);
+}
+at_next script header done m r s (Some o) rest left (inr asks) = record {
+  offer = o;
+  holds = refl;
+  way = λ y. subst (λ (n : Mark). IsOnWay script (done ++ n ∷ []) r (hears header s y) None) (first_same _ m _ rest (alone_left script header done r s o y (m ∷ rest) asks left).1)
+      (alone_done script header done r s o y asks);
+}
 
 -- ---- runners
 
-waits_with : (script : Script) (header : Header) (done : List Mark) (r : ℕ) (runner : Runner) (o : Offer) → is_lawful script ≡ true → r < script.ranks
-    → IsRunner script header done r runner → runner.held ≡ Some o → IsWaiting header runner
-waits_with script header done r runner o lawful below is e = record {
-  of_header = is.of_header;
-  low = is.low;
-  asked = grind (arith, nat_tests, is.asked);
-  ready = ready_after script header done r (going_of runner) o lawful below (subst (λ (m : Option Offer). IsPlaced script header done r (going_of runner) m) e is.placed);
-}
+runner_at : (script : Script) (header : Header) (done rest : List Mark) (m : Mark) (r : ℕ) (runner : Runner) → IsLegal script (done ++ m ∷ rest) → concerns r m ≡ true → r < script.ranks
+    → IsRunner script header done r runner → AtNext script header done m r (going_of runner) runner.held
+runner_at script header done rest m r runner legal own below is =
+    at_next script header done m r (going_of runner) runner.held (filter (concerns r) rest) (next_left script done rest m r legal below own) is.placed
 
-pub meeting_waits : (script : Script) (header : Header) (done rest : List Mark) (r k : ℕ) (runner : Runner) → IsLegal script (done ++ mark.Meet k ∷ rest) → is_lawful script ≡ true
-    → r < script.ranks → IsRunner script header done r runner → IsWaiting header runner
-meeting_waits script header done rest r k runner legal lawful below is =
-    let at = meeting_next script header done r k (going_of runner) runner.held (filter (concerns r) rest) (next_left script done rest (mark.Meet k) r legal below refl) is.placed in
-    waits_with script header done r runner at.offer lawful below is at.holds
-
-pub own_waits : (script : Script) (header : Header) (done rest : List Mark) (r n : ℕ) (runner : Runner) → IsLegal script (done ++ mark.Solo r n ∷ rest) → is_lawful script ≡ true
-    → r < script.ranks → IsRunner script header done r runner → IsWaiting header runner
-own_waits script header done rest r n runner legal lawful below is =
-    let at = own_next script header done r n (going_of runner) runner.held (filter (concerns r) rest) (next_left script done rest (mark.Solo r n) r legal below (equal_itself r)) is.placed in
-    waits_with script header done r runner at.offer lawful below is at.holds
+pub waits_next : (script : Script) (header : Header) (done rest : List Mark) (m : Mark) (r : ℕ) (runner : Runner) → is_lawful script ≡ true → IsLegal script (done ++ m ∷ rest)
+    → concerns r m ≡ true → r < script.ranks → IsRunner script header done r runner → IsWaiting header runner
+waits_next script header done rest m r runner lawful legal own below is =
+    let at = runner_at script header done rest m r runner legal own below is in
+    let asks = if_some_at (IsAsked header runner.rank.state) runner.held at.offer at.holds is.asked in
+    record {
+      of_header = is.of_header;
+      low = is.low;
+      asked = subst (λ (held : Option Offer). IsSomeAnd held (IsAsked header runner.rank.state)) (sym at.holds) asks;
+      ready = λ y. record { script = script; order = done ++ m ∷ []; r = r; lawful = lawful; one_of = below; way = at.way y };
+    }
 
 running : (script : Script) (header : Header) (done : List Mark) (r : ℕ) (a b : Runner) (o : Offer) (one : HeardOne header a b) → a.held ≡ Some o
     → IfSome a.held (IsAsked header a.rank.state) → a.rank.state.known < record_limit header.version
     → IsOnWay script done r (hears header (going_of a) one.reply) None → IsRunner script header done r b
 running script header done r a b o one e asked low way = grind (arith, nat_tests, if_some_at, hears_keeps, less_max)
 
-pub meeting_runner : (script : Script) (header : Header) (done rest : List Mark) (r k : ℕ) (a b : Runner) → IsLegal script (done ++ mark.Meet k ∷ rest) → r < script.ranks
-    → IsRunner script header done r a → HeardOne header a b → IsRunner script header (done ++ mark.Meet k ∷ []) r b
-meeting_runner script header done rest r k a b legal below is one =
-    let at = meeting_next script header done r k (going_of a) a.held (filter (concerns r) rest) (next_left script done rest (mark.Meet k) r legal below refl) is.placed in
-    grind (arith, nat_tests, at, meeting_done script header done r (going_of a) at.offer one.reply at.way, running)
-
-pub own_runner : (script : Script) (header : Header) (done rest : List Mark) (r n : ℕ) (a b : Runner) → IsLegal script (done ++ mark.Solo r n ∷ rest) → r < script.ranks
-    → IsRunner script header done r a → HeardOne header a b → IsRunner script header (done ++ mark.Solo r n ∷ []) r b
-own_runner script header done rest r n a b legal below is one =
-    let at = own_next script header done r n (going_of a) a.held (filter (concerns r) rest) (next_left script done rest (mark.Solo r n) r legal below (equal_itself r)) is.placed in
-    grind (arith, nat_tests, at, alone_done script header done r (going_of a) at.offer one.reply at.asks, running)
+pub heard_next : (script : Script) (header : Header) (done rest : List Mark) (m : Mark) (r : ℕ) (a b : Runner) → IsLegal script (done ++ m ∷ rest) → concerns r m ≡ true
+    → r < script.ranks → IsRunner script header done r a → HeardOne header a b → IsRunner script header (done ++ m ∷ []) r b
+heard_next script header done rest m r a b legal own below is one =
+    let at = runner_at script header done rest m r a legal own below is in
+    running script header (done ++ m ∷ []) r a b at.offer one at.holds is.asked is.low (at.way one.reply)
 
 pub beside_runner : (script : Script) (header : Header) (done : List Mark) (r q n : ℕ) (runner : Runner) → q ≢ r → IsRunner script header done r runner
     → IsRunner script header (done ++ mark.Solo q n ∷ []) r runner

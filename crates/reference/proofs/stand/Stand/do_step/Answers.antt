@@ -1,19 +1,21 @@
 -- The next step of a legal order.
-use Rattle.reference.proofs.Words.{◌≡◌, ◌+◌, ◌<◌, ◌∙◌, sym, ap, subst, take, Some, same_Some, slice_get-get_or, on_ok_weaker, Mark, record_limit, setting_of, step_to, ok_both, stand_of, HaveHeard, IsStanding}
+use Rattle.reference.proofs.Words.{◌≡◌, ◌+◌, ◌<◌, ◌∙◌, refl, sym, ap, subst, take, equal_itself, Some, same_Some, slice_get-get_or, on_ok_weaker, Mark, record_limit, setting_of, step_to, ok_both, stand_of, HaveHeard, IsStanding}
 use Rattle.nc_base.specs.declared.step.Mark.TheVariants as mark
-use Rattle.reference.proofs.EndLaws.{meeting_all_wait, meeting_stands, own_stands, own_wait}
+use Rattle.reference.proofs.EndLaws.{meeting_stands, own_stands, wait_next}
 use Rattle.reference.proofs.stand.Stand.do_step.Goals as goal
 
 pub meet-requires-clause-waiting : goal.meet-requires-clause-waiting
 meet-requires-clause-waiting c =
     let there = slice_get-get_or c.args.order.now c.args.place (mark.Meet 0) c.requires.place ∙ ap (λ (m : Mark). Some m) c.in-Meet.is in
-    meeting_all_wait c.args.script.now c.args.header.now c.args.order.now c.args.place c.in-Meet.field-0 c.args.self.now c.requires.lawful c.requires.legal there c.requires.stands
+    λ r runner e.
+    wait_next c.args.script.now c.args.header.now c.args.order.now c.args.place (mark.Meet c.in-Meet.field-0) c.requires.legal there c.args.self.now r runner c.requires.lawful c.requires.stands
+    e refl
 
 pub alone-requires-clause-waiting : goal.alone-requires-clause-waiting
 alone-requires-clause-waiting c = λ runner e.
     let there = slice_get-get_or c.args.order.now c.args.place (mark.Meet 0) c.requires.place ∙ ap (λ (m : Mark). Some m) c.in-Solo.is in
-    own_wait c.args.script.now c.args.header.now c.args.order.now c.args.place c.in-Solo.rank c.in-Solo.field-1 c.args.self.now runner c.requires.lawful c.requires.legal there
-    c.requires.stands e
+    wait_next c.args.script.now c.args.header.now c.args.order.now c.args.place (mark.Solo c.in-Solo.rank c.in-Solo.field-1) c.requires.legal there c.args.self.now c.in-Solo.rank runner
+    c.requires.lawful c.requires.stands e (equal_itself c.in-Solo.rank)
 
 pub returns-in-Meet : goal.returns-in-Meet
 returns-in-Meet c =
