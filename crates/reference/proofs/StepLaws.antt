@@ -1,5 +1,5 @@
 -- The steps of a run: the offers of its ranks, the replies to them, and the ranks that have heard.
-use Rattle.reference.proofs.Words.{◌≡◌, ℕ, zero, suc, ◌+◌, ◌-◌, ◌<◌, ◌≤◌, refl, sym, ◌∙◌, ap, subst, inl, inr, List, [], ◌∷◌, ◌++◌, length, map, max, set, drop, get_or, Bool, true, false, Option, Some, append_assoc, append-nil, length-set, arith, nat_tests, cases_lt, drop_all, drop_more, map-set, same_Some, slice_get-map, slice_get, nat_lt, zip, flat_map, IfSome, enumerate_from, entry_set, entry_set_other, Header, Offer, Reply, Counted, Setting, meeting, needs, puts_of, solo, told, record_limit, In, wanted, DoesFit, hears, offers_of, counted, IsRight, less_max, meeting_fits, solo_fits, meeting_within, replied, replies_long, at_in, heard, step_to, arrived, going_of, HasGone, IsAsked, IsWaiting, MayGoOn, all_arrived, AllHear, AreWaiting, DoFit, HasHeard, HaveHeard, Heard, HeardOne, Runner, some_limit}
+use Rattle.reference.proofs.Words.{◌≡◌, ℕ, zero, suc, ◌+◌, ◌-◌, ◌<◌, ◌≤◌, refl, sym, ◌∙◌, ap, subst, inl, inr, List, [], ◌∷◌, ◌++◌, length, map, max, set, drop, get_or, Option, Some, append_assoc, append-nil, length-set, arith, nat_tests, drop_all, drop_more, map-set, same_Some, slice_get-map, slice_get, zip, flat_map, IfSome, enumerate_from, entry_set, entry_set_other, Header, Offer, Reply, Counted, Setting, meeting, needs, puts_of, solo, told, record_limit, In, wanted, DoesFit, hears, offers_of, counted, IsRight, less_max, meeting_fits, solo_fits, meeting_within, replied, replies_long, at_in, heard, step_to, arrived, going_of, HasGone, IsAsked, IsWaiting, MayGoOn, all_arrived, AllHear, AreWaiting, DoFit, HasHeard, HaveHeard, Heard, HeardOne, Runner, some_limit}
 use Rattle.reference.proofs.MeetSteps.{needs_low, own_right, puts_right}
 use Rattle.nc_base.specs.declared.step.Mark.TheVariants as mark
 
@@ -106,14 +106,12 @@ replies_fit s runners c replies all e r runner o y f g h =
 pub heard_all : (header : Header) (before now : List Runner) (replies : List Reply) → AllHear header replies before now → length replies ≡ length before
     → all_arrived now ≡ map (heard header) (zip (all_arrived before) replies)
 heard_all header [] [] replies all l = refl
-heard_all header [] (b ∷ now) replies all l = let e = all.long in absurd (omega arith)
-heard_all header (a ∷ before) [] replies all l = let e = all.long in absurd (omega arith)
-heard_all header (a ∷ before) (b ∷ now) [] all l = absurd (omega arith)
 heard_all header (a ∷ before) (b ∷ now) (y ∷ replies) all l =
     let e = all.long in
     let own = (all.each 0 a b y refl refl refl).gone.arrived in
     let rest = heard_all header before now replies (record { long = omega arith; each = λ r c d z f g h. all.each (suc r) c d z f g h }) (omega arith) in
     λ i. own i ∷ rest i
+heard_all header before now replies all l = let e = all.long in absurd (omega arith)
 
 pub meeting_step : (s : Setting) (before now : List Runner) (replies : List Reply) (old file : List ℕ) (was records k : ℕ) → AreWaiting s.header before
     → file ≡ (meeting s (offers_of (all_arrived before)) (counted old was)).0.file → records ≡ (meeting s (offers_of (all_arrived before)) (counted old was)).0.records
@@ -137,14 +135,6 @@ have_heard s before now replies c waiting low y all = record {
         heard = all.each r a b x.reply e f (ap (λ (ys : List Reply). slice_get ys r) y ∙ x.is);
       };
 }
-
--- one rank more has heard
-pub hear_more : (header : Header) (replies : List Reply) (old now : List Runner) (i : ℕ) (a b : Runner) (y : Reply) → slice_get old i ≡ Some a → slice_get now i ≡ Some a
-    → slice_get replies i ≡ Some y → Heard header y a b
-    → ((r : ℕ) (x z : Runner) (w : Reply) → r < i → slice_get old r ≡ Some x → slice_get now r ≡ Some z → slice_get replies r ≡ Some w → Heard header w x z)
-    → (r : ℕ) (x z : Runner) (w : Reply) → r < i + 1 → slice_get old r ≡ Some x → slice_get (set now i b) r ≡ Some z → slice_get replies r ≡ Some w → Heard header w x z
-hear_more header replies old now i a b y e f g heard each r x z w l h k m =
-    grind (arith, nat_tests, cases_lt r i, each r x z w, entry_set_other now i r b, entry_set now i a b f, same_Some)
 
 -- what a rank heard, under the same header
 pub heard_by : (header : Header) (a b : Runner) (y : Reply) → a.rank.header ≡ header → b.rank.header ≡ a.rank.header

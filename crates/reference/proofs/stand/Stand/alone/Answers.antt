@@ -1,20 +1,18 @@
 -- The rank waits with an offer, and hears the reply to it.
-use Rattle.reference.proofs.Words.{refl, length, slice_get_read, setting}
+use Rattle.reference.proofs.Words.{refl, entry_read, setting}
 use Rattle.reference.proofs.StepLaws.{alone_step, has_heard, heard_by, held_asked, holds_one, may_hear, own_fits, own_reply, runner_offer}
 use Rattle.reference.proofs.stand.Stand.alone.Goals as goal
 
 pub solo-requires-clause-right : goal.solo-requires-clause-right
 solo-requires-clause-right c =
-    let runners = c.args.self.now.runners.items in
     let runner = c.index_mut-runner.result.now in
-    let there = slice_get_read runners (length runners) c.args.rank runner refl c.requires.rank c.index_mut-runner.ensures.value in
+    let there = entry_read c.args.self.now.runners.items c.args.rank runner c.requires.rank c.index_mut-runner.ensures.value in
     (runner_offer c.args.header.now runner c.in-Some.offer (c.requires.waiting runner there) c.in-Some.is).right
 
 pub hear-requires : goal.hear-requires
 hear-requires c =
-    let runners = c.args.self.now.runners.items in
     let runner = c.index_mut-runner.result.now in
-    let waiting = c.requires.waiting runner (slice_get_read runners (length runners) c.args.rank runner refl c.requires.rank c.index_mut-runner.ensures.value) in
+    let waiting = c.requires.waiting runner (entry_read c.args.self.now.runners.items c.args.rank runner c.requires.rank c.index_mut-runner.ensures.value) in
     record {
       waits = (held_asked c.args.header.now runner c.in-Some.offer waiting c.in-Some.is).waits;
       fits = own_fits (setting c.args.header.now c.args.overlap) c.args.rank c.in-Some.offer c.args.self.now.file.items runner c.in_ok-reply.reply waiting c.in-Some.is
@@ -27,7 +25,7 @@ returns-in_ok-hear c =
     let s = setting c.args.header.now c.args.overlap in
     let runners = c.args.self.now.runners.items in
     let runner = c.index_mut-runner.result.now in
-    let there = slice_get_read runners (length runners) c.args.rank runner refl c.requires.rank c.index_mut-runner.ensures.value in
+    let there = entry_read runners c.args.rank runner c.requires.rank c.index_mut-runner.ensures.value in
     let waits = c.requires.waiting runner there in
     let heard = heard_by c.args.header.now runner c.hear.new.self c.in_ok-reply.reply waits.of_header c.in_ok-hear.ensures.header c.in_ok-hear.ensures.gone in
     record {
@@ -41,8 +39,7 @@ returns-in_ok-hear c =
 
 pub returns-in_default : goal.returns-in_default
 returns-in_default c =
-    let runners = c.args.self.now.runners.items in
     let runner = c.index_mut-runner.result.now in
-    let there = slice_get_read runners (length runners) c.args.rank runner refl c.requires.rank c.index_mut-runner.ensures.value in
+    let there = entry_read c.args.self.now.runners.items c.args.rank runner c.requires.rank c.index_mut-runner.ensures.value in
     let holds = holds_one c.args.header.now runner (c.requires.waiting runner there) in
     absurd (c.in_default.not-Some holds.offer holds.is)
