@@ -11,23 +11,17 @@ step-requires-clause-share c =
     (first_call own c.call-item.result c.in-len1-up.len_at_least c.call-item.is)
 
 pub calls-preserved : goal.calls-preserved
-calls-preserved c =
-    let own = c.calls.self.calls.now in
-    record {
-      of_header = c.in_ok-answer.ensures.header ∙ c.calls.invariant.of_header;
-      free = c.calls.invariant.free;
-      come = comes_answered c.args.self.now.rank.header c.calls.self.rank.header (going_of c.args.self.now) (going_of c.calls.self) c.step.new.self.state c.in_ok-answer.field-0
-          c.in-Answered.answer c.push.new.self c.call-item.result (take (length own - 1) (drop 1 own)) c.calls.invariant.come
-          (first_call own c.call-item.result c.in-len1-up.len_at_least c.call-item.is) c.calls.invariant.of_header c.in_ok-answer.ensures.step c.in-Answered.is
-          c.in_ok-answer.ensures.held c.in_ok-push-in-Answered.ensures.ok;
-    }
+calls-preserved c = record {
+  of_header = c.in_ok-answer.ensures.header ∙ c.calls.invariant.of_header;
+  free = c.calls.invariant.free;
+  come = comes_answered _ _ _ _ _ _ _ _ c.calls.invariant.come (first_call c.calls.self.calls.now c.call-item.result c.in-len1-up.len_at_least c.call-item.is) c.calls.invariant.of_header
+      c.in_ok-answer.ensures.step c.in_ok-answer.ensures.held c.in-Answered.answer c.push.new.self c.in-Answered.is c.in_ok-push-in-Answered.ensures.ok;
+}
 
 pub returns-in-Meet-clause-gone : goal.returns-in-Meet-clause-gone
 returns-in-Meet-clause-gone c =
-    let own = c.calls.self.calls.now in
-    gone_offer c.args.self.now.rank.header c.calls.self.rank.header (going_of c.args.self.now) (going_of c.calls.self) c.step.new.self.state c.in-Meet.offer c.in_ok-answer.field-0
-    c.call-item.result (take (length own - 1) (drop 1 own)) c.calls.invariant.come (first_call own c.call-item.result c.in-len1-up.len_at_least c.call-item.is)
-    c.calls.invariant.of_header c.in_ok-answer.ensures.step c.in_ok-answer.ensures.held c.in_ok-answer.ensures.sound c.in-Meet.is
+    gone_offer _ _ _ _ _ _ _ _ c.calls.invariant.come (first_call c.calls.self.calls.now c.call-item.result c.in-len1-up.len_at_least c.call-item.is) c.calls.invariant.of_header
+    c.in_ok-answer.ensures.step c.in_ok-answer.ensures.held c.in-Meet.offer c.in_ok-answer.ensures.sound c.in-Meet.is
 
 pub returns-clause-gone : goal.returns-clause-gone
 returns-clause-gone c =
