@@ -1,5 +1,7 @@
 -- Lists that are gathered one entry after another.
-use Rattle.reference.proofs.Words.{◌≡◌, ℕ, suc, ◌+◌, ◌-◌, ◌<◌, ◌≤◌, sym, ap, ◌∙◌, List, [], ◌∷◌, ◌++◌, length, drop, append-nil, append_assoc, add-one, length-append, Some, arith, flat_map, slice_get, range_with_len, drop_all, map-id, map-range_with_len_more, at, longer, read, drop_at, nat_tests}
+use Rattle.reference.proofs.Words.{◌≡◌, ℕ, suc, ◌+◌, ◌-◌, ◌<◌, ◌≤◌, refl, sym, ap, ◌∙◌, List, [], ◌∷◌, ◌++◌, length, drop, get_or, map, max, greatest, drop_more, append-nil, append_assoc, add-one, length-append, Some, arith, flat_map, slice_get, range_with_len, drop_all, map-range_with_len_more, at, longer, read, drop_at, nat_tests}
+use Rattle.list_laws.proofs.Appends.{then_append}
+use Rattle.list_laws.proofs.Ranges.{range_push}
 
 -- one byte of zero more
 pub longer_push : (f : List ℕ) (n : ℕ) → length f < n → longer (f ++ 0 ∷ []) n ≡ longer f n
@@ -11,21 +13,14 @@ longer_push f n h =
 pub read_more : (file into into' old : List ℕ) (x k : ℕ) → into ≡ old ++ read file x k → into' ≡ into ++ at file (x + k) ∷ []
     → into' ≡ old ++ read file x (k + 1)
 read_more file into into' old x k e f =
-    f
-    ∙ ap (λ (l : List ℕ). l ++ at file (x + k) ∷ []) e
-    ∙ append_assoc old (read file x k) (at file (x + k) ∷ [])
+    then_append old into into' (read file x k) (at file (x + k) ∷ []) e f
     ∙ ap (λ (l : List ℕ). old ++ l) (sym (map-range_with_len_more (λ i. at file i) x k (x + k) (omega arith)))
 
 pub range_more : (list list' old : List ℕ) (x k : ℕ) → list ≡ old ++ range_with_len x k → list' ≡ list ++ (x + k) ∷ []
     → list' ≡ old ++ range_with_len x (k + 1)
 range_more list list' old x k e f =
-    f
-    ∙ ap (λ (l : List ℕ). l ++ (x + k) ∷ []) e
-    ∙ append_assoc old (range_with_len x k) ((x + k) ∷ [])
-    ∙ ap (λ (l : List ℕ). old ++ l)
-    (ap (λ (l : List ℕ). l ++ (x + k) ∷ []) (sym (map-id (range_with_len x k)))
-    ∙ sym (map-range_with_len_more (λ (i : ℕ). i) x k (x + k) (omega arith))
-    ∙ map-id (range_with_len x (k + 1)))
+    then_append old list list' (range_with_len x k) ((x + k) ∷ []) e f
+    ∙ ap (λ (l : List ℕ). old ++ l) (sym (ap (λ (n : ℕ). range_with_len x n) (add-one k) ∙ range_push x k (x + k) refl))
 
 -- what is gathered, and what the entries that are left give, is the whole
 pub gather_step : {A : Type 0} (f : ℕ → List A) (ps : List ℕ) (k x : ℕ) (out out' whole : List A) → slice_get ps k ≡ Some x → out' ≡ out ++ f x
@@ -34,3 +29,17 @@ gather_step {A} f ps k x out out' whole there e h = grind (arith, nat_tests, app
 
 pub gather_end : {A : Type 0} (f : ℕ → List A) (ps : List ℕ) (k : ℕ) (out whole : List A) → length ps ≤ k → out ++ flat_map f (drop k ps) ≡ whole → out ≡ whole
 gather_end {A} f ps k out whole l h = grind (arith, nat_tests, append-nil, drop_all)
+
+-- ---- one entry more
+
+pub next_left : {A : Type 0} (xs : List A) (i : ℕ) (x d : A) → i < length xs → x ≡ get_or xs i d → drop i xs ≡ x ∷ drop (i + 1) xs
+next_left {A} xs i x d h e = drop_more xs i d h ∙ ap (λ (y : A). y ∷ drop (i + 1) xs) (sym e)
+
+-- the greatest number so far, and those of the entries that are left
+pub greatest_step : {A : Type 0} (f : A → ℕ) (xs : List A) (i : ℕ) (x : A) (n m k w : ℕ) → i < length xs → x ≡ get_or xs i x → m ≡ f x → k ≡ max n m
+    → max n (greatest (map f (drop i xs))) ≡ w → max k (greatest (map f (drop (i + 1) xs))) ≡ w
+greatest_step {A} f xs i x n m k w h e g l so_far =
+    let is = ap (λ (ys : List A). greatest (map f ys)) (next_left xs i x x h e) in omega (arith, is, g, l, so_far)
+
+pub greatest_end : {A : Type 0} (f : A → ℕ) (xs : List A) (i n w : ℕ) → length xs ≤ i → max n (greatest (map f (drop i xs))) ≡ w → n ≡ w
+greatest_end {A} f xs i n w l h = let none = ap (λ (ys : List A). greatest (map f ys)) (drop_all i xs l) in omega (arith, none, h)

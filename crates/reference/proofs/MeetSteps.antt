@@ -1,16 +1,9 @@
 -- The offers of a meeting, one after another.
-use Rattle.reference.proofs.Words.{◌≡◌, ℕ, ◌+◌, ◌<◌, ◌≤◌, ◌⊎◌, inl, inr, refl, ap, ◌∙◌, List, [], ◌∷◌, ◌++◌, length, drop, get_or, map, max, cond, Option, Some, None, append-nil, append_assoc, arith, flat_map, nat_lt, slice_get, enumerate_from, drop_all, Pair, Header, Var, Post, Offer, Reply, In, map_in, after_puts, get_post, known_by, meeting, needs, puts_of, told, Setting, greatest, record_limit, needed, needed_by, records_of_some, with_records, check_some, Puts, IsAccepted, passed, records_below, reply_to, IsPut, IsRight, some_limit, known_less, in_either, nat_tests, common_steps}
+use Rattle.reference.proofs.Words.{◌≡◌, ℕ, ◌+◌, ◌<◌, ◌≤◌, inl, inr, refl, ap, ◌∙◌, List, [], ◌∷◌, ◌++◌, length, drop, get_or, map, max, cond, Option, Some, None, append-nil, append_assoc, arith, flat_map, nat_lt, slice_get, enumerate_from, drop_all, Pair, Header, Var, Post, Offer, Reply, In, map_in, after_puts, get_post, known_by, meeting, needs, puts_of, told, Setting, greatest, record_limit, needed, needed_by, records_of_some, with_records, check_some, Puts, IsAccepted, passed, records_below, reply_to, IsPut, IsRight, some_limit, known_less, in_either, nat_tests}
 use Rattle.nc_base.specs.declared.answer.Code.TheVariants as code
-use Rattle.reference.proofs.PairSteps.{next_left}
+use Rattle.reference.proofs.GatherLaws.{next_left}
 
 -- ---- the count that ranks know
-
-pub known_step : (offers : List Offer) (i : ℕ) (o : Offer) (n m k w : ℕ) → i < length offers → o ≡ get_or offers i o → m ≡ known_by o.kind o.known → k ≡ max n m
-    → max n (greatest (map (λ o. known_by o.kind o.known) (drop i offers))) ≡ w → max k (greatest (map (λ o. known_by o.kind o.known) (drop (i + 1) offers))) ≡ w
-known_step offers i o n m k w h e f g so_far = grind (arith, nat_tests, next_left, common_steps)
-
-pub known_end : (offers : List Offer) (i n w : ℕ) → length offers ≤ i → max n (greatest (map (λ o. known_by o.kind o.known) (drop i offers))) ≡ w → n ≡ w
-known_end offers i n w l h = grind (arith, nat_tests, drop_all)
 
 pub known_low : (offers : List Offer) (n : ℕ) → 0 < n → ((o : Offer) → In offers o → o.known < n) → greatest (map (λ o. known_by o.kind o.known) offers) < n
 known_low [] n some all = omega (arith, some)

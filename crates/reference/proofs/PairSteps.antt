@@ -1,5 +1,6 @@
 -- The requests that hold a byte, and the least byte that two hold, one holding after another.
-use Rattle.reference.proofs.Words.{◌≡◌, ℕ, ◌+◌, ◌<◌, refl, sym, ap, ◌∙◌, List, [], ◌∷◌, ◌++◌, length, map, drop, get_or, filter, fold, min, Bool, true, false, cond, Option, Some, None, drop_more, filter-append, list_any, Holding, Key, all_bytes, distinct, has_byte, holders, least, same_key, least_with, lesser_of, arith, nat_tests}
+use Rattle.reference.proofs.Words.{◌≡◌, ℕ, ◌+◌, ◌<◌, refl, sym, ap, ◌∙◌, List, [], ◌∷◌, ◌++◌, length, map, drop, get_or, filter, fold, min, Bool, true, false, cond, Option, Some, None, filter-append, list_any, Holding, Key, all_bytes, distinct, has_byte, holders, least, same_key, least_with, lesser_of, arith, nat_tests}
+use Rattle.reference.proofs.GatherLaws.{next_left}
 
 -- ---- holders
 
@@ -31,10 +32,7 @@ pub least_joined : (xs : List ℕ) (known : Option ℕ) (ys : List ℕ) → leas
 least_joined [] known ys = refl
 least_joined (x ∷ xs) known ys = least_joined xs (Some (lesser_of known x)) ys
 
--- ---- one entry more
-
-pub next_left : {A : Type 0} (xs : List A) (i : ℕ) (x d : A) → i < length xs → x ≡ get_or xs i d → drop i xs ≡ x ∷ drop (i + 1) xs
-next_left {A} xs i x d h e = drop_more xs i d h ∙ ap (λ (y : A). y ∷ drop (i + 1) xs) (sym e)
+-- ---- one byte, and one holding more
 
 pub least_step : (p : ℕ → Bool) (xs : List ℕ) (i b : ℕ) (s : Bool) (known known' whole : Option ℕ) → i < length xs → b ≡ get_or xs i 0 → s ≡ p b
     → known' ≡ cond s (Some (lesser_of known b)) known → least_with known (filter p (drop i xs)) ≡ whole → least_with known' (filter p (drop (i + 1) xs)) ≡ whole
@@ -44,9 +42,5 @@ pub held_step : (p : ℕ → Bool) (held : List Holding) (i : ℕ) (h : Holding)
     → known' ≡ least_with known (filter p h.1) → least_with known (filter p (all_bytes (drop i held))) ≡ whole
     → least_with known' (filter p (all_bytes (drop (i + 1) held))) ≡ whole
 held_step p held i h known known' whole l e k w =
-    let rest = drop (i + 1) held in
-    ap (λ (o : Option ℕ). least_with o (filter p (all_bytes rest))) k
-    ∙ sym (least_joined (filter p h.1) known (filter p (all_bytes rest)))
-    ∙ ap (λ (ys : List ℕ). least_with known ys) (sym (filter-append p h.1 (all_bytes rest)))
-    ∙ sym (ap (λ (hs : List Holding). least_with known (filter p (all_bytes hs))) (next_left held i h h l e))
-    ∙ w
+    let rest = all_bytes (drop (i + 1) held) in
+    grind (arith, nat_tests, next_left held i h h l e, filter-append p h.1 rest, least_joined (filter p h.1) known (filter p rest))

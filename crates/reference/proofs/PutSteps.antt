@@ -1,20 +1,13 @@
 -- The puts of a step, one after another.
 use Rattle.reference.proofs.Words.{◌≡◌, ℕ, ◌+◌, ◌^◌, ◌<◌, ◌≤◌, inl, inr, refl, sym, ap, ◌∙◌, List, [], ◌∷◌, length, drop, get_or, fold, max, Option, Some, None, true, arith, slice_get, IfSome, drop_all, Header, Var, Post, In, longer, after_puts, put_post, Setting, header_len, is_sound, end_of, needed, needed_by, records_of, records_of_some, put, Puts, sound_end, IsAccepted, small_of, nat_tests}
 use Rattle.nc_base.specs.declared.answer.Code.TheVariants as code
-use Rattle.reference.proofs.PairSteps.{next_left}
+use Rattle.reference.proofs.GatherLaws.{next_left}
 
 -- ---- the count
 
 pub needed_is : (header : Header) (p : ℕ × Post) (n : ℕ) → IsAccepted header p.1.var p.1.region → IfSome (slice_get header.vars p.1.var) (λ v. n ≡ records_of header v p.1.region)
     → n ≡ needed header p.1
 needed_is header p n a some = grind (arith, nat_tests)
-
-pub needed_step : (header : Header) (puts : Puts) (i : ℕ) (p : ℕ × Post) (n m k w : ℕ) → i < length puts → p ≡ get_or puts i p → m ≡ needed header p.1 → k ≡ max n m
-    → max n (needed_by header (drop i puts)) ≡ w → max k (needed_by header (drop (i + 1) puts)) ≡ w
-needed_step header puts i p n m k w h e f g so_far = grind (arith, nat_tests, next_left puts i p p h e)
-
-pub needed_end : (header : Header) (puts : Puts) (i n w : ℕ) → length puts ≤ i → max n (needed_by header (drop i puts)) ≡ w → n ≡ w
-needed_end header puts i n w l h = grind (arith, nat_tests, drop_all)
 
 one_end : (header : Header) (post : Post) → is_sound header ≡ true → IsAccepted header post.var post.region → end_of header (header_len header) (needed header post) < 2 ^ 62
 one_end header post sound a = by_var (slice_get header.vars post.var) refl

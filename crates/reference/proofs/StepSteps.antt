@@ -1,7 +1,7 @@
 -- The parts of a step, one entry after another.
 use Rattle.reference.proofs.Words.{◌≡◌, ℕ, ◌+◌, ◌<◌, ◌≤◌, List, [], ◌∷◌, ◌++◌, length, drop, get_or, map, append-nil, append_assoc, flat_map, slice_get, IfSome, enumerate_from, drop_all, Header, Post, Offer, get_post, puts_of, Setting, get, Puts, IsAccepted, arith, nat_tests}
 use Rattle.nc_base.specs.declared.answer.Code.TheVariants as code
-use Rattle.reference.proofs.PairSteps.{next_left}
+use Rattle.reference.proofs.GatherLaws.{next_left}
 
 pub puts_step : (offers : List Offer) (k : ℕ) (o : Offer) (out out' whole : Puts) → k < length offers → o ≡ get_or offers k o → out' ≡ out ++ puts_of (k, o)
     → out ++ flat_map puts_of (enumerate_from k (drop k offers)) ≡ whole → out' ++ flat_map puts_of (enumerate_from (k + 1) (drop (k + 1) offers)) ≡ whole
