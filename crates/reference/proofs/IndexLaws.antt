@@ -1,5 +1,5 @@
 -- The index of an element, one dimension after another, and how great its entries are.
-use Rattle.reference.proofs.Words.{◌≡◌, ℕ, ◌+◌, ◌-◌, ◌*◌, ◌/◌, ◌%◌, ◌^◌, ◌<◌, ◌≤◌, refl, sym, ◌∙◌, subst, List, [], ◌∷◌, ◌++◌, length, get_or, min, true, Some, arith, slice_get, AllByRecursion, mul-le, same_Some, each_weaker, Header, Var, Region, size_of, product, inner_lengths, is_record, recsize, row, place, record_of, within_record, HasRecord, IsIndex, IsElement, index_at, index_fixed, index_record, product_pos, place_fixed, place_record, row_below_bytes, is_sound, IsAccepted, coordinates_of, index_of, accepted_place, small_of, wide_records, AreBelow, split, rest, nat_tests}
+use Rattle.reference.proofs.Words.{◌≡◌, ℕ, ◌+◌, ◌-◌, ◌*◌, ◌/◌, ◌%◌, ◌^◌, ◌<◌, ◌≤◌, refl, sym, ap, ◌∙◌, subst, List, [], ◌∷◌, ◌++◌, length, get_or, min, true, Some, arith, slice_get, AllByRecursion, mul-le, same_Some, each_weaker, Header, Var, Region, size_of, product, inner_lengths, is_record, recsize, row, place, record_of, within_record, HasRecord, IsIndex, IsElement, index_at, index_fixed, index_record, product_pos, place_fixed, place_record, places, length-places, place_at, row_below_bytes, is_sound, IsAccepted, coordinates_of, index_of, accepted_place, small_of, wide_records, AreBelow, split, rest, nat_tests}
 
 -- ---- one dimension more
 
@@ -23,9 +23,20 @@ index_step starts counts strides number inner a b c below few e =
     grind (arith, nat_tests, step)
 
 -- all elements of a region that a check accepts are counted
-pub counted : (header : Header) (k : ℕ) (v : Var) (g : Region) (counts : List ℕ) (n : ℕ) → slice_get header.vars k ≡ Some v → IsAccepted header k g → counts ≡ g.count
+counted : (header : Header) (k : ℕ) (v : Var) (g : Region) (counts : List ℕ) (n : ℕ) → slice_get header.vars k ≡ Some v → IsAccepted header k g → counts ≡ g.count
     → n ≡ min (product counts) (2 ^ 64 - 1) → n ≡ product g.count
 counted header k v g counts n there accepted same e = grind (arith, nat_tests, small_of header k v g there accepted)
+
+-- the elements so far are counted, and so are those of which none is left
+pub numbered_place : (header : Header) (k : ℕ) (v : Var) (g : Region) (counts : List ℕ) (n i at : ℕ) → slice_get header.vars k ≡ Some v → IsAccepted header k g → counts ≡ g.count
+    → n ≡ min (product counts) (2 ^ 64 - 1) → i < n → at ≡ place header v (index_of g i) → slice_get (places header v g) i ≡ Some at
+numbered_place header k v g counts n i at there accepted same e below is =
+    let count = counted header k v g counts n there accepted same e in place_at header v g i (omega (arith, below, count)) ∙ ap (λ (x : ℕ). Some x) (sym is)
+
+pub all_numbered : (header : Header) (k : ℕ) (v : Var) (g : Region) (counts : List ℕ) (n i : ℕ) → slice_get header.vars k ≡ Some v → IsAccepted header k g → counts ≡ g.count
+    → n ≡ min (product counts) (2 ^ 64 - 1) → n ≤ i → length (places header v g) ≤ i
+all_numbered header k v g counts n i there accepted same e past =
+    let count = counted header k v g counts n there accepted same e in let long = length-places header v g in omega (arith, past, count, long)
 
 -- ---- none left
 

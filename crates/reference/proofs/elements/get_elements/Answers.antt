@@ -1,24 +1,22 @@
 -- One element more.
-use Rattle.reference.proofs.Words.{◌++◌, ◌∙◌, ℕ, Some, ap, sym, arith, size_of, read, places, length-places, place_at}
+use Rattle.reference.proofs.Words.{◌++◌, ◌∙◌, ℕ, ap, size_of, read, places}
 use Rattle.reference.proofs.GatherLaws.{gather_end, gather_step}
-use Rattle.reference.proofs.IndexLaws.{counted}
+use Rattle.reference.proofs.IndexLaws.{all_numbered, numbered_place}
 use Rattle.reference.proofs.elements.get_elements.Goals as goal
 
 pub loop-number-preserved : goal.loop-number-preserved
 loop-number-preserved c =
-    let count = counted c.args.header.now c.args.post.now.var c.args.of.now c.args.post.now.region c.as_slice.result.now c.element_count-number-end.result
-    c.requires.there c.requires.accepted c.as_slice.ensures c.element_count-number-end.ensures in
     gather_step (λ x. read c.args.file.now x (size_of c.args.of.now.kind)) (places c.args.header.now c.args.of.now c.args.post.now.region) c.loop-number.number c.in_ok-at.at
     c.loop-number.bytes.items _ _
-    (place_at c.args.header.now c.args.of.now c.args.post.now.region c.loop-number.number (omega (arith, c.loop-number-test.true, count)) ∙ ap Some (sym c.in_ok-at.ensures.place))
+    (numbered_place c.args.header.now c.args.post.now.var c.args.of.now c.args.post.now.region c.as_slice.result.now c.element_count-number-end.result
+    c.loop-number.number c.in_ok-at.at c.requires.there c.requires.accepted c.as_slice.ensures c.element_count-number-end.ensures c.loop-number-test.true c.in_ok-at.ensures.place)
     (c.in_ok-read.ensures ∙ ap (λ (n : ℕ). c.loop-number.bytes.items ++ read c.args.file.now c.in_ok-at.at n) c.size_of.ensures)
     c.loop-number.invariant
 
 pub returns : goal.returns
 returns c =
-    let count = counted c.args.header.now c.args.post.now.var c.args.of.now c.args.post.now.region c.as_slice.result.now c.element_count-number-end.result
-    c.requires.there c.requires.accepted c.as_slice.ensures c.element_count-number-end.ensures in
-    let long = length-places c.args.header.now c.args.of.now c.args.post.now.region in
     c.from_vec.ensures
-    ∙ gather_end (λ x. read c.args.file.now x (size_of c.args.of.now.kind)) (places c.args.header.now c.args.of.now c.args.post.now.region) c.loop-number.number
-    c.loop-number.bytes.items _ (omega (arith, c.loop-number-test.false, count, long)) c.loop-number.invariant
+    ∙ gather_end (λ x. read c.args.file.now x (size_of c.args.of.now.kind)) (places c.args.header.now c.args.of.now c.args.post.now.region) c.loop-number.number c.loop-number.bytes.items _
+    (all_numbered c.args.header.now c.args.post.now.var c.args.of.now c.args.post.now.region c.as_slice.result.now c.element_count-number-end.result
+    c.loop-number.number c.requires.there c.requires.accepted c.as_slice.ensures c.element_count-number-end.ensures c.loop-number-test.false)
+    c.loop-number.invariant

@@ -8,21 +8,20 @@ push_index-requires-clause-low c =
     rw (c.as_slice.ensures, c.as_slice-2.ensures, c.as_slice-3.ensures)
     (numbered_below c.args.header.now c.args.var c.args.of.now c.args.region.now c.args.number c.requires.sound c.requires.there c.requires.accepted c.requires.number)
 
-pub place-requires-clause-there : goal.place-requires-clause-there
-place-requires-clause-there c = slice_get_within c.args.header.now.vars c.args.var c.args.of.now c.requires.there
-
-pub place-requires-clause-valid : goal.place-requires-clause-valid
-place-requires-clause-valid c = λ x there.
-    numbered_element c.args.header.now c.args.var c.args.of.now x c.args.region.now c.args.number _ c.requires.sound c.requires.there c.requires.accepted c.requires.number
-    (index_is c.args.region.now c.args.number _ _ _ _ _ c.new-index.ensures.items c.as_slice.ensures c.as_slice-2.ensures c.as_slice-3.ensures (c.as_slice-4.ensures.value ∙ c.in_ok-push_index.ensures))
-    there
-
-pub place-requires-clause-below : goal.place-requires-clause-below
-place-requires-clause-below c = λ x there.
-    let low = numbered_low c.args.header.now c.args.var c.args.of.now x c.args.region.now c.args.number c.as_slice-4.result.now c.requires.sound c.requires.there c.requires.accepted c.requires.number
-    (index_is c.args.region.now c.args.number _ _ _ _ _ c.new-index.ensures.items c.as_slice.ensures c.as_slice-2.ensures c.as_slice-3.ensures (c.as_slice-4.ensures.value ∙ c.in_ok-push_index.ensures))
-    there in
-    omega (arith, low)
+pub place-requires : goal.place-requires
+place-requires c =
+    let r = c.requires in
+    let is = index_is c.args.region.now c.args.number _ _ _ _ _ c.new-index.ensures.items c.as_slice.ensures c.as_slice-2.ensures c.as_slice-3.ensures
+    (c.as_slice-4.ensures.value ∙ c.in_ok-push_index.ensures) in
+    record {
+      sound = r.sound;
+      there = slice_get_within c.args.header.now.vars c.args.var c.args.of.now r.there;
+      valid = λ x there.
+          numbered_element c.args.header.now c.args.var c.args.of.now x c.args.region.now c.args.number c.as_slice-4.result.now r.sound r.there r.accepted r.number is there;
+      below = λ x there.
+          let low = numbered_low c.args.header.now c.args.var c.args.of.now x c.args.region.now c.args.number c.as_slice-4.result.now r.sound r.there r.accepted r.number is there in
+          omega (arith, low);
+    }
 
 pub returns-clause-low : goal.returns-clause-low
 returns-clause-low c =
