@@ -52,13 +52,6 @@ pub record Done (s : Setting) (offers : List Offer) (old mid : List ℕ) (n k : 
   pub needs : n ≡ needs s puts pair
   pub known : k ≡ greatest (map (λ o. known_by o.kind o.known) offers)
 
--- with the puts and the pair of the definition
-same_done : (s : Setting) (offers : List Offer) (old mid : List ℕ) (n k : ℕ) (puts : Puts) (pair : Option Pair) → Done s offers old mid n k puts pair
-    → (mid ≡ after_puts s (flat_map puts_of (enumerate_from 0 offers)) (told s (flat_map puts_of (enumerate_from 0 offers))) old)
-    × (max n k ≡ max (needs s (flat_map puts_of (enumerate_from 0 offers)) (told s (flat_map puts_of (enumerate_from 0 offers)))) (greatest (map (λ o. known_by o.kind o.known) offers)))
-    × (pair ≡ told s (flat_map puts_of (enumerate_from 0 offers)))
-same_done s offers old mid n k puts pair d = grind (arith, nat_tests)
-
 pub meeting_file : (s : Setting) (offers : List Offer) (old mid now : List ℕ) (r n k m : ℕ) (puts : Puts) (pair : Option Pair) → Done s offers old mid n k puts pair → m ≡ max n k
     → now ≡ cond (nat_lt r m) (with_records s.header.version mid m) mid → now ≡ (meeting s offers (record { file = old; records = r })).0.file
 meeting_file s offers old mid now r n k m puts pair d top e = grind (arith, nat_tests)
@@ -71,9 +64,8 @@ pub meeting_replies : (s : Setting) (offers : List Offer) (old mid file : List �
     → file ≡ (meeting s offers (record { file = old; records = r })).0.file → records ≡ (meeting s offers (record { file = old; records = r })).0.records
     → all ≡ map (reply_to s pair records file) offers → all ≡ (meeting s offers (record { file = old; records = r })).1
 meeting_replies s offers old mid file r records n k puts pair all d f g e =
-    let p = same_done s offers old mid n k puts pair d in
     e
-    ∙ ap (λ (o : Option Pair). map (reply_to s o records file) offers) p.2
+    ∙ ap (λ (o : Option Pair). map (reply_to s o records file) offers) (d.pair_is ∙ ap (λ (ps : Puts). told s ps) d.puts_are)
     ∙ ap (λ (x : ℕ). map (reply_to s (told s (flat_map puts_of (enumerate_from 0 offers))) x file) offers) g
     ∙ ap (λ (x : List ℕ). map (reply_to s (told s (flat_map puts_of (enumerate_from 0 offers))) (meeting s offers (record { file = old; records = r })).0.records x) offers) f
 

@@ -30,14 +30,11 @@ returns c =
       needs = c.in_ok-needed.ensures.needs s refl ∙ ap (λ (ps : Puts). needs s ps c.in_ok-pair.pair) c.as_slice-2.ensures.value;
       known = c.known_of.ensures;
     } in
-    let file = meeting_file s c.args.offers.now c.args.file.now.items c.do_puts.new.file.items _ c.args.records.now c.in_ok-needed.needed c.known_of.result c.max.result _ _ done
-    c.max.ensures c.in_ok-raise.ensures.file in
-    let records = meeting_records s c.args.offers.now c.args.file.now.items c.do_puts.new.file.items c.args.records.now _ c.in_ok-needed.needed c.known_of.result c.max.result _ _ done
-    c.max.ensures c.in_ok-raise.ensures.records in
+    let file = meeting_file _ _ _ _ _ c.args.records.now _ _ _ _ _ done c.max.ensures c.in_ok-raise.ensures.file in
+    let records = meeting_records _ _ _ _ c.args.records.now _ _ _ _ _ _ done c.max.ensures c.in_ok-raise.ensures.records in
     record {
       file = file;
       records = records;
-      replies = meeting_replies s c.args.offers.now c.args.file.now.items c.do_puts.new.file.items c.raise.new.file.items c.args.records.now c.raise.new.records c.in_ok-needed.needed
-          c.known_of.result _ _ _ done file records
+      replies = meeting_replies _ _ _ _ c.raise.new.file.items c.args.records.now c.raise.new.records _ _ _ _ _ done file records
           (c.in_ok-all.ensures s refl ∙ ap (λ (f : List ℕ). map (reply_to s c.in_ok-pair.pair c.raise.new.records f) c.args.offers.now) c.as_slice-3.ensures.value);
     }
