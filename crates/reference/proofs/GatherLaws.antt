@@ -27,8 +27,10 @@ pub gather_step : {A : Type 0} (f : ℕ → List A) (ps : List ℕ) (k x : ℕ) 
     → out ++ flat_map f (drop k ps) ≡ whole → out' ++ flat_map f (drop (k + 1) ps) ≡ whole
 gather_step {A} f ps k x out out' whole there e h = grind (arith, nat_tests, append_assoc out (f x) (flat_map f (drop (k + 1) ps)), add-one k, drop_at ps k x there)
 
-pub gather_end : {A : Type 0} (f : ℕ → List A) (ps : List ℕ) (k : ℕ) (out whole : List A) → length ps ≤ k → out ++ flat_map f (drop k ps) ≡ whole → out ≡ whole
-gather_end {A} f ps k out whole l h = grind (arith, nat_tests, append-nil, drop_all)
+-- none is left: what was gathered is the whole
+pub none_left : {A B : Type 0} (f : List A → List B) (xs : List A) (i : ℕ) (out whole : List B) → f [] ≡ [] → length xs ≤ i → out ++ f (drop i xs) ≡ whole → out ≡ whole
+none_left {A} {B} f xs i out whole e l h =
+    sym (append-nil out) ∙ ap (λ (ys : List B). out ++ ys) (sym e) ∙ ap (λ (ys : List A). out ++ f ys) (sym (drop_all i xs l)) ∙ h
 
 -- ---- one entry more
 

@@ -1,5 +1,5 @@
 -- The offers of a meeting, one after another.
-use Rattle.reference.proofs.Words.{◌≡◌, ℕ, ◌+◌, ◌<◌, ◌≤◌, inl, inr, refl, ap, ◌∙◌, List, [], ◌∷◌, ◌++◌, length, drop, get_or, map, max, cond, Option, Some, None, append-nil, append_assoc, arith, flat_map, nat_lt, slice_get, enumerate_from, drop_all, Pair, Header, Var, Post, Offer, Reply, In, map_in, after_puts, get_post, known_by, meeting, needs, puts_of, told, Setting, greatest, record_limit, needed, needed_by, records_of_some, with_records, check_some, Puts, IsAccepted, passed, records_below, reply_to, IsPut, IsRight, some_limit, known_less, in_either, nat_tests}
+use Rattle.reference.proofs.Words.{◌≡◌, ℕ, ◌+◌, ◌<◌, inl, inr, refl, ap, ◌∙◌, List, [], ◌∷◌, ◌++◌, length, drop, get_or, map, max, cond, Option, Some, None, append_assoc, arith, flat_map, nat_lt, slice_get, enumerate_from, Pair, Header, Var, Post, Offer, Reply, In, map_in, after_puts, get_post, known_by, meeting, needs, puts_of, told, Setting, greatest, record_limit, needed, needed_by, records_of_some, with_records, check_some, Puts, IsAccepted, passed, records_below, reply_to, IsPut, IsRight, some_limit, known_less, in_either, nat_tests}
 use Rattle.nc_base.specs.declared.answer.Code.TheVariants as code
 use Rattle.reference.proofs.GatherLaws.{next_left}
 
@@ -77,8 +77,3 @@ pub reply_step : (header : Header) (pair : Option Pair) (records : ℕ) (file : 
     → ((s : Setting) → s.header ≡ header → all ++ map (reply_to s pair records file) (drop i offers) ≡ map (reply_to s pair records file) offers)
     → (s : Setting) → s.header ≡ header → all' ++ map (reply_to s pair records file) (drop (i + 1) offers) ≡ map (reply_to s pair records file) offers
 reply_step header pair records file offers i o got all all' h e is f so_far s same = grind (arith, nat_tests, next_left offers i o o h e, append_assoc)
-
-pub reply_end : (header : Header) (pair : Option Pair) (records : ℕ) (file : List ℕ) (offers : List Offer) (i : ℕ) (all : List Reply) → length offers ≤ i
-    → ((s : Setting) → s.header ≡ header → all ++ map (reply_to s pair records file) (drop i offers) ≡ map (reply_to s pair records file) offers)
-    → (s : Setting) → s.header ≡ header → all ≡ map (reply_to s pair records file) offers
-reply_end header pair records file offers i all l h s same = grind (arith, nat_tests, append-nil, drop_all)

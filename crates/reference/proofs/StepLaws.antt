@@ -1,5 +1,5 @@
 -- The steps of a run: the offers of its ranks, the replies to them, and the ranks that have heard.
-use Rattle.reference.proofs.Words.{◌≡◌, ℕ, zero, suc, ◌+◌, ◌-◌, ◌<◌, ◌≤◌, refl, sym, ◌∙◌, ap, subst, inl, inr, List, [], ◌∷◌, ◌++◌, length, map, max, set, drop, get_or, Option, Some, append_assoc, append-nil, length-set, arith, nat_tests, drop_all, drop_more, map-set, same_Some, slice_get-map, slice_get, zip, flat_map, IfSome, enumerate_from, entry_set, entry_set_other, Header, Offer, Reply, Counted, Setting, meeting, needs, puts_of, solo, told, record_limit, In, wanted, DoesFit, hears, offers_of, counted, IsRight, less_max, meeting_fits, solo_fits, meeting_within, replied, replies_long, at_in, heard, step_to, arrived, going_of, HasGone, IsAsked, IsWaiting, MayGoOn, all_arrived, AllHear, AreWaiting, DoFit, HasHeard, HaveHeard, Heard, HeardOne, Runner, some_limit}
+use Rattle.reference.proofs.Words.{◌≡◌, ℕ, zero, suc, ◌+◌, ◌-◌, ◌<◌, ◌≤◌, refl, sym, ◌∙◌, ap, subst, inl, inr, List, [], ◌∷◌, ◌++◌, length, map, max, set, drop, get_or, Option, Some, append_assoc, length-set, arith, nat_tests, drop_more, map-set, same_Some, slice_get-map, slice_get, zip, flat_map, IfSome, enumerate_from, entry_set, entry_set_other, Header, Offer, Reply, Counted, Setting, meeting, needs, puts_of, solo, told, record_limit, In, wanted, DoesFit, hears, offers_of, counted, IsRight, less_max, meeting_fits, solo_fits, meeting_within, replied, replies_long, at_in, heard, step_to, arrived, going_of, HasGone, IsAsked, IsWaiting, MayGoOn, all_arrived, AllHear, AreWaiting, DoFit, HasHeard, HaveHeard, Heard, HeardOne, Runner, some_limit}
 use Rattle.reference.proofs.MeetSteps.{needs_low, own_right, puts_right}
 use Rattle.nc_base.specs.declared.step.Mark.TheVariants as mark
 
@@ -24,9 +24,6 @@ pub offers_step : (runners : List Runner) (i : ℕ) (runner : Runner) (offers mo
     → more ≡ offers ++ offers_of (arrived runner ∷ []) → offers ++ offers_of (all_arrived (drop i runners)) ≡ whole
     → more ++ offers_of (all_arrived (drop (i + 1) runners)) ≡ whole
 offers_step runners i runner offers more whole l e m h = grind (arith, nat_tests, append_assoc, drop_more)
-
-pub offers_end : (runners : List Runner) (i : ℕ) (offers whole : List Offer) → length runners ≤ i → offers ++ offers_of (all_arrived (drop i runners)) ≡ whole → offers ≡ whole
-offers_end runners i offers whole l h = grind (arith, nat_tests, append-nil, drop_all)
 
 pub offers_long : (header : Header) (runners : List Runner) → AreWaiting header runners → length (offers_of (all_arrived runners)) ≡ length runners
 offers_long header [] all = refl

@@ -1,6 +1,6 @@
 -- One element more.
-use Rattle.reference.proofs.Words.{◌++◌, ◌∙◌, ℕ, ap, range_with_len, size_of, places}
-use Rattle.reference.proofs.GatherLaws.{gather_end, gather_step}
+use Rattle.reference.proofs.Words.{◌++◌, ◌∙◌, ℕ, refl, ap, flat_map, range_with_len, size_of, places}
+use Rattle.reference.proofs.GatherLaws.{gather_step, none_left}
 use Rattle.reference.proofs.IndexLaws.{all_numbered, numbered_place}
 use Rattle.reference.proofs.elements.bytes_of_elements.Goals as goal
 
@@ -16,7 +16,7 @@ loop-number-preserved c =
 pub returns : goal.returns
 returns c =
     c.from_vec.ensures
-    ∙ gather_end (λ x. range_with_len x (size_of c.args.of.now.kind)) (places c.args.header.now c.args.of.now c.args.post.now.region) c.loop-number.number c.loop-number.list.items _
+    ∙ none_left (flat_map (λ x. range_with_len x (size_of c.args.of.now.kind))) (places c.args.header.now c.args.of.now c.args.post.now.region) c.loop-number.number c.loop-number.list.items _ refl
     (all_numbered c.args.header.now c.args.post.now.var c.args.of.now c.args.post.now.region c.as_slice.result.now c.element_count-number-end.result
     c.loop-number.number c.requires.there c.requires.accepted c.as_slice.ensures c.element_count-number-end.ensures c.loop-number-test.false)
     c.loop-number.invariant

@@ -1,6 +1,7 @@
 -- One reply more.
-use Rattle.reference.proofs.Words.{List, ap, subst, ◌∙◌, map, read_in, In, Post, get_post}
-use Rattle.reference.proofs.MeetSteps.{reply_end, reply_step}
+use Rattle.reference.proofs.Words.{List, refl, ap, subst, ◌∙◌, map, read_in, In, Offer, Post, get_post, reply_to}
+use Rattle.reference.proofs.GatherLaws.{none_left}
+use Rattle.reference.proofs.MeetSteps.{reply_step}
 use Rattle.reference.proofs.meetings.replies.Goals as goal
 
 pub get_all-requires-clause-accepted : goal.get_all-requires-clause-accepted
@@ -17,4 +18,6 @@ loop-offer-preserved c =
 
 pub returns : goal.returns
 returns c = λ s same.
-    c.from_vec.ensures ∙ reply_end c.args.header.now c.args.pair c.args.records c.args.file.now c.args.offers.now c.loop-offer.offer-index c.loop-offer.all.items c.loop-offer-test.false c.loop-offer.invariant s same
+    c.from_vec.ensures
+    ∙ none_left (λ (os : List Offer). map (reply_to s c.args.pair c.args.records c.args.file.now) os) c.args.offers.now c.loop-offer.offer-index c.loop-offer.all.items _ refl
+    c.loop-offer-test.false (c.loop-offer.invariant s same)

@@ -1,6 +1,7 @@
 -- The offer of one rank more.
-use Rattle.reference.proofs.Words.{arith, offers_of, all_arrived}
-use Rattle.reference.proofs.StepLaws.{offers_end, offers_step}
+use Rattle.reference.proofs.Words.{List, refl, arith, offers_of, all_arrived, Runner}
+use Rattle.reference.proofs.GatherLaws.{none_left}
+use Rattle.reference.proofs.StepLaws.{offers_step}
 use Rattle.reference.proofs.stand.held_offers.Goals as goal
 
 pub loop-runner-preserved : goal.loop-runner-preserved
@@ -9,4 +10,5 @@ loop-runner-preserved c =
     c.runner-item.is c.in_ok-add_offer.ensures c.loop-runner.invariant
 
 pub returns : goal.returns
-returns c = offers_end c.args.runners.now c.loop-runner.runner-index c.loop-runner.offers.items (offers_of (all_arrived c.args.runners.now)) (omega arith) c.loop-runner.invariant
+returns c =
+    none_left (λ (rs : List Runner). offers_of (all_arrived rs)) c.args.runners.now c.loop-runner.runner-index c.loop-runner.offers.items _ refl (omega arith) c.loop-runner.invariant
