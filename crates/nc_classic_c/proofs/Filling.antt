@@ -1,12 +1,7 @@
 -- A list that is laid into an array item by item.
-use Rattle.nc_classic_c.proofs.Words.{◌≡◌, ℕ, zero, suc, ◌+◌, ◌-◌, ◌<◌, ◌≤◌, List, [], ◌∷◌, ◌++◌, length, take, drop, set, Bool, cond, ltb, leb, ◌&&◌, ap, sym, refl, ◌∙◌, arith, append_assoc, length-append, length-drop, append-nil, set_at, take_all, take-append-le, drop-append-le, length-take, leb-true, leb-false, ltb-true, ltb-false, filled, laid_at, AreLaid, nat_tests}
+use Rattle.nc_classic_c.proofs.Words.{◌≡◌, ℕ, zero, suc, ◌+◌, ◌-◌, ◌<◌, ◌≤◌, List, [], ◌∷◌, ◌++◌, length, take, drop, set, Bool, cond, ltb, leb, ◌&&◌, ap, sym, refl, ◌∙◌, arith, append_assoc, length-append, length-drop, append-nil, set_at, take_all, take-append-le, drop-append-le, drop_all, length-take, leb-true, leb-false, ltb-true, ltb-false, filled, laid_at, AreLaid, nat_tests}
 
 -- ---- ends
-
-pub drop_past : {A : Type 0} (n : ℕ) (xs : List A) → length xs ≤ n → drop n xs ≡ []
-drop_past zero (x ∷ xs) h = absurd (omega arith)
-drop_past (suc n) (x ∷ xs) h = drop_past n xs (omega arith)
-drop_past _ _ h = refl
 
 pub drop_next : {A : Type 0} (n : ℕ) (xs : List A) → n < length xs → (x : A) × (drop n xs ≡ x ∷ drop (suc n) xs)
 drop_next zero (x ∷ xs) h = (x, refl)
@@ -33,7 +28,7 @@ filled_more {A} old items x h =
 pub filled_full : {A : Type 0} (old items : List A) (x : A) → length old ≤ length items → filled old items ≡ filled old (items ++ x ∷ [])
 filled_full {A} old items x h =
     let long = length-append items (x ∷ []) in
-    ap (λ (l : List A). take (length old) items ++ l) (drop_past (length items) old h ∙ sym (drop_past (length (items ++ x ∷ [])) old (omega arith)))
+    ap (λ (l : List A). take (length old) items ++ l) (drop_all (length items) old h ∙ sym (drop_all (length (items ++ x ∷ [])) old (omega arith)))
     ∙ ap (λ (l : List A). l ++ drop (length (items ++ x ∷ [])) old) (sym (take-append-le (length old) items (x ∷ []) h))
 
 -- ---- the next one
@@ -41,7 +36,7 @@ filled_full {A} old items x h =
 laid_by : {A : Type 0} (old done : List A) (from : ℕ) (x : A) (a b : Bool) → leb from (length done) ≡ a → ltb (length done - from) (length old) ≡ b
     → cond (a && b) (set (filled old (drop from done)) (length done - from) x) (filled old (drop from done)) ≡ filled old (drop from (done ++ x ∷ []))
 laid_by old done from x a b low room =
-    grind (arith, nat_tests, length-append, leb-false, drop_past, leb-true, ltb-false, length-drop, take-append-le, drop-append-le, ltb-true, set, filled_more)
+    grind (arith, nat_tests, length-append, leb-false, drop_all, leb-true, ltb-false, length-drop, take-append-le, drop-append-le, ltb-true, set, filled_more)
 
 pub laid_next : {A : Type 0} (old done : List A) (from : ℕ) (x : A)
     → laid_at (length done) from (filled old (drop from done)) x ≡ filled old (drop from (done ++ x ∷ []))
@@ -60,7 +55,7 @@ pub record Lays (A : Type 0) (items : List A) (from : ℕ) (old now left : List 
   pub laid : now ≡ filled old (drop from done)
 
 pub none_laid : {A : Type 0} (items : List A) (from : ℕ) (old : List A) → Lays A items from old old items 0
-none_laid {A} items from old = grind (arith, nat_tests, drop_past, take_all)
+none_laid {A} items from old = grind (arith, nat_tests, drop_all, take_all)
 
 pub one_laid : {A : Type 0} (items : List A) (from : ℕ) (old now left rest : List A) (total : ℕ) (x : A)
     → left ≡ x ∷ rest → Lays A items from old now left total → Lays A items from old (laid_at total from now x) rest (total + 1)

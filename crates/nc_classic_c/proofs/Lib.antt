@@ -14,5 +14,4 @@ pub mod Refusing
 pub mod SizeLaws
 pub mod StepLaws
 pub mod ValueLaws
-pub mod VarLaws
 pub mod WindowLaws

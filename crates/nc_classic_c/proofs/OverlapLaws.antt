@@ -1,5 +1,5 @@
 -- Entries of several requests, in any order, hold what the requests hold.
-use Rattle.nc_classic_c.proofs.Words.{◌≡◌, ℕ, ◌+◌, ◌<◌, ◌^◌, List, [], ◌∷◌, true, inl, inr, refl, ap, range_with_len, IsPermutation, and_second, Owned, Key, Holds, holdings_of_entries, shared_pair_of, same_pair, extents, EndBelow, same_permuted, holder_of, holds_by, map_in, NcvHeld, holdings, ends_low, arith, nat_tests}
+use Rattle.nc_classic_c.proofs.Words.{◌≡◌, ℕ, ◌+◌, ◌<◌, ◌^◌, List, [], ◌∷◌, true, inl, inr, range_with_len, IsPermutation, and_second, Owned, Key, Holds, holdings_of_entries, shared_pair_of, same_pair, extents, EndBelow, same_permuted, holder_of, holds_by, map_in, NcvHeld, holdings, ends_low, arith, nat_tests, map_map}
 use Rattle.std.specs.Prelude.{map}
 use Rattle.serial_spec.specs.Lists.{In}
 use Rattle.nc_classic_c.specs.Overlaps.{ends_are_low, entry}
@@ -18,8 +18,7 @@ held_by xs ys moved k x h =
     holds_by key bytes ys k x r.holder (moved r.holder r.is_one) r.rank r.request r.has
 
 entries_hold : (held : List NcvHeld) → holdings_of_entries (map entry held) ≡ holdings held
-entries_hold [] = refl
-entries_hold (h ∷ hs) = ap (λ l. ((h.rank, h.request), range_with_len h.at h.len) ∷ l) (entries_hold hs)
+entries_hold held = map_map (λ (o : Owned). (key o, bytes o)) entry held
 
 pub pair_of_entries : (held : List NcvHeld) (list : List Owned) → IsPermutation (map entry held) list → shared_pair_of (holdings_of_entries list) ≡ shared_pair_of (holdings held)
 pair_of_entries held list p =

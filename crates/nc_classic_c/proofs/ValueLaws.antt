@@ -1,5 +1,5 @@
 -- Values one after another, in memory and in external form.
-use Rattle.nc_classic_c.proofs.Words.{◌≡◌, ℕ, ◌+◌, ◌*◌, ◌^◌, ◌<◌, List, [], ◌∷◌, ◌++◌, length, map, take, drop, set, get_or, Bool, true, false, not, cond, ltb, Some, None, Ok, Err, refl, ap, sym, subst, ◌∙◌, arith, position, w32, w64, from_be_bytes, range_with_len, position_or_len, mul-le-mul_right, lt-ltb, ltb-false, not-false, flat_map-append, append-nil, get_or-drop, get_or-map, get_or-take, length-map, map-append, take_more, take_more_set, get_or-map-range_with_len, length-map-range_with_len, map-range_with_len_more, position_or_len_is, fails_before_first, take-put_mid, NcType, Float, Double, Value, size_of, fits, ext, val, ext_long, first_out, is_length, pack, packed, patterns, values_of, nat_tests}
+use Rattle.nc_classic_c.proofs.Words.{◌≡◌, ℕ, ◌+◌, ◌*◌, ◌^◌, ◌<◌, List, [], ◌∷◌, ◌++◌, length, map, take, drop, set, get_or, Bool, true, false, not, ltb, Some, None, Ok, Err, ap, sym, subst, ◌∙◌, arith, position, w32, w64, from_be_bytes, range_with_len, position_or_len, mul-le-mul_right, lt-ltb, ltb-false, not-false, flat_map-append, append-nil, get_or-drop, get_or-map, get_or-take, length-map, map-append, take_more, take_more_set, get_or-map-range_with_len, length-map-range_with_len, map-range_with_len_more, position_or_len_is, fails_before_first, take-put_mid, NcType, Float, Double, Value, size_of, fits, ext, val, ext_long, first_out, is_length, pack, packed, patterns, values_of, nat_tests, position_map}
 use borrow.Rule.Slice.PartMut.{put_mid}
 use Rattle.nc_base.specs.declared.request.Value.TheVariants as value
 use Rattle.nc_base.specs.declared.answer.Code.TheVariants as code
@@ -24,13 +24,8 @@ pub one_out : (kind : NcType) (vs : List Value) (d : Value) (i : ℕ) → i < le
 one_out kind vs d i l h out = grind (arith, nat_tests, ltb, lt-ltb, not, position_or_len_is)
 
 -- of words
-place_in_words : {W : Type 0} (p : Value → Bool) (told : W → Value) (ws : List W) → position_or_len (λ w. p (told w)) ws ≡ position_or_len p (map told ws)
-place_in_words p told [] = refl
-place_in_words p told (w ∷ ws) = ap (λ (n : ℕ). cond (not (p (told w))) (1 + n) 0) (place_in_words p told ws)
-
 first_of_words : {W : Type 0} (kind : NcType) (told : W → Value) (ws : List W) → position (λ w. not (fits kind (told w))) ws ≡ first_out kind (map told ws)
-first_of_words kind told ws =
-    (λ i. cond (ltb (place_in_words (λ v. not (fits kind v)) told ws i) (sym (length-map ws told) i)) (Some (place_in_words (λ v. not (fits kind v)) told ws i)) None)
+first_of_words kind told ws = sym (position_map (λ v. not (fits kind v)) told ws)
 
 pub word_fits : {W : Type 0} (kind : NcType) (told : W → Value) (ws : List W) (i : ℕ) (w : W) → first_out kind (map told ws) ≡ None → i < length ws → w ≡ get_or ws i w
     → fits kind (told w) ≡ true

@@ -1,5 +1,5 @@
 -- The windows of all domains, domain after domain.
-use Rattle.nc_classic_c.proofs.Words.{◌≡◌, ◌↔◌, ℕ, zero, suc, ◌+◌, ◌-◌, ◌/◌, ◌^◌, ◌<◌, ◌≤◌, List, [], ◌∷◌, ◌++◌, length, map, Bool, true, false, ◌&&◌, inl, inr, refl, ap, ◌∙◌, leb, arith, length-append, filter, flat_map, nat_lt, nat_le, ◌==◌, range_with_len, enumerate_from, le-leb, leb-true, length-map, map-map, equal_true, no_both, and_first, and_second, Extent, first_of, windows, spans, low_of, share_of, LiesIn, bytes_in, round_windows, window_told, Window, In, IsAscending, told_of, walked, filter_two, filter_ascends, first_least, last_most, windows_walked, Division, NcvWindow, end_of, is_division, shown, step_windows, window_shown, nat_tests}
+use Rattle.nc_classic_c.proofs.Words.{◌≡◌, ◌↔◌, ℕ, zero, suc, ◌+◌, ◌-◌, ◌/◌, ◌^◌, ◌<◌, ◌≤◌, List, [], ◌∷◌, ◌++◌, length, map, Bool, true, false, ◌&&◌, inl, inr, refl, ap, ◌∙◌, leb, arith, length-append, filter, flat_map, nat_lt, nat_le, ◌==◌, range_with_len, enumerate_from, le-leb, leb-true, length-map, map-map, equal_true, no_both, and_first, and_second, Extent, first_of, windows, spans, low_of, share_of, LiesIn, bytes_in, round_windows, window_told, Window, In, IsAscending, told_of, walked, filter_two, filter_ascends, first_least, last_most, windows_walked, Division, NcvWindow, end_of, is_division, shown, step_windows, window_shown, nat_tests, filter_at_most}
 use borrow.Author.Tests.{ltb-true, ltb-false, eqb-true}
 use Rattle.overlay_laws.proofs.DomainLaws.{share}
 
@@ -94,10 +94,6 @@ split_few : (f : ℕ → ℕ) (a : ℕ) (xs : List ℕ) → length (filter (λ x
 split_few f a [] = omega arith
 split_few f a (x ∷ xs) = grind (arith, nat_tests, split_few f a xs)
 
-filter_few : (t : ℕ → Bool) (xs : List ℕ) → length (filter t xs) ≤ length xs
-filter_few t [] = omega arith
-filter_few t (x ∷ xs) = grind (arith, nat_tests, filter_few t xs)
-
 shares_few : (lo hi : ℕ) (d : Division) (bytes : List ℕ) (a n : ℕ) → 1 ≤ d.buffer → IsAscending bytes
     → length (flat_map (share_windows lo hi d bytes) (range_with_len a n)) ≤ length (filter (λ x. nat_le a ((x - low_of lo d.unit) / share_of lo hi d.aggregators d.unit)) bytes)
 shares_few lo hi d bytes a zero h asc = omega arith
@@ -118,4 +114,4 @@ ascending_few (x ∷ xs) lo hi h within =
 pub windows_few_in_all : (lo hi : ℕ) (d : Division) (bytes : List ℕ) → 1 ≤ d.buffer → IsAscending bytes → hi ≡ end_of bytes → length (windows_from lo hi d bytes 0) ≤ hi
 windows_few_in_all lo hi d bytes h asc end =
     let few = ascending_few bytes 0 hi asc (λ x m. (let high = (within_ends bytes x asc m).1 in (omega arith, omega arith))) in
-    omega (arith, shares_few lo hi d bytes 0 (d.aggregators - 0) h asc, filter_few (λ x. nat_le 0 ((x - low_of lo d.unit) / share_of lo hi d.aggregators d.unit)) bytes)
+    omega (arith, shares_few lo hi d bytes 0 (d.aggregators - 0) h asc, filter_at_most (λ x. nat_le 0 ((x - low_of lo d.unit) / share_of lo hi d.aggregators d.unit)) bytes)
