@@ -4,6 +4,4 @@ use Rattle.nc_classic_c.proofs.Answering.{number_kept}
 use Rattle.nc_classic_c.proofs.dimensions.ncv_inq_dimid.Goals as goal
 
 pub returns-in-Ok : goal.returns-in-Ok
-returns-in-Ok c =
-    let r = c.in-Err-dimension_named.refusal in
-    inr (r, number_kept c.number_of.result r c.number_of.ensures, (inr (c.in-Ok.header, c.in-Ok.ensures.header, c.in-Err-dimension_named.ensures.refused), refl))
+returns-in-Ok c = inr (c.in-Err-dimension_named.refusal, number_kept _ c.in-Err-dimension_named.refusal c.number_of.ensures, (inr (c.in-Ok.header, c.in-Ok.ensures.header, c.in-Err-dimension_named.ensures.refused), refl))

@@ -12,19 +12,9 @@ cut-found-requires c =
     record { order = w.order; limit = w.limit; number = w.number; few = w.few; least_unit = w.least_unit; greatest_unit = w.greatest_unit }
 
 pub returns-then-is_asked : goal.returns-then-is_asked
-returns-then-is_asked c =
-    inl (
-      refl,
-      record {
-        begin = c.cut-found.ensures.begin;
-        end = c.cut-found.ensures.end;
-      },
-    )
+returns-then-is_asked c = inl (refl, record { begin = c.cut-found.ensures.begin; end = c.cut-found.ensures.end })
 
 pub returns-else-is_asked : goal.returns-else-is_asked
 returns-else-is_asked c =
-    inr (
-      refusal.Asked code.EInvalRequest,
-      number_kept c.number_of.result (refusal.Asked code.EInvalRequest) c.number_of.ensures,
-      ((refl, sym c.is_asked.ensures ∙ c.if-is_asked.false), refl),
-    )
+    let r = refusal.Asked code.EInvalRequest in
+    inr (r, number_kept _ r c.number_of.ensures, ((refl, sym c.is_asked.ensures ∙ c.if-is_asked.false), refl))
