@@ -1,5 +1,5 @@
 -- Regions that a check accepts: their variable is there, and they have few extents.
-use Rattle.nc_classic_c.proofs.Words.{◌≡◌, ℕ, suc, ◌≤◌, ◌<◌, ◌^◌, List, [], ◌∷◌, length, Bool, false, Option, Some, None, refl, ap, sym, ◌∙◌, arith, slice_get, IfSome, Header, Var, Extent, Region, Direction, product, check, check_some, check_var, asks_too_much, joined_to, joined, extents_of, element_extents, IsAccepted, passed, length-element_extents, if_some_at, Accepted, NcvRegion, HasRegion, Accepts, direction_of, nat_tests}
+use Rattle.nc_classic_c.proofs.Words.{◌≡◌, ℕ, suc, ◌≤◌, ◌<◌, ◌^◌, List, [], ◌∷◌, length, Bool, false, Option, Some, None, refl, ap, sym, ◌∙◌, arith, slice_get, IfSome, Header, Var, Extent, Region, Direction, product, check, check_some, check_var, asks_too_much, joined_to, joined, extents_of, element_extents, IsAccepted, passed, length-element_extents, if_some_at, Accepted, NcvRegion, HasRegion, Accepts, direction_of, nat_tests, subst, region_of}
 use Rattle.nc_base.specs.declared.answer.Code.TheVariants as code
 
 pub accepted_there : (header : Header) (o : Option Var) (g : Region) (known : ℕ) (direction : Direction)
@@ -31,10 +31,17 @@ few_of_accepted header k v g there h =
 
 -- ---- what an accepted region tells
 
-pub region_had : (bytes : List ℕ) (asked : NcvRegion) (known : ℕ) (put : Bool) (a : Accepted) (P : Header → Var → Type 0) → Accepts bytes asked known put a
+region_had : (bytes : List ℕ) (asked : NcvRegion) (known : ℕ) (put : Bool) (a : Accepted) (P : Header → Var → Type 0) → Accepts bytes asked known put a
     → ((v : Var) → slice_get a.header.vars a.var ≡ Some v → P a.header v) → HasRegion bytes asked known put P
 region_had bytes asked known put a P h k =
     grind (arith, nat_tests, accepted_there a.header (slice_get a.header.vars a.var) a.region known (direction_of put) h.accepted)
+
+-- a value of an accepted region's variable, of which something holds
+pub region_told : {X : Type 0} (bytes : List ℕ) (asked : NcvRegion) (known : ℕ) (put : Bool) (a : Accepted) (f : Header → Var → Region → X) (x : X) (P : X → Type 0) → Accepts bytes asked known put a
+    → IfSome (slice_get a.header.vars a.var) (λ v. x ≡ f a.header v a.region) → P x → HasRegion bytes asked known put (λ header v. P (f header v (region_of asked)))
+region_told bytes asked known put a f x P h is p =
+    region_had bytes asked known put a (λ header v. P (f header v (region_of asked))) h
+    (λ v there. subst P (if_some_at (λ (v : Var). x ≡ f a.header v a.region) (slice_get a.header.vars a.var) v there is ∙ ap (f a.header v) h.region) p)
 
 pub few_left : (bytes : List ℕ) (asked : NcvRegion) (known : ℕ) (put : Bool) (a : Accepted) (es : List Extent) → Accepts bytes asked known put a
     → IfSome (slice_get a.header.vars a.var) (λ v. es ≡ extents_of a.header v a.region) → length es < 2 ^ 64
