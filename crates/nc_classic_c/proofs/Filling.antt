@@ -1,5 +1,5 @@
 -- A list that is laid into an array item by item.
-use Rattle.nc_classic_c.proofs.Words.{◌≡◌, ℕ, zero, suc, ◌+◌, ◌-◌, ◌<◌, ◌≤◌, List, [], ◌∷◌, ◌++◌, length, take, drop, set, Bool, cond, ltb, leb, ◌&&◌, ap, sym, refl, ◌∙◌, arith, append_assoc, length-append, length-drop, append-nil, set_at, take_all, take-append-le, drop-append-le, drop_all, length-take, leb-true, leb-false, ltb-true, ltb-false, filled, laid_at, AreLaid, nat_tests}
+use Rattle.nc_classic_c.proofs.Words.{◌≡◌, ℕ, zero, suc, ◌+◌, ◌-◌, ◌<◌, ◌≤◌, List, [], ◌∷◌, ◌++◌, length, take, drop, set, Bool, cond, ltb, leb, ◌&&◌, ap, sym, refl, ◌∙◌, arith, append_assoc, length-append, length-drop, append-nil, set_at, take_all, take-append-le, drop-append-le, drop_all, length-take, leb-true, leb-false, ltb-true, ltb-false, filled, laid_at, nat_tests, laid_from}
 
 -- ---- ends
 
@@ -45,26 +45,31 @@ laid_next {A} old done from x =
     (length-filled old (drop from done))
     ∙ laid_by old done from x (leb from (length done)) (ltb (length done - from) (length old)) refl refl
 
--- ---- a walk over the list
+-- ---- items that are laid one after another
 
--- so many of the items are laid, and these are left
-pub record Lays (A : Type 0) (items : List A) (from : ℕ) (old now left : List A) (total : ℕ) : Type 0 where
-  pub done : List A
-  pub all : done ++ left ≡ items
-  pub number : length done ≡ total
-  pub laid : now ≡ filled old (drop from done)
+laid_on : {A : Type 0} (from : ℕ) (old done items : List A) → laid_from (length done) from (filled old (drop from done)) items ≡ filled old (drop from (done ++ items))
+laid_on {A} from old done [] = ap (λ (l : List A). filled old (drop from l)) (sym (append-nil done))
+laid_on {A} from old done (x ∷ items) =
+    (λ i. laid_from (sym (length-append done (x ∷ [])) i) from (laid_next old done from x i) items)
+    ∙ laid_on from old (done ++ x ∷ []) items
+    ∙ ap (λ (l : List A). filled old (drop from l)) (append_assoc done (x ∷ []) items)
 
-pub none_laid : {A : Type 0} (items : List A) (from : ℕ) (old : List A) → Lays A items from old old items 0
-none_laid {A} items from old = grind (arith, nat_tests, drop_all, take_all)
+pub laid_whole : {A : Type 0} (items : List A) (from : ℕ) (old : List A) → laid_from 0 from old items ≡ filled old (drop from items)
+laid_whole {A} items from old =
+    let none : filled old (drop from []) ≡ old =
+    ap (λ (l : List A). filled old l) (drop_all from [] (omega arith)) ∙ ap (λ (l : List A). l ++ old) (take_all (length old) [] (omega arith)) in
+    ap (λ (l : List A). laid_from 0 from l items) (sym none) ∙ laid_on from old [] items
 
-pub one_laid : {A : Type 0} (items : List A) (from : ℕ) (old now left rest : List A) (total : ℕ) (x : A)
-    → left ≡ x ∷ rest → Lays A items from old now left total → Lays A items from old (laid_at total from now x) rest (total + 1)
-one_laid {A} items from old now left rest total x step h = grind (arith, nat_tests, append_assoc, length-append, leb, ltb, set, length-filled, laid_by)
+laid_append : {A : Type 0} (from n : ℕ) (old xs ys : List A) → laid_from n from old (xs ++ ys) ≡ laid_from (n + length xs) from (laid_from n from old xs) ys
+laid_append {A} from n old [] ys = let same : n ≡ n + 0 = omega arith in ap (λ (m : ℕ). laid_from m from old ys) same
+laid_append {A} from n old (x ∷ xs) ys = grind (arith, nat_tests, laid_append from (n + 1) (laid_at n from old x) xs ys)
 
-pub left_fits : {A : Type 0} (items : List A) (from : ℕ) (old now left rest : List A) (total : ℕ) (x : A)
-    → left ≡ x ∷ rest → Lays A items from old now left total → total < length items
-left_fits {A} items from old now left rest total x step h = grind (arith, nat_tests, length-append)
+-- a part is laid, and the rest is next
+pub part_laid : {A : Type 0} (from total next : ℕ) (now new own rest whole laid : List A) → next ≡ total + length own → new ≡ laid_from total from now own → whole ≡ own ++ rest
+    → laid_from total from now whole ≡ laid → laid_from next from new rest ≡ laid
+part_laid {A} from total next now new own rest whole laid e f g h = grind (arith, nat_tests, laid_append)
 
-pub all_laid : {A : Type 0} (items : List A) (from : ℕ) (old now left : List A) (total : ℕ)
-    → left ≡ [] → Lays A items from old now left total → AreLaid items from old now total
-all_laid {A} items from old now left total none h = grind (arith, nat_tests, append-nil)
+-- one item is laid, and the rest is next
+pub item_laid : {A : Type 0} (from total : ℕ) (now new rest whole laid : List A) (x : A) → new ≡ laid_at total from now x → whole ≡ x ∷ rest
+    → laid_from total from now whole ≡ laid → laid_from (total + 1) from new rest ≡ laid
+item_laid {A} from total now new rest whole laid x f g h = grind (arith, nat_tests)

@@ -7,7 +7,6 @@ pub mod DefinitionLaws
 pub mod DeviceWindows
 pub mod DomainLaws
 pub mod Filling
-pub mod LayLaws
 pub mod MakingLaws
 pub mod OverlapLaws
 pub mod Refusing

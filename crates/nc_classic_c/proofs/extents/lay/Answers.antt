@@ -1,45 +1,36 @@
 -- The extents are laid one by one.
-use Rattle.nc_classic_c.proofs.Words.{◌+◌, List, ap, sym, subst, arith, ◌∙◌, length-map, Extent, extents_left, Extents, NcvExtent, laid_at}
+use Rattle.nc_classic_c.proofs.Words.{◌+◌, ◌∙◌, List, length, ap, sym, arith, Extent, extents_left, Extents, NcvExtent, laid_at, laid_from}
 use Rattle.std.specs.Prelude.{map}
 use Rattle.nc_classic_c.specs.Extents.{shown}
-use Rattle.nc_classic_c.proofs.Filling.{Lays, none_laid, one_laid, left_fits, all_laid}
+use Rattle.nc_classic_c.proofs.Filling.{item_laid, laid_whole}
 use Rattle.nc_classic_c.proofs.extents.lay.Goals as goal
 
 pub loop-extent-init : goal.loop-extent-init
 loop-extent-init c =
-    let items = map shown (extents_left c.args.extents) in
-    subst (λ (e : Extents). Lays NcvExtent items c.args.from c.args.into.now c.args.into.now (map shown (extents_left e)) 0)
-    (sym c.into_iter-extent-iterator.ensures.into_iter_gives) (none_laid items c.args.from c.args.into.now)
+    let same = c.into_iter-extent-iterator.ensures.into_iter_gives in
+    record {
+      laid = ap (λ (e : Extents). laid_from 0 c.args.from c.args.into.now (map shown (extents_left e))) same;
+      many = omega (arith, ap (λ (e : Extents). length (extents_left e)) same);
+    }
 
 pub loop-extent-preserved : goal.loop-extent-preserved
-loop-extent-preserved c =
-    let items = map shown (extents_left c.args.extents) in
-    let e = c.loop-extent in
-    let left = map shown (extents_left e.extent-iterator) in
-    let rest = map shown (extents_left c.next.new.self) in
-    subst (λ (l : List NcvExtent). Lays NcvExtent items c.args.from c.args.into.now l rest (e.total + 1))
-    (sym (c.lay.ensures ∙ ap (λ (x : NcvExtent). laid_at e.total c.args.from e.into x) c.shown.ensures))
-    (one_laid items c.args.from c.args.into.now e.into left rest e.total (shown c.in-Some.extent)
-    (ap (λ (es : List Extent). map shown es) c.in-Some.ensures.steps) e.invariant)
+loop-extent-preserved c = record {
+  laid = item_laid c.args.from c.loop-extent.total c.loop-extent.into c.lay.new.into (map shown (extents_left c.next.new.self))
+      (map shown (extents_left c.loop-extent.extent-iterator)) _ (shown c.in-Some.extent)
+      (c.lay.ensures ∙ ap (λ (x : NcvExtent). laid_at c.loop-extent.total c.args.from c.loop-extent.into x) c.shown.ensures)
+      (ap (λ (es : List Extent). map shown es) c.in-Some.ensures.steps) c.loop-extent.invariant.laid;
+  many = omega (arith, c.loop-extent.invariant.many, ap length c.in-Some.ensures.steps);
+}
 
 pub overflow_add-total : goal.overflow_add-total
-overflow_add-total c =
-    let items = map shown (extents_left c.args.extents) in
-    let e = c.loop-extent in
-    let left = map shown (extents_left e.extent-iterator) in
-    let rest = map shown (extents_left c.next.new.self) in
-    omega (
-      arith,
-      c.requires.few,
-      length-map (extents_left c.args.extents) shown,
-      left_fits items c.args.from c.args.into.now e.into left rest e.total (shown c.in-Some.extent)
-          (ap (λ (es : List Extent). map shown es) c.in-Some.ensures.steps) e.invariant,
-    )
+overflow_add-total c = omega (arith, c.requires.few, c.loop-extent.invariant.many, ap length c.in-Some.ensures.steps)
 
 pub returns : goal.returns
 returns c =
-    let items = map shown (extents_left c.args.extents) in
-    let e = c.loop-extent in
-    let left = map shown (extents_left e.extent-iterator) in
-    let done = all_laid items c.args.from c.args.into.now e.into left e.total (ap (λ (es : List Extent). map shown es) c.in-None.ensures.steps.0) e.invariant in
-    record { laid = done.0; total = done.1 ∙ length-map (extents_left c.args.extents) shown }
+    let none = c.in-None.ensures.steps.0 in
+    record {
+      laid = sym (ap (λ (es : List Extent). laid_from c.loop-extent.total c.args.from c.loop-extent.into (map shown es)) none)
+          ∙ c.loop-extent.invariant.laid
+          ∙ laid_whole (map shown (extents_left c.args.extents)) c.args.from c.args.into.now;
+      total = omega (arith, c.loop-extent.invariant.many, ap length none);
+    }
