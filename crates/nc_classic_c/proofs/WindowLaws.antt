@@ -1,5 +1,5 @@
 -- The windows of all domains, domain after domain.
-use Rattle.nc_classic_c.proofs.Words.{◌≡◌, ◌↔◌, ℕ, zero, suc, ◌+◌, ◌-◌, ◌/◌, ◌^◌, ◌<◌, ◌≤◌, List, [], ◌∷◌, ◌++◌, length, map, Bool, true, false, ◌&&◌, inl, inr, refl, ap, ◌∙◌, leb, arith, length-append, filter, flat_map, nat_lt, nat_le, ◌==◌, range_with_len, enumerate_from, le-leb, leb-true, length-map, map-map, equal_true, no_both, and_first, and_second, Extent, first_of, windows, spans, low_of, share_of, LiesIn, bytes_in, round_windows, window_told, Window, In, IsAscending, told_of, walked, filter_two, filter_ascends, first_least, last_most, windows_walked, Division, NcvWindow, end_of, is_division, shown, step_windows, window_shown, nat_tests, filter_at_most}
+use Rattle.nc_classic_c.proofs.Words.{◌≡◌, ◌↔◌, ℕ, zero, suc, ◌+◌, ◌-◌, ◌/◌, ◌^◌, ◌<◌, ◌≤◌, List, [], ◌∷◌, ◌++◌, length, map, Bool, true, false, ◌&&◌, inl, inr, refl, ap, ◌∙◌, leb, arith, length-append, filter, flat_map, nat_lt, nat_le, ◌==◌, range_with_len, enumerate_from, le-leb, leb-true, length-map, map-map, equal_true, no_both, and_first, and_second, Extent, first_of, windows, spans, low_of, share_of, LiesIn, bytes_in, round_windows, window_told, Window, In, IsAscending, told_of, walked, filter_two, filter_ascends, first_least, last_most, windows_walked, Division, NcvWindow, end_of, is_division, shown, step_windows, window_shown, nat_tests, filter_at_most, sym}
 use borrow.Author.Tests.{ltb-true, ltb-false, eqb-true}
 use Rattle.overlay_laws.proofs.DomainLaws.{share}
 
@@ -40,7 +40,7 @@ within_ends bytes x h m = grind (arith, nat_tests, last_most, first_least)
 abbrev pub share_windows : ℕ → ℕ → Division → List ℕ → ℕ → List NcvWindow
 share_windows lo hi d bytes a = map (window_shown a) (windows d.buffer (share (low_of lo d.unit) (share_of lo hi d.aggregators d.unit) bytes a))
 
-pub domain_windows : (d : Division) (lo hi : ℕ) (cover : List Extent) (e : Extent) (a : ℕ) (left : List Window) → IsAscending (spans cover)
+domain_windows : (d : Division) (lo hi : ℕ) (cover : List Extent) (e : Extent) (a : ℕ) (left : List Window) → IsAscending (spans cover)
     → lo ≡ first_of (spans cover) → hi ≡ end_of (spans cover)
     → ((x : ℕ) → LiesIn e x ↔ ((lo ≤ x) × (x < hi) × ((x - low_of lo d.unit) / share_of lo hi d.aggregators d.unit ≡ a)))
     → left ≡ round_windows d.buffer (bytes_in e cover) → map (shown a) left ≡ share_windows lo hi d (spans cover) a
@@ -70,11 +70,21 @@ from_first lo hi d bytes = grind (arith, nat_tests)
 pub all_windows : (lo hi : ℕ) (d : Division) (bytes : List ℕ) → lo ≡ first_of bytes → hi ≡ end_of bytes → windows_from lo hi d bytes 0 ≡ step_windows d bytes
 all_windows lo hi d bytes e f = grind (arith, nat_tests, from_first, numbered)
 
-pub next_windows : (lo hi : ℕ) (d : Division) (bytes : List ℕ) (a : ℕ) → a < d.aggregators
-    → windows_from lo hi d bytes a ≡ share_windows lo hi d bytes a ++ windows_from lo hi d bytes (a + 1)
-next_windows lo hi d bytes a h =
+-- a domain's windows, and those of the domains behind it
+pub record IsNext (lo hi : ℕ) (d : Division) (bytes : List ℕ) (a : ℕ) (left : List Window) : Type 0 where
+  pub parts : windows_from lo hi d bytes a ≡ map (shown a) left ++ windows_from lo hi d bytes (a + 1)
+  pub many : length (windows_from lo hi d bytes a) ≡ length left + length (windows_from lo hi d bytes (a + 1))
+
+pub next_windows : (d : Division) (lo hi : ℕ) (cover : List Extent) (e : Extent) (a : ℕ) (left : List Window) → a < d.aggregators → IsAscending (spans cover)
+    → lo ≡ first_of (spans cover) → hi ≡ end_of (spans cover)
+    → ((x : ℕ) → LiesIn e x ↔ ((lo ≤ x) × (x < hi) × ((x - low_of lo d.unit) / share_of lo hi d.aggregators d.unit ≡ a)))
+    → left ≡ round_windows d.buffer (bytes_in e cover) → IsNext lo hi d (spans cover) a left
+next_windows d lo hi cover e a left h asc begin end cut is =
     let more : d.aggregators - a ≡ suc (d.aggregators - (a + 1)) = omega arith in
-    ap (λ (n : ℕ). flat_map (share_windows lo hi d bytes) (range_with_len a n)) more
+    let rest = windows_from lo hi d (spans cover) (a + 1) in
+    let parts = ap (λ (n : ℕ). flat_map (share_windows lo hi d (spans cover)) (range_with_len a n)) more
+    ∙ ap (λ (l : List NcvWindow). l ++ rest) (sym (domain_windows d lo hi cover e a left asc begin end cut is)) in
+    record { parts = parts; many = ap length parts ∙ length-append (map (shown a) left) rest ∙ ap (λ (n : ℕ). n + length rest) (length-map left (shown a)) }
 
 pub no_windows : (lo hi : ℕ) (d : Division) (bytes : List ℕ) (a : ℕ) → d.aggregators ≤ a → windows_from lo hi d bytes a ≡ []
 no_windows lo hi d bytes a h = grind (arith, nat_tests)

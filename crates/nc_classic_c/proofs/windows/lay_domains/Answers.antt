@@ -1,8 +1,8 @@
 -- One domain after another.
-use Rattle.nc_classic_c.proofs.Words.{◌+◌, ◌∙◌, ◌++◌, List, length, drop, refl, sym, ap, length-append, arith, length-map, windows_left, spans_ascend, spans, NcvWindow, filled, laid_from, shown}
+use Rattle.nc_classic_c.proofs.Words.{◌+◌, ◌∙◌, List, length, drop, refl, sym, ap, arith, length-map, windows_left, spans_ascend, spans, NcvWindow, filled, laid_from, shown}
 use Rattle.std.specs.Prelude.{map}
 use Rattle.nc_classic_c.proofs.Filling.{laid_whole, part_laid}
-use Rattle.nc_classic_c.proofs.WindowLaws.{all_windows, divided, domain_windows, next_windows, no_windows, share_windows, windows_few_in_all, windows_from}
+use Rattle.nc_classic_c.proofs.WindowLaws.{all_windows, divided, next_windows, no_windows, windows_few_in_all, windows_from}
 use Rattle.nc_classic_c.proofs.windows.lay_domains.Goals as goal
 
 pub loop-number-init : goal.loop-number-init
@@ -18,38 +18,22 @@ windows-walk-requires c = record { cover = c.requires.cover; ends = c.requires.e
 
 pub lay_windows-total-requires : goal.lay_windows-total-requires
 lay_windows-total-requires c =
-    let d = c.args.division.now in
-    let bytes = spans c.args.cover.now in
     let asc = spans_ascend c.args.cover.now c.requires.cover in
-    let same = domain_windows d c.args.reach.lo c.args.reach.hi c.args.cover.now c.cut-domain.result c.loop-number.number (windows_left c.windows-walk.result) asc
-    c.requires.begin c.requires.end c.cut-domain.ensures.bytes c.windows-walk.ensures.windows in
-    let long = length-map (windows_left c.windows-walk.result) (shown c.loop-number.number) in
-    let own = ap length same in
-    let next = ap length (next_windows c.args.reach.lo c.args.reach.hi d bytes c.loop-number.number c.loop-number-test.true) in
-    let both = length-append (share_windows c.args.reach.lo c.args.reach.hi d bytes c.loop-number.number) (windows_from c.args.reach.lo c.args.reach.hi d bytes (c.loop-number.number + 1)) in
-    let few = windows_few_in_all c.args.reach.lo c.args.reach.hi d bytes (divided d c.requires.division).buffer asc c.requires.end in
-    record { ready = c.windows-walk.ensures.ready; few = omega (arith, c.loop-number.invariant.many, c.requires.limit) }
+    let next = next_windows c.args.division.now c.args.reach.lo c.args.reach.hi c.args.cover.now c.cut-domain.result c.loop-number.number (windows_left c.windows-walk.result)
+    c.loop-number-test.true asc c.requires.begin c.requires.end c.cut-domain.ensures.bytes c.windows-walk.ensures.windows in
+    let few = windows_few_in_all c.args.reach.lo c.args.reach.hi c.args.division.now (spans c.args.cover.now) (divided c.args.division.now c.requires.division).buffer asc c.requires.end in
+    record { ready = c.windows-walk.ensures.ready; few = omega (arith, c.loop-number.invariant.many, c.requires.limit, next.many, few) }
 
 pub loop-number-preserved : goal.loop-number-preserved
 loop-number-preserved c =
-    let d = c.args.division.now in
-    let bytes = spans c.args.cover.now in
-    let asc = spans_ascend c.args.cover.now c.requires.cover in
     let left = windows_left c.windows-walk.result in
-    let same = domain_windows d c.args.reach.lo c.args.reach.hi c.args.cover.now c.cut-domain.result c.loop-number.number left asc
-    c.requires.begin c.requires.end c.cut-domain.ensures.bytes c.windows-walk.ensures.windows in
-    let long = length-map left (shown c.loop-number.number) in
-    let own = ap length same in
-    let next = next_windows c.args.reach.lo c.args.reach.hi d bytes c.loop-number.number c.loop-number-test.true in
-    let rest = windows_from c.args.reach.lo c.args.reach.hi d bytes (c.loop-number.number + 1) in
-    let both = length-append (share_windows c.args.reach.lo c.args.reach.hi d bytes c.loop-number.number) rest in
-    let all = ap length next in
+    let next = next_windows c.args.division.now c.args.reach.lo c.args.reach.hi c.args.cover.now c.cut-domain.result c.loop-number.number left c.loop-number-test.true
+    (spans_ascend c.args.cover.now c.requires.cover) c.requires.begin c.requires.end c.cut-domain.ensures.bytes c.windows-walk.ensures.windows in
     record {
-      laid = part_laid c.args.from c.loop-number.total c.lay_windows-total.result c.loop-number.into c.lay_windows-total.new.into (map (shown c.loop-number.number) left) rest
-          (windows_from c.args.reach.lo c.args.reach.hi d bytes c.loop-number.number) _
-          (omega (arith, c.lay_windows-total.ensures.next, long)) c.lay_windows-total.ensures.laid
-          (next ∙ ap (λ (l : List NcvWindow). l ++ rest) (sym same)) c.loop-number.invariant.laid;
-      many = omega (arith, c.lay_windows-total.ensures.next, c.loop-number.invariant.many);
+      laid = part_laid c.args.from c.loop-number.total c.lay_windows-total.result c.loop-number.into c.lay_windows-total.new.into (map (shown c.loop-number.number) left)
+          (windows_from c.args.reach.lo c.args.reach.hi c.args.division.now (spans c.args.cover.now) (c.loop-number.number + 1)) _ _
+          (omega (arith, c.lay_windows-total.ensures.next, length-map left (shown c.loop-number.number))) c.lay_windows-total.ensures.laid next.parts c.loop-number.invariant.laid;
+      many = omega (arith, c.lay_windows-total.ensures.next, c.loop-number.invariant.many, next.many);
     }
 
 pub returns : goal.returns
