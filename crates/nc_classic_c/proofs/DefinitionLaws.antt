@@ -62,43 +62,42 @@ one_record version before (x ∷ xs) h =
 
 -- ---- an attribute
 
-att_fits : (version : ℕ) (before : List NcvAttDef) (a : NcvAttDef) → att_cause version before a ≡ None → is_writable_attr version (attribute_of a) ≡ true
-att_fits version before a h =
-    let b = both_none (name_cause a.name.now) _ h in
-    let c = both_none (type_cause version a.kind) _ b.1 in
-    let d = told_else (nat_lt 0 (length a.values.now % size_of (kind_of a.kind))) cause.Inval _ c.1 in
-    let e = told_else (nat_lt (2 ^ 20) (length a.values.now)) cause.TooLarge _ d.1 in
-    let n = length a.values.now in
-    let size = size_of (kind_of a.kind) in
-    let low = ltb-false (2 ^ 20) n e.0 in
-    let less = div-le_self n size in
-    and_from _ _
-    (and_from _ _ (and_from _ _ (name_fits version a.name.now b.0) (type_fits version a.kind c.0)) (small_count version (n / size) (omega (arith, low, less))))
-    (equal_true n (n / size * size) (whole n size (ltb-false 0 (n % size) d.0)))
-  where
-    exact : (n r x : ℕ) → r ≡ n - x → x ≤ n → r ≤ 0 → n ≡ x
-    exact n r x e l z = omega (arith, e, l, z)
+record AttTaken (version : ℕ) (before : List NcvAttDef) (a : NcvAttDef) : Type 0 where
+  name : name_cause a.name.now ≡ None
+  kind : type_cause version a.kind ≡ None
+  whole : length a.values.now % size_of (kind_of a.kind) ≤ 0
+  few_bytes : length a.values.now ≤ 2 ^ 20
+  few : length before < 2 ^ 16
 
-    whole : (n size : ℕ) → n % size ≤ 0 → n ≡ n / size * size
-    whole n size z = exact n (n % size) (n / size * size) (mod-eq-sub-div-mul n size) (div-mul-le_self n size) z
-
-few_atts : (version : ℕ) (before : List NcvAttDef) (a : NcvAttDef) → att_cause version before a ≡ None → length before < 2 ^ 16
-few_atts version before a h =
-    let b = both_none (name_cause a.name.now) _ h in
+att_taken : (version owner : ℕ) (before : List NcvAttDef) (a : NcvAttDef) → att_refusal version owner before a ≡ None → AttTaken version before a
+att_taken version owner before a h =
+    let b = both_none (name_cause a.name.now) _ (none_before_map _ (att_cause version before a) h) in
     let c = both_none (type_cause version a.kind) _ b.1 in
     let d = told_else (nat_lt 0 (length a.values.now % size_of (kind_of a.kind))) cause.Inval _ c.1 in
     let e = told_else (nat_lt (2 ^ 20) (length a.values.now)) cause.TooLarge _ d.1 in
     let f = told_else _ cause.NameInUse _ e.1 in
     let g = told_else (nat_le most_atts (length before)) cause.MaxAtts _ f.1 in
-    leb-false most_atts (length before) g.0
+    record { name = b.0; kind = c.0; whole = ltb-false 0 (length a.values.now % size_of (kind_of a.kind)) d.0; few_bytes = ltb-false (2 ^ 20) (length a.values.now) e.0; few = leb-false most_atts (length before) g.0 }
+
+att_fits : (version : ℕ) (before : List NcvAttDef) (a : NcvAttDef) → AttTaken version before a → is_writable_attr version (attribute_of a) ≡ true
+att_fits version before a t =
+    let n = length a.values.now in
+    let size = size_of (kind_of a.kind) in
+    let less = div-le_self n size in
+    and_from _ _
+    (and_from _ _ (and_from _ _ (name_fits version a.name.now t.name) (type_fits version a.kind t.kind)) (small_count version (n / size) (omega (arith, t.few_bytes, less))))
+    (equal_true n (n / size * size) (exact n (n % size) (n / size * size) (mod-eq-sub-div-mul n size) (div-mul-le_self n size) t.whole))
+  where
+    exact : (n r x : ℕ) → r ≡ n - x → x ≤ n → r ≤ 0 → n ≡ x
+    exact n r x e l z = omega (arith, e, l, z)
 
 -- those of an owner
 atts_fit : (version owner : ℕ) (attrs : List NcvAttDef) → atts_refusal version owner attrs ≡ None
     → is_writable_list version (is_writable_attr version) (map attribute_of attrs) ≡ true
 atts_fit version owner attrs h =
-    let few = few_taken (att_refusal version owner) (2 ^ 16) (λ before a k. few_atts version before a (none_before_map _ (att_cause version before a) k)) [] attrs (omega arith) h in
+    let few = few_taken (att_refusal version owner) (2 ^ 16) (λ before a k. (att_taken version owner before a k).few) [] attrs (omega arith) h in
     let each = each_taken (att_refusal version owner) (λ a. is_writable_attr version (attribute_of a) ≡ true)
-    (λ before a k. att_fits version before a (none_before_map _ (att_cause version before a) k)) [] attrs h in
+    (λ before a k. att_fits version before a (att_taken version owner before a k)) [] attrs h in
     and_from _ _ (ap (λ (n : ℕ). fits_count version n) (length-map attrs attribute_of) ∙ small_count version (length attrs) (omega (arith, few)))
     (each_passes (is_writable_attr version) (map attribute_of attrs) (each_map (λ a. is_writable_attr version a ≡ true) attribute_of attrs each))
 
@@ -123,15 +122,8 @@ var_taken version dims before v h =
     let e = told_else (list_any (is_record_id dims) (drop 1 v.ids.now)) cause.UnlimPos _ d.1 in
     let f = told_else (nat_lt most_dims_of_var (length v.ids.now)) cause.MaxDims _ e.1 in
     let g = told_else (nat_le most_vars (length before)) cause.MaxVars _ f.1 in
-    record {
-      name = a.0;
-      kind = b.0;
-      ids = d.0;
-      record_first = e.0;
-      few_dims = ltb-false most_dims_of_var (length v.ids.now) f.0;
-      few = leb-false most_vars (length before) g.0;
-      attrs = both.1;
-    }
+    let few_dims = ltb-false most_dims_of_var (length v.ids.now) f.0 in
+    record { name = a.0; kind = b.0; ids = d.0; record_first = e.0; few_dims = few_dims; few = leb-false most_vars (length before) g.0; attrs = both.1 }
 
 -- the same id in the header
 same_id : (dims : List NcvDimDef) (id : ℕ) → (length_of (slice_get (map dimension_of dims) id) == 0) ≡ is_record_id dims id
