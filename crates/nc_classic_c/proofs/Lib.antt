@@ -5,12 +5,9 @@ pub mod CountedHeaders
 pub mod CoverLaws
 pub mod DefinitionLaws
 pub mod DeviceWindows
-pub mod DomainLaws
 pub mod Filling
 pub mod MakingLaws
 pub mod OverlapLaws
 pub mod Refusing
-pub mod SizeLaws
-pub mod StepLaws
 pub mod ValueLaws
 pub mod WindowLaws
