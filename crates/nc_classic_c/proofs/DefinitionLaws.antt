@@ -153,13 +153,11 @@ each_var D P f h =
 
 few_dims : (D : NcvHeaderDef) → definition_refusal D ≡ None → length D.dims.now ≤ 1024
 few_dims D h =
-    let n = few_taken (dim_refusal D.version) 1024 (λ before d k. (dim_taken D.version before d k).few) [] D.dims.now (omega arith) (taken_dims D h) in
-    omega (arith, n)
+    omega (arith, few_taken (dim_refusal D.version) 1024 (λ before d k. (dim_taken D.version before d k).few) [] D.dims.now (omega arith) (taken_dims D h))
 
 few_vars : (D : NcvHeaderDef) → definition_refusal D ≡ None → length D.vars.now ≤ 8192
 few_vars D h =
-    let n = few_taken (var_refusal D.version D.dims.now) 8192 (λ before v k. (var_taken D.version D.dims.now before v k).few) [] D.vars.now (omega arith) (taken_vars D h) in
-    omega (arith, n)
+    omega (arith, few_taken (var_refusal D.version D.dims.now) 8192 (λ before v k. (var_taken D.version D.dims.now before v k).few) [] D.vars.now (omega arith) (taken_vars D h))
 
 counts_small : (D : NcvHeaderDef) → definition_refusal D ≡ None → counts_are_small (header_of D) ≡ true
 counts_small D h =

@@ -65,25 +65,26 @@ one_written kind told ws into ys i size k w s l is room e before = grind (arith,
 abbrev pub value_in : NcType → List ℕ → ℕ → Value
 value_in kind bytes k = val kind (take (size_of kind) (drop (k * size_of kind) bytes))
 
+-- the value that is read there
+value_at : (kind : NcType) (n : ℕ) (bytes : List ℕ) (k : ℕ) (d : Value) → k < n → get_or (values_of kind n bytes) k d ≡ value_in kind bytes k
+value_at kind n bytes k d l = get_or-map-range_with_len (value_in kind bytes) 0 n k k d l (omega arith)
+
 pub value_fits : (memory kind : NcType) (n : ℕ) (bytes : List ℕ) (k : ℕ) → first_out memory (values_of kind n bytes) ≡ None → k < n → fits memory (value_in kind bytes k) ≡ true
 value_fits memory kind n bytes k h l =
     let long = length-map-range_with_len (value_in kind bytes) 0 n in
-    let same = get_or-map-range_with_len (value_in kind bytes) 0 n k k (value_in kind bytes k) l (omega arith) in
-    subst (λ (v : Value). fits memory v ≡ true) same (each_fits memory (values_of kind n bytes) k (value_in kind bytes k) h (omega arith))
+    sym (ap (λ (v : Value). fits memory v) (value_at kind n bytes k (value.Bits 0) l)) ∙ each_fits memory (values_of kind n bytes) k (value.Bits 0) h (omega arith)
 
 pub values_fit : (memory kind : NcType) (n : ℕ) (bytes : List ℕ) → ((k : ℕ) → k < n → fits memory (value_in kind bytes k) ≡ true) → first_out memory (values_of kind n bytes) ≡ None
 values_fit memory kind n bytes h =
     let long = length-map-range_with_len (value_in kind bytes) 0 n in
-    none_out memory (values_of kind n bytes) (value.Bits 0)
-    (λ k l. subst (λ (v : Value). fits memory v ≡ true) (sym (get_or-map-range_with_len (value_in kind bytes) 0 n k k (value.Bits 0) (omega arith) (omega arith))) (h k (omega arith)))
+    none_out memory (values_of kind n bytes) (value.Bits 0) (λ k l. ap (λ (v : Value). fits memory v) (value_at kind n bytes k (value.Bits 0) (omega arith)) ∙ h k (omega arith))
 
 pub value_out : (memory kind : NcType) (n : ℕ) (bytes : List ℕ) (i : ℕ) → i < n → ((k : ℕ) → k < i → fits memory (value_in kind bytes k) ≡ true)
     → fits memory (value_in kind bytes i) ≡ false → first_out memory (values_of kind n bytes) ≡ Some i
 value_out memory kind n bytes i l h out =
     let long = length-map-range_with_len (value_in kind bytes) 0 n in
-    one_out memory (values_of kind n bytes) (value.Bits 0) i (omega arith)
-    (λ k m. subst (λ (v : Value). fits memory v ≡ true) (sym (get_or-map-range_with_len (value_in kind bytes) 0 n k k (value.Bits 0) (omega arith) (omega arith))) (h k m))
-    (subst (λ (v : Value). fits memory v ≡ false) (sym (get_or-map-range_with_len (value_in kind bytes) 0 n i i (value.Bits 0) l (omega arith))) out)
+    one_out memory (values_of kind n bytes) (value.Bits 0) i (omega arith) (λ k m. ap (λ (v : Value). fits memory v) (value_at kind n bytes k (value.Bits 0) (omega arith)) ∙ h k m)
+    (ap (λ (v : Value). fits memory v) (value_at kind n bytes i (value.Bits 0) l) ∙ out)
 
 pub one_read : {W : Type 0} (kind : NcType) (told : W → Value) (bytes : List ℕ) (into : List W) (k : ℕ) (w : W) → k < length into → told w ≡ value_in kind bytes k
     → map told (take k into) ≡ map (value_in kind bytes) (range_with_len 0 k) → map told (take (k + 1) (set into k w)) ≡ map (value_in kind bytes) (range_with_len 0 (k + 1))
@@ -92,19 +93,17 @@ one_read {W} kind told bytes into k w l is before =
 
 -- ---- bit patterns are in the range of their type
 
-pub floats_fit : (ns : List ℕ) → ((i : ℕ) → get_or ns i 0 < 2 ^ 32) → first_out Float (patterns ns) ≡ None
-floats_fit ns h =
+patterns_fit : (kind : NcType) (ns : List ℕ) → ((i : ℕ) → fits kind (value.Bits (get_or ns i 0)) ≡ true) → first_out kind (patterns ns) ≡ None
+patterns_fit kind ns h =
     let long = length-map ns (λ n. value.Bits n) in
-    none_out Float (patterns ns) (value.Bits 0)
-    (λ k l. let small = h k in
-    subst (λ (v : Value). fits Float v ≡ true) (sym (get_or-map (λ n. value.Bits n) ns k 0 (value.Bits 0) (omega arith))) (lt-ltb (get_or ns k 0) (256 ^ 4) (omega arith)))
+    none_out kind (patterns ns) (value.Bits 0)
+    (λ k l. subst (λ (v : Value). fits kind v ≡ true) (sym (get_or-map (λ n. value.Bits n) ns k 0 (value.Bits 0) (omega arith))) (h k))
+
+pub floats_fit : (ns : List ℕ) → ((i : ℕ) → get_or ns i 0 < 2 ^ 32) → first_out Float (patterns ns) ≡ None
+floats_fit ns h = patterns_fit Float ns (λ i. lt-ltb (get_or ns i 0) (256 ^ 4) (let small = h i in omega arith))
 
 pub doubles_fit : (ns : List ℕ) → ((i : ℕ) → get_or ns i 0 < 2 ^ 64) → first_out Double (patterns ns) ≡ None
-doubles_fit ns h =
-    let long = length-map ns (λ n. value.Bits n) in
-    none_out Double (patterns ns) (value.Bits 0)
-    (λ k l. let small = h k in
-    subst (λ (v : Value). fits Double v ≡ true) (sym (get_or-map (λ n. value.Bits n) ns k 0 (value.Bits 0) (omega arith))) (lt-ltb (get_or ns k 0) (256 ^ 8) (omega arith)))
+doubles_fit ns h = patterns_fit Double ns (λ i. lt-ltb (get_or ns i 0) (256 ^ 8) (let small = h i in omega arith))
 
 byte_in : (bytes : List ℕ) (size at i : ℕ) → ((j : ℕ) → get_or bytes j 0 < 256) → i < size → get_or (take size (drop at bytes)) i 0 < 256
 byte_in bytes size at i h l = omega (arith, get_or-take size (drop at bytes) i 0 l ∙ get_or-drop at bytes i 0, h (at + i))
