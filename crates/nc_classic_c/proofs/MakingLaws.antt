@@ -48,30 +48,28 @@ pub no_room : (D : NcvHeaderDef) (room : ℕ) (bytes : List ℕ) → refusal_of 
     → why_unmade D room ≡ Some (of_whole cause.Room)
 no_room D room bytes h e l = grind (arith, nat_tests)
 
-pub header_made : (D : NcvHeaderDef) (len : ℕ) (bytes old new : List ℕ) → refusal_of D ≡ None → bytes ≡ canon (made_header D) → is_writable (made_header D) ≡ true
-    → ((header : Header) (more : List ℕ) → is_writable header ≡ true → BeginsWith (take (2 ^ 20) (canon header ++ more)) header (header_len header))
-    → len ≡ length bytes → length bytes ≤ length old → new ≡ filled old bytes → IsMade D len old new
-header_made D len bytes old new h e w law l room f =
-    let is : new ≡ canon (made_header D) ++ drop (length bytes) old =
-    f ∙ filled_whole old bytes room ∙ ap (λ (x : List ℕ). x ++ drop (length bytes) old) e in
-    record {
-      none_refused = grind (arith, nat_tests, second_counts, le-ltb);
-      long = l ∙ ap (λ (x : List ℕ). length x) e;
-      bytes = f ∙ ap (λ (x : List ℕ). filled old x) e;
-      read_back = (
-        subst (λ (x : List ℕ). BeginsWith (take (2 ^ 20) x) (made_header D) (header_len (made_header D))) (sym is) (law (made_header D) (drop (length bytes) old) w),
-        sound (made_header D) w,
-      );
-    }
-  where
-    sound : (header : Header) → is_writable header ≡ true → is_sound header ≡ true
-    sound header w = and_first _ _ (and_first _ _ (and_first _ _ (and_first _ _ w)))
+sound : (header : Header) → is_writable header ≡ true → is_sound header ≡ true
+sound header w = and_first _ _ (and_first _ _ (and_first _ _ (and_first _ _ w)))
 
-pub made_given : (D : NcvHeaderDef) (r : Result (Unit {0}) Refusal) (len : ℕ) (bytes old new : List ℕ) → refusal_of D ≡ None → bytes ≡ canon (made_header D) → is_writable (made_header D) ≡ true
-    → ((header : Header) (more : List ℕ) → is_writable header ≡ true → BeginsWith (take (2 ^ 20) (canon header ++ more)) header (header_len header))
-    → len ≡ length bytes → OnOk r (length bytes ≤ length old) → OnOk r (new ≡ filled old bytes) → OnOk r (IsMade D len old new)
-made_given D (Ok u) len bytes old new h e w law l room f = header_made D len bytes old new h e w law l room f
-made_given D (Err x) len bytes old new h e w law l room f = tt
+module _ (D : NcvHeaderDef) (len : ℕ) (bytes old new : List ℕ) (h : refusal_of D ≡ None) (e : bytes ≡ canon (made_header D)) (w : is_writable (made_header D) ≡ true)
+    (law : (header : Header) (more : List ℕ) → is_writable header ≡ true → BeginsWith (take (2 ^ 20) (canon header ++ more)) header (header_len header)) (l : len ≡ length bytes) where
+  header_made : length bytes ≤ length old → new ≡ filled old bytes → IsMade D len old new
+  header_made room f =
+      let is : new ≡ canon (made_header D) ++ drop (length bytes) old =
+      f ∙ filled_whole old bytes room ∙ ap (λ (x : List ℕ). x ++ drop (length bytes) old) e in
+      record {
+        none_refused = grind (arith, nat_tests, h, second_counts, le-ltb);
+        long = l ∙ ap (λ (x : List ℕ). length x) e;
+        bytes = f ∙ ap (λ (x : List ℕ). filled old x) e;
+        read_back = (
+          subst (λ (x : List ℕ). BeginsWith (take (2 ^ 20) x) (made_header D) (header_len (made_header D))) (sym is) (law (made_header D) (drop (length bytes) old) w),
+          sound (made_header D) w,
+        );
+      }
+
+  pub made_given : (r : Result (Unit {0}) Refusal) → OnOk r (length bytes ≤ length old) → OnOk r (new ≡ filled old bytes) → OnOk r (IsMade D len old new)
+  made_given (Ok u) room f = header_made room f
+  made_given (Err x) room f = tt
 
 -- ---- the length
 

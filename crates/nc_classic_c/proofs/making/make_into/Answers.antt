@@ -11,8 +11,8 @@ returns-in_err-bytes-clause-len c =
 
 pub returns-clause-made : goal.returns-clause-made
 returns-clause-made c =
-    made_given c.args.defined.now c.give.result c.give.new.len c.as_slice.result.now c.args.into.now c.give.new.into c.in_ok-bytes.ensures.none_refused
-    (c.as_slice.ensures ∙ c.in_ok-bytes.ensures.bytes) c.in_ok-bytes.ensures.writable c.written_law.ensures.cut c.give.ensures.len c.give.ensures.room c.give.ensures.given
+    made_given c.args.defined.now c.give.new.len c.as_slice.result.now c.args.into.now c.give.new.into c.in_ok-bytes.ensures.none_refused
+    (c.as_slice.ensures ∙ c.in_ok-bytes.ensures.bytes) c.in_ok-bytes.ensures.writable c.written_law.ensures.cut c.give.ensures.len c.give.result c.give.ensures.room c.give.ensures.given
 
 pub returns-clause-len : goal.returns-clause-len
 returns-clause-len c =
