@@ -1,5 +1,5 @@
 -- The words of values and regions that are read spell them.
-use Rattle.script_spelling.proofs.Words.{◌≡◌, ◌∙◌, ℕ, zero, suc, ◌<◌, List, [], ◌∷◌, ◌++◌, flat_map, length, Bool, true, false, not, nat_lt, ◌==◌, ◌&&◌, Option, Some, None, Ok, ℤ, refl, sym, ap, subst, append_assoc, append-nil, arith, bytes_eq, codes, and_from, lt-ltb, NcType, Values, Numbers, Text, Bits, Form, Given, Part, Class, most_parts, Word, Plain, Quoted, Broken, size_of_text, number_of_text, bits_of_text, list_of_text, size, list, within_limits, are_numbers, are_patterns, may_be, number_for, pattern_for, one_value, each_value, sequence_count, sequence, is_term, term, numbers_between, pattern_sequence, is_pattern_term, pattern_term, patterns_between, seq_values, seqx_values, pattern_values, text_values, number_values, bits_values, listed_kind, listed_values, values, given_of, given_parts, part, part_list, many_regions, region, went, same_ok, carried, bytes_same, SpellsOne, Each, SpellsSequence, SpellsBitSequence, SpellsValues, OfNothing, OfText, OfNumbers, OfBits, OfSequence, OfBitSequence, SpellsForm, SpellsRegion, nat_tests, tested, step_then, free_then, end_then}
+use Rattle.script_spelling.proofs.Words.{◌≡◌, ◌∙◌, ℕ, zero, suc, ◌<◌, List, [], ◌∷◌, ◌++◌, flat_map, length, Bool, true, false, not, nat_lt, ◌==◌, ◌&&◌, Option, Some, None, Ok, refl, sym, ap, subst, append_assoc, append-nil, arith, bytes_eq, codes, and_from, lt-ltb, NcType, Values, Numbers, Text, Bits, Form, Given, Part, Class, most_parts, Word, Plain, Quoted, Broken, size_of_text, number_of_text, bits_of_text, list_of_text, size, list, within_limits, are_numbers, are_patterns, may_be, number_for, pattern_for, one_value, each_value, sequence_count, sequence, is_term, pattern_sequence, is_pattern_term, pattern_values, text_values, number_values, bits_values, listed_kind, listed_values, values, given_of, given_parts, part, part_list, many_regions, region, went, same_ok, carried, bytes_same, SpellsOne, Each, SpellsSequence, SpellsBitSequence, SpellsValues, OfNothing, OfText, OfNumbers, OfBits, OfSequence, OfBitSequence, SpellsForm, SpellsRegion, nat_tests, tested, step_then, free_then, end_then, ◌>>=◌, Result, ScriptKind, reads_as, refuse_if, ended, last_number, last_pattern}
 use borrow.Author.Tests.{not-false}
 use Rattle.nc_base.specs.declared.errors.ScriptKind.TheVariants as kind
 use Rattle.nc_base.specs.declared.errors.LimitName.TheVariants as limit
@@ -45,66 +45,36 @@ count_spelled suits t before ws r h =
     step_then (size ws) _ r h (λ n is h. free_then _ _ _ r h (λ fits h. step_then (within_limits t before n.0) _ r h (λ u room h.
     subst (CountRead suits ws) (same_ok n r h) (record { word = size_is ws n is; fits = suits_some suits n.0 fits }))))
 
-pub record TermRead {A : Type 0} (f : List ℕ → Option A) (test : A → Bool) (ws : List Word) (r : A × List Word) : Type 0 where
-  pub word : WordRead f ws r
-  pub fits : test r.0 ≡ true
-
-term_spelled : (t : Option NcType) (n : ℕ) (ws : List Word) (r : ℤ × List Word) → term t n ws ≡ Ok r → TermRead number_of_text (is_term t n) ws r
-term_spelled t n ws r h =
-    read_then number_of_text _ ws _ r refl h (λ a w h. free_then _ _ _ r h (λ fits h.
-    subst (TermRead number_of_text (is_term t n) ws) (same_ok a r h) (record { word = w; fits = not-false _ fits })))
-
-pattern_spelled : (t : Option NcType) (n : ℕ) (ws : List Word) (r : ℕ × List Word) → pattern_term t n ws ≡ Ok r → TermRead bits_of_text (is_pattern_term t n) ws r
-pattern_spelled t n ws r h =
-    read_then bits_of_text _ ws _ r refl h (λ a w h. free_then _ _ _ r h (λ fits h.
-    subst (TermRead bits_of_text (is_pattern_term t n) ws) (same_ok a r h) (record { word = w; fits = not-false _ fits })))
-
 three_words : (first one two three : List ℕ) (ws a b c : List Word) → ws ≡ Plain one ∷ a → a ≡ Plain two ∷ b → b ≡ Plain three ∷ c → c ≡ [] → Plain first ∷ ws ≡ Plain first ∷ Plain one ∷ Plain two ∷ Plain three ∷ []
 three_words first one two three ws a b c e1 e2 e3 e4 = grind (arith, nat_tests)
 
-seq_spelled : (t : Option NcType) (before : ℕ) (ws : List Word) (vs : Values) → seq_values t before ws ≡ Ok vs → SpellsSequence t (Plain (codes "seq") ∷ ws) vs
-seq_spelled t before ws vs h =
-    step_then (sequence_count (may_be are_numbers t) t before ws) _ vs h (λ n counted h. step_then (numbers_between t n.0 n.1) _ vs h (λ zs told h.
-    step_then (term t n.0 n.1) _ zs told (λ a begins k. read_then number_of_text _ a.1 _ zs refl k (λ b step k. free_then _ _ _ zs k (λ last k. end_then b.1 _ zs k (λ none k.
-    let count = count_spelled (may_be are_numbers t) t before ws n counted in
-    let first = term_spelled t n.0 n.1 a begins in (
-      count.word.word,
-      first.word.word,
-      step.word,
-      n.0,
-      a.0,
-      b.0,
-      three_words (codes "seq") count.word.word first.word.word step.word ws n.1 a.1 b.1 count.word.are first.word.are step.are none,
-      count.word.says,
-      first.word.says,
-      step.says,
-      count.fits,
-      first.fits,
-      not-false _ last,
-      sym (same_ok (Numbers zs) vs h) ∙ ap (λ (xs : List ℤ). Numbers xs) (sym (same_ok (sequence a.0 b.0 n.0) zs k)),
-    )))))))
+-- N terms by the first of them and the step, and what follows `seq` or `seqx`
+abbrev run_by : {A B : Type 0} → (List ℕ → Option A) → (ℕ → A → Bool) → (A → A → ℕ → A) → (A → A → ℕ → B) → ℕ → List Word → Result B ScriptKind
+run_by f test end all n ws = do
+  a ← (reads_as f kind.BadNumber ws >>= λ x. refuse_if (not (test n x.0)) kind.BadNumber >>= λ _. Ok x)
+  b ← reads_as f kind.BadNumber a.1
+  _ ← refuse_if (not (test n (end a.0 b.0 n))) kind.BadNumber
+  _ ← ended b.1
+  Ok (all a.0 b.0 n)
 
-seqx_spelled : (t : Option NcType) (before : ℕ) (ws : List Word) (vs : Values) → seqx_values t before ws ≡ Ok vs → SpellsBitSequence t (Plain (codes "seqx") ∷ ws) vs
-seqx_spelled t before ws vs h =
-    step_then (sequence_count (may_be are_patterns t) t before ws) _ vs h (λ n counted h. step_then (patterns_between t n.0 n.1) _ vs h (λ zs told h.
-    step_then (pattern_term t n.0 n.1) _ zs told (λ a begins k. read_then bits_of_text _ a.1 _ zs refl k (λ b step k. free_then _ _ _ zs k (λ last k. end_then b.1 _ zs k (λ none k.
-    let count = count_spelled (may_be are_patterns t) t before ws n counted in
-    let first = pattern_spelled t n.0 n.1 a begins in (
-      count.word.word,
-      first.word.word,
-      step.word,
-      n.0,
-      a.0,
-      b.0,
-      three_words (codes "seqx") count.word.word first.word.word step.word ws n.1 a.1 b.1 count.word.are first.word.are step.are none,
-      count.word.says,
-      first.word.says,
-      step.says,
-      count.fits,
-      first.fits,
-      not-false _ last,
-      sym (same_ok (pattern_values zs) vs h) ∙ ap pattern_values (sym (same_ok (pattern_sequence a.0 b.0 n.0) zs k)),
-    )))))))
+abbrev SpellsRun : {A : Type 0} → (List ℕ → Option A) → Bool → (ℕ → A → Bool) → (A → A → ℕ → A) → (A → A → ℕ → Values) → List ℕ → List Word → Values → Type 0
+SpellsRun {A} f suits test end all word ws vs =
+    (count first step : List ℕ) × (n : ℕ) × (a b : A) × (Plain word ∷ ws ≡ Plain word ∷ Plain count ∷ Plain first ∷ Plain step ∷ []) × (size_of_text count ≡ Some n) × (f first ≡ Some a) × (f step ≡ Some b)
+    × (0 < n → suits ≡ true) × (test n a ≡ true) × (test n (end a b n) ≡ true) × (vs ≡ all a b n)
+
+run_spelled : {A B : Type 0} (f : List ℕ → Option A) (suits : Bool) (test : ℕ → A → Bool) (end : A → A → ℕ → A) (all : A → A → ℕ → B) (made : B → Values) (word : List ℕ) (t : Option NcType) (before : ℕ) (ws : List Word) (vs : Values)
+    → f (34 ∷ []) ≡ None → (sequence_count suits t before ws >>= λ n. run_by f test end all n.0 n.1 >>= λ xs. Ok (made xs)) ≡ Ok vs → SpellsRun f suits test end (λ a b n. made (all a b n)) word ws vs
+run_spelled {A} f suits test end all made word t before ws vs none h =
+    step_then (sequence_count suits t before ws) _ vs h (λ n counted h. step_then (run_by f test end all n.0 n.1) _ vs h (λ xs told h.
+    step_then (reads_as f kind.BadNumber n.1 >>= λ x. refuse_if (not (test n.0 x.0)) kind.BadNumber >>= λ _. Ok x) _ xs told (λ a begins k. read_then f _ a.1 _ xs none k (λ b step k. free_then _ _ _ xs k (λ last k. end_then b.1 _ xs k (λ ends k.
+    read_then f _ n.1 _ a none begins (λ x first i. free_then _ _ _ a i (λ fits i.
+    let count = count_spelled suits t before ws n counted in
+    let same = same_ok x a i in
+    let first = subst (WordRead f n.1) same first in
+    let are = three_words word count.word.word first.word step.word ws n.1 a.1 b.1 count.word.are first.are step.are ends in
+    let low = not-false _ (subst (λ (y : A × List Word). not (test n.0 y.0) ≡ false) same fits) in
+    let told = sym (same_ok (made xs) vs h) ∙ ap made (sym (same_ok (all a.0 b.0 n.0) xs k)) in
+    (count.word.word, first.word, step.word, n.0, a.0, b.0, are, count.word.says, first.says, step.says, count.fits, low, not-false _ last, told)))))))))
 
 -- ---- all values
 
@@ -137,9 +107,9 @@ values_spelled t before [] vs h = OfNothing refl (sym (same_ok (Numbers []) vs h
 values_spelled t before (Broken ∷ ws) vs h = absurd (cc)
 values_spelled t before (Quoted text ∷ ws) vs h = text_words t before text ws vs h
 values_spelled t before (Plain w ∷ ws) vs h =
-    tested (bytes_eq w (codes "seq")) _ _ _ h (λ a k. OfSequence (subst (λ (x : List ℕ). SpellsSequence t (Plain x ∷ ws) vs) (sym (bytes_same w (codes "seq") a)) (seq_spelled t before ws vs k)))
+    tested (bytes_eq w (codes "seq")) _ _ _ h (λ a k. OfSequence (subst (λ (x : List ℕ). SpellsSequence t (Plain x ∷ ws) vs) (sym (bytes_same w (codes "seq") a)) (run_spelled number_of_text (may_be are_numbers t) (is_term t) last_number sequence Numbers (codes "seq") t before ws vs refl k)))
     (λ a k. tested (bytes_eq w (codes "seqx")) _ _ _ k
-    (λ b l. OfBitSequence (subst (λ (x : List ℕ). SpellsBitSequence t (Plain x ∷ ws) vs) (sym (bytes_same w (codes "seqx") b)) (seqx_spelled t before ws vs l)))
+    (λ b l. OfBitSequence (subst (λ (x : List ℕ). SpellsBitSequence t (Plain x ∷ ws) vs) (sym (bytes_same w (codes "seqx") b)) (run_spelled bits_of_text (may_be are_patterns t) (is_pattern_term t) last_pattern pattern_sequence pattern_values (codes "seqx") t before ws vs refl l)))
     (λ b. listed_words (listed_kind t w) t before (Plain w) ws vs))
 
 -- ---- regions

@@ -1,5 +1,5 @@
 -- Words that spell values are read as these values.
-use Rattle.script_spelling.proofs.Words.{◌≡◌, ◌∙◌, ℕ, ◌+◌, ◌<◌, List, [], ◌∷◌, ◌++◌, fold, length, Bool, true, false, not, cond, nat_lt, nat_le, Option, Some, None, Ok, ℤ, refl, sym, ap, subst, append_assoc, append-nil, length-append, arith, bytes_eq, codes, and_parts, some_not_none, count_of, NcType, Values, Numbers, Text, Bits, Class, class_of, size_of, fits_in, Word, Plain, size_of_text, number_of_text, bits_of_text, refuse_if, reads_as, size, are_numbers, are_text, may_be, number_for, pattern_for, one_value, each_value, sequence_count, sequence, last_number, is_term, term, numbers_between, is_pattern_term, pattern_term, seq_values, pattern_values, text_values, number_values, bits_values, begins_x, listed_kind, listed_values, values, go_on, passed, faultless, word_read, carry_on, by_false, bytes_same, length-sequence, length-pattern_sequence, HasRoom, room_again, less_room, number_fit, pattern_fit, SpellsOne, Each, SpellsSequence, SpellsBitSequence, SpellsValues, OfNothing, OfText, OfNumbers, OfBits, OfSequence, OfBitSequence, nat_tests}
+use Rattle.script_spelling.proofs.Words.{◌≡◌, ◌∙◌, ℕ, ◌+◌, ◌<◌, List, [], ◌∷◌, ◌++◌, fold, length, Bool, true, false, not, cond, nat_lt, nat_le, Option, Some, None, Ok, ℤ, refl, sym, ap, subst, append_assoc, append-nil, length-append, arith, bytes_eq, codes, and_parts, some_not_none, count_of, NcType, Values, Numbers, Text, Bits, Class, class_of, size_of, fits_in, Word, Plain, size_of_text, number_of_text, bits_of_text, refuse_if, reads_as, size, are_numbers, are_text, may_be, number_for, pattern_for, one_value, each_value, sequence_count, sequence, last_number, is_term, term, numbers_between, is_pattern_term, pattern_term, seq_values, pattern_values, text_values, number_values, bits_values, begins_x, listed_kind, listed_values, values, go_on, passed, faultless, word_read, carry_on, by_false, bytes_same, length-sequence, length-pattern_sequence, HasRoom, room_again, less_room, number_fit, pattern_fit, SpellsOne, Each, SpellsSequence, SpellsBitSequence, SpellsValues, OfNothing, OfText, OfNumbers, OfBits, OfSequence, OfBitSequence, nat_tests, ◌>>=◌}
 use Rattle.nc_base.specs.declared.errors.ScriptKind.TheVariants as kind
 use Rattle.nc_base.specs.declared.request.Value.TheVariants as value
 use Rattle.serial_spec.specs.ExternalForm as class
@@ -43,17 +43,22 @@ listed_told : (t : Option NcType) (before : ℕ) (w : List ℕ) (ws : List Word)
     → values t before (Plain w ∷ ws) ≡ listed_values (listed_kind t w) t before (Plain w ∷ ws)
 listed_told t before w ws a b = by_false (bytes_eq w (codes "seq")) _ _ a ∙ by_false (bytes_eq w (codes "seqx")) _ _ b
 
+-- words that this reads, where those that begin so are listed so
+written_told : {A : Type 0} (f : List ℕ → Option A) (made : List A → Values) (t : Option NcType) (before : ℕ) (w : Word) (ws : List Word) (x : A) (xs : List A) → f (codes "seq") ≡ None → f (codes "seqx") ≡ None
+    → ((v : List ℕ) (more : List Word) → f v ≡ Some x → listed_values (listed_kind t v) t before more ≡ (each_value f t before [] more >>= λ ys. Ok (made ys))) → Each f (w ∷ ws) (x ∷ xs) → HasRoom t before (length (x ∷ xs))
+    → values t before (w ∷ ws) ≡ Ok (made (x ∷ xs))
+written_told f made t before w ws x xs none none_x listed h room =
+    let v = h.0.0 in
+    let all = each_told f t before [] (w ∷ ws) (x ∷ xs) h room in
+    ap (λ (u : Word). values t before (u ∷ ws)) h.0.1
+    ∙ (listed_told t before v ws (other_word f v (codes "seq") x none h.0.2) (other_word f v (codes "seqx") x none_x h.0.2)
+    ∙ (listed v (Plain v ∷ ws) h.0.2 ∙ go_on (each_value f t before [] (Plain v ∷ ws)) (λ ys. Ok (made ys)) (x ∷ xs) (made (x ∷ xs)) (ap (λ (u : Word). each_value f t before [] (u ∷ ws)) (sym h.0.1) ∙ all) refl))
+
 numbers_told : (t : Option NcType) (before : ℕ) (ws : List Word) (zs : List ℤ) → Each (number_for t) ws zs → HasRoom t before (length zs) → values t before ws ≡ Ok (Numbers zs)
 numbers_told t before [] [] h room = refl
 numbers_told t before [] (z ∷ zs) h room = absurd h
 numbers_told t before (w ∷ ws) [] h room = absurd h
-numbers_told t before (w ∷ ws) (z ∷ zs) h room =
-    let v = h.0.0 in
-    let all = each_told (number_for t) t before [] (w ∷ ws) (z ∷ zs) h room in
-    let read : number_values t before (w ∷ ws) ≡ Ok (Numbers (z ∷ zs)) = go_on (each_value (number_for t) t before [] (w ∷ ws)) (λ ys. Ok (Numbers ys)) (z ∷ zs) (Numbers (z ∷ zs)) all refl in
-    ap (λ (u : Word). values t before (u ∷ ws)) h.0.1
-    ∙ (listed_told t before v ws (other_word (number_for t) v (codes "seq") z refl h.0.2) (other_word (number_for t) v (codes "seqx") z refl h.0.2)
-    ∙ (as_numbers t before v (Plain v ∷ ws) z h.0.2 ∙ (ap (λ (u : Word). number_values t before (u ∷ ws)) (sym h.0.1) ∙ read)))
+numbers_told t before (w ∷ ws) (z ∷ zs) h room = written_told (number_for t) Numbers t before w ws z zs refl refl (λ v more e. as_numbers t before v more z e) h room
 
 -- ---- bits
 
@@ -71,13 +76,7 @@ bits_told : (t : Option NcType) (before : ℕ) (ws : List Word) (ns : List ℕ) 
 bits_told t before [] [] some h room = absurd (omega arith)
 bits_told t before [] (n ∷ ns) some h room = absurd h
 bits_told t before (w ∷ ws) [] some h room = absurd h
-bits_told t before (w ∷ ws) (n ∷ ns) some h room =
-    let v = h.0.0 in
-    let all = each_told (pattern_for t) t before [] (w ∷ ws) (n ∷ ns) h room in
-    let read : bits_values t before (w ∷ ws) ≡ Ok (Bits (n ∷ ns)) = go_on (each_value (pattern_for t) t before [] (w ∷ ws)) (λ ys. Ok (Bits ys)) (n ∷ ns) (Bits (n ∷ ns)) all refl in
-    ap (λ (u : Word). values t before (u ∷ ws)) h.0.1
-    ∙ (listed_told t before v ws (other_word (pattern_for t) v (codes "seq") n refl h.0.2) (other_word (pattern_for t) v (codes "seqx") n refl h.0.2)
-    ∙ (as_bits t before v (Plain v ∷ ws) n h.0.2 ∙ (ap (λ (u : Word). bits_values t before (u ∷ ws)) (sym h.0.1) ∙ read)))
+bits_told t before (w ∷ ws) (n ∷ ns) some h room = written_told (pattern_for t) Bits t before w ws n ns refl refl (λ v more e. as_bits t before v more n e) h room
 
 -- ---- sequences
 
