@@ -1,5 +1,5 @@
 -- Words that spell a region are read as this region, and what follows them is left.
-use Rattle.script_spelling.proofs.Words.{◌≡◌, ◌∙◌, ℕ, ◌≤◌, List, [], ◌∷◌, ◌++◌, flat_map, length, true, false, not, nat_lt, ◌==◌, Ok, sym, ap, subst, append_assoc, append-nil, arith, and_parts, le-ltb, leb-true, ne_eqb, Form, Given, Part, most_parts, has_lists_of, is_given, is_empty, Word, list_of_text, list, part_list, region, go_on, passed, word_read, carry_on, empty_list, region_with, same_region, SpellsOne, Each, SpellsForm, SpellsRegion, nat_tests}
+use Rattle.script_spelling.proofs.Words.{◌≡◌, ◌∙◌, ℕ, ◌≤◌, List, [], ◌∷◌, ◌++◌, flat_map, length, true, not, nat_lt, Ok, sym, ap, append_assoc, append-nil, arith, and_parts, le-ltb, leb-true, Form, Given, Part, most_parts, has_lists_of, is_given, Word, list_of_text, list, part_list, region, go_on, passed, word_read, carry_on, empty_list, region_with, same_region, SpellsOne, Each, SpellsForm, SpellsRegion, nat_tests, Result, ◌>>=◌, given_of, ScriptKind}
 use Rattle.nc_base.specs.declared.errors.ScriptKind.TheVariants as kind
 use Rattle.nc_base.specs.declared.request.Form.TheVariants as form
 
@@ -17,51 +17,36 @@ parts_told (p ∷ ps) found (w ∷ v ∷ ws) more h = grind (arith, nat_tests, p
 
 -- ---- a region by the lists of its form
 
--- what the words of a region are read as
-abbrev IsTold : Form → List Word → List Word → Given → Type 0
-IsTold f ws more g = region f (ws ++ more) ≡ Ok (g, more)
+-- lists are read one after the other, and what follows the last of them is left
+lists_on : {B : Type 0} (more : List Word) (n : List ℕ) (ns : List (List ℕ)) (f : List ℕ × List Word → Result B ScriptKind) (y : B) (ws : List Word) → Each list_of_text ws (n ∷ ns)
+    → ((rest : List Word) → Each list_of_text rest ns → f (n, rest ++ more) ≡ Ok y) → (list (ws ++ more) >>= f) ≡ Ok y
+lists_on more n ns f y [] h on = absurd h
+lists_on more n ns f y (w ∷ ws) h on = go_on (list (w ∷ ws ++ more)) f (n, ws ++ more) y (list_told w n (ws ++ more) h.0) (on ws h.1)
 
-as_told : {g k : Given} (f : Form) (ws more : List Word) → g ≡ k → IsTold f ws more g → IsTold f ws more k
-as_told f ws more e h = subst (IsTold f ws more) e h
+lists_end : (more : List Word) (g k : Given) → g ≡ k → (ws : List Word) → Each list_of_text ws [] → ◌≡◌ {A = Result (Given × List Word) ScriptKind} (Ok (g, ws ++ more)) (Ok (k, more))
+lists_end more g k same [] h = ap (λ (x : Given). Ok (x, more)) same
+lists_end more g k same (w ∷ ws) h = absurd h
 
-module _ (s c d m : List ℕ) (ps : List Part) (more : List Word) where
-  var_told : (ws : List Word) → Each list_of_text ws [] → has_lists_of form.Var (region_with form.Var s c d m ps) ≡ true → IsTold form.Var ws more (region_with form.Var s c d m ps)
-  var_told [] h lists = grind (arith, nat_tests, and_parts, as_told, same_region, empty_list)
-  var_told (w ∷ ws) h lists = absurd h
+varn_told : (s c d m : List ℕ) (ps : List Part) (more ws : List Word) → SpellsForm form.Varn ws (region_with form.Varn s c d m ps) → has_lists_of form.Varn (region_with form.Varn s c d m ps) ≡ true → length ps ≤ most_parts
+    → region form.Varn (ws ++ more) ≡ Ok (region_with form.Varn s c d m ps, more)
+varn_told s c d m ps more ws xs lists few = grind (arith, nat_tests, and_parts, not, same_region, empty_list, go_on, word_read, passed, nat_lt, le-ltb, parts_told)
 
-  var1_told : (ws : List Word) → Each list_of_text ws (s ∷ []) → has_lists_of form.Var1 (region_with form.Var1 s c d m ps) ≡ true → IsTold form.Var1 ws more (region_with form.Var1 s c d m ps)
-  var1_told (w ∷ []) h lists = grind (arith, nat_tests, and_parts, as_told, same_region, empty_list, go_on, list_told)
-  var1_told [] h lists = absurd h
-  var1_told (w ∷ v ∷ ws) h lists = absurd h.1
-
-  vara_told : (ws : List Word) → Each list_of_text ws (s ∷ c ∷ []) → has_lists_of form.Vara (region_with form.Vara s c d m ps) ≡ true → IsTold form.Vara ws more (region_with form.Vara s c d m ps)
-  vara_told (w1 ∷ w2 ∷ []) h lists = grind (arith, nat_tests, and_parts, as_told, same_region, empty_list, go_on, list_told)
-  vara_told [] h lists = absurd h
-  vara_told (w1 ∷ []) h lists = absurd h.1
-  vara_told (w1 ∷ w2 ∷ w3 ∷ ws) h lists = absurd h.1.1
-
-  vars_told : (ws : List Word) → Each list_of_text ws (s ∷ c ∷ d ∷ []) → has_lists_of form.Vars (region_with form.Vars s c d m ps) ≡ true → IsTold form.Vars ws more (region_with form.Vars s c d m ps)
-  vars_told (w1 ∷ w2 ∷ w3 ∷ []) h lists = grind (arith, nat_tests, and_parts, as_told, same_region, empty_list, go_on, list_told)
-  vars_told [] h lists = absurd h
-  vars_told (w1 ∷ []) h lists = absurd h.1
-  vars_told (w1 ∷ w2 ∷ []) h lists = absurd h.1.1
-  vars_told (w1 ∷ w2 ∷ w3 ∷ w4 ∷ ws) h lists = absurd h.1.1.1
-
-  varm_told : (ws : List Word) → Each list_of_text ws (s ∷ c ∷ d ∷ m ∷ []) → has_lists_of form.Varm (region_with form.Varm s c d m ps) ≡ true → IsTold form.Varm ws more (region_with form.Varm s c d m ps)
-  varm_told (w1 ∷ w2 ∷ w3 ∷ w4 ∷ []) h lists = grind (arith, nat_tests, as_told, same_region, empty_list, go_on, list_told)
-  varm_told [] h lists = absurd h
-  varm_told (w1 ∷ []) h lists = absurd h.1
-  varm_told (w1 ∷ w2 ∷ []) h lists = absurd h.1.1
-  varm_told (w1 ∷ w2 ∷ w3 ∷ []) h lists = absurd h.1.1.1
-  varm_told (w1 ∷ w2 ∷ w3 ∷ w4 ∷ w5 ∷ ws) h lists = absurd h.1.1.1.1
-
-  varn_told : (ws : List Word) → SpellsForm form.Varn ws (region_with form.Varn s c d m ps) → has_lists_of form.Varn (region_with form.Varn s c d m ps) ≡ true → length ps ≤ most_parts
-      → IsTold form.Varn ws more (region_with form.Varn s c d m ps)
-  varn_told ws xs lists few =
-      grind (arith, nat_tests, and_parts, not, as_told, same_region, empty_list, go_on, word_read, passed, nat_lt, le-ltb, parts_told)
-
-  by_form : (f : Form) (ws : List Word) → SpellsForm f ws (region_with f s c d m ps) → has_lists_of f (region_with f s c d m ps) ≡ true → length ps ≤ most_parts → IsTold f ws more (region_with f s c d m ps)
-  by_form f ws h lists few = grind (arith, nat_tests, var_told, var1_told, vara_told, vars_told, varm_told, varn_told)
+by_form : (s c d m : List ℕ) (ps : List Part) (more : List Word) (f : Form) (ws : List Word) → SpellsForm f ws (region_with f s c d m ps) → has_lists_of f (region_with f s c d m ps) ≡ true → length ps ≤ most_parts
+    → region f (ws ++ more) ≡ Ok (region_with f s c d m ps, more)
+by_form s c d m ps more form.Var ws h lists few =
+    let same : given_of form.Var [] [] [] [] ≡ region_with form.Var s c d m ps = grind (arith, nat_tests, and_parts, same_region, empty_list) in lists_end more _ _ same ws h
+by_form s c d m ps more form.Var1 ws h lists few =
+    let same : given_of form.Var1 s [] [] [] ≡ region_with form.Var1 s c d m ps = grind (arith, nat_tests, and_parts, same_region, empty_list) in lists_on more s [] _ _ ws h (lists_end more _ _ same)
+by_form s c d m ps more form.Vara ws h lists few =
+    let same : given_of form.Vara s c [] [] ≡ region_with form.Vara s c d m ps = grind (arith, nat_tests, and_parts, same_region, empty_list) in
+    lists_on more s (c ∷ []) _ _ ws h (λ ws h. lists_on more c [] _ _ ws h (lists_end more _ _ same))
+by_form s c d m ps more form.Vars ws h lists few =
+    let same : given_of form.Vars s c d [] ≡ region_with form.Vars s c d m ps = grind (arith, nat_tests, and_parts, same_region, empty_list) in
+    lists_on more s (c ∷ d ∷ []) _ _ ws h (λ ws h. lists_on more c (d ∷ []) _ _ ws h (λ ws h. lists_on more d [] _ _ ws h (lists_end more _ _ same)))
+by_form s c d m ps more form.Varm ws h lists few =
+    let same : given_of form.Varm s c d m ≡ region_with form.Varm s c d m ps = grind (arith, nat_tests, same_region, empty_list) in
+    lists_on more s (c ∷ d ∷ m ∷ []) _ _ ws h (λ ws h. lists_on more c (d ∷ m ∷ []) _ _ ws h (λ ws h. lists_on more d (m ∷ []) _ _ ws h (λ ws h. lists_on more m [] _ _ ws h (lists_end more _ _ same))))
+by_form s c d m ps more form.Varn ws h lists few = varn_told s c d m ps more ws h lists few
 
 pub region_told : (g : Given) (ws more : List Word) → SpellsRegion ws g → is_given g ≡ true → region g.form (ws ++ more) ≡ Ok (g, more)
 region_told g ws more h given =
