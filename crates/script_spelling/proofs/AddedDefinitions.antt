@@ -1,10 +1,9 @@
 -- The lines that add to a dataset that is opened, each with its statement.
-use Rattle.script_spelling.proofs.Words.{◌≡◌, ◌∙◌, ℕ, ◌+◌, List, [], ◌∷◌, ◌++◌, true, false, Option, Ok, sym, ap, subst, append_assoc, bytes_eq, codes, list_any, Attr, Word, Plain, reads_as, ended, dim_line, var_head, owner_of_text, owner_name, same_title, attribute, added_shape, Added, dim_addition, var_addition, att_addition, addition, Known, went, same_ok, is_end, VarLine, DimIs, VarIs, AttIs, owner_word, Says, extras_in, tested}
-use Rattle.nc_base.specs.declared.errors.ScriptKind.TheVariants as kind
+use Rattle.script_spelling.proofs.Words.{◌≡◌, ◌∙◌, ℕ, ◌+◌, List, [], ◌∷◌, ◌++◌, true, Option, Ok, sym, ap, subst, append_assoc, bytes_eq, codes, Attr, Word, Plain, ended, dim_line, var_head, owner_name, attribute, added_shape, Added, dim_addition, var_addition, att_addition, addition, Known, went, same_ok, is_end, VarLine, DimIs, VarIs, AttIs, owner_word, extras_in, tested, step_then}
 use Rattle.nc_base.specs.declared.script.Extra.TheVariants as extra
-use Rattle.script_spelling.proofs.LinesRead.{dim_said, added_said, owner_said, attr_said}
+use Rattle.script_spelling.proofs.LinesRead.{dim_said, added_said, owner_told, owner_then, attr_said}
 use Rattle.script_spelling.proofs.TakenLines.{Fine, Taken, grown_with}
-use Rattle.script_spelling.proofs.NewDefinitions.{titles_by, at_first}
+use Rattle.script_spelling.proofs.NewDefinitions.{at_first}
 
 -- ---- what is added to a dataset that is opened
 
@@ -43,40 +42,21 @@ added_var k ws x fine h =
       grown = λ ss last g. grown_with g.ranks g.hints g.filled (g.part.0, g.part.1 ∙ append_assoc d.extras (one ∷ []) (extras_in ss), (said.stands, g.part.2));
     })
 
-abbrev added_with : List ℕ → Option (List ℕ) → Attr → Added → ℕ × Added
-added_with word owner a d = (a.count, record d { titles = d.titles ++ (word, a.name) ∷ []; extras = d.extras ++ extra.Att owner a ∷ [] })
-
-added_one : (k : Known) (words : List Word) (word : List ℕ) (owner : Option (List ℕ)) (a : Attr) → Fine k → word ≡ owner_word owner → Says 5 words (AttIs owner a) → list_any (same_title (word, a.name)) k.added.titles ≡ false
-    → TakenAdded k words (added_with word owner a k.added)
-added_one k words word owner a fine e says fresh =
-    let d = k.added in
-    record {
-      statement = AttIs owner a;
-      says = says;
-      fine = record { long = fine.long; apart = fine.apart };
-      grown = λ ss last g. grown_with g.ranks g.hints g.filled (
-        g.part.0,
-        g.part.1 ∙ append_assoc d.extras (extra.Att owner a ∷ []) (extras_in ss),
-        (
-          tt,
-          subst (λ (w : List ℕ). list_any (same_title (w, a.name)) d.titles ≡ false) e fresh,
-          titles_by true d.dims d.vars d.titles ss word owner a e g.part.2,
-        ),
-      );
-    }
+abbrev added_with : List ℕ → Attr → Added → Option (List ℕ) → ℕ × Added
+added_with word a d owner = (a.count, record d { titles = d.titles ++ (word, a.name) ∷ []; extras = d.extras ++ extra.Att owner a ∷ [] })
 
 added_att : (k : Known) (ws : List Word) (x : ℕ × Added) → Fine k → att_addition k.values k.added ws ≡ Ok x → TakenAdded k (Plain (codes "att") ∷ ws) x
 added_att k ws x fine h =
     let d = k.added in
-    let o = went (reads_as owner_of_text kind.BadName ws) _ x h in
-    let a = went (attribute 5 d.titles k.values o.value.0 o.value.1) _ x o.rest in
-    let owner = owner_said ws o.value o.first in
-    let attr = attr_said 5 d.titles k.values o.value.0 o.value.1 a.value a.first in
-    let words = ap (λ (xs : List Word). Plain (codes "att") ∷ xs) (sym owner.are) in
-    let same : added_with o.value.0 owner.owner a.value d ≡ x = ap (λ (y : Option (List ℕ)). added_with o.value.0 y a.value d) (sym owner.of_name) ∙ same_ok (added_with o.value.0 (owner_name o.value.0) a.value d) x a.rest in
-    subst (TakenAdded k (Plain (codes "att") ∷ ws)) same
-    (subst (λ (xs : List Word). TakenAdded k xs (added_with o.value.0 owner.owner a.value d)) words
-    (added_one k (Plain (codes "att") ∷ Plain (owner_word owner.owner) ∷ o.value.1) o.value.0 owner.owner a.value fine owner.word (attr.says owner.owner owner.is) attr.fresh))
+    owner_then ws _ x h (λ o more is are h. step_then (attribute 5 d.titles k.values (owner_word o) more) _ x h (λ a told h.
+    let attr = attr_said 5 d.titles k.values (owner_word o) more a told in
+    let same = ap (added_with (owner_word o) a d) (sym (owner_told o is).1) ∙ same_ok (added_with (owner_word o) a d (owner_name (owner_word o))) x h in
+    subst (λ (xs : List Word). TakenAdded k (Plain (codes "att") ∷ xs) x) (sym are) (subst (TakenAdded k (Plain (codes "att") ∷ Plain (owner_word o) ∷ more)) same (record {
+      statement = AttIs o a;
+      says = attr.says o is;
+      fine = record { long = fine.long; apart = fine.apart };
+      grown = λ ss last g. grown_with g.ranks g.hints g.filled (g.part.0, g.part.1 ∙ append_assoc d.extras (extra.Att o a ∷ []) (extras_in ss), (tt, attr.fresh, g.part.2));
+    }))))
 
 pub addition_taken : (k : Known) (first : List ℕ) (ws : List Word) (x : ℕ × Added) → Fine k → addition k.values k.added first ws ≡ Ok x → TakenAdded k (Plain first ∷ ws) x
 addition_taken k first ws x fine h =

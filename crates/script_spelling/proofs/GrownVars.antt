@@ -1,15 +1,17 @@
 -- The variables of a new dataset, and what later lines give them.
-use Rattle.script_spelling.proofs.Words.{◌≡◌, ◌∙◌, ℕ, zero, suc, List, [], ◌∷◌, ◌++◌, map, position, Bool, true, false, not, cond, ◌&&◌, Some, refl, sym, ap, subst, ⊎_elim, append_assoc, append-nil, bytes_eq, AllZip, and_parts, and_from, or_parts, or_from, or_left, not-true, not_from_false, cond-true, cond-false, map-append, list_any-append, Dim, Attr, Var, dim_ids, is_among, var_names, Title, bytes_same, bytes_own, Later, place_cases, with_own, push_attr, VarLine, Statement, RanksAre, HintIs, IsFilled, DimIs, VarIs, AttIs, Stand, vars_in, IsVarOf, arith, nat_tests}
+use Rattle.script_spelling.proofs.Words.{◌≡◌, ◌∙◌, ℕ, zero, suc, List, [], ◌∷◌, ◌++◌, map, position, Bool, true, false, not, cond, ◌&&◌, Option, Some, unwrap_or, refl, sym, ap, subst, ⊎_elim, append_assoc, append-nil, bytes_eq, AllZip, and_parts, and_from, or_parts, or_from, or_left, not-true, not_from_false, cond-true, cond-false, map-append, list_any-append, Dim, Attr, Var, dim_ids, is_among, var_names, Title, bytes_same, bytes_own, Later, more_ids, place_cases, with_own, push_attr, VarLine, Statement, RanksAre, HintIs, IsFilled, DimIs, VarIs, AttIs, Stand, dims_in, vars_in, IsVarOf, inr}
+use Rattle.std.proofs.Common.{inl}
+use Rattle.list_laws.proofs.Truth.{holds_or_not}
 
 -- ---- names
 
 -- a test that fails for a name fails for each that is the same
 not_same : (a b : List ℕ) (names : List (List ℕ)) → is_among a names ≡ true → is_among b names ≡ false → bytes_eq a b ≡ false
-not_same a b names there none = by (bytes_eq a b) refl
-  where
-    by : (t : Bool) → bytes_eq a b ≡ t → t ≡ false
-    by false e = refl
-    by true e = let same : is_among a names ≡ false = subst (λ (x : List ℕ). is_among x names ≡ false) (sym (bytes_same a b e)) none in absurd (cc)
+not_same a b names there none =
+    elim (holds_or_not (bytes_eq a b)) [
+      | inl e ↦ let same : is_among a names ≡ false = subst (λ (x : List ℕ). is_among x names ≡ false) (sym (bytes_same a b e)) none in absurd (cc)
+      | inr e ↦ e
+    ]
 
 abbrev pub are_apart : List (List ℕ) → Bool
 are_apart [] = true
@@ -48,80 +50,102 @@ later_names opened dims names titles (AttIs owner a ∷ ss) n stand there = late
 
 -- ---- variables, and the lines of others behind them
 
--- the variables that are there have these attributes more, and then come those of the lines
-abbrev pub GrownVars : List Dim → (List ℕ → List Attr) → List Var → List VarLine → List Var → Type 0
-GrownVars dims more [] lines last = AllZip (λ (line : VarLine) v. IsVarOf dims (more line.name) line v) lines last
-GrownVars dims more (v ∷ vars) lines [] = ⊥
-GrownVars dims more (v ∷ vars) lines (w ∷ last) = (w ≡ record v { attrs = v.attrs ++ more v.name }) × GrownVars dims more vars lines last
+-- a variable without attributes, as its line defines it
+abbrev pub var_of : VarLine → List ℕ → Var
+var_of line ids = record { name = line.name; dims = ids; attrs = []; kind = line.kind; begin = 0 }
 
-pub none_grown : (dims : List Dim) (vars : List Var) → GrownVars dims (λ n. []) vars [] vars
-none_grown dims [] = tt
-none_grown dims (v ∷ vars) = (ap (λ (list : List Attr). record v { attrs = list }) (sym (append-nil v.attrs)), none_grown dims vars)
+abbrev bare_var : List Dim → VarLine → Var
+bare_var dims line = var_of line (unwrap_or (dim_ids dims line.dims) [])
 
--- a variable without attributes as its line defines it
-pub record IsBare (dims : List Dim) (line : VarLine) (v : Var) : Type 0 where
-  pub found : dim_ids dims line.dims ≡ Some v.dims
-  pub same : v ≡ record { name = line.name; dims = v.dims; attrs = []; kind = line.kind; begin = 0 }
+-- a variable with these attributes more
+abbrev grow : (List ℕ → List Attr) → Var → Var
+grow more v = record v { attrs = v.attrs ++ more v.name }
 
-var_of_line : (dims : List Dim) (more : List ℕ → List Attr) (line : VarLine) (v w : Var) → IsBare dims line v → w ≡ record v { attrs = v.attrs ++ more v.name } → IsVarOf dims (more line.name) line w
-var_of_line dims more line v w bare e = grind (arith, nat_tests)
+-- the variables that are there and then those of the lines, with these attributes more
+abbrev pub grown_vars : List Dim → (List ℕ → List Attr) → List Var → List VarLine → List Var
+grown_vars dims more vars lines = map (grow more) vars ++ map (grow more) (map (bare_var dims) lines)
 
-pub var_first : (dims : List Dim) (more : List ℕ → List Attr) (vars : List Var) (line : VarLine) (lines : List VarLine) (v : Var) (last : List Var) → IsBare dims line v
-    → GrownVars dims more (vars ++ v ∷ []) lines last → GrownVars dims more vars (line ∷ lines) last
-var_first dims more [] line lines v [] bare h = absurd h
-var_first dims more [] line lines v (w ∷ last) bare h = (var_of_line dims more line v w bare h.0, h.1)
-var_first dims more (x ∷ vars) line lines v [] bare h = absurd h
-var_first dims more (x ∷ vars) line lines v (w ∷ last) bare h = (h.0, var_first dims more vars line lines v last bare h.1)
+pub none_grown : (dims : List Dim) (vars : List Var) → grown_vars dims (λ n. []) vars [] ≡ vars
+none_grown dims [] = refl
+none_grown dims (v ∷ vars) = ap (λ (list : List Attr). record v { attrs = list } ∷ grown_vars dims (λ n. []) vars []) (append-nil v.attrs) ∙ ap (λ (vs : List Var). v ∷ vs) (none_grown dims vars)
+
+-- dimensions that are found are found where there are more
+still_found : (dims later all : List Dim) (line : VarLine) (ids : List ℕ) → all ≡ dims ++ later → dim_ids dims line.dims ≡ Some ids → dim_ids all line.dims ≡ Some ids
+still_found dims later all line ids e found = subst (λ (ds : List Dim). dim_ids ds line.dims ≡ Some ids) (sym e) (more_ids dims later line.dims ids found)
+
+-- the line of a variable
+pub var_step : (dims later all : List Dim) (more : List ℕ → List Attr) (vars : List Var) (line : VarLine) (lines : List VarLine) (v : Var) → all ≡ dims ++ later → dim_ids dims line.dims ≡ Some v.dims → v ≡ var_of line v.dims
+    → grown_vars all more (vars ++ v ∷ []) lines ≡ grown_vars all more vars (line ∷ lines)
+var_step dims later all more vars line lines v e found same =
+    let rest = map (grow more) (map (bare_var all) lines) in
+    let bare : v ≡ bare_var all line = same ∙ ap (λ (o : Option (List ℕ)). var_of line (unwrap_or o [])) (sym (still_found dims later all line v.dims e found)) in
+    ap (λ (vs : List Var). vs ++ rest) (map-append (grow more) vars (v ∷ []))
+    ∙ (append_assoc (map (grow more) vars) (grow more v ∷ []) rest ∙ ap (λ (w : Var). map (grow more) vars ++ grow more w ∷ rest) bare)
 
 -- ---- an attribute of one of them
 
 abbrev pub first_of : List ℕ → Attr → (List ℕ → List Attr) → List ℕ → List Attr
 first_of owner a more n = cond (bytes_eq owner n) (a ∷ more n) (more n)
 
-lines_apart : (dims : List Dim) (more : List ℕ → List Attr) (owner : List ℕ) (a : Attr) (lines : List VarLine) (last : List Var) → is_among owner (line_names lines) ≡ false
-    → GrownVars dims more [] lines last → GrownVars dims (first_of owner a more) [] lines last
-lines_apart dims more owner a [] [] none h = tt
-lines_apart dims more owner a [] (w ∷ last) none h = absurd h
-lines_apart dims more owner a (line ∷ lines) [] none h = absurd h
-lines_apart dims more owner a (line ∷ lines) (w ∷ last) none h =
-    let both = or_parts (bytes_eq owner line.name) (is_among owner (line_names lines)) none in
-    let same : more line.name ≡ first_of owner a more line.name = sym (cond-false _ _ _ both.0) in
-    (subst (λ (list : List Attr). IsVarOf dims list line w) same h.0, lines_apart dims more owner a lines last both.1 h.1)
+-- what v grows to where its attributes begin with that one, or not
+grow_first : (owner : List ℕ) (a : Attr) (more : List ℕ → List Attr) (v : Var) → bytes_eq owner v.name ≡ true → grow (first_of owner a more) v ≡ grow more (with_own a v)
+grow_first owner a more v e = ap (λ (list : List Attr). record v { attrs = list }) (ap (λ (list : List Attr). v.attrs ++ list) (cond-true _ _ _ e) ∙ sym (append_assoc v.attrs (a ∷ []) (more v.name)))
 
-all_apart : (dims : List Dim) (more : List ℕ → List Attr) (owner : List ℕ) (a : Attr) (vars : List Var) (lines : List VarLine) (last : List Var) → is_among owner (var_names vars) ≡ false → is_among owner (line_names lines) ≡ false
-    → GrownVars dims more vars lines last → GrownVars dims (first_of owner a more) vars lines last
-all_apart dims more owner a [] lines last none later h = lines_apart dims more owner a lines last later h
-all_apart dims more owner a (v ∷ vars) lines [] none later h = absurd h
-all_apart dims more owner a (v ∷ vars) lines (w ∷ last) none later h =
+grow_same : (owner : List ℕ) (a : Attr) (more : List ℕ → List Attr) (v : Var) → bytes_eq owner v.name ≡ false → grow (first_of owner a more) v ≡ grow more v
+grow_same owner a more v e = ap (λ (list : List Attr). record v { attrs = v.attrs ++ list }) (cond-false _ _ _ e)
+
+all_same : (owner : List ℕ) (a : Attr) (more : List ℕ → List Attr) (vars : List Var) → is_among owner (var_names vars) ≡ false → map (grow (first_of owner a more)) vars ≡ map (grow more) vars
+all_same owner a more [] none = refl
+all_same owner a more (v ∷ vars) none =
     let both = or_parts (bytes_eq owner v.name) (is_among owner (var_names vars)) none in
-    let same : more v.name ≡ first_of owner a more v.name = sym (cond-false _ _ _ both.0) in
-    (h.0 ∙ ap (λ (list : List Attr). record v { attrs = v.attrs ++ list }) same, all_apart dims more owner a vars lines last both.1 later h.1)
+    ap (λ (w : Var). w ∷ map (grow (first_of owner a more)) vars) (grow_same owner a more v both.0) ∙ ap (λ (vs : List Var). grow more v ∷ vs) (all_same owner a more vars both.1)
 
-pub attr_first : (dims : List Dim) (more : List ℕ → List Attr) (owner : List ℕ) (a : Attr) (k : ℕ) (vars : List Var) (lines : List VarLine) (last : List Var)
-    → position (bytes_eq owner) (var_names vars) ≡ Some k → are_apart (var_names vars) ≡ true → is_among owner (line_names lines) ≡ false
-    → GrownVars dims more (push_attr k a vars) lines last → GrownVars dims (first_of owner a more) vars lines last
-attr_first dims more owner a k [] lines last at all later h = absurd (cc)
-attr_first dims more owner a k (v ∷ vars) lines last at all later h =
+one_first : (owner : List ℕ) (a : Attr) (more : List ℕ → List Attr) (k : ℕ) (vars : List Var) → position (bytes_eq owner) (var_names vars) ≡ Some k → are_apart (var_names vars) ≡ true
+    → map (grow (first_of owner a more)) vars ≡ map (grow more) (push_attr k a vars)
+one_first owner a more k [] at all = absurd (cc)
+one_first owner a more k (v ∷ vars) at all =
     let both = and_parts (not (is_among v.name (var_names vars))) (are_apart (var_names vars)) all in
+    let rest = λ (w : Var). w ∷ map (grow (first_of owner a more)) vars in
+    let pushed = λ (j : ℕ). map (grow more) (push_attr j a (v ∷ vars)) in
     ⊎_elim
     (λ (c : (bytes_eq owner v.name ≡ true) × (k ≡ 0)).
     let none = subst (λ (n : List ℕ). is_among n (var_names vars) ≡ false) (sym (bytes_same owner v.name c.0)) (not-true _ both.0) in
-    first last c.0 none (subst (λ (j : ℕ). GrownVars dims more (push_attr j a (v ∷ vars)) lines last) c.1 h))
+    ap rest (grow_first owner a more v c.0) ∙ (ap (λ (vs : List Var). grow more (with_own a v) ∷ vs) (all_same owner a more vars none) ∙ ap pushed (sym c.1)))
     (λ (c : (bytes_eq owner v.name ≡ false) × Later (bytes_eq owner) (var_names vars) k).
-    further last c.0 c.1.before (λ tail g. attr_first dims more owner a c.1.before vars lines tail c.1.found both.1 later g)
-    (subst (λ (j : ℕ). GrownVars dims more (push_attr j a (v ∷ vars)) lines last) c.1.next h))
+    let others = one_first owner a more c.1.before vars c.1.found both.1 in
+    ap rest (grow_same owner a more v c.0) ∙ (ap (λ (vs : List Var). grow more v ∷ vs) others ∙ ap pushed (sym c.1.next)))
     (place_cases (bytes_eq owner) v.name (var_names vars) k at)
-  where
-    first : (last : List Var) → bytes_eq owner v.name ≡ true → is_among owner (var_names vars) ≡ false → GrownVars dims more (with_own a v ∷ vars) lines last → GrownVars dims (first_of owner a more) (v ∷ vars) lines last
-    first [] e none g = absurd g
-    first (w ∷ tail) e none g =
-        let same : (v.attrs ++ a ∷ []) ++ more v.name ≡ v.attrs ++ first_of owner a more v.name =
-        append_assoc v.attrs (a ∷ []) (more v.name) ∙ ap (λ (list : List Attr). v.attrs ++ list) (sym (cond-true _ _ _ e)) in
-        (g.0 ∙ ap (λ (list : List Attr). record v { attrs = list }) same, all_apart dims more owner a vars lines tail none later g.1)
 
-    further : (last : List Var) → bytes_eq owner v.name ≡ false → (j : ℕ) → ((tail : List Var) → GrownVars dims more (push_attr j a vars) lines tail → GrownVars dims (first_of owner a more) vars lines tail)
-        → GrownVars dims more (v ∷ push_attr j a vars) lines last → GrownVars dims (first_of owner a more) (v ∷ vars) lines last
-    further [] e j rest g = absurd g
-    further (w ∷ tail) e j rest g =
-        let same : more v.name ≡ first_of owner a more v.name = sym (cond-false _ _ _ e) in
-        (g.0 ∙ ap (λ (list : List Attr). record v { attrs = v.attrs ++ list }) same, rest tail g.1)
+names_of_lines : (dims : List Dim) (lines : List VarLine) → var_names (map (bare_var dims) lines) ≡ line_names lines
+names_of_lines dims [] = refl
+names_of_lines dims (line ∷ lines) = ap (λ (names : List (List ℕ)). line.name ∷ names) (names_of_lines dims lines)
+
+-- the line of an attribute
+pub attr_step : (dims : List Dim) (more : List ℕ → List Attr) (owner : List ℕ) (a : Attr) (k : ℕ) (vars : List Var) (lines : List VarLine) → position (bytes_eq owner) (var_names vars) ≡ Some k → are_apart (var_names vars) ≡ true
+    → is_among owner (line_names lines) ≡ false → grown_vars dims (first_of owner a more) vars lines ≡ grown_vars dims more (push_attr k a vars) lines
+attr_step dims more owner a k vars lines at all later =
+    let new = map (bare_var dims) lines in
+    let none = subst (λ (names : List (List ℕ)). is_among owner names ≡ false) (sym (names_of_lines dims lines)) later in
+    ap (λ (vs : List Var). vs ++ map (grow (first_of owner a more)) new) (one_first owner a more k vars at all) ∙ ap (λ (vs : List Var). map (grow more) (push_attr k a vars) ++ vs) (all_same owner a more new none)
+
+-- ---- variables of lines alone
+
+pub vars_of_lines : (dims : List Dim) (more : List ℕ → List Attr) (lines : List VarLine) (vars : List Var) → AllZip (λ (line : VarLine) v. IsVarOf dims (more line.name) line v) lines vars → vars ≡ grown_vars dims more [] lines
+vars_of_lines dims more [] [] h = refl
+vars_of_lines dims more [] (v ∷ vars) h = absurd h
+vars_of_lines dims more (line ∷ lines) [] h = absurd h
+vars_of_lines dims more (line ∷ lines) (v ∷ vars) h =
+    ap (λ (w : Var). w ∷ vars) (h.0.1 ∙ ap (λ (o : Option (List ℕ)). grow more (var_of line (unwrap_or o []))) (sym h.0.0)) ∙ ap (λ (vs : List Var). grow more (bare_var dims line) ∷ vs) (vars_of_lines dims more lines vars h.1)
+
+-- lines that may stand find their dimensions
+pub lines_of_vars : (all dims : List Dim) (more : List ℕ → List Attr) (names : List (List ℕ)) (titles : List Title) (ss : List Statement) → all ≡ dims ++ dims_in ss → Stand false dims names titles ss
+    → AllZip (λ (line : VarLine) v. IsVarOf all (more line.name) line v) (vars_in ss) (grown_vars all more [] (vars_in ss))
+lines_of_vars all dims more names titles [] e stand = tt
+lines_of_vars all dims more names titles (RanksAre m ∷ ss) e stand = lines_of_vars all dims more names titles ss e stand
+lines_of_vars all dims more names titles (HintIs h v ∷ ss) e stand = lines_of_vars all dims more names titles ss e stand
+lines_of_vars all dims more names titles (IsFilled ∷ ss) e stand = lines_of_vars all dims more names titles ss e stand.1
+lines_of_vars all dims more names titles (DimIs d ∷ ss) e stand = lines_of_vars all (dims ++ d ∷ []) more names titles ss (e ∙ sym (append_assoc dims (d ∷ []) (dims_in ss))) stand.1
+lines_of_vars all dims more names titles (VarIs line ∷ ss) e stand =
+    let found = still_found dims (dims_in ss) all line stand.0.3.0 e stand.0.3.1 in
+    ((found ∙ ap (λ (o : Option (List ℕ)). Some (unwrap_or o [])) (sym found), refl), lines_of_vars all dims more (names ++ line.name ∷ []) titles ss e stand.1)
+lines_of_vars all dims more names titles (AttIs owner a ∷ ss) e stand = lines_of_vars all dims more names _ ss e stand.2

@@ -45,7 +45,7 @@ pub record DefinitionsRead (opened : Bool) (version : ℕ) (k : Known) (lines : 
 
 same_part : (opened : Bool) (k : Known) → Part opened k [] k
 same_part true k = (refl, sym (append-nil k.added.extras), tt)
-same_part false k = (refl, sym (append-nil k.defined.dims), sym (append-nil k.defined.attrs), none_grown k.defined.dims k.defined.vars, tt)
+same_part false k = (refl, sym (append-nil k.defined.dims), sym (append-nil k.defined.attrs), sym (none_grown k.defined.dims k.defined.vars), tt)
 
 none_said : (opened : Bool) (k : Known) → Grown opened k [] k
 none_said opened k = grind (arith, nat_tests, append-nil, same_part)

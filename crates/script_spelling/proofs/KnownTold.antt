@@ -4,7 +4,7 @@ use Rattle.nc_base.specs.declared.errors.ScriptKind.TheVariants as kind
 use Rattle.script_spelling.proofs.CallLinesRead.{words_of}
 use Rattle.script_spelling.proofs.TakenLines.{flag, Grown}
 use Rattle.script_spelling.proofs.KnownRead.{lines_version}
-use Rattle.script_spelling.proofs.VarsTold.{all_grown}
+use Rattle.script_spelling.proofs.GrownVars.{none_grown}
 use Rattle.script_spelling.proofs.DefinitionsTold.{total, Sound, led}
 
 -- ---- all lines up to `data`
@@ -65,7 +65,7 @@ pub same_parts : (opened : Bool) (k last : Known) → Grown opened k [] last →
 same_parts true k last g = grind (arith, nat_tests, append-nil)
 same_parts false k last g = record {
   dims = sym (g.part.1 ∙ append-nil k.defined.dims);
-  vars = all_grown last.defined.dims k.defined.vars last.defined.vars g.part.3;
+  vars = sym (g.part.3 ∙ none_grown last.defined.dims k.defined.vars);
   attrs = sym (g.part.2 ∙ append-nil k.defined.attrs);
   filled = same_flags last.defined.filled k.defined.filled g.filled;
   extras = sym g.part.0;

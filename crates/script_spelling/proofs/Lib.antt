@@ -15,7 +15,6 @@ mod RegionsTold
 mod CallsTold
 mod CallLinesTold
 mod LinesTold
-mod VarsTold
 mod DefinitionsTold
 mod KnownTold
 mod Told

@@ -1,13 +1,11 @@
 -- What the words of a line between the head and `data` say, where they are read, and that it may stand there.
-use Rattle.script_spelling.proofs.Words.{◌≡◌, ◌∙◌, ℕ, zero, suc, ◌<◌, ◌≤◌, List, [], ◌∷◌, position, length, Bool, true, false, not, cond, Option, Some, None, is_some, is_none, slice_get, unwrap_or, Ok, refl, sym, ap, subst, arith, bytes_eq, codes, list_any, list_all, and_parts, length-map, cond_some, none_of_test, not_some, some_of_map, faultless_some, NcType, Dim, Attr, Var, most_dims, most_dims_of_var, most_vars, Word, Plain, is_name, between_brackets, parts, all_some, or_fault, reads_as, name, name_of_text, values, HintForm, Within, Either, HintRow, hint_table, hint_form, hint_of_text, no_row, hint_in, hint_value, hint_line, ranks_line, number_within, one_of_two, type_of, length_of_text, is_among, dim_ids, dim_line, var_head, name_list, shape, added_shape, var_names, var_line, owner_of_text, owner_name, Title, same_title, attr_of, attribute_name, attribute, same_ok, bytes_same, VarLine, RanksAre, HintIs, DimIs, VarIs, AttIs, hint_value_of, owner_word, IsOwner, Says, DimStands, VarStands, nat_tests, step_then, free_then, end_then}
+use Rattle.script_spelling.proofs.Words.{◌≡◌, ◌∙◌, ℕ, zero, suc, ◌<◌, ◌≤◌, List, [], ◌∷◌, position, length, true, false, not, Option, Some, None, is_some, is_none, slice_get, unwrap_or, Ok, refl, sym, ap, subst, arith, bytes_eq, codes, list_any, list_all, and_parts, length-map, cond_some, none_of_test, not_some, some_of_map, faultless_some, NcType, Dim, Attr, Var, most_dims, most_dims_of_var, most_vars, Word, Plain, is_name, between_brackets, parts, all_some, or_fault, reads_as, name, values, HintForm, Within, Either, HintRow, hint_table, hint_form, hint_of_text, no_row, hint_in, hint_value, hint_line, ranks_line, number_within, one_of_two, type_of, length_of_text, is_among, dim_ids, dim_line, var_head, name_list, shape, added_shape, var_names, var_line, owner_of_text, owner_name, Title, same_title, attr_of, attribute_name, attribute, same_ok, bytes_same, VarLine, RanksAre, HintIs, DimIs, VarIs, AttIs, hint_value_of, owner_word, IsOwner, Says, DimStands, VarStands, nat_tests, step_then, free_then, end_then, ◌>>=◌, Result, ScriptKind, inr, cond-false, owner_again, no_colon}
+use Rattle.script_text.proofs.Steps.{decided}
 use borrow.Author.Tests.{not-false, leb-false, ltb-false}
 use Rattle.nc_base.specs.declared.errors.ScriptKind.TheVariants as kind
 use Rattle.nc_base.specs.declared.errors.LimitName.TheVariants as limit
 use Rattle.script_spelling.proofs.WordsRead.{WordRead, word_is, NameRead, read_then, named_then}
 use Rattle.script_spelling.proofs.ValuesRead.{values_spelled}
-
-pub two_words : (first one : List ℕ) (ws a : List Word) → ws ≡ Plain one ∷ a → a ≡ [] → Plain first ∷ ws ≡ Plain first ∷ Plain one ∷ []
-two_words first one ws a e1 e2 = ap (λ (xs : List Word). Plain first ∷ xs) e1 ∙ ap (λ (xs : List Word). Plain first ∷ Plain one ∷ xs) e2
 
 three_words : (first one two : List ℕ) (ws a b : List Word) → ws ≡ Plain one ∷ a → a ≡ Plain two ∷ b → b ≡ [] → Plain first ∷ ws ≡ Plain first ∷ Plain one ∷ Plain two ∷ []
 three_words first one two ws a b e1 e2 e3 = ap (λ (xs : List Word). Plain first ∷ xs) e1 ∙ ap (λ (xs : List Word). Plain first ∷ Plain one ∷ xs) (e2 ∙ ap (λ (xs : List Word). Plain two ∷ xs) e3)
@@ -138,42 +136,22 @@ added_said dims names ws v ns h k =
 
 -- ---- attributes
 
--- the owner of an attribute, by its word
-pub record OwnerSaid (ws : List Word) (r : List ℕ × List Word) : Type 0 where
-  pub owner : Option (List ℕ)
-  pub are : ws ≡ Plain (owner_word owner) ∷ r.1
-  pub word : r.0 ≡ owner_word owner
-  pub is : IsOwner owner
-  pub of_name : owner_name r.0 ≡ owner
-  pub colon : bytes_eq r.0 (codes ":") ≡ not (is_some owner)
+pub owner_told : (owner : Option (List ℕ)) → IsOwner owner → (owner_of_text (owner_word owner) ≡ Some (owner_word owner)) × (owner_name (owner_word owner) ≡ owner)
+owner_told None is = (refl, refl)
+owner_told (Some n) is = ((owner_again n (inr (no_colon n is, is))).1, cond-false _ _ _ (no_colon n is))
 
-pub owner_said : (ws : List Word) (r : List ℕ × List Word) → reads_as owner_of_text kind.BadName ws ≡ Ok r → OwnerSaid ws r
-owner_said ws r h = let w = word_is owner_of_text kind.BadName ws r refl h in by (bytes_eq w.word (codes ":")) refl w.says w.are
-  where
-    by : {w : List ℕ} (b : Bool) → bytes_eq w (codes ":") ≡ b → cond {A = Option (List ℕ)} b (Some w) (name_of_text w) ≡ Some r.0 → ws ≡ Plain w ∷ r.1 → OwnerSaid ws r
-    by {w} true e k are =
-        let same : w ≡ r.0 = cc in
-        let colon = bytes_same w (codes ":") e in
-        let test = subst (λ (x : List ℕ). bytes_eq x (codes ":") ≡ true) same e in
-        record {
-          owner = None;
-          are = are ∙ ap (λ (x : List ℕ). Plain x ∷ r.1) colon;
-          word = sym same ∙ colon;
-          is = tt;
-          of_name = ap (λ (b : Bool). cond {A = Option (List ℕ)} b None (Some r.0)) test;
-          colon = test;
-        }
-    by {w} false e k are =
-        let n = cond_some (is_name w) w r.0 k in
-        let test = subst (λ (x : List ℕ). bytes_eq x (codes ":") ≡ false) n.1 e in
-        record {
-          owner = Some r.0;
-          are = are ∙ ap (λ (x : List ℕ). Plain x ∷ r.1) n.1;
-          word = refl;
-          is = subst (λ (x : List ℕ). is_name x ≡ true) n.1 n.0;
-          of_name = ap (λ (b : Bool). cond {A = Option (List ℕ)} b None (Some r.0)) test;
-          colon = test;
-        }
+-- the owner of an attribute, by its word
+pub owner_then : {B P : Type 0} (ws : List Word) (f : List ℕ × List Word → Result B ScriptKind) (y : B) → (reads_as owner_of_text kind.BadName ws >>= f) ≡ Ok y
+    → ((owner : Option (List ℕ)) (more : List Word) → IsOwner owner → ws ≡ Plain (owner_word owner) ∷ more → f (owner_word owner, more) ≡ Ok y → P) → P
+owner_then ws f y h k =
+    read_then owner_of_text _ ws f y refl h (λ r w h. decided (bytes_eq w.word (codes ":")) _ _ _ w.says
+    (λ e g.
+    let same : w.word ≡ r.0 = cc in
+    let colon = bytes_same w.word (codes ":") e in
+    k None r.1 tt (w.are ∙ ap (λ (x : List ℕ). Plain x ∷ r.1) colon) (subst (λ (x : List ℕ). f (x, r.1) ≡ Ok y) (sym same ∙ colon) h))
+    (λ e g.
+    let n = cond_some (is_name w.word) w.word r.0 g in
+    k (Some w.word) r.1 n.0 w.are (subst (λ (x : List ℕ). f (x, r.1) ≡ Ok y) (sym n.1) h)))
 
 -- an attribute of this owner
 pub record AttrSaid (version : ℕ) (titles : List Title) (owner : List ℕ) (ws : List Word) (a : Attr) : Type 0 where
@@ -186,17 +164,9 @@ attr_said version titles before owner ws a h =
     named_then ws _ n new (λ m named k. free_then _ _ _ n k (λ free k.
     let same = same_ok m n k in
     let is_named = subst (NameRead ws) same named in
+    let are = is_named.are ∙ ap (λ (xs : List Word). Plain n.0 ∷ xs) w.are in
+    let spells = values_spelled (Some t.0) before t.1 vs spelt in
     subst (AttrSaid version titles owner ws) (same_ok (attr_of n.0 t.0 vs) a h) (record {
-      says = λ o is. (
-        w.word,
-        t.1,
-        vs,
-        ap (λ (xs : List Word). Plain (codes "att") ∷ Plain (owner_word o) ∷ xs) (is_named.are ∙ ap (λ (xs : List Word). Plain n.0 ∷ xs) w.are),
-        is,
-        is_named.named,
-        w.says,
-        values_spelled (Some t.0) before t.1 vs spelt,
-        refl,
-      );
+      says = λ o is. (w.word, t.1, vs, ap (λ (xs : List Word). Plain (codes "att") ∷ Plain (owner_word o) ∷ xs) are, is, is_named.named, w.says, spells, refl);
       fresh = subst (λ (x : List ℕ × List Word). list_any (same_title (owner, x.0)) titles ≡ false) same free;
     }))))))

@@ -1,8 +1,12 @@
 -- Words that say a statement are read as what they say, where it may stand.
-use Rattle.script_spelling.proofs.Words.{◌≡◌, ℕ, suc, ◌<◌, ◌≤◌, List, [], ◌∷◌, position, drop, length, Bool, true, false, not, nat_lt, ◌||◌, Option, Some, None, Ok, refl, sym, ap, inr, arith, bytes_eq, codes, list_any, list_all, cond-false, le-ltb, length-map, count_of, Dim, Attr, Var, Values, most_dims_of_var, most_vars, Word, Plain, is_name, between_brackets, parts, refuse_if, reads_as, name, values, HintForm, Within, Either, hint_value, ranks_line, number_within, one_of_two, type_of, length_of_text, is_among, dim_ids, is_added_record, dim_line, var_head, name_list, added_shape, var_names, var_line, owner_of_text, owner_name, owner_place, Title, same_title, attr_of, attribute_name, attribute, go_on, passed, faultless, word_read, by_false, place_here, place_later, HasRoom, name_again, owner_again, no_colon, SpellsValues, VarLine, hint_value_of, owner_word, IsOwner, DimStands, VarStands, nat_tests}
+use Rattle.script_spelling.proofs.Words.{◌≡◌, ℕ, suc, ◌<◌, ◌≤◌, List, [], ◌∷◌, position, drop, length, Bool, true, false, not, nat_lt, ◌||◌, Some, None, Ok, refl, sym, ap, inr, arith, bytes_eq, codes, list_any, list_all, le-ltb, length-map, count_of, Dim, Attr, Var, Values, most_dims_of_var, most_vars, Word, Plain, is_name, between_brackets, parts, refuse_if, reads_as, name, values, HintForm, Within, Either, hint_value, ranks_line, number_within, one_of_two, type_of, length_of_text, is_among, dim_ids, is_added_record, dim_line, var_head, name_list, added_shape, var_names, var_line, owner_place, Title, same_title, attr_of, attribute_name, attribute, go_on, passed, faultless, word_read, by_false, place_here, place_later, HasRoom, name_again, no_colon, SpellsValues, VarLine, hint_value_of, DimStands, VarStands, nat_tests, ◌∙◌, Added, var_addition, ◌++◌}
+use Rattle.std.proofs.Common.{inl}
 use Rattle.nc_base.specs.declared.errors.ScriptKind.TheVariants as kind
 use Rattle.nc_base.specs.declared.errors.LimitName.TheVariants as limit
+use Rattle.nc_base.specs.declared.script.Extra.TheVariants as extra
+use Rattle.list_laws.proofs.Truth.{holds_or_not}
 use Rattle.script_spelling.proofs.LinesRead.{all_found}
+use Rattle.script_spelling.proofs.GrownVars.{var_of}
 use Rattle.script_spelling.proofs.ValuesTold.{values_told}
 
 -- ---- ranks and hints
@@ -39,10 +43,6 @@ head_told : (version : ℕ) (names : List (List ℕ)) (line : VarLine) (w : VarW
     → var_head version names (Plain w.kind_word ∷ Plain line.name ∷ more) ≡ Ok ((line.kind, line.name), more)
 head_told version names line w more fresh room = grind (arith, nat_tests)
 
--- a variable of a new dataset, as its line defines it
-abbrev pub var_of : VarLine → List ℕ → Var
-var_of line ids = record { name = line.name; dims = ids; attrs = []; kind = line.kind; begin = 0 }
-
 few_ids : (dims : List Dim) (names : List (List ℕ)) (ids : List ℕ) → dim_ids dims names ≡ Some ids → length names ≤ most_dims_of_var → length ids ≤ most_dims_of_var
 few_ids dims names ids e few = grind (arith, nat_tests, position, bytes_eq, all_found, length-map)
 
@@ -51,27 +51,20 @@ pub var_told : (version : ℕ) (dims : List Dim) (vars : List Var) (line : VarLi
 var_told version dims vars line w stands = grind (arith, nat_tests, go_on, head_told, names_told, faultless, nat_lt, passed, le-ltb, few_ids)
 
 -- what a line adds to a dataset that is opened
-pub record AddedTold (dims : List Dim) (names : List (List ℕ)) (line : VarLine) (words : List Word) : Type 0 where
-  pub more : List Word
-  pub head : var_head 5 names words ≡ Ok ((line.kind, line.name), more)
-  pub shape_told : added_shape dims more ≡ Ok (line.dims, [])
+abbrev pub with_line : VarLine → Added → Added
+with_line line d = record d { vars = d.vars ++ line.name ∷ []; extras = d.extras ++ extra.Var line.kind line.name line.dims ∷ [] }
 
-pub added_told : (dims : List Dim) (names : List (List ℕ)) (line : VarLine) (w : VarWords 5 line) → VarStands true dims names line → AddedTold dims names line (Plain w.kind_word ∷ Plain line.name ∷ Plain w.shape_word ∷ [])
-added_told dims names line w stands =
+pub added_told : (d : Added) (line : VarLine) (w : VarWords 5 line) → VarStands true d.dims d.vars line → var_addition d (Plain w.kind_word ∷ Plain line.name ∷ Plain w.shape_word ∷ []) ≡ Ok (0, with_line line d)
+added_told d line w stands =
     let rest = Plain w.shape_word ∷ [] in
-    record {
-      more = rest;
-      head = head_told 5 names line w rest stands.0 stands.1;
-      shape_told = go_on (name_list rest) _ (line.dims, []) (line.dims, []) (names_told 5 line w)
-          (go_on (refuse_if (nat_lt most_dims_of_var (length line.dims)) (kind.Limit limit.VarDims)) _ tt (line.dims, []) (passed _ _ (le-ltb most_dims_of_var (length line.dims) stands.2))
-          (go_on (refuse_if (list_any (is_added_record dims) (drop 1 line.dims)) kind.BadShape) _ tt (line.dims, []) (passed _ _ stands.3) refl));
-    }
+    let shape : added_shape d.dims rest ≡ Ok (line.dims, []) =
+    go_on (name_list rest) _ (line.dims, []) (line.dims, []) (names_told 5 line w)
+    (go_on (refuse_if (nat_lt most_dims_of_var (length line.dims)) (kind.Limit limit.VarDims)) _ tt (line.dims, []) (passed _ _ (le-ltb most_dims_of_var (length line.dims) stands.2))
+    (go_on (refuse_if (list_any (is_added_record d.dims) (drop 1 line.dims)) kind.BadShape) _ tt (line.dims, []) (passed _ _ stands.3) refl)) in
+    go_on (var_head 5 d.vars (Plain w.kind_word ∷ Plain line.name ∷ rest)) _ ((line.kind, line.name), rest) (0, with_line line d) (head_told 5 d.vars line w rest stands.0 stands.1)
+    (go_on (added_shape d.dims rest) _ (line.dims, []) (0, with_line line d) shape refl)
 
 -- ---- attributes
-
-pub owner_told : (owner : Option (List ℕ)) → IsOwner owner → (owner_of_text (owner_word owner) ≡ Some (owner_word owner)) × (owner_name (owner_word owner) ≡ owner)
-owner_told None is = (refl, refl)
-owner_told (Some n) is = ((owner_again n (inr (no_colon n is, is))).1, cond-false _ _ _ (no_colon n is))
 
 pub attr_told : (version : ℕ) (titles : List Title) (before : ℕ) (word : List ℕ) (a : Attr) (w : List ℕ) (given : List Word) (vs : Values) → is_name a.name ≡ true → type_of version w ≡ Some a.kind → SpellsValues (Some a.kind) given vs
     → a ≡ attr_of a.name a.kind vs → list_any (same_title (word, a.name)) titles ≡ false → HasRoom (Some a.kind) before (count_of vs) → attribute version titles before word (Plain a.name ∷ Plain w ∷ given) ≡ Ok a
@@ -84,17 +77,13 @@ attr_told version titles before word a w given vs named told spells same fresh r
     (go_on (values (Some a.kind) before given) _ vs a (values_told (Some a.kind) before given vs spells room) (ap (λ (x : Attr). Ok x) (sym same))))
 
 -- a name that is among these has a place
-pub record PlaceOf (n : List ℕ) (names : List (List ℕ)) : Type 0 where
-  pub place : ℕ
-  pub found : position (bytes_eq n) names ≡ Some place
-
-pub place_told : (n : List ℕ) (names : List (List ℕ)) → is_among n names ≡ true → PlaceOf n names
+pub place_told : (n : List ℕ) (names : List (List ℕ)) → is_among n names ≡ true → (k : ℕ) × (position (bytes_eq n) names ≡ Some k)
 place_told n [] h = absurd (cc)
-place_told n (x ∷ names) h = by (bytes_eq n x) refl h (λ k. place_told n names k)
-  where
-    by : (b : Bool) → bytes_eq n x ≡ b → (b || is_among n names) ≡ true → (is_among n names ≡ true → PlaceOf n names) → PlaceOf n (x ∷ names)
-    by true e k more = record { place = 0; found = place_here (bytes_eq n) x names e }
-    by false e k more = let later = more k in record { place = suc later.place; found = place_later (bytes_eq n) x names later.place e later.found }
+place_told n (x ∷ names) h =
+    elim (holds_or_not (bytes_eq n x)) [
+      | inl e ↦ (0, place_here (bytes_eq n) x names e)
+      | inr e ↦ let later = place_told n names (sym (ap (λ (b : Bool). b || is_among n names) e) ∙ h) in (suc later.0, place_later (bytes_eq n) x names later.0 e later.1)
+    ]
 
-pub owner_found : (vars : List Var) (owner : List ℕ) → is_name owner ≡ true → (p : PlaceOf owner (var_names vars)) → owner_place vars owner ≡ Ok (Some p.place)
-owner_found vars owner is p = grind (arith, nat_tests, by_false, bytes_eq, codes, no_colon, go_on, position, faultless)
+pub owner_found : (vars : List Var) (owner : List ℕ) (k : ℕ) → is_name owner ≡ true → position (bytes_eq owner) (var_names vars) ≡ Some k → owner_place vars owner ≡ Ok (Some k)
+owner_found vars owner k is at = grind (arith, nat_tests, by_false, bytes_eq, codes, no_colon, go_on, position, faultless)

@@ -1,8 +1,9 @@
 -- A text that is read spells its script.
-use Rattle.script_spelling.proofs.Words.{◌≡◌, ◌∙◌, ℕ, zero, suc, ◌+◌, List, [], ◌∷◌, ◌++◌, map, replicate, length, Bool, true, false, not, cond, nat_lt, ◌==◌, Some, None, Ok, refl, sym, ap, subst, append_assoc, arith, bytes_eq, codes, utf8_valid_len, AllZip, list_all, range_with_len, eqb-true, ne_eqb, length-replicate, Call, Script, Word, Plain, Quoted, Broken, Line, text_lines, significant, whole, hint_in, Known, nothing_known, Called, at_line, version_of_text, head, definitions, data_part, finish, script_of, no_calls, script_of_lines, Reads, read_lawful, same_ok, whole_value, line_ok, bytes_same, is_text, Statement, Says, Stand, calls_in, ToDataset, Describes, SpellsCallLine, SpellsHead, version_of_lines, Sections, lines_of, Spells, nat_tests, tested, step_then}
+use Rattle.script_spelling.proofs.Words.{◌≡◌, ◌∙◌, ℕ, zero, suc, ◌+◌, List, [], ◌∷◌, ◌++◌, map, replicate, length, Bool, true, false, not, cond, nat_lt, ◌==◌, Some, None, Ok, refl, sym, ap, subst, append_assoc, arith, bytes_eq, codes, utf8_valid_len, AllZip, list_all, range_with_len, eqb-true, ne_eqb, length-replicate, Call, Script, Word, Plain, Quoted, Broken, Line, text_lines, significant, whole, hint_in, Known, nothing_known, Called, at_line, version_of_text, head, definitions, data_part, finish, script_of, no_calls, script_of_lines, Reads, read_lawful, same_ok, whole_value, line_ok, bytes_same, is_text, Statement, Says, Stand, calls_in, ToDataset, Describes, IsVarOf, VarLine, attrs_of, vars_in, SpellsCallLine, SpellsHead, version_of_lines, Sections, lines_of, Spells, nat_tests, tested, step_then, at_most_one, hint_values, Option, header_of, no_definition}
 use Rattle.nc_base.specs.declared.errors.ScriptKind.TheVariants as kind
 use Rattle.script_spelling.proofs.WordsRead.{read_then}
 use Rattle.script_spelling.proofs.CallLinesRead.{words_of, from_none, CallsRead, calls_read}
+use Rattle.script_spelling.proofs.GrownVars.{lines_of_vars}
 use Rattle.script_spelling.proofs.TakenLines.{flag, Part, Grown}
 use Rattle.script_spelling.proofs.KnownRead.{lines_version, DefinitionsRead, definitions_read}
 
@@ -39,10 +40,28 @@ none_given zero h = refl
 none_given (suc n) zero = refl
 none_given (suc n) (suc h) = none_given n h
 
+vars_read : (ss : List Statement) (known : Known) → Part false nothing_known ss known
+    → AllZip (λ (line : VarLine) v. IsVarOf known.defined.dims (attrs_of line.name ss) line v) (vars_in ss) known.defined.vars
+vars_read ss known p =
+    subst (AllZip (λ (line : VarLine) v. IsVarOf known.defined.dims (attrs_of line.name ss) line v) (vars_in ss)) (sym p.3) (lines_of_vars known.defined.dims [] (λ n. attrs_of n ss) [] [] ss p.1 p.4)
+
+dataset_read : (opened : Bool) (version ranks : ℕ) (ss : List Statement) (known : Known) (calls : List (List Call)) → (version == 0) ≡ opened → Part opened nothing_known ss known → ToDataset (not opened) ss (script_of version ranks known calls)
+dataset_read true version ranks ss known calls e p = record { header = ap (header_of version) p.0 ∙ ap (λ (v : ℕ). header_of v no_definition) (eqb-true version 0 e); extra = p.1 }
+dataset_read false version ranks ss known calls e p = record { dims = p.1; vars = vars_read ss known p; attrs = p.2; records = refl; extra = p.0 }
+
 describes_read : (version ranks : ℕ) (ss : List Statement) (known : Known) (called : List (ℕ × Call)) (calls : List (List Call))
     → Grown (version == 0) nothing_known ss known → known.ranks ≡ Some ranks → list_all (λ c. nat_lt c.0 ranks) called ≡ true → calls ≡ map (λ r. calls_in r called) (range_with_len 0 ranks)
     → Describes ss called (script_of version ranks known calls)
-describes_read version ranks ss known called calls grown told low same = grind (arith, nat_tests, none_given)
+describes_read version ranks ss known called calls grown told low same = record {
+  ranks = sym grown.ranks ∙ ap at_most_one told;
+  hint_table = known.hints;
+  given = λ h. sym (grown.hints h ∙ ap (λ (o : Option ℕ). at_most_one o ++ hint_values h ss) (none_given 10 h));
+  hints = refl;
+  filled = omega (arith, grown.filled);
+  dataset = dataset_read (version == 0) version ranks ss known calls refl grown.part;
+  there = low;
+  calls = same;
+}
 
 stand_read : (opened : Bool) (ss : List Statement) (known : Known) → Part opened nothing_known ss known → Stand opened [] [] [] ss
 stand_read true ss known p = p.2

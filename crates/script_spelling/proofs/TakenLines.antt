@@ -1,7 +1,7 @@
 -- What later statements add to what is known; a line of ranks or of a hint.
 use Rattle.script_spelling.proofs.Words.{◌≡◌, ◌∙◌, ℕ, ◌+◌, ◌<◌, List, ◌∷◌, ◌++◌, length, Bool, true, false, cond, ◌==◌, Option, Some, None, slice_set, Ok, sym, ap, subst, length-set, arith, bytes_eq, codes, eqb-true, equal_true, entry_below, entry_set, entry_set_other, position_below, Word, Plain, ◌>>=◌, hint_table, hint_in, hint_line, ranks_line, var_names, Known, went, same_ok, Statement, RanksAre, HintIs, Says, Stand, ranks_in, hint_values, fills_in, dims_in, vars_in, own_attrs, attrs_of, extras_in, at_most_one, nat_tests}
 use Rattle.script_spelling.proofs.LinesRead.{ranks_said, hint_said}
-use Rattle.script_spelling.proofs.GrownVars.{are_apart, GrownVars}
+use Rattle.script_spelling.proofs.GrownVars.{are_apart, grown_vars}
 
 -- ---- what later statements add to what is known
 
@@ -14,7 +14,7 @@ Part true k ss last =
     (last.defined ≡ k.defined) × (last.added.extras ≡ k.added.extras ++ extras_in ss) × Stand true k.added.dims k.added.vars k.added.titles ss
 Part false k ss last =
     (last.added.extras ≡ k.added.extras) × (last.defined.dims ≡ k.defined.dims ++ dims_in ss) × (last.defined.attrs ≡ k.defined.attrs ++ own_attrs ss)
-    × GrownVars last.defined.dims (λ n. attrs_of n ss) k.defined.vars (vars_in ss) last.defined.vars
+    × (last.defined.vars ≡ grown_vars last.defined.dims (λ n. attrs_of n ss) k.defined.vars (vars_in ss))
     × Stand false k.defined.dims (var_names k.defined.vars) k.defined.titles ss
 
 pub record Grown (opened : Bool) (k : Known) (ss : List Statement) (last : Known) : Type 0 where

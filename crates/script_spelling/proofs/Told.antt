@@ -1,8 +1,9 @@
 -- A text that spells a script is read as this script.
-use Rattle.script_spelling.proofs.Words.{◌≡◌, ◌∙◌, ℕ, ◌+◌, ◌≤◌, List, [], ◌∷◌, ◌++◌, map, sum, drop, length, Bool, true, false, not, cond, ◌==◌, Option, Some, None, Result, Ok, Err, refl, sym, ap, subst, append_assoc, arith, codes, AllZip, utf8_valid_len, eq-eqb, length-replicate, some_not_none, first_same, ScriptErr, ScriptKind, Attr, Dim, Header, Var, Call, Extra, Hints, Script, most_values, attr_values, extra_values, values_in_extra, values_in_script, lawful_parts, Word, Plain, Line, text_lines, significant, hints_of, no_definition, Defined, Known, nothing_known, head, definitions, data_part, finish, header_of, script_of, no_calls, script_of_lines, script_of_text, fault_of, script_fault, Reads, sum_cons, go_on, same_ok, word_read, count_all, count_attrs, count_own, agreement, all_counted, finish_by, count_empty, text_again, Statement, RanksAre, HintIs, IsFilled, DimIs, VarIs, AttIs, Says, Stand, calls_in, fills_in, ToDataset, Describes, SpellsHead, Sections, lines_of, Spells, nat_tests}
+use Rattle.script_spelling.proofs.Words.{◌≡◌, ◌∙◌, ℕ, ◌+◌, ◌≤◌, List, [], ◌∷◌, ◌++◌, map, sum, drop, length, Bool, true, false, not, cond, ◌==◌, Option, Some, None, Result, Ok, Err, refl, sym, ap, subst, append_assoc, arith, codes, AllZip, utf8_valid_len, eq-eqb, length-replicate, some_not_none, first_same, ScriptErr, ScriptKind, Attr, Dim, Header, Var, Call, Extra, Hints, Script, most_values, attr_values, extra_values, values_in_extra, values_in_script, lawful_parts, Word, Plain, Line, text_lines, significant, hints_of, no_definition, Defined, Known, nothing_known, head, definitions, data_part, finish, header_of, script_of, no_calls, script_of_lines, script_of_text, fault_of, script_fault, Reads, sum_cons, go_on, same_ok, word_read, count_all, count_attrs, count_own, agreement, all_counted, finish_by, count_empty, text_again, Statement, RanksAre, HintIs, IsFilled, DimIs, VarIs, AttIs, Says, Stand, attrs_of, vars_in, calls_in, fills_in, ToDataset, Describes, SpellsHead, Sections, lines_of, Spells, nat_tests}
 use Rattle.nc_base.specs.declared.errors.ScriptKind.TheVariants as kind
 use Rattle.script_spelling.proofs.Spelled.{no_zero, none_given, no_not, read_spelled}
 use Rattle.script_spelling.proofs.CallLinesRead.{words_of, from_none}
+use Rattle.script_spelling.proofs.GrownVars.{vars_of_lines}
 use Rattle.script_spelling.proofs.TakenLines.{Part, Grown}
 use Rattle.script_spelling.proofs.KnownRead.{lines_version}
 use Rattle.script_spelling.proofs.CallLinesTold.{LawfulCalls, Going, data_told}
@@ -52,7 +53,7 @@ opened_defines : (header : Header) (filled : Bool) → header ≡ header_of 0 no
 opened_defines header filled e none = grind (arith, nat_tests)
 
 part_told : (fresh : Bool) (s : Script) (hints : List (Option ℕ)) (ss : List Statement) → fills_in ss ≡ cond s.filled 1 0 → ToDataset fresh ss s → Stand (not fresh) [] [] [] ss → Part (not fresh) nothing_known ss (known_of s hints)
-part_told true s hints ss filled d stand = (d.extra, d.dims, d.attrs, d.vars, stand)
+part_told true s hints ss filled d stand = (d.extra, d.dims, d.attrs, vars_of_lines s.header.dims (λ n. attrs_of n ss) (vars_in ss) s.header.vars d.vars, stand)
 part_told false s hints ss filled d stand = (opened_defines s.header s.filled d.header (not_filled s.filled (fills_in ss) filled (no_fill ss [] [] [] stand)), d.extra, stand)
 
 grown_told : (s : Script) (ss : List Statement) (called : List (ℕ × Call)) (d : Describes ss called s) → Stand (not s.fresh) [] [] [] ss → Grown (not s.fresh) nothing_known ss (known_of s d.hint_table)
