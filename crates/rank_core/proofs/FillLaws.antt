@@ -21,6 +21,12 @@ abbrev pub record_outcome : Bool → Bool → looks.Look → looks.Look
 record_outcome record_variable large filled =
     elim record_variable [ false ↦ looks.Refused code.ENotRec | true ↦ elim large [ true ↦ looks.Refused code.ETooLarge | false ↦ filled ] ]
 
+pub outcome_has : (P : looks.Look → Type 0) (is large : Bool) (filled : looks.Look) → P (looks.Refused code.ENotRec) → P (looks.Refused code.ETooLarge)
+    → (is ≡ true → large ≡ false → P filled) → P (record_outcome is large filled)
+outcome_has P true false filled x y h = h refl refl
+outcome_has P true true filled x y h = y
+outcome_has P false large filled x y h = x
+
 filled_is : (k : ℕ) (v : Var) (number : ℕ) (parts : List Part) → look_of (map (box_post k v number) parts) ≡ fills k v number parts
 filled_is k v number [] = refl
 filled_is k v number (p ∷ parts) = refl

@@ -1,42 +1,41 @@
 -- The posts that fill a share of a record are puts that a step takes, and hold no byte twice.
-use Rattle.rank_core.proofs.Words.{◌≡◌, ℕ, zero, suc, ◌+◌, ◌-◌, ◌*◌, ◌<◌, ◌≤◌, refl, sym, ap, subst, ◌∙◌, List, [], ◌∷◌, length, map, replicate, Bool, true, false, not, cond, ltb, leb, eqb, ◌&&◌, ◌||◌, Option, None, Some, add-one, arith, flat_map, slice_get, slice_index, list_any, range_with_len, and_from, and_left, and_parts, and_right, eq-eqb, eqb-true, le-ltb, leb-false, leb-true, lt-leb, ne_eqb, not_from_true, or_from, or_parts, length-map, length-replicate, each_in, map_in, passes_at, pieces_long, Header, Var, Post, Put, Part, Region, boxes_few, In, size_of, boxes, fill_bytes, share_begin, header_len, is_sound, end_of, inner_lengths, is_record, lengths, length_of, product, starts_with_zero, without_record, file_limit, most_elements, record_limit, box_post, box_region, fills, find_var, is_record_past, look_fill, records_of, bad_edge, bad_start, bound, bounds, check_var, first_code, asks_too_much, other_shape, some_edge, some_start, end_grows, Look, as_look, posts_of, IsPut, ArePuts, IsSmall, found_long}
+use Rattle.rank_core.proofs.Words.{nat_tests, map_map, either, ◌≡◌, ℕ, zero, suc, ◌+◌, ◌-◌, ◌*◌, ◌<◌, ◌≤◌, refl, sym, ap, subst, ◌∙◌, List, [], ◌∷◌, length, map, replicate, Bool, true, false, not, cond, ltb, leb, eqb, ◌&&◌, ◌||◌, Option, None, Some, add-one, arith, flat_map, slice_get, slice_index, list_any, range_with_len, and_from, and_left, and_parts, and_right, eq-eqb, eqb-true, le-ltb, leb-false, leb-true, lt-leb, ne_eqb, not_from_true, or_from, or_parts, length-map, length-replicate, each_in, map_in, passes_at, pieces_long, Header, Var, Post, Put, Part, Region, boxes_few, In, size_of, boxes, fill_bytes, share_begin, header_len, is_sound, end_of, inner_lengths, is_record, lengths, length_of, product, starts_with_zero, without_record, file_limit, most_elements, record_limit, box_post, box_region, fills, find_var, is_record_past, look_fill, records_of, bad_edge, bad_start, bound, bounds, check_var, first_code, asks_too_much, other_shape, some_edge, some_start, end_grows, Look, as_look, posts_of, IsPut, ArePuts, IsSmall, found_long}
 use Rattle.nc_base.specs.declared.answer.Code.TheVariants as code
 use Rattle.serial_spec.specs.Looks as looks
 use Rattle.serial_spec.specs.RankMachine as machine
-use Rattle.rank_core.proofs.FillLaws.{record_outcome, share_grows, share_within}
+use Rattle.rank_core.proofs.FillLaws.{outcome_has, share_grows, share_within}
 use Rattle.rank_core.proofs.FillPostLaws.{boxes_fit, boxes_once, boxes_small, separate_boxes, Fits, FitsPart}
-use Rattle.rank_core.proofs.LookLaws.{alike, no_puts, put_right}
-use Rattle.rank_core.proofs.SeparateLaws.{own_once, AreSeparate, IsPostOf}
+use Rattle.rank_core.proofs.LookLaws.{are_towards, no_puts}
+use Rattle.rank_core.proofs.SeparateLaws.{AreSeparate, IsPostOf}
 
 -- ---- starts and ends within the lengths
 
 one_start : (n s c : ℕ) → s + c ≤ n → bad_start (bound Put 0 n) s c ≡ false
 one_start zero s c h = refl
-one_start (suc n) s zero h = or_from (ltb (suc n) s) (eqb s (suc n) && false) (le-ltb (suc n) s (omega arith)) (and_right (eqb s (suc n)) false refl)
-one_start (suc n) s (suc c) h =
-    or_from (ltb (suc n) s) (eqb s (suc n) && ltb 0 (suc c)) (le-ltb (suc n) s (omega arith)) (and_left (eqb s (suc n)) (ltb 0 (suc c)) (ne_eqb s (suc n) (λ e. omega arith)))
-
-starts_fit : (ns starts counts : List ℕ) → Fits ns starts counts → some_start (map (bound Put 0) ns) starts counts ≡ false
-starts_fit [] [] [] h = refl
-starts_fit (n ∷ ns) (s ∷ starts) (c ∷ counts) h =
-    or_from (bad_start (bound Put 0 n) s c) (some_start (map (bound Put 0) ns) starts counts) (one_start n s c h.0) (starts_fit ns starts counts h.1)
-starts_fit xs ys m h = absurd h
+one_start (suc n) s c h = grind (arith, nat_tests)
 
 one_edge : (n s c : ℕ) → s + c ≤ n → bad_edge (bound Put 0 n) s c 1 ≡ false
 one_edge zero s c h = and_right (ltb 0 c) false refl
 one_edge (suc n) s zero h = and_left (ltb 0 0) (leb (suc n) (s + (0 - 1) * 1)) refl
 one_edge (suc n) s (suc c) h = and_right (ltb 0 (suc c)) (leb (suc n) (s + (suc c - 1) * 1)) (lt-leb (suc n) (s + (suc c - 1) * 1) (omega arith))
 
-edges_fit : (ns starts counts : List ℕ) → Fits ns starts counts → some_edge (map (bound Put 0) ns) starts counts (replicate (length counts) 1) ≡ false
-edges_fit [] [] [] h = refl
-edges_fit (n ∷ ns) (s ∷ starts) (c ∷ counts) h =
-    or_from (bad_edge (bound Put 0 n) s c 1) (some_edge (map (bound Put 0) ns) starts counts (replicate (length counts) 1)) (one_edge n s c h.0) (edges_fit ns starts counts h.1)
-edges_fit xs ys m h = absurd h
+record AreWithin (ns starts counts : List ℕ) : Type 0 where
+  start : some_start (map (bound Put 0) ns) starts counts ≡ false
+  edge : some_edge (map (bound Put 0) ns) starts counts (replicate (length counts) 1) ≡ false
+  starts_long : length starts ≡ length ns
+  counts_long : length counts ≡ length ns
 
-fits_long : (ns starts counts : List ℕ) → Fits ns starts counts → (length starts ≡ length ns) × (length counts ≡ length ns)
-fits_long [] [] [] h = (refl, refl)
-fits_long (n ∷ ns) (s ∷ starts) (c ∷ counts) h = let r = fits_long ns starts counts h.1 in (ap suc r.0, ap suc r.1)
-fits_long xs ys m h = absurd h
+all_within : (ns starts counts : List ℕ) → Fits ns starts counts → AreWithin ns starts counts
+all_within [] [] [] h = record { start = refl; edge = refl; starts_long = refl; counts_long = refl }
+all_within (n ∷ ns) (s ∷ starts) (c ∷ counts) h =
+    let r = all_within ns starts counts h.1 in
+    record {
+      start = or_from _ _ (one_start n s c h.0) r.start;
+      edge = or_from _ _ (one_edge n s c h.0) r.edge;
+      starts_long = ap suc r.starts_long;
+      counts_long = ap suc r.counts_long;
+    }
+all_within xs ys m h = absurd h
 
 no_zero : (n : ℕ) → list_any (λ d. eqb d 0) (replicate n 1) ≡ false
 no_zero zero = refl
@@ -49,51 +48,50 @@ record_lengths (suc n ∷ ns) h = absurd (let e = eqb-true (suc n) 0 h in omega 
 
 -- ---- the check of a box of one record
 
-all_lengths : (header : Header) (v : Var) → is_record header v ≡ true → lengths header v ≡ 0 ∷ inner_lengths header v
-all_lengths header v is = record_lengths (lengths header v) is
-
 dims_long : (header : Header) (v : Var) → is_record header v ≡ true → length v.dims ≡ suc (length (inner_lengths header v))
-dims_long header v is = sym (length-map v.dims (λ id. length_of (slice_get header.dims id))) ∙ ap (λ (l : List ℕ). length l) (all_lengths header v is)
+dims_long header v is =
+    sym (length-map v.dims (λ id. length_of (slice_get header.dims id))) ∙ ap (λ (l : List ℕ). length l) (record_lengths (lengths header v) is)
 
 module _ (header : Header) (v : Var) (number : ℕ) (is : is_record header v ≡ true) (past : is_record_past header number ≡ false) (p : Part)
     (fits : FitsPart (inner_lengths header v) p) (few : product p.count ≤ most_elements) where
-  ones : ◌≡◌ {A = List ℕ} (replicate (length p.count + 1) 1) (1 ∷ replicate (length p.count) 1)
-  ones = ap (λ (n : ℕ). replicate n 1) (add-one (length p.count))
+  abbrev region : Region
+  region = box_region number p
 
-  shape : other_shape (length v.dims) (box_region number p) ≡ false
+  within : AreWithin (inner_lengths header v) p.start p.count
+  within = all_within (inner_lengths header v) p.start p.count fits
+
+  shape : other_shape (length v.dims) region ≡ false
   shape =
-      let long = fits_long (inner_lengths header v) p.start p.count fits in
       let dims = dims_long header v is in
       let strides = length-replicate {A = ℕ} (length p.count + 1) 1 in
+      let starts = within.starts_long in
+      let counts = within.counts_long in
       not_from_true _ (and_from _ _ (and_from _ _ (and_from _ _
-      (eq-eqb (suc (length p.start)) (length v.dims) (omega (arith, long.0, dims)))
-      (eq-eqb (suc (length p.count)) (length v.dims) (omega (arith, long.1, dims))))
-      (eq-eqb (length (replicate (length p.count + 1) 1)) (length v.dims) (omega (arith, strides, long.1, dims)))) refl)
+      (eq-eqb (suc (length p.start)) (length v.dims) (omega (arith, starts, dims)))
+      (eq-eqb (suc (length p.count)) (length v.dims) (omega (arith, counts, dims))))
+      (eq-eqb (length (replicate (length p.count + 1) 1)) (length v.dims) (omega (arith, strides, counts, dims)))) refl)
 
-  starts : some_start (bounds header v 0 Put) (number ∷ p.start) (1 ∷ p.count) ≡ false
-  starts = ap (λ (ns : List ℕ). some_start (map (bound Put 0) ns) (number ∷ p.start) (1 ∷ p.count)) (all_lengths header v is) ∙ starts_fit (inner_lengths header v) p.start p.count fits
+  starts : some_start (bounds header v 0 Put) region.start region.count ≡ false
+  starts = ap (λ (ns : List ℕ). some_start (map (bound Put 0) ns) region.start region.count) (record_lengths (lengths header v) is) ∙ within.start
 
-  edges : some_edge (bounds header v 0 Put) (number ∷ p.start) (1 ∷ p.count) (replicate (length p.count + 1) 1) ≡ false
+  edges : some_edge (bounds header v 0 Put) region.start region.count region.stride ≡ false
   edges =
-      (λ i. some_edge (map (bound Put 0) (all_lengths header v is i)) (number ∷ p.start) (1 ∷ p.count) (ones i))
-      ∙ edges_fit (inner_lengths header v) p.start p.count fits
+      (λ i. some_edge (map (bound Put 0) (record_lengths (lengths header v) is i)) region.start region.count (replicate (add-one (length p.count) i) 1)) ∙ within.edge
 
-  records_few : records_of header v (box_region number p) ≤ number + 1
-  records_few = by_test (not (is_record header v) || eqb (product (1 ∷ p.count)) 0)
-    where
-      by_test : (b : Bool) → cond b 0 (number + (1 - 1) * slice_index (replicate (length p.count + 1) 1) 0 + 1) ≤ number + 1
-      by_test true = omega arith
-      by_test false = omega arith
+  records_few : records_of header v region ≤ number + 1
+  records_few =
+      either (λ (n : ℕ). n ≤ number + 1) (not (is_record header v) || eqb (product (1 ∷ p.count)) 0) 0 (number + (1 - 1) * slice_index (replicate (length p.count + 1) 1) 0 + 1)
+      (λ t. omega arith) (λ t. omega arith)
 
-  small : asks_too_much header v (box_region number p) ≡ false
+  small : asks_too_much header v region ≡ false
   small =
       let both = or_parts (leb (record_limit header.version) (number + 1)) (leb file_limit (end_of header (header_len header) (number + 1))) past in
       let records = leb-false (record_limit header.version) (number + 1) both.0 in
       let file = leb-false file_limit (end_of header (header_len header) (number + 1)) both.1 in
-      let grows = end_grows header (header_len header) (records_of header v (box_region number p)) (number + 1) records_few in
+      let grows = end_grows header (header_len header) (records_of header v region) (number + 1) records_few in
       or_from _ _ (or_from _ _ (or_from _ _ (le-ltb most_elements (product (1 ∷ p.count)) (omega (arith, few))) refl)
-      (lt-leb (record_limit header.version) (records_of header v (box_region number p)) (omega (arith, records, records_few))))
-      (lt-leb file_limit (end_of header (header_len header) (records_of header v (box_region number p))) (omega (arith, file, grows)))
+      (lt-leb (record_limit header.version) (records_of header v region) (omega (arith, records, records_few))))
+      (lt-leb file_limit (end_of header (header_len header) (records_of header v region)) (omega (arith, file, grows)))
 
   pub box_accepted : check_var header v (box_region number p) 0 Put ≡ code.Ok
   box_accepted = λ i. first_code (
@@ -121,11 +119,14 @@ few_dims header k v sound there =
     let small = and_parts _ _ one.1 in
     leb-true (length v.dims) 32 (passes_at (λ w. leb (length w.dims) 32) header.vars small.1 k v there)
 
-abbrev Right : Header → looks.Look → Type 0
-Right header m = ArePuts header 0 (machine.posts_of m) × (length (machine.posts_of m) ≤ 65)
+abbrev AreFills : Header → List Post → Type 0
+AreFills header posts = ArePuts header 0 posts × (length posts ≤ 65)
 
-none_right : (header : Header) (m : looks.Look) → machine.posts_of m ≡ [] → Right header m
-none_right header m e = (subst (ArePuts header 0) (sym e) (no_puts header 0), subst (λ (l : List Post). length l ≤ 65) (sym e) (omega arith))
+abbrev Right : Header → looks.Look → Type 0
+Right header m = AreFills header (machine.posts_of m)
+
+no_fills : (header : Header) → AreFills header []
+no_fills header = (no_puts header 0, omega arith)
 
 pub posts_filled : (k : ℕ) (v : Var) (number : ℕ) (parts : List Part) → machine.posts_of (fills k v number parts) ≡ map (box_post k v number) parts
 posts_filled k v number [] = refl
@@ -137,81 +138,50 @@ module _ (header : Header) (k : ℕ) (v : Var) (number : ℕ) (sound : is_sound 
     abbrev parts : List Part
     parts = boxes (inner_lengths header v) from to
 
-    past : is_record_past header number ≡ false
-    past = (or_parts (ltb most_elements (to - from)) (is_record_past header number) fit).1
-
-    accepted : (p : Part) → In parts p → check_var header v (box_region number p) 0 Put ≡ code.Ok
-    accepted p i =
-        box_accepted header v number is past p
-        (each_in (FitsPart (inner_lengths header v)) parts p (boxes_fit (inner_lengths header v) from to grows within) i)
-        (each_in IsSmall parts p (boxes_small header number (inner_lengths header v) from to grows within fit) i)
-
-    put_of : (q : Post) → In (map (box_post k v number) parts) q → IsPut header 0 q
-    put_of q i =
+    post_of : (q : Post) → In (map (box_post k v number) parts) q → IsPostOf header k v 0 Put q
+    post_of q i =
         let p = map_in (box_post k v number) parts q i in
-        subst (IsPut header 0) p.2
-        (put_right header k v 0 there 0 (box_region number p.0) (flat_map (λ m. fill_bytes v) (range_with_len 0 (product p.0.count))) (accepted p.0 p.1) (box_bytes_long v p.0))
-
-    post_of : (q : Post) → In (map (box_post k v number) parts) q → IsPostOf header k v 0 q
-    post_of q i = let p = map_in (box_post k v number) parts q i in subst (IsPostOf header k v 0) p.2 (record { var = refl; accepted = accepted p.0 p.1 })
+        subst (IsPostOf header k v 0 Put) p.2 (record {
+          var = refl;
+          accepted = box_accepted header v number is (or_parts (ltb most_elements (to - from)) (is_record_past header number) fit).1 p.0
+              (each_in (FitsPart (inner_lengths header v)) parts p.0 (boxes_fit (inner_lengths header v) from to grows within) p.1)
+              (each_in IsSmall parts p.0 (boxes_small header number (inner_lengths header v) from to grows within fit) p.1);
+          long = λ e. box_bytes_long v p.0;
+        })
 
     boxes_right : Right header (fills k v number parts)
     boxes_right =
-        let same = posts_filled k v number parts in
         let dims = dims_long header v is in
         let few = boxes_few (inner_lengths header v) from to grows within in
         let long = length-map parts (box_post k v number) in
-        let most = few_dims header k v sound there in (
-          subst (ArePuts header 0) (sym same) (record {
-            each = put_of;
-            own = own_once header k v 0 sound there (map (box_post k v number) parts) post_of
-                (subst AreSeparate (sym (regions_of_boxes k v number parts)) (separate_boxes number parts (boxes_once (inner_lengths header v) from to grows within)));
-          }),
-          subst (λ (l : List Post). length l ≤ 65) (sym same) (omega (arith, long, few, most, dims)),
+        let most = few_dims header k v sound there in
+        subst (AreFills header) (sym (posts_filled k v number parts)) (
+          are_towards header k v 0 there sound Put (map (box_post k v number) parts) post_of (λ e.
+              subst AreSeparate (sym (map_map (λ (q : Post). q.region) (box_post k v number) parts)) (separate_boxes number parts (boxes_once (inner_lengths header v) from to grows within))),
+          omega (arith, long, few, most, dims),
         )
 
-  module _ (rank ranks : ℕ) (less : rank < ranks) where
-    abbrev total : ℕ
-    total = product (inner_lengths header v)
-
-    abbrev filled : looks.Look
-    filled = fills k v number (boxes (inner_lengths header v) (share_begin total rank ranks) (share_begin total (rank + 1) ranks))
-
-    abbrev large : Bool
-    large = ltb most_elements (share_begin total (rank + 1) ranks - share_begin total rank ranks) || is_record_past header number
-
-    by_size : is_record header v ≡ true → (b : Bool) → large ≡ b → Right header (record_outcome true b filled)
-    by_size is true e = none_right header (looks.Refused code.ETooLarge) refl
-    by_size is false e =
-        boxes_right is (share_begin total rank ranks) (share_begin total (rank + 1) ranks) (share_grows total rank ranks less) (share_within total rank ranks less) e
-
-    by_kind : (b : Bool) → is_record header v ≡ b → Right header (record_outcome b large filled)
-    by_kind false e = none_right header (looks.Refused code.ENotRec) refl
-    by_kind true e = by_size e large refl
-
-    record_right : Right header (looks.look_record header k number rank ranks v)
-    record_right = by_kind (is_record header v) refl
+  record_right : (rank ranks : ℕ) → rank < ranks → Right header (looks.look_record header k number rank ranks v)
+  record_right rank ranks less =
+      let total = product (inner_lengths header v) in
+      let from = share_begin total rank ranks in
+      let to = share_begin total (rank + 1) ranks in
+      outcome_has (Right header) (is_record header v) (ltb most_elements (to - from) || is_record_past header number) (fills k v number (boxes (inner_lengths header v) from to))
+      (no_fills header) (no_fills header) (λ is fit. boxes_right is from to (share_grows total rank ranks less) (share_within total rank ranks less) fit)
 
 module _ (header : Header) (number rank ranks : ℕ) (sound : is_sound header ≡ true) (less : rank < ranks) where
   var_right : (k : ℕ) (o : Option Var) → slice_get header.vars k ≡ o
       → Right header (elim o [ None ↦ looks.Refused code.ENotVar | Some v ↦ looks.look_record header k number rank ranks v ])
-  var_right k None e = none_right header (looks.Refused code.ENotVar) refl
+  var_right k None e = no_fills header
   var_right k (Some v) e = record_right header k v number sound e rank ranks less
 
   place_right : (o : Option ℕ) → Right header (elim o [
     | None ↦ looks.Refused code.ENotVar
     | Some k ↦ elim (slice_get header.vars k) [ None ↦ looks.Refused code.ENotVar | Some v ↦ looks.look_record header k number rank ranks v ]
   ])
-  place_right None = none_right header (looks.Refused code.ENotVar) refl
+  place_right None = no_fills header
   place_right (Some k) = var_right k (slice_get header.vars k) refl
 
-pub fill_posts : (header : Header) (name : List ℕ) (number rank ranks : ℕ) (l : Look) → is_sound header ≡ true → rank < ranks
-    → as_look l ≡ look_fill header name number rank ranks → ArePuts header 0 (posts_of l)
-fill_posts header name number rank ranks l sound less e =
-    subst (ArePuts header 0) (alike (look_fill header name number rank ranks) l e) (place_right header number rank ranks sound less (find_var header name)).0
-
-pub fill_few : (header : Header) (name : List ℕ) (number rank ranks : ℕ) (l : Look) → is_sound header ≡ true → rank < ranks
-    → as_look l ≡ look_fill header name number rank ranks → length (posts_of l) ≤ 65
-fill_few header name number rank ranks l sound less e =
-    subst (λ (posts : List Post). length posts ≤ 65) (alike (look_fill header name number rank ranks) l e)
-    (place_right header number rank ranks sound less (find_var header name)).1
+  -- the posts of the call's look, and how many there are
+  pub fill_is : (name : List ℕ) (l : Look) → as_look l ≡ look_fill header name number rank ranks → ArePuts header 0 (posts_of l) × (length (posts_of l) ≤ 65)
+  fill_is name l e = subst (Right header) (sym e) (place_right (find_var header name))

@@ -55,11 +55,10 @@ three P false true a b c x y z = y
 three P false false a b c x y z = z
 
 below_factor : (q n s x : ℕ) → q * s < x → x ≤ n * s → q < n
-below_factor q n s x h k = by_case (cases_lt q n)
-  where
-    by_case : (q < n) ⊎ (n ≤ q) → q < n
-    by_case (inl l) = l
-    by_case (inr l) = let m : s * n ≤ s * q = omega (arith, mul-le-mul_left s l) in absurd (omega arith)
+below_factor q n s x h k = elim (cases_lt q n) [
+  | inl l ↦ l
+  | inr l ↦ let m : s * n ≤ s * q = omega (arith, mul-le-mul_left s l) in absurd (omega arith)
+]
 
 abbrev Fitting : List ℕ → Type 0
 Fitting lengths = (from to : ℕ) → from ≤ to → to ≤ product lengths → AllByRecursion (FitsPart lengths) (boxes lengths from to)
@@ -102,13 +101,14 @@ boxes_fit [] from to h k = by_test (nat_lt from to)
     by_test : (t : Bool) → AllByRecursion (FitsPart []) (elim t [ true ↦ record { start = []; count = [] } ∷ [] | false ↦ [] ])
     by_test true = (tt, tt)
     by_test false = tt
-boxes_fit (n ∷ lengths) from to h k = by_order (λ x y l m. boxes_fit lengths x y l m) (cases_lt from to)
-  where
-    by_order : Fitting lengths → (from < to) ⊎ (to ≤ from) → AllByRecursion (FitsPart (n ∷ lengths)) (boxes (n ∷ lengths) from to)
-    by_order ih (inl l) = rows_of n lengths from to ih l k
-    by_order ih (inr l) =
-        let same : from ≡ to = omega arith in
-        subst (AllByRecursion (FitsPart (n ∷ lengths))) (sym (ap (λ (z : ℕ). boxes (n ∷ lengths) z to) same ∙ no_boxes (n ∷ lengths) to)) tt
+boxes_fit (n ∷ lengths) from to h k =
+    let rest : Fitting lengths = λ x y l m. boxes_fit lengths x y l m in
+    elim (cases_lt from to) [
+      | inl l ↦ rows_of n lengths from to rest l k
+      | inr l ↦
+          let same : from ≡ to = omega arith in
+          subst (AllByRecursion (FitsPart (n ∷ lengths))) (sym (ap (λ (z : ℕ). boxes (n ∷ lengths) z to) same ∙ no_boxes (n ∷ lengths) to)) tt
+    ]
 
 -- ---- no index stands twice
 
@@ -168,7 +168,7 @@ box_element number p a h =
     let c = map_in (λ c. index_at (number ∷ p.start) (replicate (length p.count + 1) 1) c) (coordinates (1 ∷ p.count)) a h in
     let i = flat_in (λ i. map (λ d. i ∷ d) (coordinates p.count)) (range_with_len 0 1) c.0 c.1 in
     let d = map_in (λ d. i.0 ∷ d) (coordinates p.count) c.0 i.2 in
-    let zero_is : 0 ≡ i.0 = only i.0 i.1 in
+    let zero_is : 0 ≡ i.0 = elim i.1 [ inl e ↦ e | inr none ↦ absurd none ] in
     let long = same_len p.count d.0 (each_in (IsIndex p.count) (coordinates p.count) d.0 (coordinates_all p.count) d.1) in
     let ones : ◌≡◌ {A = List ℕ} (replicate (length p.count + 1) 1) (1 ∷ replicate (length p.count) 1) = ap (λ (n : ℕ). replicate n 1) (add-one (length p.count)) in
     let first : number + 0 * 1 ≡ number = omega arith in
@@ -178,10 +178,6 @@ box_element number p a h =
       is = sym c.2 ∙ (λ j. index_at (number ∷ p.start) (ones j) (sym d.2 j)) ∙ (λ j. index_at (number ∷ p.start) (1 ∷ replicate (length p.count) 1) (sym zero_is j ∷ d.0))
           ∙ (λ j. first j ∷ shifted_is p.start d.0 (length p.count) (omega (arith, long)) j);
     }
-  where
-    only : (i : ℕ) → In (range_with_len 0 1) i → 0 ≡ i
-    only i (inl e) = e
-    only i (inr h) = absurd h
 
 same_rest : (n : ℕ) (x y a : List ℕ) → a ≡ n ∷ x → a ≡ n ∷ y → x ≡ y
 same_rest n x y a e f = ap (λ (l : List ℕ). drop 1 l) (sym e ∙ f)

@@ -1,16 +1,12 @@
 -- Numbers of two lists that are the same, place by place.
-use Rattle.rank_core.proofs.Words.{◌≡◌, ℕ, suc, ◌+◌, ◌<◌, ◌∙◌, ap, sym, refl, List, [], ◌∷◌, ◌++◌, length, map, take, Bool, true, false, get_or, arith, take-suc, map-append, bytes_eq-Decides}
+use Rattle.rank_core.proofs.Words.{◌≡◌, ℕ, suc, ◌+◌, ◌<◌, ◌∙◌, ap, sym, refl, List, [], ◌∷◌, ◌++◌, length, map, take, Bool, true, false, get_or, false_from_ne_true, arith, take-suc, map-append, bytes_eq-Decides}
 use Rattle.std.proofs.Common.{bytes_eq}
 
 pub are_same : (xs ys : List ℕ) → xs ≡ ys → bytes_eq xs ys ≡ true
 are_same xs ys e = (bytes_eq-Decides xs ys).1 e
 
 pub not_same : (xs ys : List ℕ) → (xs ≡ ys → ⊥) → bytes_eq xs ys ≡ false
-not_same xs ys n = by_value (bytes_eq xs ys) refl
-  where
-    by_value : (b : Bool) → b ≡ bytes_eq xs ys → bytes_eq xs ys ≡ false
-    by_value true f = absurd (n ((bytes_eq-Decides xs ys).0 (sym f)))
-    by_value false f = sym f
+not_same xs ys n = false_from_ne_true (bytes_eq xs ys) (λ e. n ((bytes_eq-Decides xs ys).0 e))
 
 -- one place more
 pub same_more : {A B : Type 0} (f : A → ℕ) (g : B → ℕ) (xs : List A) (ys : List B) (i : ℕ) (x : A) (y : B) → map f (take i xs) ≡ map g (take i ys)

@@ -1,5 +1,5 @@
 -- The values of the gets, added one after another by the ids of their requests.
-use Rattle.rank_core.proofs.Words.{◌≡◌, ℕ, ◌+◌, ◌<◌, ◌∙◌, ap, sym, refl, List, [], ◌∷◌, map, length, get_or, drop, zip, Bool, true, false, cond, eqb, Option, Some, None, arith, inr, option_map, slice_get, cons_option, eqb-true, append_assoc, drop_more, get_or-map, length-map, Header, Var, NcType, Item, Post, Values, Numbers, Text, Bits, Value, In, Class, class_of, got_values, values_for, with_more, kind_at, spread, gathered, is_ok_code, AreOnce, filled_by, joined}
+use Rattle.rank_core.proofs.Words.{◌≡◌, ℕ, ◌+◌, ◌<◌, ◌∙◌, ap, sym, refl, List, [], ◌∷◌, map, length, get_or, drop, zip, Bool, true, false, cond, eqb, Option, Some, None, arith, inl, inr, either, holds_or_not, same_Some, option_map, slice_get, cons_option, eqb-true, append_assoc, drop_more, get_or-map, length-map, Header, Var, NcType, Item, Post, Values, Numbers, Text, Bits, Value, In, Class, class_of, got_values, values_for, with_more, kind_at, spread, gathered, is_ok_code, AreOnce, filled_by, joined}
 use Rattle.serial_spec.specs.ExternalForm as form
 
 -- ---- the kind of values
@@ -67,17 +67,14 @@ other_is id q v rest e = rw (e, values_for) refl
 abbrev pub added : (ℕ → Option Values) → ℕ → Values → ℕ → Option Values
 added m id v q = cond (eqb id q) (Some (joined (m id) v)) (m q)
 
-added_is : (m : ℕ → Option Values) (id q : ℕ) (v : Values) (rest : List (ℕ × Values)) → ((w : Values) → m id ≡ Some w → shape w ≡ shape v)
-    → (b : Bool) → eqb id q ≡ b → followed (m q) (values_for ((id, v) ∷ rest) q) ≡ followed (cond b (Some (joined (m id) v)) (m q)) (values_for rest q)
-added_is m id q v rest h true e =
-    ap (followed (m q)) (first_is id q v rest e)
-    ∙ ap (λ (n : ℕ). followed (m n) (followed (Some v) (values_for rest q))) (sym (eqb-true id q e))
-    ∙ followed_more (m id) v (values_for rest q) h
-added_is m id q v rest h false e = ap (followed (m q)) (other_is id q v rest e)
-
 pub added_next : (m : ℕ → Option Values) (id q : ℕ) (v : Values) (rest : List (ℕ × Values)) → ((w : Values) → m id ≡ Some w → shape w ≡ shape v)
     → followed (m q) (values_for ((id, v) ∷ rest) q) ≡ followed (added m id v q) (values_for rest q)
-added_next m id q v rest h = added_is m id q v rest h (eqb id q) refl
+added_next m id q v rest h =
+    either (λ (o : Option Values). followed (m q) (values_for ((id, v) ∷ rest) q) ≡ followed o (values_for rest q)) (eqb id q) (Some (joined (m id) v)) (m q)
+    (λ e. ap (followed (m q)) (first_is id q v rest e)
+    ∙ ap (λ (n : ℕ). followed (m n) (followed (Some v) (values_for rest q))) (sym (eqb-true id q e))
+    ∙ followed_more (m id) v (values_for rest q) h)
+    (λ e. ap (followed (m q)) (other_is id q v rest e))
 
 -- ---- the values of one get
 
@@ -111,35 +108,26 @@ got_shape header p b v h = value_shape p b v (slice_get header.vars p.var) h
 abbrev pub HaveShapes : Header → List Post → (ℕ → Option Values) → Type 0
 HaveShapes header gets m = (q : ℕ) (w : Values) (p : Post) → m q ≡ Some w → In gets p → p.id ≡ q → shape w ≡ shape_at header p.var
 
+more_shape : (a b : Values) → shape (with_more a b) ≡ shape a
+more_shape (Numbers a) (Numbers b) = refl
+more_shape (Text a) (Text b) = refl
+more_shape (Bits a) (Bits b) = refl
+more_shape a b = refl
+
 joined_shape : (m : Option Values) (v : Values) (n : ℕ) → ((w : Values) → m ≡ Some w → shape w ≡ n) → shape v ≡ n → shape (joined m v) ≡ n
 joined_shape None v n h e = e
-joined_shape (Some w) v n h e = longer w v (h w refl)
-  where
-    longer : (a b : Values) → shape a ≡ n → shape (with_more a b) ≡ n
-    longer (Numbers a) (Numbers b) k = k
-    longer (Text a) (Text b) k = k
-    longer (Bits a) (Bits b) k = k
-    longer (Numbers a) (Text b) k = k
-    longer (Numbers a) (Bits b) k = k
-    longer (Text a) (Numbers b) k = k
-    longer (Text a) (Bits b) k = k
-    longer (Bits a) (Numbers b) k = k
-    longer (Bits a) (Text b) k = k
-
-shape_next : (header : Header) (gets : List Post) (m : ℕ → Option Values) (g : Post) (v : Values) → In gets g → ((p q : Post) → In gets p → In gets q → p.id ≡ q.id → p.var ≡ q.var)
-    → HaveShapes header gets m → shape v ≡ shape_at header g.var
-    → (q : ℕ) (w : Values) (p : Post) (b : Bool) → eqb g.id q ≡ b → cond b (Some (joined (m g.id) v)) (m q) ≡ Some w → In gets p → p.id ≡ q → shape w ≡ shape_at header p.var
-shape_next header gets m g v here one h e q w p false t f k i = h q w p f k i
-shape_next header gets m g v here one h e q w p true t f k i =
-    let id = eqb-true g.id q t in
-    let var = one g p here k (id ∙ sym i) in
-    let w_is : joined (m g.id) v ≡ w = cc in
-    ap shape (sym w_is)
-    ∙ joined_shape (m g.id) v (shape_at header p.var) (λ u s. h g.id u p s k (i ∙ sym id)) (e ∙ ap (shape_at header) var)
+joined_shape (Some w) v n h e = more_shape w v ∙ h w refl
 
 pub shapes_next : (header : Header) (gets : List Post) (m : ℕ → Option Values) (g : Post) (v : Values) → In gets g → ((p q : Post) → In gets p → In gets q → p.id ≡ q.id → p.var ≡ q.var)
     → HaveShapes header gets m → shape v ≡ shape_at header g.var → HaveShapes header gets (added m g.id v)
-shapes_next header gets m g v here one h e q w p f k i = shape_next header gets m g v here one h e q w p (eqb g.id q) refl f k i
+shapes_next header gets m g v here one h e q w p f k i =
+    either (λ (o : Option Values). o ≡ Some w → shape w ≡ shape_at header p.var) (eqb g.id q) (Some (joined (m g.id) v)) (m q)
+    (λ t s.
+    let id = eqb-true g.id q t in
+    let w_is : joined (m g.id) v ≡ w = same_Some _ _ s in
+    ap shape (sym w_is)
+    ∙ joined_shape (m g.id) v (shape_at header p.var) (λ u s. h g.id u p s k (i ∙ sym id)) (e ∙ ap (shape_at header) (one g p here k (id ∙ sym i))))
+    (λ t s. h q w p s k i) f
 
 pub zip_next : (gets : List Post) (got : List (List ℕ)) (i : ℕ) (g : Post) (b : List ℕ) → i < length gets → i < length got → g ≡ get_or gets i g → b ≡ get_or got i b
     → zip (drop i gets) (drop i got) ≡ (g, b) ∷ zip (drop (i + 1) gets) (drop (i + 1) got)
@@ -173,8 +161,7 @@ pub left_kept : (before after first : ℕ → Option Values) (item : Item) (item
     → ((q : ℕ) → (q ≡ item.id → ⊥) → after q ≡ before q) → (is_ok_code item.code ≡ false → (q : ℕ) → after q ≡ before q)
     → ((i : Item) → In (item ∷ items) i → is_ok_code i.code ≡ true → before i.id ≡ first i.id)
     → (i : Item) → In items i → is_ok_code i.code ≡ true → after i.id ≡ first i.id
-left_kept before after first item items once others kept left i here ok = by (is_ok_code item.code) refl
-  where
-    by : (b : Bool) → is_ok_code item.code ≡ b → after i.id ≡ first i.id
-    by true e = others i.id (once.0 e i here ok) ∙ left i (inr here) ok
-    by false e = kept e i.id ∙ left i (inr here) ok
+left_kept before after first item items once others kept left i here ok = elim (holds_or_not (is_ok_code item.code)) [
+  | inl e ↦ others i.id (once.0 e i here ok) ∙ left i (inr here) ok
+  | inr e ↦ kept e i.id ∙ left i (inr here) ok
+]

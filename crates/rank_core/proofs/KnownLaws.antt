@@ -1,23 +1,12 @@
 -- What is accepted stays so where the rank knows of more records.
-use Rattle.rank_core.proofs.Words.{◌≡◌, ℕ, zero, suc, ◌-◌, ◌+◌, ◌*◌, ◌≤◌, ◌∙◌, refl, inl, inr, ◌⊎◌, List, [], ◌∷◌, map, length, Bool, false, cond, ltb, leb, eqb, ◌&&◌, Option, Some, None, arith, slice_get, list_any, or_parts, or_from, ltb-false, leb-false, le-ltb, lt-leb, eqb-false, ne_eqb, and_cases, and_left, and_right, cond-false, Header, Var, Post, Region, Direction, Code, lengths, bound, bounds, bad_start, bad_edge, some_start, some_edge, other_shape, asks_too_much, check, check_var, check_some, Passes, passed, IsPut, IsGet}
+use Rattle.rank_core.proofs.Words.{◌≡◌, ℕ, zero, suc, ◌-◌, ◌+◌, ◌*◌, ◌≤◌, ◌∙◌, refl, inl, inr, ◌⊎◌, List, [], ◌∷◌, map, length, Bool, false, cond, ltb, leb, eqb, ◌&&◌, Option, Some, None, arith, slice_get, list_any, or_parts, or_from, ltb-false, leb-false, le-ltb, lt-leb, eqb-false, ne_eqb, and_cases, and_left, and_right, cond-false, Header, Var, Post, Region, Direction, Code, lengths, bound, bounds, bad_start, bad_edge, first_code, nat_tests, some_start, some_edge, other_shape, asks_too_much, check, check_var, check_some, Passes, passed, IsPut, IsGet}
 use Rattle.nc_base.specs.declared.request.Direction.TheVariants as way
 use Rattle.nc_base.specs.declared.answer.Code.TheVariants as code
 
 -- ---- one dimension
 
 start_past : (known more start count : ℕ) → known ≤ more → bad_start (Some known) start count ≡ false → bad_start (Some more) start count ≡ false
-start_past known more start count le h =
-    let parts = or_parts (ltb known start) (eqb start known && ltb 0 count) h in
-    let near = ltb-false known start parts.0 in
-    or_from (ltb more start) (eqb start more && ltb 0 count) (le-ltb more start (omega arith)) (by_count (and_cases (eqb start known) (ltb 0 count) parts.1))
-  where
-    by_count : (eqb start known ≡ false) ⊎ (ltb 0 count ≡ false) → (eqb start more && ltb 0 count) ≡ false
-    by_count (inl e) =
-        let apart = eqb-false start known e in
-        let parts = or_parts (ltb known start) (eqb start known && ltb 0 count) h in
-        let near = ltb-false known start parts.0 in
-        and_left (eqb start more) (ltb 0 count) (ne_eqb start more (λ same. apart (omega arith)))
-    by_count (inr e) = and_right (eqb start more) (ltb 0 count) e
+start_past known more start count le h = grind (arith, nat_tests)
 
 start_more : (d : Direction) (known more n start count : ℕ) → known ≤ more → bad_start (bound d known n) start count ≡ false → bad_start (bound d more n) start count ≡ false
 start_more way.Put known more zero start count le h = refl
@@ -25,13 +14,7 @@ start_more way.Get known more zero start count le h = start_past known more star
 start_more xs known more ys start count le h = h
 
 edge_past : (known more start count stride : ℕ) → known ≤ more → bad_edge (Some known) start count stride ≡ false → bad_edge (Some more) start count stride ≡ false
-edge_past known more start count stride le h = by_count (and_cases (ltb 0 count) (leb known (start + (count - 1) * stride)) h)
-  where
-    by_count : (ltb 0 count ≡ false) ⊎ (leb known (start + (count - 1) * stride) ≡ false) → (ltb 0 count && leb more (start + (count - 1) * stride)) ≡ false
-    by_count (inl e) = and_left (ltb 0 count) (leb more (start + (count - 1) * stride)) e
-    by_count (inr e) =
-        let near = leb-false known (start + (count - 1) * stride) e in
-        and_right (ltb 0 count) (leb more (start + (count - 1) * stride)) (lt-leb more (start + (count - 1) * stride) (omega arith))
+edge_past known more start count stride le h = grind (arith, nat_tests)
 
 edge_more : (d : Direction) (known more n start count stride : ℕ) → known ≤ more → bad_edge (bound d known n) start count stride ≡ false → bad_edge (bound d more n) start count stride ≡ false
 edge_more way.Get known more zero start count stride le h = edge_past known more start count stride le h
@@ -57,20 +40,14 @@ edges_more d known more xs starts counts strides le h = refl
 
 -- ---- a region
 
-fails : (b : Bool) (c rest : Code) → b ≡ false → rest ≡ code.Ok → cond b c rest ≡ code.Ok
-fails b c rest e h = cond-false b c rest e ∙ h
-
 all_pass : (header : Header) (var : Var) (g : Region) (known : ℕ) (d : Direction) → Passes header var g known d → check_var header var g known d ≡ code.Ok
-all_pass header var g known d p =
-    fails (other_shape (length var.dims) g) code.EInvalCoords _ p.shape
-    (fails (list_any (λ n. eqb n 0) g.stride) code.EStride _ p.stride
-    (fails (some_start (bounds header var known d) g.start g.count) code.EInvalCoords _ p.start
-    (fails (some_edge (bounds header var known d) g.start g.count g.stride) code.EEdge _ p.edge
-    (fails (asks_too_much header var g) code.ETooLarge code.Ok p.large refl))))
+all_pass header var g known d p = λ i. first_code (
+    (p.shape i, code.EInvalCoords) ∷ (p.stride i, code.EStride) ∷ (p.start i, code.EInvalCoords) ∷ (p.edge i, code.EEdge) ∷ (p.large i, code.ETooLarge) ∷ [])
 
-var_more : (header : Header) (var : Var) (g : Region) (known more : ℕ) (d : Direction) → known ≤ more
-    → check_var header var g known d ≡ code.Ok → check_var header var g more d ≡ code.Ok
-var_more header var g known more d le h =
+some_more : (header : Header) (var : Option Var) (g : Region) (known more : ℕ) (d : Direction) → known ≤ more
+    → check_some header var g known d ≡ code.Ok → check_some header var g more d ≡ code.Ok
+some_more header None g known more d le h = h
+some_more header (Some var) g known more d le h =
     let p = passed header var g known d h in
     all_pass header var g more d (record {
       shape = p.shape;
@@ -80,17 +57,6 @@ var_more header var g known more d le h =
       large = p.large;
     })
 
-some_more : (header : Header) (var : Option Var) (g : Region) (known more : ℕ) (d : Direction) → known ≤ more
-    → check_some header var g known d ≡ code.Ok → check_some header var g more d ≡ code.Ok
-some_more header None g known more d le h = h
-some_more header (Some var) g known more d le h = var_more header var g known more d le h
-
 pub check_more : (header : Header) (var : ℕ) (g : Region) (known more : ℕ) (d : Direction) → known ≤ more
     → check header var g known d ≡ code.Ok → check header var g more d ≡ code.Ok
 check_more header var g known more d le h = some_more header (slice_get header.vars var) g known more d le h
-
-pub get_more : (header : Header) (known more : ℕ) (p : Post) → known ≤ more → IsGet header known p → IsGet header more p
-get_more header known more p le h = check_more header p.var p.region known more way.Get le h
-
-pub put_more : (header : Header) (known more : ℕ) (p : Post) → known ≤ more → IsPut header known p → IsPut header more p
-put_more header known more p le h = record { accepted = check_more header p.var p.region known more way.Put le h.accepted; whole = h.whole }

@@ -3,7 +3,6 @@ pub mod KnownLaws
 mod OwnLaws
 pub mod RequestLaws
 mod GetLaws
-mod AskedLaws
 mod HeardLaws
 pub mod StepLaws
 mod WaitLaws

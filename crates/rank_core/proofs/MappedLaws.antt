@@ -50,35 +50,26 @@ record IsSmall (g : Region) : Type 0 where
   near : (not g.packed && ltb 0 (product g.count) && leb most_elements (last_position g.count g.imap)) ≡ false
 
 small : (header : Header) (v : Var) (g : Region) → asks_too_much header v g ≡ false → IsSmall g
-small header v g h =
-    let a = or_parts (ltb most_elements (product g.count) || (not g.packed && ltb 0 (product g.count) && leb most_elements (last_position g.count g.imap)) || leb (record_limit header.version) (records_of header v g))
-    (leb file_limit (end_of header (header_len header) (records_of header v g))) h in
-    let b = or_parts (ltb most_elements (product g.count) || (not g.packed && ltb 0 (product g.count) && leb most_elements (last_position g.count g.imap)))
-    (leb (record_limit header.version) (records_of header v g)) a.0 in
-    let c = or_parts (ltb most_elements (product g.count)) (not g.packed && ltb 0 (product g.count) && leb most_elements (last_position g.count g.imap)) b.0 in
-    record { few = ltb-false most_elements (product g.count) c.0; near = c.1 }
+small header v g h = let parts = or_parts _ _ (or_parts _ _ (or_parts _ _ h).0).0 in record { few = ltb-false most_elements (product g.count) parts.0; near = parts.1 }
 
 within : (packed some far : Bool) → packed ≡ false → some ≡ true → (not packed && some && far) ≡ false → far ≡ false
 within packed some far e f h = sym (ap (λ (b : Bool). not b && some && far) e ∙ ap (λ (b : Bool). true && b && far) f) ∙ h
 
 near_of : (g : Region) → IsSmall g → (b : Bool) → g.packed ≡ b → reach g ≤ most_elements
 near_of g s true e = let below = range_below 0 (product g.count) in omega (arith, s.few, in_order g e, below)
-near_of g s false e = by_elements (cases_lt 0 (product g.count))
-  where
-    by_elements : (0 < product g.count) ⊎ (product g.count ≤ 0) → reach g ≤ most_elements
-    by_elements (inl some) =
-        let far = within g.packed (ltb 0 (product g.count)) (leb most_elements (last_position g.count g.imap)) e (lt-ltb 0 (product g.count) some) s.near in
-        let below = leb-false most_elements (last_position g.count g.imap) far in
-        let all = all_positions g.count g.imap (coordinates g.count) (coordinates_all g.count) in
-        omega (arith, by_map g e, below, all)
-    by_elements (inr none) = omega (arith, reach_none g e (omega arith))
+near_of g s false e = elim (cases_lt 0 (product g.count)) [
+  | inl some ↦
+      let far = within g.packed (ltb 0 (product g.count)) (leb most_elements (last_position g.count g.imap)) e (lt-ltb 0 (product g.count) some) s.near in
+      let below = leb-false most_elements (last_position g.count g.imap) far in
+      let all = all_positions g.count g.imap (coordinates g.count) (coordinates_all g.count) in
+      omega (arith, by_map g e, below, all)
+  | inr none ↦ omega (arith, reach_none g e (omega arith))
+]
 
 shape_of : (dims : ℕ) (g : Region) → other_shape dims g ≡ false → g.packed ≡ false → length g.imap ≡ length g.count
 shape_of dims g h e =
-    let four = and_parts (eqb (length g.start) dims && eqb (length g.count) dims && eqb (length g.stride) dims) (g.packed || eqb (length g.imap) dims)
-    (not-false (eqb (length g.start) dims && eqb (length g.count) dims && eqb (length g.stride) dims && (g.packed || eqb (length g.imap) dims)) h) in
-    let three = and_parts (eqb (length g.start) dims && eqb (length g.count) dims) (eqb (length g.stride) dims) four.0 in
-    let two = and_parts (eqb (length g.start) dims) (eqb (length g.count) dims) three.0 in
+    let four = and_parts _ _ (not-false _ h) in
+    let two = and_parts _ _ (and_parts _ _ four.0).0 in
     let mapped : eqb (length g.imap) dims ≡ true = sym (ap (λ (b : Bool). b || eqb (length g.imap) dims) e) ∙ four.1 in
     eqb-true (length g.imap) dims mapped ∙ sym (eqb-true (length g.count) dims two.1)
 

@@ -63,14 +63,11 @@ module _ (names : List (List ℕ)) (places : List ℕ) (order : IsInOrder names 
 
   -- what stands before a place that is below the name is below it too
   pub partitioned : IsPartitionedBy below places
-  partitioned i j d l m h = by_case (cases_Bool (below (get_or places i d)))
-    where
-      by_case : (below (get_or places i d) ≡ true) ⊎ (below (get_or places i d) ≡ false) → below (get_or places i d) ≡ true
-      by_case (inl e) = e
-      by_case (inr e) =
-          absurd (both_ways (below (get_or places j d))
-          (names_rank.chain (name_at names (get_or places j d)) (name_at names (get_or places i d)) name
-          (then_first _ (nat_cmp (get_or places j d) (get_or places i d)) (later i j d l m)) e) h)
+  partitioned i j d l m h = elim (cases_Bool (below (get_or places i d))) [
+    | inl e ↦ e
+    | inr e ↦ absurd (both_ways (below (get_or places j d))
+        (names_rank.chain (name_at names (get_or places j d)) (name_at names (get_or places i d)) name (then_first _ (nat_cmp (get_or places j d) (get_or places i d)) (later i j d l m)) e) h)
+  ]
 
   record Stands (p : ℕ) : Type 0 where
     at : ℕ
@@ -98,11 +95,10 @@ module _ (names : List (List ℕ)) (places : List ℕ) (order : IsInOrder names 
   module _ (at : ℕ) (point : IsPartitionPoint (λ k. below k ≡ true) (λ k. below k ≡ false) places at) where
     -- a place of the name stands at the point or after it
     after : (p : ℕ) → name_at names p ≡ name → (s : Stands p) → at ≤ s.at
-    after p e s = by_case (cases_lt s.at at)
-      where
-        by_case : (s.at < at) ⊎ (at ≤ s.at) → at ≤ s.at
-        by_case (inl l) = absurd (both_ways (below p) (not_below p e) (ap below (sym s.is) ∙ point.0 s.at 0 (omega arith) l))
-        by_case (inr l) = l
+    after p e s = elim (cases_lt s.at at) [
+      | inl l ↦ absurd (both_ways (below p) (not_below p e) (ap below (sym s.is) ∙ point.0 s.at 0 (omega arith) l))
+      | inr l ↦ l
+    ]
 
     far : (place p : ℕ) → at < length places → get_or places at 0 ≡ place → name_at names p ≡ name → (s : Stands p) → is_lt (place_cmp names p place) ≡ false
     far place p l e n s =

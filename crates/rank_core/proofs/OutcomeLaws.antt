@@ -1,5 +1,5 @@
 -- What a call comes to: by its check, by whether it has an element, and by its values.
-use Rattle.rank_core.proofs.Words.{◌≡◌, ℕ, refl, sym, ap, subst, ◌∙◌, inl, inr, ◌⊎◌, List, [], ◌∷◌, length, Bool, true, false, ltb, Option, Some, None, Result, Ok, Err, CallErr, Code, NcType, Post, Region, Values, part_posts, error_of, look_of, settled, ComesTo}
+use Rattle.rank_core.proofs.Words.{◌≡◌, ℕ, refl, sym, ap, subst, ◌∙◌, inl, inr, ◌⊎◌, List, [], ◌∷◌, length, Bool, true, false, ltb, Option, Some, None, Result, Ok, Err, CallErr, Code, NcType, Post, Region, Values, part_posts, error_of, look_of, settled, ComesTo, IfOk, IfErr, OnOk, IsRefusal}
 use Rattle.nc_base.specs.declared.answer.CallErr.TheVariants as refusal
 use Rattle.nc_base.specs.declared.answer.Code.TheVariants as code
 use Rattle.serial_spec.specs.Looks as looks
@@ -15,11 +15,11 @@ outcome checked some asked last =
       ]
     ]
 
-pub outcome_refused : (c : Code) (some : Bool) (asked : List Post) (last : Code) → (c ≡ code.Ok → ⊥) → looks.Refused c ≡ outcome c some asked last
+outcome_refused : (c : Code) (some : Bool) (asked : List Post) (last : Code) → (c ≡ code.Ok → ⊥) → looks.Refused c ≡ outcome c some asked last
 outcome_refused code.Ok some asked last n = absurd (n refl)
 outcome_refused c some asked last n = refl
 
-pub outcome_unfit : (c : Code) (asked : List Post) → (c ≡ code.Ok → ⊥) → looks.Refused c ≡ outcome code.Ok true asked c
+outcome_unfit : (c : Code) (asked : List Post) → (c ≡ code.Ok → ⊥) → looks.Refused c ≡ outcome code.Ok true asked c
 outcome_unfit code.Ok asked n = absurd (n refl)
 outcome_unfit c asked n = refl
 
@@ -31,19 +31,24 @@ checked_refused checked some asked last c e n = outcome_refused c some asked las
 pub no_element : (checked : Code) (some : Bool) (asked : List Post) (last : Code) → checked ≡ code.Ok → some ≡ false
     → looks.Empty ≡ outcome checked some asked last
 no_element checked some asked last e f =
-    sym (ap (λ (d : Code). outcome d some asked last) e ∙ ap (λ (b : Bool). outcome code.Ok b asked last) f)
+    λ i. outcome (sym e i) (sym f i) asked last
 
 pub data_refused : (checked : Code) (some : Bool) (asked : List Post) (last c : Code) → checked ≡ code.Ok → some ≡ true → c ≡ last → (c ≡ code.Ok → ⊥)
     → looks.Refused c ≡ outcome checked some asked last
 data_refused checked some asked last c e f g n =
-    outcome_unfit c asked n
-    ∙ ap (λ (d : Code). outcome code.Ok true asked d) g
-    ∙ sym (ap (λ (d : Code). outcome d some asked last) e ∙ ap (λ (b : Bool). outcome code.Ok b asked last) f)
+    outcome_unfit c asked n ∙ (λ i. outcome (sym e i) (sym f i) asked (g i))
 
-pub all_right : (checked : Code) (some : Bool) (asked : List Post) (last : Code) → checked ≡ code.Ok → some ≡ true → last ≡ code.Ok
+all_right : (checked : Code) (some : Bool) (asked : List Post) (last : Code) → checked ≡ code.Ok → some ≡ true → last ≡ code.Ok
     → looks.Asks asked ≡ outcome checked some asked last
 all_right checked some asked last e f g =
-    sym (ap (λ (d : Code). outcome d some asked last) e ∙ ap (λ (b : Bool). outcome code.Ok b asked last) f ∙ ap (λ (d : Code). outcome code.Ok true asked d) g)
+    λ i. outcome (sym e i) (sym f i) asked (sym g i)
+
+-- what the values of a call with an element came to
+pub outcome_comes : (checked : Code) (some : Bool) (asked : List Post) (last : Code) (r : Result (List Post) CallErr) → checked ≡ code.Ok → some ≡ true
+    → IfOk r (λ posts. look_of posts ≡ looks.Asks asked) → OnOk r (last ≡ code.Ok) → IfErr r (IsRefusal last) → ComesTo (outcome checked some asked last) r
+outcome_comes checked some asked last (Ok posts) ok here is right unfit = is ∙ all_right checked some asked last ok here right
+outcome_comes checked some asked last (Err (refusal.Code c)) ok here is right unfit = data_refused checked some asked last c ok here unfit.0 unfit.1
+outcome_comes checked some asked last (Err refusal.Memory) ok here is right unfit = unfit
 
 -- posts are asked for only where everything is right
 pub outcome_posts : (checked : Code) (some : Bool) (asked : List Post) (last : Code)
@@ -63,8 +68,5 @@ settled_is (Ok posts) m l h e = let f : look_of posts ≡ l = cc in sym f ∙ h
 settled_is (Err (refusal.Code c)) m l h e = let f : looks.Refused c ≡ l = cc in sym f ∙ h
 settled_is (Err refusal.Memory) m l h e = absurd cc
 
-pub is_refused : (m : looks.Look) (r : Result (List Post) CallErr) (e : CallErr) (c : Code) → r ≡ Err e → e ≡ refusal.Code c → looks.Refused c ≡ m → ComesTo m r
-is_refused m r e c is code right = subst (λ (x : Result (List Post) CallErr). ComesTo m x) (sym (is ∙ ap (λ (d : CallErr). Err d) code)) right
-
-pub is_error : (m : looks.Look) (r : Result (List Post) CallErr) (e d : CallErr) → r ≡ Err e → e ≡ d → ComesTo m (Err d) → ComesTo m r
-is_error m r e d is same right = subst (λ (x : Result (List Post) CallErr). ComesTo m x) (sym (is ∙ ap (λ (y : CallErr). Err y) same)) right
+pub failed : (m : looks.Look) (r : Result (List Post) CallErr) (d : CallErr) → (e : CallErr) × (r ≡ Err e) × (e ≡ d) → ComesTo m (Err d) → ComesTo m r
+failed m r d p right = subst (ComesTo m) (sym (p.1 ∙ ap (λ (e : CallErr). Err e) p.2)) right

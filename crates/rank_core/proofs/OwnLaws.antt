@@ -1,35 +1,26 @@
 -- Requests under different ids, none of which holds a byte twice.
-use Rattle.rank_core.proofs.Words.{◌≡◌, ℕ, zero, suc, ◌+◌, ◌∙◌, ap, sym, refl, inl, inr, ◌⊎◌, List, [], ◌∷◌, ◌++◌, map, length, Some, arith, slice_get, same_Some, no_none_some, Header, Post, In, Holding, Key, holdings, bytes_of, IsOwnOnce}
+use Rattle.rank_core.proofs.Words.{◌≡◌, ℕ, zero, suc, ◌+◌, ◌∙◌, ap, sym, refl, inl, inr, ◌⊎◌, List, [], ◌∷◌, ◌++◌, map, length, Some, arith, slice_get, same_Some, no_none_some, Header, Post, In, at_in, Holding, Key, holdings, bytes_of, IsOwnOnce}
 
 -- an index of a list that is joined from two
 joined_at : {A : Type 0} (xs ys : List A) (i : ℕ) (x : A) → slice_get (xs ++ ys) i ≡ Some x
     → (slice_get xs i ≡ Some x) ⊎ ((j : ℕ) × (i ≡ length xs + j) × (slice_get ys j ≡ Some x))
 joined_at [] ys i x h = inr (i, omega arith, h)
 joined_at (y ∷ xs) ys zero x h = inl h
-joined_at {A} (y ∷ xs) ys (suc i) x h = later (joined_at xs ys i x h)
-  where
-    later : (slice_get xs i ≡ Some x) ⊎ ((j : ℕ) × (i ≡ length xs + j) × (slice_get ys j ≡ Some x))
-        → (slice_get (y ∷ xs) (suc i) ≡ Some x) ⊎ ((j : ℕ) × (suc i ≡ length (y ∷ xs) + j) × (slice_get ys j ≡ Some x))
-    later (inl g) = inl g
-    later (inr g) = let e = g.1 in inr (g.0, omega arith, g.2)
+joined_at (y ∷ xs) ys (suc i) x h =
+    elim (joined_at xs ys i x h) [ inl g ↦ inl g | inr g ↦ let e = g.1 in inr (g.0, omega arith, g.2) ]
 
 -- no key of the one list is a key of the other
 abbrev pub AreApart : List Holding → List Holding → Type 0
 AreApart xs ys = (i j : ℕ) (g h : Holding) → slice_get xs i ≡ Some g → slice_get ys j ≡ Some h → g.0 ≡ h.0 → ⊥
 
 pub own_append : (xs ys : List Holding) → IsOwnOnce xs → IsOwnOnce ys → AreApart xs ys → IsOwnOnce (xs ++ ys)
-own_append xs ys a b apart i j g h k l x ei ej keys ek el = by_sides (joined_at xs ys i g ei) (joined_at xs ys j h ej)
-  where
-    by_sides : (slice_get xs i ≡ Some g) ⊎ ((m : ℕ) × (i ≡ length xs + m) × (slice_get ys m ≡ Some g))
-        → (slice_get xs j ≡ Some h) ⊎ ((m : ℕ) × (j ≡ length xs + m) × (slice_get ys m ≡ Some h)) → (i ≡ j) × (k ≡ l)
-    by_sides (inl p) (inl q) = a i j g h k l x p q keys ek el
-    by_sides (inl p) (inr q) = absurd (apart i q.0 g h p q.2 keys)
-    by_sides (inr p) (inl q) = absurd (apart j p.0 h g q p.2 (sym keys))
-    by_sides (inr p) (inr q) =
-        let r = b p.0 q.0 g h k l x p.2 q.2 keys ek el in
-        let e = p.1 in
-        let f = q.1 in
-        let m = r.0 in (omega arith, r.1)
+own_append xs ys a b apart i j g h k l x ei ej keys ek el = elim (joined_at xs ys i g ei) [
+  | inl p ↦ elim (joined_at xs ys j h ej) [ inl q ↦ a i j g h k l x p q keys ek el | inr q ↦ absurd (apart i q.0 g h p q.2 keys) ]
+  | inr p ↦ elim (joined_at xs ys j h ej) [
+    | inl q ↦ absurd (apart j p.0 h g q p.2 (sym keys))
+    | inr q ↦ let r = b p.0 q.0 g h k l x p.2 q.2 keys ek el in let e = p.1 in let f = q.1 in let m = r.0 in (omega arith, r.1)
+  ]
+]
 
 pub own_none : IsOwnOnce []
 own_none i j g h k l x ei ej keys ek el = no_none_some g ei
@@ -44,15 +35,15 @@ held_append header rank (p ∷ ps) qs = ap (λ (l : List Holding). ((rank, p.id)
 
 -- a holding is that of a post
 pub held_at : (header : Header) (rank : ℕ) (ps : List Post) (i : ℕ) (h : Holding) → slice_get (held_by header rank ps) i ≡ Some h
-    → (p : Post) × In ps p × (h.0 ≡ (rank, p.id))
+    → (p : Post) × (slice_get ps i ≡ Some p) × (h ≡ ((rank, p.id), bytes_of header p))
 held_at header rank [] i h e = no_none_some h e
-held_at header rank (p ∷ ps) zero h e = let g = same_Some _ h e in (p, inl refl, sym (ap (λ (x : Holding). x.0) g))
-held_at header rank (p ∷ ps) (suc i) h e = let r = held_at header rank ps i h e in (r.0, inr r.1, r.2)
+held_at header rank (p ∷ ps) zero h e = (p, refl, sym (same_Some _ h e))
+held_at header rank (p ∷ ps) (suc i) h e = held_at header rank ps i h e
 
 -- posts whose ids differ are under different keys
 pub keys_apart : (header : Header) (rank : ℕ) (ps qs : List Post) → ((p q : Post) → In ps p → In qs q → p.id ≡ q.id → ⊥) → AreApart (held_by header rank ps) (held_by header rank qs)
 keys_apart header rank ps qs differ i j g h ei ej keys =
     let p = held_at header rank ps i g ei in
     let q = held_at header rank qs j h ej in
-    let k : ◌≡◌ {A = Key} (rank, p.0.id) (rank, q.0.id) = sym p.2 ∙ keys ∙ q.2 in
-    differ p.0 q.0 p.1 q.1 (ap (λ (x : Key). x.1) k)
+    let k : ◌≡◌ {A = Key} (rank, p.0.id) (rank, q.0.id) = ap (λ (x : Holding). x.0) (sym p.2) ∙ keys ∙ ap (λ (x : Holding). x.0) q.2 in
+    differ p.0 q.0 (at_in ps i p.0 p.1) (at_in qs j q.0 q.1) (ap (λ (x : Key). x.1) k)

@@ -1,17 +1,20 @@
 -- What is kept of the requests of a rank.
-use Rattle.rank_core.proofs.Words.{◌≡◌, ℕ, ◌+◌, ◌≤◌, ◌∙◌, ap, sym, refl, subst, inl, inr, List, [], ◌∷◌, ◌++◌, map, sum, length, Bool, true, false, cond, eqb, Option, Some, None, arith, filter, flat_map, find, option_map, or_parts, eqb-false, ne_eqb, cond-false, length-append, sum-map, sum_by-cons, Header, Post, Item, Choice, Iput, Iget, Bput, Direction, In, filter_in, flat_in, Posted, Status, NullRequest, Waiting, Gone, named, puts_in, gets_in, status_of, item_code, items_from, items_of, has_id, is_ok_code, IsOwnOnce, not_posted, has_posted, status_of-push, IsPut, IsGet, posts_of_status, AreGets, ArePuts, AreTowards, IsRequest, AreRequests, AreOnce, direction_of_kind}
+use Rattle.rank_core.proofs.Words.{◌≡◌, ℕ, ◌+◌, ◌≤◌, ◌∙◌, ap, sym, refl, subst, inl, inr, List, [], ◌∷◌, ◌++◌, map, sum, length, Bool, true, false, cond, either, holds_or_not, eqb, Option, Some, None, arith, filter, flat_map, find, option_map, or_parts, eqb-false, ne_eqb, cond-false, length-append, sum-map, sum_by-cons, Header, Post, Item, Choice, Iput, Iget, Bput, Direction, In, filter_in, flat_in, Posted, Status, NullRequest, Waiting, Gone, named, puts_in, gets_in, status_of, item_code, items_from, items_of, has_id, is_ok_code, IsOwnOnce, not_posted, has_posted, status_of-push, IsPut, IsGet, posts_of_status, AreGets, ArePuts, AreTowards, IsRequest, AreRequests, AreOnce, direction_of_kind}
 use Rattle.nc_base.specs.declared.request.Direction.TheVariants as way
 use Rattle.serial_spec.specs.RankMachine as machine
-use Rattle.rank_core.proofs.KnownLaws.{get_more, put_more}
+use Rattle.rank_core.proofs.KnownLaws.{check_more}
 use Rattle.rank_core.proofs.OwnLaws.{own_append, own_none, held_by, held_append, keys_apart}
 
 -- ---- the rank knows of more records
 
 pub gets_more : (header : Header) (known more : ℕ) (posts : List Post) → known ≤ more → AreGets header known posts → AreGets header more posts
-gets_more header known more posts le h = record { each = λ p m. get_more header known more p le (h.each p m); var = h.var }
+gets_more header known more posts le h = record { each = λ p m. check_more header p.var p.region known more way.Get le (h.each p m); var = h.var }
 
 pub puts_more : (header : Header) (known more : ℕ) (posts : List Post) → known ≤ more → ArePuts header known posts → ArePuts header more posts
-puts_more header known more posts le h = record { each = λ p m. put_more header known more p le (h.each p m); own = h.own }
+puts_more header known more posts le h = record {
+  each = λ p m. record { accepted = check_more header p.var p.region known more way.Put le (h.each p m).accepted; whole = (h.each p m).whole };
+  own = h.own;
+}
 
 towards_more : (d : Direction) (header : Header) (known more : ℕ) (posts : List Post) → known ≤ more → AreTowards d header known posts → AreTowards d header more posts
 towards_more way.Put header known more posts le h = puts_more header known more posts le h
@@ -27,16 +30,17 @@ requests_more header known more (p ∷ ps) le h = (request_more header known mor
 
 -- ---- a request more
 
+new_later : (p : Posted) (ps : List Posted) (id : ℕ) → status_of (p ∷ ps) id ≡ None → (eqb p.id id ≡ false) × (status_of ps id ≡ None)
+new_later p ps id fresh = let parts = or_parts (eqb p.id id) (has_posted ps id) (not_posted (p ∷ ps) id fresh) in (parts.0, rw parts.0 at fresh)
+
 pub requests_push : (header : Header) (known : ℕ) (ps : List Posted) (id : ℕ) (s : Status) → status_of ps id ≡ None → IsRequest header known id s
     → AreRequests header known ps → AreRequests header known (ps ++ record { id = id; status = s } ∷ [])
 requests_push header known [] id s fresh r h = (r, refl, tt)
 requests_push header known (p ∷ ps) id s fresh r h =
-    let parts = or_parts (eqb p.id id) (has_posted ps id) (not_posted (p ∷ ps) id fresh) in
-    let differ = eqb-false p.id id parts.0 in
-    let rest : status_of ps id ≡ None = rw parts.0 at fresh in (
+    let new = new_later p ps id fresh in (
       h.0,
-      status_of-push ps (record { id = id; status = s }) p.id (ne_eqb id p.id (λ e. differ (sym e))) h.1,
-      requests_push header known ps id s rest r h.2,
+      status_of-push ps (record { id = id; status = s }) p.id (ne_eqb id p.id (λ e. eqb-false p.id id new.0 (sym e))) h.1,
+      requests_push header known ps id s new.1 r h.2,
     )
 
 -- ---- requests that are taken
@@ -45,30 +49,20 @@ abbrev pub gone_where : (Posted → Bool) → Posted → Posted
 gone_where f p = cond (f p) (record p { status = Gone }) p
 
 same_id : (f : Posted → Bool) (p : Posted) → (gone_where f p).id ≡ p.id
-same_id f p = by_test (f p)
-  where
-    by_test : (b : Bool) → (cond b (record p { status = Gone }) p).id ≡ p.id
-    by_test true = refl
-    by_test false = refl
+same_id f p = either (λ (q : Posted). q.id ≡ p.id) (f p) _ _ (λ t. refl) (λ t. refl)
 
 stays_new : (f : Posted → Bool) (ps : List Posted) (id : ℕ) → status_of ps id ≡ None → status_of (map (gone_where f) ps) id ≡ None
 stays_new f [] id h = refl
 stays_new f (p ∷ ps) id h =
-    let parts = or_parts (eqb p.id id) (has_posted ps id) (not_posted (p ∷ ps) id h) in
-    let other : eqb (gone_where f p).id id ≡ false = ap (λ (n : ℕ). eqb n id) (same_id f p) ∙ parts.0 in
-    let rest : status_of ps id ≡ None = rw parts.0 at h in
+    let new = new_later p ps id h in
+    let other : eqb (gone_where f p).id id ≡ false = ap (λ (n : ℕ). eqb n id) (same_id f p) ∙ new.0 in
     ap (option_map (λ (q : Posted). q.status)) (cond-false (eqb (gone_where f p).id id) (Some (gone_where f p)) (find (λ (q : Posted). eqb q.id id) (map (gone_where f) ps)) other)
-    ∙ stays_new f ps id rest
-
-request_gone : (header : Header) (known : ℕ) (p : Posted) (b : Bool) → IsRequest header known p.id p.status
-    → IsRequest header known (cond b (record p { status = Gone }) p).id (cond b (record p { status = Gone }) p).status
-request_gone header known p true h = tt
-request_gone header known p false h = h
+    ∙ stays_new f ps id new.1
 
 pub requests_without : (header : Header) (known : ℕ) (f : Posted → Bool) (ps : List Posted) → AreRequests header known ps → AreRequests header known (map (gone_where f) ps)
 requests_without header known f [] h = tt
 requests_without header known f (p ∷ ps) h = (
-  request_gone header known p (f p) h.0,
+  either (λ (q : Posted). IsRequest header known q.id q.status) (f p) (record p { status = Gone }) p (λ t. tt) (λ t. h.0),
   ap (status_of (map (gone_where f) ps)) (same_id f p) ∙ stays_new f ps p.id h.1,
   requests_without header known f ps h.2,
 )
@@ -99,13 +93,8 @@ own_puts header known id rank xs r = own_none
 -- no later request has the id of an earlier one
 id_in : (ps : List Posted) (p : Posted) (id : ℕ) → status_of ps id ≡ None → In ps p → p.id ≡ id → ⊥
 id_in [] p id h m e = absurd m
-id_in (q ∷ ps) p id h (inl g) e =
-    let parts = or_parts (eqb q.id id) (has_posted ps id) (not_posted (q ∷ ps) id h) in
-    eqb-false q.id id parts.0 (ap (λ (x : Posted). x.id) g ∙ e)
-id_in (q ∷ ps) p id h (inr m) e =
-    let parts = or_parts (eqb q.id id) (has_posted ps id) (not_posted (q ∷ ps) id h) in
-    let rest : status_of ps id ≡ None = rw parts.0 at h in
-    id_in ps p id rest m e
+id_in (q ∷ ps) p id h (inl g) e = eqb-false q.id id (new_later q ps id h).0 (ap (λ (x : Posted). x.id) g ∙ e)
+id_in (q ∷ ps) p id h (inr m) e = id_in ps p id (new_later q ps id h).1 m e
 
 one_request : (header : Header) (known : ℕ) (ps : List Posted) (p q : Posted) → AreRequests header known ps → In ps p → In ps q → p.id ≡ q.id → p ≡ q
 one_request header known [] p q h m n e = absurd m
@@ -120,54 +109,52 @@ puts_where f ps = flat_map (λ (p : Posted). puts_in p.status) (filter f ps)
 abbrev pub gets_where : (Posted → Bool) → List Posted → List Post
 gets_where f ps = flat_map (λ (p : Posted). gets_in p.status) (filter f ps)
 
-differ : (header : Header) (known : ℕ) (f : Posted → Bool) (p : Posted) (ps : List Posted) → AreRequests header known (p ∷ ps)
-    → (a b : Post) → In (puts_in p.status) a → In (puts_where f ps) b → a.id ≡ b.id → ⊥
-differ header known f p ps h a b m n e =
-    let r = flat_in (λ (q : Posted). puts_in q.status) (filter f ps) b n in
-    let w = filter_in f ps r.0 r.1 in
-    let first = (put_in header known p.id p.status a h.0 m).1 in
-    let later = (put_in header known r.0.id r.0.status b (request_in header known ps r.0 h.2 w.0) r.2).1 in
-    id_in ps r.0 p.id h.1 w.0 (sym later ∙ sym e ∙ first)
+-- the request that a post is of
+module _ (header : Header) (known : ℕ) (f : Posted → Bool) (ps : List Posted) (h : AreRequests header known ps) where
+  record IsOfRequest (of : Status → List Post) (p : Post) : Type 0 where
+    posted : Posted
+    here : In ps posted
+    right : IsRequest header known posted.id posted.status
+    is_one : In (of posted.status) p
 
-own_more : (header : Header) (known rank : ℕ) (f : Posted → Bool) (p : Posted) (ps : List Posted) → AreRequests header known (p ∷ ps) → IsOwnOnce (held_by header rank (puts_where f ps))
-    → (b : Bool) → IsOwnOnce (held_by header rank (flat_map (λ (q : Posted). puts_in q.status) (cond b (p ∷ filter f ps) (filter f ps))))
-own_more header known rank f p ps h rest false = rest
-own_more header known rank f p ps h rest true =
-    subst IsOwnOnce (sym (held_append header rank (puts_in p.status) (puts_where f ps)))
-    (own_append (held_by header rank (puts_in p.status)) (held_by header rank (puts_where f ps))
-    (own_puts header known p.id rank p.status h.0) rest (keys_apart header rank (puts_in p.status) (puts_where f ps) (differ header known f p ps h)))
+  of_request : (of : Status → List Post) (p : Post) → In (flat_map (λ (q : Posted). of q.status) (filter f ps)) p → IsOfRequest of p
+  of_request of p m =
+      let r = flat_in (λ (q : Posted). of q.status) (filter f ps) p m in
+      let here = (filter_in f ps r.0 r.1).0 in
+      record { posted = r.0; here = here; right = request_in header known ps r.0 h here; is_one = r.2 }
+
+  one_var_of : (p q : Post) → In (gets_where f ps) p → In (gets_where f ps) q → p.id ≡ q.id → p.var ≡ q.var
+  one_var_of p q m n e =
+      let a = of_request gets_in p m in
+      let b = of_request gets_in q n in
+      let ids = sym (get_in header known a.posted.id a.posted.status p a.right a.is_one).1 ∙ e ∙ (get_in header known b.posted.id b.posted.status q b.right b.is_one).1 in
+      let one = one_request header known ps a.posted b.posted h a.here b.here ids in
+      one_var header known a.posted.id a.posted.status p q a.right a.is_one (subst (λ (x : Posted). In (gets_in x.status) q) (sym one) b.is_one) e
 
 own_where : (header : Header) (known rank : ℕ) (f : Posted → Bool) (ps : List Posted) → AreRequests header known ps → IsOwnOnce (held_by header rank (puts_where f ps))
 own_where header known rank f [] h = own_none
-own_where header known rank f (p ∷ ps) h = own_more header known rank f p ps h (own_where header known rank f ps h.2) (f p)
+own_where header known rank f (p ∷ ps) h =
+    let rest = own_where header known rank f ps h.2 in
+    either (λ (qs : List Posted). IsOwnOnce (held_by header rank (flat_map (λ (q : Posted). puts_in q.status) qs))) (f p) (p ∷ filter f ps) (filter f ps)
+    (λ t. subst IsOwnOnce (sym (held_append header rank (puts_in p.status) (puts_where f ps)))
+    (own_append (held_by header rank (puts_in p.status)) (held_by header rank (puts_where f ps)) (own_puts header known p.id rank p.status h.0) rest
+    (keys_apart header rank (puts_in p.status) (puts_where f ps) (λ a b m n e.
+    let r = of_request header known f ps h.2 puts_in b n in
+    id_in ps r.posted p.id h.1 r.here
+    (sym (put_in header known r.posted.id r.posted.status b r.right r.is_one).1 ∙ sym e ∙ (put_in header known p.id p.status a h.0 m).1)))))
+    (λ t. rest)
 
 pub puts_taken : (header : Header) (known : ℕ) (f : Posted → Bool) (ps : List Posted) → AreRequests header known ps → ArePuts header known (puts_where f ps)
 puts_taken header known f ps h = record {
-  each = λ p m. let r = flat_in (λ (q : Posted). puts_in q.status) (filter f ps) p m in
-      let w = filter_in f ps r.0 r.1 in
-      (put_in header known r.0.id r.0.status p (request_in header known ps r.0 h w.0) r.2).0;
+  each = λ p m. let r = of_request header known f ps h puts_in p m in (put_in header known r.posted.id r.posted.status p r.right r.is_one).0;
   own = λ rank. own_where header known rank f ps h;
 }
 
 pub gets_taken : (header : Header) (known : ℕ) (f : Posted → Bool) (ps : List Posted) → AreRequests header known ps → AreGets header known (gets_where f ps)
 gets_taken header known f ps h = record {
-  each = λ p m. let r = flat_in (λ (q : Posted). gets_in q.status) (filter f ps) p m in
-      let w = filter_in f ps r.0 r.1 in
-      (get_in header known r.0.id r.0.status p (request_in header known ps r.0 h w.0) r.2).0;
-  var = both;
+  each = λ p m. let r = of_request header known f ps h gets_in p m in (get_in header known r.posted.id r.posted.status p r.right r.is_one).0;
+  var = one_var_of header known f ps h;
 }
-  where
-    both : (p q : Post) → In (gets_where f ps) p → In (gets_where f ps) q → p.id ≡ q.id → p.var ≡ q.var
-    both p q m n e =
-        let a = flat_in (λ (x : Posted). gets_in x.status) (filter f ps) p m in
-        let b = flat_in (λ (x : Posted). gets_in x.status) (filter f ps) q n in
-        let in_a = filter_in f ps a.0 a.1 in
-        let in_b = filter_in f ps b.0 b.1 in
-        let of_a = request_in header known ps a.0 h in_a.0 in
-        let of_b = request_in header known ps b.0 h in_b.0 in
-        let ids = sym (get_in header known a.0.id a.0.status p of_a a.2).1 ∙ e ∙ (get_in header known b.0.id b.0.status q of_b b.2).1 in
-        let one = one_request header known ps a.0 b.0 h in_a.0 in_b.0 ids in
-        one_var header known a.0.id a.0.status p q of_a a.2 (subst (λ (x : Posted). In (gets_in x.status) q) (sym one) b.2) e
 
 -- ---- how many posts there are
 
@@ -178,15 +165,12 @@ first_held : (p : Posted) (ps : List Posted) → held_posts (p ∷ ps) ≡ posts
 first_held p ps = sum-map (λ (q : Posted). posts_of_status q.status) (p ∷ ps) ∙ sum_by-cons (λ (q : Posted). posts_of_status q.status) p ps
     ∙ ap (λ (n : ℕ). posts_of_status p.status + n) (sym (sum-map (λ (q : Posted). posts_of_status q.status) ps))
 
-gone_fewer : (p : Posted) (b : Bool) → posts_of_status (cond b (record p { status = Gone }) p).status ≤ posts_of_status p.status
-gone_fewer p true = omega arith
-gone_fewer p false = omega arith
-
 pub held_without : (f : Posted → Bool) (ps : List Posted) → held_posts (map (gone_where f) ps) ≤ held_posts ps
 held_without f [] = omega arith
 held_without f (p ∷ ps) =
     let rest = held_without f ps in
-    let first = gone_fewer p (f p) in
+    let first : posts_of_status (gone_where f p).status ≤ posts_of_status p.status =
+    either (λ (q : Posted). posts_of_status q.status ≤ posts_of_status p.status) (f p) (record p { status = Gone }) p (λ t. omega arith) (λ t. omega arith) in
     omega (arith, rest, first, first_held p ps, first_held (gone_where f p) (map (gone_where f) ps))
 
 status_few : (s : Status) → length (puts_in s) + length (gets_in s) ≤ posts_of_status s
@@ -196,26 +180,18 @@ status_few (Waiting Iput posts) = omega arith
 status_few (Waiting Bput posts) = omega arith
 status_few (Waiting Iget posts) = omega arith
 
-few_more : (f : Posted → Bool) (p : Posted) (ps : List Posted) → length (puts_where f ps) + length (gets_where f ps) + held_posts (map (gone_where f) ps) ≤ held_posts ps
-    → (b : Bool) → length (flat_map (λ (q : Posted). puts_in q.status) (cond b (p ∷ filter f ps) (filter f ps)))
-    + length (flat_map (λ (q : Posted). gets_in q.status) (cond b (p ∷ filter f ps) (filter f ps)))
-    + held_posts (cond b (record p { status = Gone }) p ∷ map (gone_where f) ps) ≤ held_posts (p ∷ ps)
-few_more f p ps rest true =
-    omega (
-      arith,
-      rest,
-      status_few p.status,
-      length-append (puts_in p.status) (puts_where f ps),
-      length-append (gets_in p.status) (gets_where f ps),
-      first_held p ps,
-      first_held (record p { status = Gone }) (map (gone_where f) ps),
-    )
-few_more f p ps rest false = omega (arith, rest, first_held p ps, first_held p (map (gone_where f) ps))
-
 -- what is taken and what is left
 pub taken_few : (f : Posted → Bool) (ps : List Posted) → length (puts_where f ps) + length (gets_where f ps) + held_posts (map (gone_where f) ps) ≤ held_posts ps
 taken_few f [] = omega arith
-taken_few f (p ∷ ps) = few_more f p ps (taken_few f ps) (f p)
+taken_few f (p ∷ ps) =
+    let rest = taken_few f ps in
+    elim (holds_or_not (f p)) [
+      | inl e ↦
+          let puts = length-append (puts_in p.status) (puts_where f ps) in
+          let gets = length-append (gets_in p.status) (gets_where f ps) in
+          rw e (omega (arith, rest, status_few p.status, puts, gets, first_held p ps, first_held (record p { status = Gone }) (map (gone_where f) ps)))
+      | inr e ↦ rw e (omega (arith, rest, first_held p ps, first_held p (map (gone_where f) ps)))
+    ]
 
 -- ---- the items
 
@@ -232,12 +208,10 @@ ok_new posted earlier (id ∷ ids) j (inr m) h = (or_parts (eqb id j.id) (has_id
 
 once_from : (posted : List Posted) (earlier ids : List ℕ) → AreOnce (items_from posted earlier ids)
 once_from posted earlier [] = tt
-once_from posted earlier (id ∷ ids) = (apart, once_from posted (id ∷ earlier) ids)
-  where
-    apart : is_ok_code (item_code (status_of posted id) (has_id earlier id)) ≡ true → (j : Item) → In (items_from posted (id ∷ earlier) ids) j → is_ok_code j.code ≡ true → j.id ≡ id → ⊥
-    apart ok j m h e =
-        let parts = or_parts (eqb id j.id) (has_id earlier j.id) (ok_new posted (id ∷ earlier) ids j m h) in
-        eqb-false id j.id parts.0 (sym e)
+once_from posted earlier (id ∷ ids) = (
+  λ ok j m h e. eqb-false id j.id (or_parts (eqb id j.id) (has_id earlier j.id) (ok_new posted (id ∷ earlier) ids j m h)).0 (sym e),
+  once_from posted (id ∷ earlier) ids,
+)
 
 pub once_items : (r : machine.Rank) (choice : Choice) → AreOnce (items_of r choice)
 once_items r choice = once_from r.posted [] (named r choice)

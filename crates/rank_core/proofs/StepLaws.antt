@@ -26,11 +26,13 @@ id_is id [] some h = absurd (omega arith)
 id_is id (p ∷ posts) some h = h p (inl refl)
 
 -- the length of a dimension that is found
-pub dim_is : (header : Header) (name : List ℕ) (known k : ℕ) (d : Dim) → find_dim header name ≡ Some k → slice_get header.dims k ≡ Some d
+pub dim_is : (header : Header) (name : List ℕ) (known k : ℕ) (d : Dim) → find_dim header name ≡ Some k → d ≡ get_or header.dims k d
     → option_map (λ (d : Dim). cond (eqb d.len 0) known d.len) (dim_at header (find_dim header name)) ≡ Some (cond (eqb d.len 0) known d.len)
-dim_is header name known k d e f =
+dim_is header name known k d e at =
+    let within = (position-Some (λ (x : Dim). bytes_eq x.name name) header.dims k d e).0 in
+    let there = slice_get_read header.dims (length header.dims) k d refl within at in
     ap (λ (o : Option ℕ). option_map (λ (d : Dim). cond (eqb d.len 0) known d.len) (dim_at header o)) e
-    ∙ ap (option_map (λ (d : Dim). cond (eqb d.len 0) known d.len)) f
+    ∙ ap (option_map (λ (d : Dim). cond (eqb d.len 0) known d.len)) there
 
 -- ---- how many posts a lawful call brings
 
@@ -44,8 +46,3 @@ call_few ranks r (call.Put all name given values) h = given_few given (and_parts
 call_few ranks r (call.Get all name given) h = given_few given h
 call_few ranks r (call.Post id kind name given values) h = given_few given (and_parts (is_given given) (is_post_of kind values) h).0
 call_few ranks r xs h = omega arith
-
--- the dimension that is found
-pub dim_there : (header : Header) (name : List ℕ) (k : ℕ) (d : Dim) → find_dim header name ≡ Some k → d ≡ get_or header.dims k d → slice_get header.dims k ≡ Some d
-dim_there header name k d e at =
-    slice_get_read header.dims (length header.dims) k d refl (position-Some (λ (x : Dim). bytes_eq x.name name) header.dims k d e).0 at

@@ -1,5 +1,5 @@
 -- What a call on a variable comes to, as its parts find it out.
-use Rattle.rank_core.proofs.Words.{◌≡◌, ℕ, ◌<◌, ◌≤◌, refl, sym, ap, subst, ◌∙◌, List, [], ◌∷◌, length, Bool, true, false, cond, ltb, Option, None, Some, Result, Ok, Err, IfSome, arith, filter, slice_get, IfErr, OnOk, le-ltb, lt-ltb, CallErr, Code, Header, Var, Post, Direction, Form, Given, Region, Values, IsMapped, IsRangeRefusal, IsRefusal, product, most_elements, data_bytes, data_code, direction_of, find_var, is_varn, part_posts, parts_code, check, check_parts, check_some, check_var, elements_of_all, has_element, part_regions, widen, capped, parts_code_at, Target, look_of, some_unfit, ComesTo, HasValues, IsCode, Ranked, IsTarget, IsTargetOf}
+use Rattle.rank_core.proofs.Words.{◌≡◌, ℕ, ◌<◌, ◌≤◌, refl, sym, ap, subst, ◌∙◌, List, [], ◌∷◌, length, Bool, true, false, cond, ltb, Option, None, Some, Result, Ok, Err, IfSome, arith, filter, slice_get, IfErr, IfErr-weaker, IfOk-weaker, on_ok_weaker, OnOk, le-ltb, lt-ltb, CallErr, Code, Header, Var, Post, Direction, Form, Given, Region, Values, IsMapped, IsRangeRefusal, IsRefusal, product, most_elements, data_bytes, data_code, direction_of, find_var, is_varn, part_posts, parts_code, check, check_parts, check_some, check_var, elements_of_all, has_element, part_regions, widen, capped, parts_code_at, Target, look_of, some_unfit, ComesTo, HasValues, IsCode, Ranked, IsTarget, IsTargetOf}
 use Rattle.std.proofs.Common.{IfOk}
 use Rattle.nc_base.specs.declared.answer.CallErr.TheVariants as refusal
 use Rattle.nc_base.specs.declared.answer.Code.TheVariants as code
@@ -9,27 +9,26 @@ use Rattle.vara_extents.specs.Parts as parts
 use Rattle.rank_core.specs.Targets.{look_at, look_parts, look_region}
 use Rattle.rank_core.proofs.LookLaws.{asked_few}
 use Rattle.rank_core.proofs.MappedLaws.{accepted_mapped}
-use Rattle.rank_core.proofs.OutcomeLaws.{all_right, checked_refused, data_refused, no_element, outcome, parts_ask}
+use Rattle.rank_core.proofs.OutcomeLaws.{checked_refused, data_refused, no_element, outcome, outcome_comes, parts_ask}
 use Rattle.rank_core.proofs.ValueLaws.{parts_code-has_values}
 
--- a count that is exact below 2^62 counts the elements of one request
-pub all_counted : (lent gs : List Region) (n : ℕ) → lent ≡ gs → elements_of_all gs ≤ most_elements → n ≡ capped (elements_of_all lent) → n ≡ elements_of_all gs
-all_counted lent gs n same few counted =
-    let total = ap elements_of_all same in
-    omega (arith, total, few, counted)
+range_refusal : (unfit : Bool) (c : Code) (e : CallErr) → c ≡ cond unfit code.ERange code.Ok → IsRangeRefusal unfit e → IsRefusal c e
+range_refusal unfit c (refusal.Code d) same r =
+    (r.0 ∙ sym (same ∙ ap (λ (b : Bool). cond b code.ERange code.Ok) r.1), λ ok. let f : code.ERange ≡ code.Ok = sym r.0 ∙ ok in cc)
+range_refusal unfit c refusal.Memory same r = r
 
 module _ (t : Target) (given : Given) (values : Option Values) (there : IsTarget t) (way : Direction) (is_way : way ≡ direction_of values) where
   -- ---- one region
 
-  post : Region → Post
+  abbrev post : Region → Post
   post g = record { id = t.id; var = t.place; region = g; bytes = data_bytes t.var.now.kind g values }
 
-  region_outcome : Region → looks.Look
+  abbrev region_outcome : Region → looks.Look
   region_outcome g = outcome (check_var t.header.now t.var.now g t.known (direction_of values)) (has_element g) (post g ∷ []) (data_code t.var.now.kind g values)
 
   module _ (g : Region) (wide : IfSome (slice_get t.header.now.vars t.place) (λ v. g ≡ widen t.header.now v given t.known)) where
     region_is : region_outcome g ≡ look_region t given values
-    unfolding look_region region_outcome post
+    unfolding look_region
     region_is = ap region_outcome (subst (λ (o : Option Var). IfSome o (λ v. g ≡ widen t.header.now v given t.known)) there wide)
 
     checked : check t.header.now t.place g t.known way ≡ check_var t.header.now t.var.now g t.known (direction_of values)
@@ -41,42 +40,26 @@ module _ (t : Target) (given : Given) (values : Option Values) (there : IsTarget
     region_mapped h = accepted_mapped t.header.now t.var.now g t.known (direction_of values) (sym checked ∙ h)
 
     pub region_refused : (c : Code) → c ≡ check t.header.now t.place g t.known way → (c ≡ code.Ok → ⊥) → looks.Refused c ≡ look_region t given values
-    unfolding region_outcome
     region_refused c e n = checked_refused _ _ _ _ c (e ∙ checked) n ∙ region_is
 
     pub region_empty : check t.header.now t.place g t.known way ≡ code.Ok → ltb 0 (product g.count) ≡ false → looks.Empty ≡ look_region t given values
-    unfolding region_outcome
     region_empty h e = no_element _ _ _ _ (sym checked ∙ h) e ∙ region_is
-
-    region_unfit : (e : CallErr) → check t.header.now t.place g t.known way ≡ code.Ok → ltb 0 (product g.count) ≡ true
-        → IsRefusal (data_code t.var.now.kind g values) e → ComesTo (look_region t given values) (Err e)
-    unfolding region_outcome
-    region_unfit (refusal.Code c) h e r = data_refused _ _ _ _ c (sym checked ∙ h) e r.0 r.1 ∙ region_is
-    region_unfit refusal.Memory h e r = r
-
-    region_asks : (posts : List Post) → check t.header.now t.place g t.known way ≡ code.Ok → ltb 0 (product g.count) ≡ true
-        → data_code t.var.now.kind g values ≡ code.Ok → posts ≡ post g ∷ [] → look_of posts ≡ look_region t given values
-    unfolding region_outcome post
-    region_asks posts h e right is = ap look_of is ∙ all_right _ _ _ _ (sym checked ∙ h) e right ∙ region_is
 
     pub region_comes : (r : Result (List Post) CallErr) → check t.header.now t.place g t.known way ≡ code.Ok → ltb 0 (product g.count) ≡ true
         → IfOk r (λ posts. posts ≡ record { id = t.id; var = t.place; region = g; bytes = data_bytes t.var.now.kind g values } ∷ [])
         → OnOk r (data_code t.var.now.kind g values ≡ code.Ok) → IfErr r (IsRefusal (data_code t.var.now.kind g values)) → ComesTo (look_region t given values) r
-    unfolding post
-    region_comes (Ok posts) h e is right unfit = region_asks posts h e right is
-    region_comes (Err f) h e is right unfit = region_unfit f h e unfit
+    region_comes r h e is right unfit =
+        subst (λ (m : looks.Look). ComesTo m r) region_is
+        (outcome_comes _ _ (post g ∷ []) _ r (sym checked ∙ h) e (IfOk-weaker r _ _ (λ posts same. ap look_of same) is) right unfit)
 
   -- ---- many regions
-
-  asked : List Region
-  asked = filter has_element (part_regions t.var.now given)
 
   parts_checked : parts.parts_code t.header.now t.place given t.known way ≡ check_parts t.header.now t.var.now (part_regions t.var.now given) t.known (direction_of values)
   parts_checked =
       ap (λ (o : Option Var). parts_code_at o t.header.now given t.known way) there
       ∙ ap (λ (d : Direction). check_parts t.header.now t.var.now (part_regions t.var.now given) t.known d) is_way
 
-  parts_outcome : List Region → looks.Look
+  abbrev parts_outcome : List Region → looks.Look
   parts_outcome gs =
       outcome (check_parts t.header.now t.var.now (part_regions t.var.now given) t.known (direction_of values)) (ltb 0 (length gs))
       (part_posts t.id t.place t.var.now.kind values 0 gs) (parts_code t.var.now.kind (elements_of_all gs) values)
@@ -88,49 +71,36 @@ module _ (t : Target) (given : Given) (values : Option Values) (there : IsTarget
 
   module _ (ok : parts.parts_code t.header.now t.place given t.known way ≡ code.Ok) (gs : List Region) (is : gs ≡ filter has_element (part_regions t.var.now given)) where
     parts_is : parts_outcome gs ≡ look_parts t given values
-    unfolding look_parts parts_outcome
+    unfolding look_parts
     parts_is = ap parts_outcome is
 
     pub regions_few : elements_of_all gs ≤ most_elements
     regions_few = subst (λ (rs : List Region). elements_of_all rs ≤ most_elements) (sym is) (asked_few t.header.now t.var.now (part_regions t.var.now given) t.known (direction_of values) (sym parts_checked ∙ ok))
 
     pub parts_empty : length gs ≡ 0 → looks.Empty ≡ look_parts t given values
-    unfolding parts_outcome
     parts_empty none = no_element _ _ _ _ (sym parts_checked ∙ ok) (le-ltb 0 (length gs) (omega (arith, none))) ∙ parts_is
 
+    -- a count that is exact below 2^62 counts the elements of one request
+    pub counted : (lent : List Region) (n : ℕ) → lent ≡ gs → n ≡ capped (elements_of_all lent) → n ≡ elements_of_all gs
+    counted lent n same all = let total = ap elements_of_all same in let few = regions_few in omega (arith, total, few, all)
+
     module _ (some : 0 < length gs) where
-      short : (c : Code) → IsCode (parts_code t.var.now.kind (elements_of_all gs) values) c → looks.Refused c ≡ look_parts t given values
-      unfolding parts_outcome
-      short c r = data_refused _ _ _ _ c (sym parts_checked ∙ ok) (lt-ltb 0 (length gs) some) r.0 r.1 ∙ parts_is
-
       pub parts_short : (n : ℕ) (c : Code) → n ≡ elements_of_all gs → IsCode (parts_code t.var.now.kind n values) c → looks.Refused c ≡ look_parts t given values
-      parts_short n c e r = short c (subst (λ (m : ℕ). IsCode (parts_code t.var.now.kind m values) c) e r)
-
-      range_code : HasValues t.var.now.kind values (elements_of_all gs) → (b : Bool) → some_unfit t.var.now.kind values 0 (elements_of_all gs) ≡ b
-          → parts_code t.var.now.kind (elements_of_all gs) values ≡ cond b code.ERange code.Ok
-      range_code right b e = parts_code-has_values t.var.now.kind values (elements_of_all gs) right ∙ ap (λ (x : Bool). cond x code.ERange code.Ok) e
-
-      parts_unfit : (e : CallErr) → HasValues t.var.now.kind values (elements_of_all gs) → IsRangeRefusal (some_unfit t.var.now.kind values 0 (elements_of_all gs)) e
-          → ComesTo (look_parts t given values) (Err e)
-      unfolding parts_outcome
-      parts_unfit (refusal.Code c) right r =
-          data_refused _ _ _ _ c (sym parts_checked ∙ ok) (lt-ltb 0 (length gs) some) (r.0 ∙ sym (range_code right true r.1)) (λ e. let f : code.ERange ≡ code.Ok = sym r.0 ∙ e in cc) ∙ parts_is
-      parts_unfit refusal.Memory right r = r
-
-      parts_asks : (posts : List Post) → HasValues t.var.now.kind values (elements_of_all gs) → some_unfit t.var.now.kind values 0 (elements_of_all gs) ≡ false
-          → posts ≡ part_posts t.id t.place t.var.now.kind values 0 gs → look_of posts ≡ look_parts t given values
-      unfolding parts_outcome
-      parts_asks posts right fit same =
-          ap look_of same ∙ parts_ask t.id t.place t.var.now.kind values 0 gs (lt-ltb 0 (length gs) some)
-          ∙ all_right _ _ _ _ (sym parts_checked ∙ ok) (lt-ltb 0 (length gs) some) (range_code right false fit) ∙ parts_is
+      parts_short n c e r =
+          data_refused _ _ _ _ c (sym parts_checked ∙ ok) (lt-ltb 0 (length gs) some) (r.0 ∙ ap (λ (m : ℕ). parts_code t.var.now.kind m values) e) r.1 ∙ parts_is
 
       pub parts_come : (r : Result (List Post) CallErr) → HasValues t.var.now.kind values (elements_of_all gs)
           → IfOk r (λ posts. posts ≡ part_posts t.id t.place t.var.now.kind values 0 gs)
           → OnOk r (some_unfit t.var.now.kind values 0 (elements_of_all gs) ≡ false)
           → IfErr r (IsRangeRefusal (some_unfit t.var.now.kind values 0 (elements_of_all gs)))
           → ComesTo (look_parts t given values) r
-      parts_come (Ok posts) right same fit unfit = parts_asks posts right fit same
-      parts_come (Err e) right same fit unfit = parts_unfit e right unfit
+      parts_come r right same fit unfit =
+          let last = parts_code-has_values t.var.now.kind values (elements_of_all gs) right in
+          let here = lt-ltb 0 (length gs) some in
+          subst (λ (m : looks.Look). ComesTo m r) parts_is (outcome_comes _ _ (part_posts t.id t.place t.var.now.kind values 0 gs) _ r (sym parts_checked ∙ ok) here
+          (IfOk-weaker r _ _ (λ posts e. ap look_of e ∙ parts_ask t.id t.place t.var.now.kind values 0 gs here) same)
+          (on_ok_weaker r (λ e. last ∙ ap (λ (b : Bool). cond b code.ERange code.Ok) e) fit)
+          (IfErr-weaker r _ _ (λ e u. range_refusal _ _ e last u) unfit))
 
 -- ---- either
 
@@ -138,21 +108,19 @@ varn_form : (f : Form) → (f ≡ form.Varn → ⊥) → is_varn f ≡ false
 varn_form form.Varn n = absurd (n refl)
 varn_form f n = refl
 
+abbrev at_form : Target → Given → Option Values → Bool → looks.Look
+at_form t given values b = elim b [
+  | true ↦ looks.look_parts t.header.now t.known t.id t.place given values t.var.now
+  | false ↦ looks.look_region t.header.now t.known t.id t.place given values t.var.now
+]
+
 pub at_parts : (t : Target) (given : Given) (values : Option Values) (r : Result (List Post) CallErr) → given.form ≡ form.Varn → ComesTo (look_parts t given values) r → ComesTo (look_at t given values) r
 unfolding look_at look_parts
-at_parts t given values r e h =
-    subst (λ (b : Bool). ComesTo (elim b [
-      | true ↦ looks.look_parts t.header.now t.known t.id t.place given values t.var.now
-      | false ↦ looks.look_region t.header.now t.known t.id t.place given values t.var.now
-    ]) r) (sym (ap is_varn e)) h
+at_parts t given values r e h = subst (λ (b : Bool). ComesTo (at_form t given values b) r) (sym (ap is_varn e)) h
 
 pub at_region : (t : Target) (given : Given) (values : Option Values) (r : Result (List Post) CallErr) → (given.form ≡ form.Varn → ⊥) → ComesTo (look_region t given values) r → ComesTo (look_at t given values) r
 unfolding look_at look_region
-at_region t given values r n h =
-    subst (λ (b : Bool). ComesTo (elim b [
-      | true ↦ looks.look_parts t.header.now t.known t.id t.place given values t.var.now
-      | false ↦ looks.look_region t.header.now t.known t.id t.place given values t.var.now
-    ]) r) (sym (varn_form given.form n)) h
+at_region t given values r n h = subst (λ (b : Bool). ComesTo (at_form t given values b) r) (sym (varn_form given.form n)) h
 
 -- ---- by name
 

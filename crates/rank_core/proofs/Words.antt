@@ -1,5 +1,5 @@
 -- The words of this crate's proofs, from where they stand.
-pub use Rattle.list_laws.proofs.Std.{AllByRecursion, Bool, Contains-permutation, Err, IfErr, IfOk, IfOk-weaker, IsPartitionPoint, IsPartitionPoint-from_clause, IsPartitionedBy, IsPermutation, IsPermutation-sym, IsStrictWeakOrder, IsTotalOrder, List, None, Ok, OnErr, OnOk, Option, Result, Some, [], add-one, always_returns_same, and_cases, and_from, and_left, and_parts, and_right, ap, arith, both_ways, bytes_eq-Decides, cases_Bool, cases_lt, cases_order, common_steps, cond, cond-false, cond-true, cons_option, div-add-mod', drop, drop_more, eq-eqb, eqb, eqb-false, eqb-true, err_from_is_err_and, false, false_from_ne_true, filter, filter_same, find, flat_map, ge_from_not_lt, get, get_or, get_or-map, get_or-range_with_len, get_or_default, get_or_from_slice_get, inl, inr, into_iter_items, is_eq, is_eq-slice_cmp, is_lt, le-ltb, leb, leb-false, leb-true, length, length-map, length-range_with_len, length-replicate, length-take, length_permutation, list_all, list_any, list_any-append, lt-leb, lt-ltb, ltb, ltb-false, ltb-true, map, map-append, map_more, map_push, mod_below, mul-div_cancel, mul-le-mul_left, nat_cmp, nat_cmp_total, nat_lt, ne_eqb, not, not-false, not_from_true, on_ok_weaker, on_total, option_copied, option_map, or_from, or_left, or_parts, or_right, ordering_reverse, ordering_then, position, position-Some, position_or_len_is, range_with_len, ranks_by, refl, replicate, rules, same_Some, slice_cmp, slice_get, slice_get_read, slice_get_within, slice_index, sorted_far, subst, suc, sum, sum-map, sum_by-cons, sum_by_push, sym, take, take-length, take-suc, then_total, true, with_items_is, zero, ℕ, ◌%◌, ◌&&◌, ◌*◌, ◌++◌, ◌+◌, ◌-◌, ◌/◌, ◌<◌, ◌||◌, ◌∙◌, ◌∷◌, ◌≡◌, ◌≤◌, ◌⊎◌}
+pub use Rattle.list_laws.proofs.Std.{AllByRecursion, Bool, Contains-permutation, Err, IfErr, IfErr-weaker, IfOk, IfOk-weaker, IsPartitionPoint, IsPartitionPoint-from_clause, IsPartitionedBy, IsPermutation, IsPermutation-sym, IsStrictWeakOrder, IsTotalOrder, List, None, Ok, OnErr, OnOk, Option, Result, Some, [], add-one, always_returns_same, and_cases, and_from, and_left, and_parts, and_right, ap, arith, both_ways, bytes_eq-Decides, cases_Bool, cases_lt, cases_order, common_steps, cond, cond-false, cond-true, cons_option, div-add-mod', drop, drop_more, eq-eqb, eqb, eqb-false, eqb-true, err_from_is_err_and, false, false_from_ne_true, filter, filter_same, find, flat_map, ge_from_not_lt, get, get_or, get_or-map, get_or-range_with_len, get_or_default, get_or_from_slice_get, inl, inr, into_iter_items, is_eq, is_eq-slice_cmp, is_lt, le-ltb, leb, leb-false, leb-true, length, length-map, length-range_with_len, length-replicate, length-take, length_permutation, list_all, list_any, list_any-append, lt-leb, lt-ltb, ltb, ltb-false, ltb-true, map, map-append, map_more, map_push, mod_below, mul-div_cancel, mul-le-mul_left, nat_tests, nat_cmp, nat_cmp_total, nat_lt, ne_eqb, not, not-false, not_from_true, on_ok_weaker, on_total, option_copied, option_map, or_from, or_left, or_parts, or_right, ordering_reverse, ordering_then, position, position-Some, position_or_len_is, range_with_len, ranks_by, refl, replicate, rules, same_Some, slice_cmp, slice_get, slice_get_read, slice_get_within, slice_index, sorted_far, subst, suc, sum, sum-map, sum_by-cons, sum_by_push, sym, take, take-length, take-suc, then_total, true, with_items_is, zero, ℕ, ◌%◌, ◌&&◌, ◌*◌, ◌++◌, ◌+◌, ◌-◌, ◌/◌, ◌<◌, ◌||◌, ◌∙◌, ◌∷◌, ◌≡◌, ◌≤◌, ◌⊎◌}
 pub use Rattle.std.proofs.Common.{IfSome, append-nil, is_none, zip}
 pub use Rattle.std.proofs.lemmas.List.{append_assoc, length-append}
 pub use Rattle.std.proofs.lemmas.List.Concat.{flat_map-append}
@@ -12,7 +12,7 @@ pub use Rattle.imap_extents.proofs.PositionLaws.{length-positions, no_coordinate
 pub use Rattle.imap_extents.proofs.RefusalLaws.{lacks, part_refused, range_refused}
 pub use Rattle.imap_extents.specs.Mapped.{IsMapped}
 pub use Rattle.imap_extents.specs.Refusals.{IsRangeRefusal}
-pub use Rattle.list_laws.proofs.Common.{all_below, any_map, each_append, filter_at_most, get_left, get_right, no_none_some, or_false, passes_at, pieces_long, position_map, range_append, some_factor}
+pub use Rattle.list_laws.proofs.Common.{all_below, any_map, each_append, filter_at_most, get_left, get_right, either, holds_or_not, entry_map, map_map, no_none_some, or_false, passes_at, pieces_long, position_map, range_append, some_factor}
 pub use Rattle.list_laws.proofs.Types.{Answer, Answered, Batch, Bits, Bput, Call, CallErr, Choice, Code, Dim, Direction, Form, Get, Given, Header, Iget, Iput, Item, MeetKind, NcType, Numbers, OfferKind, Part, Post, PostKind, Put, Region, Text, Value, Values, Var, Want, count_of}
 pub use Rattle.overlay_laws.proofs.Common.{In, coordinate_row, div_grows, each_in, flat_in, in_flat, in_map, map_in, range_high, range_low, read_in}
 pub use Rattle.rank_core.specs.Heard.{filled_by, joined}

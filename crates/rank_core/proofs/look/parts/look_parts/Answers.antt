@@ -1,12 +1,12 @@
 use Rattle.rank_core.proofs.Words.{◌∙◌, sym, ap, subst, List, ℕ, map, arith, filter, option_copied, eqb-false, eqb-true, err_from_is_err_and, Part, has_element, part_region, look_of, HasValues}
-use Rattle.rank_core.proofs.OutcomeLaws.{is_error, is_refused}
-use Rattle.rank_core.proofs.TargetLaws.{all_counted, parts_come, parts_empty, parts_refused, parts_short, regions_few}
+use Rattle.nc_base.specs.declared.answer.CallErr.TheVariants as refusal
+use Rattle.rank_core.proofs.OutcomeLaws.{failed}
+use Rattle.rank_core.proofs.TargetLaws.{counted, parts_come, parts_empty, parts_refused, parts_short, regions_few}
 use Rattle.rank_core.proofs.look.parts.look_parts.Goals as goal
 
 pub returns-in_err-check_parts : goal.returns-in_err-check_parts
 returns-in_err-check_parts c =
-    let p = err_from_is_err_and c.from_residual.result c.from_residual.ensures.1 in
-    is_error _ _ p.0 c.in_err-check_parts.field-0.0 p.1 p.2
+    failed _ _ _ (err_from_is_err_and c.from_residual.result c.from_residual.ensures.1)
     (parts_refused _ _ _ c.requires.there _ c.direction_of-direction.ensures c.in_err-check_parts.field-0.0 c.in_err-check_parts.ensures.refused)
 
 pub returns-then-is_empty : goal.returns-then-is_empty
@@ -22,23 +22,23 @@ returns-in_err-check_values c =
     let regions = c.in_ok-regions.regions in
     let asked = c.in_ok-regions.ensures ∙ ap (λ (ps : List Part). filter has_element (map (part_region c.args.target.now.var.now) ps)) c.as_slice.ensures in
     let some = eqb-false _ 0 (sym c.is_empty.ensures ∙ c.if-is_empty.false) in
-    let few = regions_few c.args.target.now c.args.given.now (option_copied c.args.values) c.requires.there c.direction_of-direction.result c.direction_of-direction.ensures
-    c.in_ok-check_parts.ensures.ok regions.items asked in
-    let elements = all_counted c.as_slice-2.result.now regions.items c.elements_of_all-elements.result c.as_slice-2.ensures.value few c.elements_of_all-elements.ensures in
-    let p = err_from_is_err_and c.from_residual-in_err-check_values.result c.from_residual-in_err-check_values.ensures.1 in
-    is_refused _ _ p.0 c.in_err-check_values.field-0.0 p.1 p.2
-    (parts_short _ _ _ c.requires.there _ c.direction_of-direction.ensures c.in_ok-check_parts.ensures.ok regions.items asked (omega (arith, some, regions.ok.0)) c.elements_of_all-elements.result c.in_err-check_values.field-0.0 elements c.in_err-check_values.ensures.refused)
+    failed _ _ (refusal.Code c.in_err-check_values.field-0.0) (err_from_is_err_and c.from_residual-in_err-check_values.result c.from_residual-in_err-check_values.ensures.1)
+    (parts_short _ _ _ c.requires.there _ c.direction_of-direction.ensures c.in_ok-check_parts.ensures.ok regions.items asked (omega (arith, some, regions.ok.0)) _ _
+    (counted c.args.target.now c.args.given.now (option_copied c.args.values) c.requires.there _ c.direction_of-direction.ensures c.in_ok-check_parts.ensures.ok regions.items asked
+    _ _ c.as_slice-2.ensures.value c.elements_of_all-elements.ensures)
+    c.in_err-check_values.ensures.refused)
 
 pub part_posts-requires : goal.part_posts-requires
 part_posts-requires c =
     let regions = c.in_ok-regions.regions in
     let asked = c.in_ok-regions.ensures ∙ ap (λ (ps : List Part). filter has_element (map (part_region c.args.target.now.var.now) ps)) c.as_slice.ensures in
-    let few = regions_few c.args.target.now c.args.given.now (option_copied c.args.values) c.requires.there c.direction_of-direction.result c.direction_of-direction.ensures
-    c.in_ok-check_parts.ensures.ok regions.items asked in
-    let elements = all_counted c.as_slice-2.result.now regions.items c.elements_of_all-elements.result c.as_slice-2.ensures.value few c.elements_of_all-elements.ensures in
+    let passed = c.in_ok-check_parts.ensures.ok in
     record {
-      few = few;
-      values = subst (λ (n : ℕ). HasValues c.args.target.now.var.now.kind (option_copied c.args.values) n) elements c.in_ok-check_values.ensures.right;
+      few = regions_few c.args.target.now c.args.given.now (option_copied c.args.values) c.requires.there _ c.direction_of-direction.ensures passed regions.items asked;
+      values = subst (HasValues c.args.target.now.var.now.kind (option_copied c.args.values))
+          (counted c.args.target.now c.args.given.now (option_copied c.args.values) c.requires.there _ c.direction_of-direction.ensures passed regions.items asked
+          _ _ c.as_slice-2.ensures.value c.elements_of_all-elements.ensures)
+          c.in_ok-check_values.ensures.right;
     }
 
 pub returns : goal.returns
@@ -46,9 +46,9 @@ returns c =
     let regions = c.in_ok-regions.regions in
     let asked = c.in_ok-regions.ensures ∙ ap (λ (ps : List Part). filter has_element (map (part_region c.args.target.now.var.now) ps)) c.as_slice.ensures in
     let some = eqb-false _ 0 (sym c.is_empty.ensures ∙ c.if-is_empty.false) in
-    let few = regions_few c.args.target.now c.args.given.now (option_copied c.args.values) c.requires.there c.direction_of-direction.result c.direction_of-direction.ensures
-    c.in_ok-check_parts.ensures.ok regions.items asked in
-    let elements = all_counted c.as_slice-2.result.now regions.items c.elements_of_all-elements.result c.as_slice-2.ensures.value few c.elements_of_all-elements.ensures in
     parts_come _ _ _ c.requires.there _ c.direction_of-direction.ensures c.in_ok-check_parts.ensures.ok regions.items asked (omega (arith, some, regions.ok.0)) c.part_posts.result
-    (subst (λ (n : ℕ). HasValues c.args.target.now.var.now.kind (option_copied c.args.values) n) elements c.in_ok-check_values.ensures.right)
+    (subst (HasValues c.args.target.now.var.now.kind (option_copied c.args.values))
+    (counted c.args.target.now c.args.given.now (option_copied c.args.values) c.requires.there _ c.direction_of-direction.ensures c.in_ok-check_parts.ensures.ok regions.items asked
+    _ _ c.as_slice-2.ensures.value c.elements_of_all-elements.ensures)
+    c.in_ok-check_values.ensures.right)
     c.part_posts.ensures.ok c.part_posts.ensures.right c.part_posts.ensures.refused

@@ -1,5 +1,6 @@
 use Rattle.rank_core.proofs.Words.{◌≡◌, ◌∙◌, sym, ap, true, false, ltb, option_copied, err_from_is_err_and, product, look_of}
-use Rattle.rank_core.proofs.OutcomeLaws.{is_refused}
+use Rattle.nc_base.specs.declared.answer.CallErr.TheVariants as refusal
+use Rattle.rank_core.proofs.OutcomeLaws.{failed}
 use Rattle.rank_core.proofs.TargetLaws.{region_comes, region_empty, region_mapped, region_refused}
 use Rattle.rank_core.proofs.look.region.look_region.Goals as goal
 
@@ -13,8 +14,7 @@ region_posts-requires c =
 pub returns-in_err-check : goal.returns-in_err-check
 returns-in_err-check c =
     let e = c.in_err-check.ensures.refused in
-    let p = err_from_is_err_and c.from_residual-in_err-check.result c.from_residual-in_err-check.ensures.1 in
-    is_refused _ _ p.0 c.in_err-check.field-0.0 p.1 p.2
+    failed _ _ (refusal.Code c.in_err-check.field-0.0) (err_from_is_err_and c.from_residual-in_err-check.result c.from_residual-in_err-check.ensures.1)
     (region_refused c.args.target.now c.args.given.now (option_copied c.args.values) c.requires.there c.direction_of.result c.direction_of.ensures
     c.in_ok-region.region c.in_ok-region.ensures c.in_err-check.field-0.0 e.0 e.1)
 
