@@ -1,38 +1,27 @@
 -- The header with its new begins, and why there is none.
-use Rattle.redef_mover.proofs.Words.{◌≡◌, ℕ, zero, suc, ◌+◌, ◌-◌, ◌*◌, ◌^◌, List, [], ◌∷◌, length, take, map, Bool, true, false, cond, Option, Some, None, refl, sym, ap, ◌∙◌, arith, sum_by, find, option_map, slice_get, nat_lt, nat_le, not, ◌==◌, if◌then◌else◌, enumerate_from, prefix_len, option_or, nat_tests, sum_by-cons, found_passes, found_fails, none_before_map, rebegun_len, Header, Var, Extra, LayoutErr, RedefErr, file_limit, keeps_bound, is_record, slab, vsize, record_share, record_size, record_variables, Numbered, is_large_var, size_fault, is_far_begin, is_bad_begin, begin_of_number, with_begins, begins_by_number, extras_fault, added, redefined_header, redefined_fault, capped, capped_pairs}
+use Rattle.redef_mover.proofs.Words.{◌≡◌, ℕ, zero, suc, ◌+◌, ◌-◌, ◌*◌, ◌^◌, List, [], ◌∷◌, length, take, Bool, true, false, cond, Option, Some, None, refl, sym, ap, ◌∙◌, arith, sum_by, find, option_map, slice_get, nat_lt, nat_le, not, ◌==◌, if◌then◌else◌, prefix_len, option_or, nat_tests, sum_by-cons, found_passes, found_fails, none_before_map, rebegun_len, Header, Var, Extra, LayoutErr, RedefErr, file_limit, keeps_bound, is_record, slab, vsize, record_share, record_size, is_large_var, size_fault, is_far_begin, is_bad_begin, begin_of_number, with_begins, begins_by_number, extras_fault, added, redefined_header, redefined_fault, capped, capped_pairs}
 use Rattle.std.specs.Prelude.{◌&&◌, ◌||◌}
 use Rattle.nc_base.specs.declared.errors.LayoutErr.TheVariants as layout
 use Rattle.nc_base.specs.declared.errors.RedefErr.TheVariants as redef
 use Rattle.serial_spec.specs.Layout.{record_slabs}
+use Rattle.redef_laws.proofs.RebegunLaws.{rebegun, rebegun_long, rebegun_slabs}
 
 -- ---- what does not look at the begins
 
-abbrev begun : ℕ → List (ℕ × ℕ) → List Var → List Var
-begun n found vars = map (λ (v : Numbered). record v.1 { begin = begin_of_number found v.0 }) (enumerate_from n vars)
-
 begun_sum_front : (f : Var → ℕ) → ((v : Var) (b : ℕ) → f (record v { begin = b }) ≡ f v) → (found : List (ℕ × ℕ)) (n : ℕ) (vars : List Var) (k : ℕ)
-    → sum_by f (take k (begun n found vars)) ≡ sum_by f (take k vars)
+    → sum_by f (take k (rebegun found n vars)) ≡ sum_by f (take k vars)
 begun_sum_front f same found n [] zero = refl
 begun_sum_front f same found n [] (suc k) = refl
 begun_sum_front f same found n (v ∷ vars) zero = refl
 begun_sum_front f same found n (v ∷ vars) (suc k) = grind (arith, nat_tests, begun_sum_front f same found (n + 1) vars k, sum_by-cons)
 
-begun_slabs : (header : Header) (found : List (ℕ × ℕ)) (n : ℕ) (vars : List Var)
-    → map (λ v. slab header v) (record_variables header (begun n found vars)) ≡ map (λ v. slab header v) (record_variables header vars)
-begun_slabs header found n [] = refl
-begun_slabs header found n (v ∷ vars) = grind (arith, nat_tests, begun_slabs header found (n + 1) vars)
-
 begun_large : (header : Header) (found : List (ℕ × ℕ)) (n : ℕ) (vars : List Var)
-    → prefix_len (λ v. not (is_large_var header v)) (begun n found vars) ≡ prefix_len (λ v. not (is_large_var header v)) vars
+    → prefix_len (λ v. not (is_large_var header v)) (rebegun found n vars) ≡ prefix_len (λ v. not (is_large_var header v)) vars
 begun_large header found n [] = refl
 begun_large header found n (v ∷ vars) = ap (λ (m : ℕ). cond (not (is_large_var header v)) (1 + m) 0) (begun_large header found (n + 1) vars)
 
-length-begun : (found : List (ℕ × ℕ)) (n : ℕ) (vars : List Var) → length (begun n found vars) ≡ length vars
-length-begun found n [] = refl
-length-begun found n (v ∷ vars) = ap (λ (m : ℕ). suc m) (length-begun found (n + 1) vars)
-
 pub size_kept : (header : Header) (found : List (ℕ × ℕ)) → size_fault (with_begins header found) ≡ size_fault header
-size_kept header found = grind (arith, nat_tests, begun_large header found 0 header.vars, length-begun found 0 header.vars, rebegun_len header found)
+size_kept header found = grind (arith, nat_tests, begun_large header found 0 header.vars, rebegun_long found 0 header.vars, rebegun_len header found)
 
 -- ---- whether a begin is out of range, by its number alone
 
@@ -49,7 +38,7 @@ unfoldable bad_at : Header → ℕ → Var → ℕ → Bool
 bad_at header k v begin = bad_by header v begin (sum_by (λ w. record_share header w) (take k header.vars)) (record_slabs header)
 
 get_begun : (found : List (ℕ × ℕ)) (n : ℕ) (vars : List Var) (k : ℕ)
-    → slice_get (begun n found vars) k ≡ option_map (λ (v : Var). record v { begin = begin_of_number found (n + k) }) (slice_get vars k)
+    → slice_get (rebegun found n vars) k ≡ option_map (λ (v : Var). record v { begin = begin_of_number found (n + k) }) (slice_get vars k)
 get_begun found n [] k = refl
 get_begun found n (v ∷ vars) zero = ap (λ (m : ℕ). Some (record v { begin = begin_of_number found m })) (let e : n ≡ n + 0 = omega arith in e)
 get_begun found n (v ∷ vars) (suc k) = grind (arith, nat_tests, get_begun found (n + 1) vars k)
@@ -83,9 +72,9 @@ bad_is header found b =
         ] ≡ bad_of header found b.0 o
     by_var None = refl
     by_var (Some v) =
-        ap (λ (m : ℕ). bad_by header v (begin_of_number found m) (sum_by (λ w. record_share header w) (take b.0 (begun 0 found header.vars))) (record_slabs (with_begins header found))) (let e : 0 + b.0 ≡ b.0 = omega arith in e)
+        ap (λ (m : ℕ). bad_by header v (begin_of_number found m) (sum_by (λ w. record_share header w) (take b.0 (rebegun found 0 header.vars))) (record_slabs (with_begins header found))) (let e : 0 + b.0 ≡ b.0 = omega arith in e)
         ∙ ap (λ (m : ℕ). bad_by header v (begin_of_number found b.0) m (record_slabs (with_begins header found))) (begun_sum_front (λ w. record_share header w) (λ w c. refl) found 0 header.vars b.0)
-        ∙ ap (λ (ns : List ℕ). bad_by header v (begin_of_number found b.0) (sum_by (λ w. record_share header w) (take b.0 header.vars)) ns) (begun_slabs header found 0 header.vars)
+        ∙ ap (λ (ns : List ℕ). bad_by header v (begin_of_number found b.0) (sum_by (λ w. record_share header w) (take b.0 header.vars)) ns) (rebegun_slabs header found 0 header.vars)
 
 -- ---- capped begins
 
@@ -162,12 +151,12 @@ number_same header found k v none there = number_capped found k ∙ by_place (fi
         ∙ ap (λ (n : ℕ). bad_of header found n (slice_get header.vars n)) (sym same) ∙ sym good)
 
 begun_same : (found : List (ℕ × ℕ)) (n : ℕ) (vars : List Var) → ((j : ℕ) (v : Var) → slice_get vars j ≡ Some v → begin_of_number (capped_pairs found) (n + j) ≡ begin_of_number found (n + j))
-    → begun n (capped_pairs found) vars ≡ begun n found vars
+    → rebegun (capped_pairs found) n vars ≡ rebegun found n vars
 begun_same found n [] h = refl
 begun_same found n (v ∷ vars) h =
     let e : n ≡ n + 0 = omega arith in
     let here = ap (λ (m : ℕ). begin_of_number (capped_pairs found) m) e ∙ h 0 v refl ∙ ap (λ (m : ℕ). begin_of_number found m) (sym e) in
-    ap (λ (m : ℕ). record v { begin = m } ∷ begun (n + 1) (capped_pairs found) vars) here
+    ap (λ (m : ℕ). record v { begin = m } ∷ rebegun (capped_pairs found) (n + 1) vars) here
     ∙ ap (λ ws. record v { begin = begin_of_number found n } ∷ ws)
     (begun_same found (n + 1) vars (λ j w g.
     let f : n + 1 + j ≡ n + suc j = omega arith in
@@ -245,4 +234,4 @@ no_fault old new left extras places none made small placed begun_left good =
     )
 
 pub length_kept : (header left : Header) (found : List (ℕ × ℕ)) → left ≡ with_begins header found → length left.vars ≡ length header.vars
-length_kept header left found e = ap (λ (h : Header). length h.vars) e ∙ length-begun found 0 header.vars
+length_kept header left found e = ap (λ (h : Header). length h.vars) e ∙ rebegun_long found 0 header.vars

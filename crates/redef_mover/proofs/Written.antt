@@ -1,7 +1,8 @@
 -- The begins that are written, and the numbers of those that are found.
-use Rattle.redef_mover.proofs.Words.{◌≡◌, ℕ, zero, suc, ◌+◌, ◌-◌, ◌<◌, ◌≤◌, List, [], ◌∷◌, ◌++◌, length, take, get_or, map, Bool, true, false, cond, Some, None, refl, sym, ap, ◌∙◌, arith, filter, sum_by, find, nat_lt, nat_le, not, ◌==◌, unwrap_or, enumerate_from, nat_tests, take_more, take_all, map-append, sum_by-cons, sum_by-append, Header, Var, header_len, is_record, slab, vsize, least, inserted_by, Numbered, fixed_of, records_in, old_of, new_of, begins_before, by_begin, begin_at, fixed_begins, fixed_order, record_begins, front_after, first_record, begins_by_number, begin_of_number, capped, Place, pairs, capped_pairs, HasOneEach}
+use Rattle.redef_mover.proofs.Words.{◌≡◌, ℕ, zero, suc, ◌+◌, ◌-◌, ◌<◌, ◌≤◌, List, [], ◌∷◌, ◌++◌, length, take, get_or, map, Bool, true, false, cond, Some, None, refl, sym, ap, ◌∙◌, arith, filter, sum_by, find, nat_lt, nat_le, not, ◌==◌, unwrap_or, enumerate_from, nat_tests, take_more, take_all, map-append, sum_by-cons, sum_by-append, Header, Var, header_len, is_record, slab, vsize, least, Numbered, fixed_of, records_in, old_of, new_of, begins_before, by_begin, begin_at, fixed_begins, fixed_order, record_begins, front_after, first_record, begins_by_number, begin_of_number, capped, Place, pairs, capped_pairs, HasOneEach}
 use Rattle.std.specs.Prelude.{◌&&◌}
 use Rattle.std.proofs.Math.ListN.{set}
+use Rattle.redef_laws.proofs.Orders.{sorted_sum}
 use Rattle.redef_mover.proofs.Ranges.{times}
 
 -- ---- the last begin of a number wins
@@ -130,13 +131,9 @@ times_capped : (k : ℕ) (found : List (ℕ × ℕ)) → times k (capped_pairs f
 times_capped k [] = refl
 times_capped k (b ∷ found) = grind (arith, nat_tests, times_capped k found, times_cons k (b.0, capped b.1) (capped_pairs found), times_cons k b found)
 
-numbered_inserted : (k : ℕ) (v : Numbered) (vars : List Numbered) → numbered k (inserted_by begins_before v vars) ≡ cond (v.0 == k) 1 0 + numbered k vars
-numbered_inserted k v [] = numbered_cons k v []
-numbered_inserted k v (w ∷ vars) = grind (arith, nat_tests, numbered_inserted k v vars, numbered, numbered_cons)
-
 numbered_sorted : (k : ℕ) (vars : List Numbered) → numbered k (by_begin vars) ≡ numbered k vars
-numbered_sorted k [] = refl
-numbered_sorted k (v ∷ vars) = grind (arith, nat_tests, numbered_sorted k vars, numbered_inserted k v (by_begin vars), numbered_cons k v vars)
+unfolding numbered
+numbered_sorted k vars = sorted_sum begins_before (λ (v : Numbered). cond (v.0 == k) 1 0) vars
 
 -- two tests of which each item passes one
 numbered_parts : (k : ℕ) (p q : Numbered → Bool) → ((v : Numbered) → q v ≡ not (p v)) → (vars : List Numbered) → numbered k (filter p vars) + numbered k (filter q vars) ≡ numbered k vars
