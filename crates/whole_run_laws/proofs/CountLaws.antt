@@ -1,5 +1,5 @@
 -- The record count of a run: the greater of the old one and the greatest that a completed put needed.
-use Rattle.whole_run_laws.proofs.Words.{◌≡◌, ℕ, zero, suc, ◌≤◌, refl, sym, ◌∙◌, ap, subst, inl, inr, ◌⊎◌, List, [], ◌∷◌, ◌++◌, map, set, max, true, false, Option, Some, arith, map-append, same_Some, eqb_tells, fold, slice_get, ◌==◌, list_all, entry_set, entry_set_other, and_first, and_second, Pair, Header, Call, Script, Mark, Meet, Solo, MeetKind, Offer, Counted, meeting, needs, Setting, solo, told, is_of_rank_below, IsLegal, is_lawful, greatest, needed_by, advance, after_mark, after_meeting, closed, first_going, first_state, Going, hears, offers_of, rank_offer, serial_from, setting_of, Puts, go_went, hear_known, Went, meeting_within, completed, completed_from, completed_puts, puts_asked, puts_at, puts_met, unless_told, set_cases, same_le, greatest_joined, raised_records, nat_tests}
+use Rattle.whole_run_laws.proofs.Words.{◌≡◌, ℕ, zero, suc, ◌≤◌, refl, sym, ◌∙◌, ap, subst, inl, inr, List, [], ◌∷◌, ◌++◌, map, set, max, true, Option, Some, arith, map-append, same_Some, eqb_tells, fold, slice_get, list_all, entry_set, entry_set_other, and_first, and_second, Pair, Header, Call, Script, Mark, Meet, Solo, MeetKind, Offer, Counted, meeting, needs, Setting, solo, told, is_of_rank_below, IsLegal, is_lawful, greatest, needed_by, advance, after_mark, after_meeting, closed, first_going, first_state, Going, hears, offers_of, rank_offer, serial_from, setting_of, Puts, go_went, hear_known, Went, meeting_within, completed, completed_from, completed_puts, puts_asked, puts_at, puts_met, unless_told, set_cases, same_le, greatest_joined, raised_records, nat_tests}
 use borrow.Author.Tests.{ltb-true}
 use Rattle.join_laws.proofs.WholeLaws.{get_map as mapped_from}
 use Rattle.whole_run_laws.proofs.Courses.{AreAlong, AreOn, first_along, Heard, heard_by, hears_then, mark_along, meets, offered, offered_alone, Stepped, steps}
@@ -56,27 +56,14 @@ module _ (s : Setting) (ranks k j n : ℕ) (ks : List MeetKind) (rest : List Mar
   met_counts : Counts (max n asked) (meeting s offers c).0 (after_meeting s (c, goings)).1
   met_counts = record {
     count = met_most;
-    known = λ q g e.
-        let h = heard_by s c on q g e in
-        within g.rank.known h.before.rank.known (meeting s offers c).0.records asked (heard_known q g h) (counts.known q h.before h.was) met_most;
+    known = λ q g e. let h = heard_by s c on q g e in omega (arith, heard_known q g h, counts.known q h.before h.was, met_most);
     reached =
-        let later = greatest (known_of (after_meeting s (c, goings)).1) in
-        let grew : greatest (known_of goings) ≤ later = known_below goings later (λ q b e.
+        let grew = known_below goings (greatest (known_of (after_meeting s (c, goings)).1)) (λ q b e.
         let g = hears_then s c on q b e in
-        let same : g.1.1.before ≡ b = same_Some g.1.1.before b (sym g.1.1.was ∙ e) in
-        rose b.rank.known g.1.1.before.rank.known (meeting s offers c).0.records g.0.rank.known later (ap (λ (z : Going). z.rank.known) same)
-        (heard_known q g.0 g.1.1) (known_at (after_meeting s (c, goings)).1 q g.0 g.1.0)) in
-        reaches c.records (greatest (known_of goings)) (meeting s offers c).0.records later asked counts.reached met_least.0 grew met_least.1;
+        let same = ap (λ (z : Going). z.rank.known) (same_Some g.1.1.before b (sym g.1.1.was ∙ e)) in
+        omega (arith, same, heard_known q g.0 g.1.1, known_at (after_meeting s (c, goings)).1 q g.0 g.1.0)) in
+        omega (arith, counts.reached, met_least.0, met_least.1, grew);
   }
-    where
-      within : (g b m a : ℕ) → g ≡ max b m → b ≤ n → m ≤ max n a → g ≤ max n a
-      within g b m a e h l = omega arith
-
-      rose : (b b' m g later : ℕ) → b' ≡ b → g ≡ max b' m → g ≤ later → b ≤ later
-      rose b b' m g later e f h = omega arith
-
-      reaches : (a b m later asked : ℕ) → n ≤ max a b → a ≤ m → b ≤ later → asked ≤ m → max n asked ≤ max m later
-      reaches a b m later asked h i l o = omega arith
 
 -- ---- a step of one rank
 
@@ -95,41 +82,23 @@ module _ (s : Setting) (ranks k r n : ℕ) (ks : List MeetKind) (rest : List Mar
   next_known = grind (arith, nat_tests, hear_known)
 
   solo_counts : Counts (max n asked_alone) (solo s r own c).0 (set goings r next)
-  solo_counts = record {
-    count = more c.records asked_alone counts.count;
-    known = λ q g e. by q g (set_cases goings r q next g e);
-    reached =
-        let later = greatest (known_of (set goings r next)) in
-        let at : slice_get (set goings r next) r ≡ Some next = entry_set goings r st.before next st.was in
-        let mine : next.rank.known ≤ later = known_at (set goings r next) r next at in
-        let grew : greatest (known_of goings) ≤ later = known_below goings later (λ q b e. rose q b e (b_or q)) in
-        reaches c.records (greatest (known_of goings)) later asked_alone st.before.rank.known next.rank.known counts.reached grew next_known mine;
-  }
-    where
-      more : (a b : ℕ) → a ≤ n → a ≤ max n b
-      more a b h = omega arith
-
-      within : (g b a : ℕ) → g ≡ max b (max b a) → b ≤ n → g ≤ max n a
-      within g b a e h = omega arith
-
-      by : (q : ℕ) (g : Going) → ((q ≡ r) × (g ≡ next)) ⊎ (((r == q) ≡ false) × (slice_get goings q ≡ Some g)) → g.rank.known ≤ max n asked_alone
-      by q g xs = grind (arith, nat_tests, within, next_known, more)
-
-      b_or : (q : ℕ) → ((r == q) ≡ true) × (r ≡ q) ⊎ ((r == q) ≡ false) × (r ≡ q → ⊥)
-      b_or q = eqb_tells r q
-
-      up : (b g b' later a : ℕ) → b' ≡ b → g ≡ max b' (max b' a) → g ≤ later → b ≤ later
-      up b g b' later a e f h = omega arith
-
-      rose : (q : ℕ) (b : Going) → slice_get goings q ≡ Some b → ((r == q) ≡ true) × (r ≡ q) ⊎ ((r == q) ≡ false) × (r ≡ q → ⊥) → b.rank.known ≤ greatest (known_of (set goings r next))
-      rose q b e (inl (f, g)) =
-          let same : st.before ≡ b = same_Some st.before b (sym st.was ∙ ap (λ (z : ℕ). slice_get goings z) g ∙ e) in
-          up b.rank.known next.rank.known st.before.rank.known (greatest (known_of (set goings r next))) asked_alone (ap (λ (z : Going). z.rank.known) same) next_known
-          (known_at (set goings r next) r next (entry_set goings r st.before next st.was))
-      rose q b e (inr (f, ne)) = known_at (set goings r next) q b (entry_set_other goings r q next (λ g. ne (sym g)) ∙ e)
-
-      reaches : (a b later asked was now : ℕ) → n ≤ max a b → b ≤ later → now ≡ max was (max was asked) → now ≤ later → max n asked ≤ max a later
-      reaches a b later asked was now h i e l = omega arith
+  solo_counts =
+      let was = counts.known r st.before st.was in
+      let mine = known_at (set goings r next) r next (entry_set goings r st.before next st.was) in
+      let grew = known_below goings (greatest (known_of (set goings r next))) (λ q b e. elim (eqb_tells r q) [
+        | inl p ↦
+            let same = ap (λ (z : Going). z.rank.known) (same_Some st.before b (sym st.was ∙ ap (λ (z : ℕ). slice_get goings z) p.1 ∙ e)) in
+            omega (arith, same, next_known, mine)
+        | inr p ↦ known_at (set goings r next) q b (entry_set_other goings r q next (λ g. p.1 (sym g)) ∙ e)
+      ]) in
+      record {
+        count = omega (arith, counts.count);
+        known = λ q g e. elim (set_cases goings r q next g e) [
+          | inl p ↦ omega (arith, ap (λ (z : Going). z.rank.known) p.1, next_known, was)
+          | inr p ↦ omega (arith, counts.known q g p.1)
+        ];
+        reached = omega (arith, counts.reached, grew, next_known, mine);
+      }
 
 -- ---- a run
 

@@ -1,5 +1,5 @@
 -- The ranks along a legal order: at each mark they stand at the offers of its step.
-use Rattle.whole_run_laws.proofs.Words.{◌≡◌, ℕ, zero, suc, ◌<◌, refl, sym, ◌∙◌, ap, subst, inl, inr, ◌⊎◌, List, [], ◌∷◌, ◌++◌, length, map, set, drop, Bool, true, false, cond, Option, Some, None, arith, length-map, length-set, same_Some, slice_get_within, fold, slice_get, filter, ◌==◌, list_all, entry_below, and_first, and_second, equal_itself, Header, Call, Script, Mark, Meet, Solo, MeetKind, Offer, Reply, Open, concerns, is_of_rank_below, IsLegal, kinds, marks_from, is_lawful, Counted, Setting, meeting, solo, Going, advance, after_mark, after_meeting, after_solo, first_going, hears, offers_of, puts_asked, rank_offer, puts_of, set_cases, kinds_of, own_lawful, ranks_lawful, solo_goes, Went, Kinded, at_meeting, at_solo, go_went, hear_mode, hear_length, going_after, goings_long, replied, solo_of_is, entry_map, cons_rest, nil_cons, nat_tests}
+use Rattle.whole_run_laws.proofs.Words.{◌≡◌, ℕ, zero, suc, ◌<◌, refl, sym, ◌∙◌, ap, subst, inl, inr, ◌⊎◌, List, [], ◌∷◌, ◌++◌, length, map, set, drop, Bool, true, false, cond, Option, Some, None, arith, length-map, length-set, same_Some, slice_get_within, fold, slice_get, filter, ◌==◌, list_all, entry_below, and_first, and_second, equal_itself, Header, Call, Script, Mark, Meet, Solo, MeetKind, Offer, Reply, Open, concerns, is_of_rank_below, IsLegal, kinds, marks_from, is_lawful, Counted, Setting, meeting, solo, Going, advance, after_mark, after_meeting, after_solo, first_going, hears, offers_of, puts_asked, rank_offer, puts_of, set_cases, kinds_of, own_lawful, ranks_lawful, solo_goes, Went, at_meeting, at_solo, go_went, hear_mode, hear_length, going_after, goings_long, replied, solo_of_is, entry_map, cons_rest, nil_cons, nat_tests}
 use borrow.Author.Tests.{ltb-true}
 use Rattle.nc_base.specs.declared.step.OfferKind.TheVariants as offer
 use Rattle.join_laws.proofs.WholeLaws.{get_map as mapped_from}
@@ -35,48 +35,26 @@ pub record AtSolo (q k n : ℕ) (ks : List MeetKind) (rest : List Mark) (p : Goi
 not_solo : {A : Type 0} (k q n : ℕ) (xs ys : List Mark) → Solo q n ∷ xs ≡ Meet k ∷ ys → A
 not_solo k q n xs ys e = absurd cc
 
+abbrev asks_of : (q k k' n : ℕ) (ks : List MeetKind) (ms rest : List Mark) (g : Going) (o : Offer) (w : Went q k n ks ms (g, Some o))
+    → marks_from q (suc (length g.answers)) k' w.open_with.independent g.calls ≡ filter (concerns q) rest → Asks q k' n rest (g, Some o)
+asks_of q k k' n ks ms rest g o w left =
+    record { offer = o; is_offer = refl; known = w.known; told = w.told; open_with = w.open_with; is_open = w.is_open; left = left }
+
 to_meeting : (q k n j : ℕ) (ks ks' : List MeetKind) (ms rest : List Mark) (p : Going × Option Offer) → Went q k n ks ms p → ks ≡ ks'
     → ms ≡ Meet j ∷ filter (concerns q) rest → AtMeeting q k n ks' rest p
 to_meeting q k n j ks ks' ms rest (g, None) w f e = nil_cons (Meet j) (filter (concerns q) rest) (sym w.marks_none ∙ e)
-to_meeting q k n j ks ks' ms rest (g, Some o) w f e = by w.kinded
-  where
-    by : Kinded q k ks ms g w.open_with.independent o → AtMeeting q k n ks' rest (g, Some o)
-    by (at_meeting kind a b d) = record {
-      asks = record {
-        offer = o;
-        is_offer = refl;
-        known = w.known;
-        told = w.told;
-        open_with = w.open_with;
-        is_open = w.is_open;
-        left = cons_rest (Meet k) (Meet j) _ _ (sym d ∙ e);
-      };
-      kind = kind;
-      of_kind = a;
-      kinds = sym f ∙ b;
-    }
-    by (at_solo a b d) = not_solo j q (length g.answers) _ (filter (concerns q) rest) (sym d ∙ e)
+to_meeting q k n j ks ks' ms rest (g, Some o) w f e = elim w.kinded [
+  | at_meeting kind a b d ↦ record { asks = asks_of q k (suc k) n ks ms rest g o w (cons_rest (Meet k) (Meet j) _ _ (sym d ∙ e)); kind = kind; of_kind = a; kinds = sym f ∙ b }
+  | at_solo a b d ↦ not_solo j q (length g.answers) _ (filter (concerns q) rest) (sym d ∙ e)
+]
 
 to_solo : (q k n c : ℕ) (ks ks' : List MeetKind) (ms rest : List Mark) (p : Going × Option Offer) → Went q k n ks ms p → ks ≡ ks'
     → ms ≡ Solo q c ∷ filter (concerns q) rest → AtSolo q k n ks' rest p
 to_solo q k n c ks ks' ms rest (g, None) w f e = nil_cons (Solo q c) (filter (concerns q) rest) (sym w.marks_none ∙ e)
-to_solo q k n c ks ks' ms rest (g, Some o) w f e = by w.kinded
-  where
-    by : Kinded q k ks ms g w.open_with.independent o → AtSolo q k n ks' rest (g, Some o)
-    by (at_solo a b d) = record {
-      asks = record {
-        offer = o;
-        is_offer = refl;
-        known = w.known;
-        told = w.told;
-        open_with = w.open_with;
-        is_open = w.is_open;
-        left = cons_rest (Solo q (length g.answers)) (Solo q c) _ _ (sym d ∙ e);
-      };
-      of_kind = a;
-      kinds = sym f ∙ b;
-    }
-    by (at_meeting kind a b d) = not_solo k q c (filter (concerns q) rest) _ (sym e ∙ d)
+to_solo q k n c ks ks' ms rest (g, Some o) w f e = elim w.kinded [
+  | at_meeting kind a b d ↦ not_solo k q c (filter (concerns q) rest) _ (sym e ∙ d)
+  | at_solo a b d ↦ record { asks = asks_of q k k n ks ms rest g o w (cons_rest (Solo q (length g.answers)) (Solo q c) _ _ (sym d ∙ e)); of_kind = a; kinds = sym f ∙ b }
+]
 
 -- a rank that hears goes on
 heard_on : (header : Header) (q k n : ℕ) (ks : List MeetKind) (rest : List Mark) (p : Going × Option Offer) (y : Reply) → Asks q k n rest p
@@ -254,12 +232,11 @@ module _ {ranks k r n : ℕ} {ks : List MeetKind} {rest : List Mark} {goings : L
       subst (λ (z : List Going). AreOn ranks k ks rest z) (sym (ap (λ (z : Counted × List Going). z.1) st.state))
       (record {
         long = length-set goings r next ∙ on.long;
-        each = λ q g e. by q g next own (set_cases goings r q next g e);
+        each = λ q g e. elim (set_cases goings r q next g e) [
+          | inl p ↦ grind (arith, nat_tests)
+          | inr p ↦ other_on q k r n ks rest g p.0 (on.each q g p.1)
+        ];
       })
-    where
-      by : (q : ℕ) (g next : Going) → OnCourse r k ks rest next → ((q ≡ r) × (g ≡ next)) ⊎ (((r == q) ≡ false) × (slice_get goings q ≡ Some g)) → OnCourse q k ks rest g
-      by q g next own (inl (a, b)) = grind (arith, nat_tests)
-      by q g next own (inr (a, b)) = other_on q k r n ks rest g a (on.each q g b)
 
 -- ---- along an order
 
@@ -273,6 +250,26 @@ pub mark_along : (s : Setting) (ranks : ℕ) (m : Mark) (rest : List Mark) (stat
 mark_along s ranks (Meet j) rest (c, goings) known a = grind (arith, nat_tests, met_on s c a.on)
 mark_along s ranks (Solo r n) rest (c, goings) known a =
     record { met = a.met; kinds_left = a.kinds_left; on = solo_on s c (ltb-true r ranks known) a.on }
+
+-- a rank after a step is as it was, or it heard a reply to its offer
+pub record Moved (s : Setting) (goings : List Going) (q : ℕ) (g : Going) : Type 0 where
+  pub before : Going
+  pub was : slice_get goings q ≡ Some before
+  pub is : (g ≡ before) ⊎ ((o : Offer) × (y : Reply) × ((advance s.header before).1 ≡ Some o) × (g ≡ hears s.header (advance s.header before).0 y))
+
+pub moved : (s : Setting) (ranks q : ℕ) (m : Mark) (rest : List Mark) (c : Counted) (goings : List Going) (g : Going) → is_of_rank_below ranks m ≡ true
+    → AreAlong ranks (m ∷ rest) goings → slice_get (after_mark s (c, goings) m).1 q ≡ Some g → Moved s goings q g
+moved s ranks q (Meet j) rest c goings g known a e =
+    let h = heard_by s c a.on q g e in
+    let asks = (meets s.header a.on q h.before h.was).asks in
+    record { before = h.before; was = h.was; is = inr (asks.offer, h.reply, asks.is_offer, h.is) }
+moved s ranks q (Solo r n) rest c goings g known a e =
+    let st = steps s c (ltb-true r ranks known) a.on in
+    let asks = st.at.asks in
+    elim (set_cases goings r q _ g (sym (ap (λ (z : Counted × List Going). slice_get z.1 q) st.state) ∙ e)) [
+      | inl p ↦ record { before = st.before; was = ap (λ (z : ℕ). slice_get goings z) p.0 ∙ st.was; is = inr (asks.offer, (solo s r asks.offer c).1, asks.is_offer, p.1) }
+      | inr p ↦ record { before = g; was = p.1; is = inl refl }
+    ]
 
 pub marks_along : (s : Setting) (ranks : ℕ) (order rest : List Mark) (state : Counted × List Going) → list_all (is_of_rank_below ranks) (order ++ rest) ≡ true
     → AreAlong ranks (order ++ rest) state.1 → AreAlong ranks rest (fold (after_mark s) state order).1

@@ -1,8 +1,8 @@
 -- The header's field has the record count wherever that grew, and is as it was where it didn't.
-use Rattle.whole_run_laws.proofs.Words.{◌≡◌, ℕ, ◌+◌, ◌<◌, ◌≤◌, refl, sym, subst, List, [], ◌∷◌, length, map, max, Bool, true, false, cond, Option, arith, fold, nat_lt, list_all, byte_len, and_first, and_second, any_in, Pair, Header, Script, Mark, Meet, Solo, read, written, after_puts, Counted, known_by, needs, puts_of, raised, Setting, told, count, count_width, is_sound, is_of_rank_below, IsLegal, is_lawful, greatest, with_records, advance, after_mark, first_state, Going, offers_of, serial_from, setting_of, covered, Puts, after_keeps, count_long, at-written_inside, canon_len, is_held, puts_at, puts_met, nat_tests}
+use Rattle.whole_run_laws.proofs.Words.{holds_or_not, either, inl, inr, read_same, ◌≡◌, ℕ, ◌+◌, ◌<◌, ◌≤◌, refl, sym, subst, List, [], ◌∷◌, length, map, max, true, Option, arith, fold, nat_lt, list_all, byte_len, and_first, and_second, any_in, Pair, Header, Script, Mark, Meet, Solo, read, written, after_puts, Counted, known_by, needs, puts_of, raised, Setting, told, count, count_width, is_sound, is_of_rank_below, IsLegal, is_lawful, greatest, with_records, advance, after_mark, first_state, Going, offers_of, serial_from, setting_of, covered, Puts, after_keeps, count_long, at-written_inside, canon_len, is_held, puts_at, puts_met, nat_tests}
 use borrow.Author.Tests.{ltb-true}
 use Rattle.whole_run_laws.proofs.Courses.{AreAlong, first_along, mark_along, offered_alone, steps}
-use Rattle.whole_run_laws.proofs.FilledFile.{read_all, read_kept}
+use Rattle.whole_run_laws.proofs.FilledFile.{read_all}
 use Rattle.whole_run_laws.proofs.PastLaws.{AllFit, AllPast, first_fits, mark_fit, mark_past}
 
 -- the field of a file that was opened with the header's count
@@ -17,29 +17,27 @@ read_written file b x n e = grind (arith, nat_tests, read_all, at-written_inside
 puts_beside : (s : Setting) (puts : Puts) (pair : Option Pair) (file : List ℕ) → AllPast s.header puts
     → read (after_puts s puts pair file) 4 (byte_len (count_width s.header.version)) ≡ read file 4 (byte_len (count_width s.header.version))
 puts_beside s puts pair file past =
-    read_kept (after_puts s puts pair file) file 4 (byte_len (count_width s.header.version)) (λ i l. after_keeps s puts pair file (4 + i) (by i l (is_held s.header puts (4 + i)) refl))
-  where
-    by : (i : ℕ) → i < byte_len (count_width s.header.version) → (t : Bool) → is_held s.header puts (4 + i) ≡ t → t ≡ false
-    by i l false e = refl
-    by i l true e = grind (arith, nat_tests, any_in (covered s.header puts) (4 + i) e, canon_len s.header)
+    read_same (after_puts s puts pair file) file 4 4 (byte_len (count_width s.header.version)) (λ i l. elim (holds_or_not (is_held s.header puts (4 + i))) [
+      | inl e ↦ grind (arith, nat_tests, any_in (covered s.header puts) (4 + i) e, canon_len s.header)
+      | inr e ↦ after_keeps s puts pair file (4 + i) e
+    ])
 
 with_puts : (s : Setting) (puts : Puts) (pair : Option Pair) (file : List ℕ) (c : Counted) → AllPast s.header puts → FieldIs s.header file c
     → FieldIs s.header file (record { file = after_puts s puts pair c.file; records = c.records })
 with_puts s puts pair file c past f = grind (arith, nat_tests, puts_beside)
 
 raised_field : (s : Setting) (file : List ℕ) (c : Counted) (n : ℕ) → FieldIs s.header file c → FieldIs s.header file (raised s c n)
-raised_field s file c n f = by (nat_lt c.records n) refl
-  where
-    by : (t : Bool) → nat_lt c.records n ≡ t → FieldIs s.header file (cond t (record { file = with_records s.header.version c.file n; records = n }) c)
-    by false e = f
-    by true e =
-        let l : c.records < n = ltb-true _ _ e in
-        let low = f.least in
-        record {
-          least = omega arith;
-          same = λ g. absurd (omega arith);
-          tells = λ g. read_written c.file (count s.header.version n) 4 (byte_len (count_width s.header.version)) (sym (count_long s.header.version n));
-        }
+raised_field s file c n f =
+    either (FieldIs s.header file) (nat_lt c.records n) (record { file = with_records s.header.version c.file n; records = n }) c
+    (λ e.
+    let l : c.records < n = ltb-true _ _ e in
+    let low = f.least in
+    record {
+      least = omega arith;
+      same = λ g. absurd (omega arith);
+      tells = λ g. read_written c.file (count s.header.version n) 4 (byte_len (count_width s.header.version)) (sym (count_long s.header.version n));
+    })
+    (λ e. f)
 
 mark_field : (s : Setting) (ranks : ℕ) (m : Mark) (rest : List Mark) (file : List ℕ) (c : Counted) (goings : List Going) → is_of_rank_below ranks m ≡ true
     → AreAlong ranks (m ∷ rest) goings → AllPast s.header (puts_at s (c, goings) m) → FieldIs s.header file c → FieldIs s.header file (after_mark s (c, goings) m).0

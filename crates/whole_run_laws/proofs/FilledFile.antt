@@ -1,35 +1,18 @@
 -- A filled file reads its fill values: elements that were written, no two of which share a byte.
-use Rattle.whole_run_laws.proofs.Words.{◌≡◌, ℕ, zero, suc, ◌+◌, ◌<◌, ◌≤◌, refl, sym, ◌∙◌, ap, subst, inl, inr, ◌⊎◌, List, [], ◌∷◌, length, map, get_or, Bool, true, false, not, Option, Some, None, arith, eqb_tells, fold-append, fold-map, same_Some, flat_map, fold, slice_get, ◌==◌, enumerate_from, option_or, first_counts, second_counts, flat_in, in_flat, at_in, in_at, in_filter, filter_in, each_in, in_map, map_in, Header, Var, Script, Mark, size_of, at, longer, read, end_for, fill_bytes, fill_var, filled, canon, header_len, is_sound, fixed_variables, inner_lengths, is_record, In, IsElement, IsIndex, place, row, fills, cells, coordinates, byte_or, Cell, said_at, said_by, write_cells, serial, setting_of, start, coordinates_all, elements_apart, elements_past_header, coordinates_at, row_once, cells_said, said_append, said_below, said_inside, said_past, canon_len, completed_puts, IsBesideCount, is_held, found_long, resized, IsOrApart, nat_tests}
+use Rattle.whole_run_laws.proofs.Words.{◌-◌, AllByRecursion, said_of, same_index, read_same, ◌≡◌, ℕ, zero, suc, ◌+◌, ◌<◌, ◌≤◌, refl, sym, ◌∙◌, ap, subst, inl, inr, ◌⊎◌, List, [], ◌∷◌, length, map, get_or, Bool, true, false, not, Option, Some, arith, eqb_tells, fold-append, fold-map, same_Some, flat_map, fold, slice_get, flat_in, in_flat, at_in, in_at, in_filter, filter_in, each_in, in_map, map_in, Header, Var, Script, Mark, size_of, at, longer, read, end_for, fill_bytes, fill_var, filled, canon, header_len, is_sound, fixed_variables, inner_lengths, is_record, In, IsElement, IsIndex, place, row, fills, cells, coordinates, byte_or, Cell, said_at, said_by, write_cells, serial, setting_of, start, coordinates_all, elements_apart, elements_past_header, coordinates_at, cells_said, canon_len, completed_puts, IsBesideCount, is_held, found_long, resized, IsOrApart, nat_tests}
 use Rattle.whole_run_laws.proofs.KeptLaws.{end_kept}
 
 -- ---- cells of which each is another one's or apart from it
 
-module _ (e : Cell) (i : ℕ) (inside : i < length e.1) where
-  abbrev x : ℕ
-  x = e.0 + i
+all_of : (e : Cell) (cells : List Cell) → ((d : Cell) → In cells d → IsOrApart e d) → AllByRecursion (IsOrApart e) cells
+all_of e [] f = tt
+all_of e (d ∷ cells) f = (f d (inl refl), all_of e cells (λ z h. f z (inr h)))
 
-  abbrev byte : Option ℕ
-  byte = Some (get_or e.1 i 0)
-
-  own : said_at (enumerate_from e.0 e.1) (e.0 + i) ≡ Some (get_or e.1 i 0)
-  own = grind (arith, nat_tests, said_inside e.0 e.1 (e.0 + i) 0 (omega arith) (omega arith))
-
-  one : (d : Cell) → IsOrApart e d → (said_at (enumerate_from d.0 d.1) (e.0 + i) ≡ None) ⊎ (said_at (enumerate_from d.0 d.1) (e.0 + i) ≡ Some (get_or e.1 i 0))
-  one d xs = grind (arith, nat_tests, own, said_past, said_below)
-
-  joined : (d : Cell) (cells : List Cell) → said_at (said_by (d ∷ cells)) (e.0 + i) ≡ option_or (said_at (said_by cells) (e.0 + i)) (said_at (enumerate_from d.0 d.1) (e.0 + i))
-  joined d cells = said_append (enumerate_from d.0 d.1) (said_by cells) (e.0 + i)
-
-  some_or_that : (cells : List Cell) → ((d : Cell) → In cells d → IsOrApart e d)
-      → (said_at (said_by cells) (e.0 + i) ≡ None) ⊎ (said_at (said_by cells) (e.0 + i) ≡ Some (get_or e.1 i 0))
-  some_or_that [] f = inl refl
-  some_or_that (d ∷ cells) f = grind (arith, nat_tests, some_or_that cells (λ z h. f z (inr h)), one d (f d (inl refl)), joined, first_counts, second_counts)
-
-  pub says_that : (cells : List Cell) → In cells e → ((d : Cell) → In cells d → IsOrApart e d) → said_at (said_by cells) (e.0 + i) ≡ Some (get_or e.1 i 0)
-  says_that [] h f = absurd h
-  says_that (d ∷ cells) (inr h) f =
-      joined d cells ∙ first_counts (said_at (said_by cells) (e.0 + i)) _ _ (says_that cells h (λ z k. f z (inr k)))
-  says_that (d ∷ cells) (inl g) f = grind (arith, nat_tests, some_or_that, joined, first_counts, second_counts, own)
+pub says_that : (e : Cell) (i : ℕ) → i < length e.1 → (cells : List Cell) → In cells e → ((d : Cell) → In cells d → IsOrApart e d)
+    → said_at (said_by cells) (e.0 + i) ≡ Some (get_or e.1 i 0)
+says_that e i inside cells h f =
+    let same : e.0 + i - e.0 ≡ i = omega arith in
+    said_of e (e.0 + i) (omega arith) (omega arith) cells (all_of e cells f) h ∙ ap (λ (j : ℕ). Some (get_or e.1 j 0)) same
 
 -- ---- reading
 
@@ -63,13 +46,12 @@ index_in lengths index h = at_in (coordinates lengths) (row lengths index) index
 pub in_index : (lengths index : List ℕ) → In (coordinates lengths) index → IsIndex lengths index
 in_index lengths index h = each_in (IsIndex lengths) (coordinates lengths) index (coordinates_all lengths) h
 
--- two indices are one, or not
-pub same_or_not : (lengths i j : List ℕ) → IsIndex lengths i → IsIndex lengths j → (j ≡ i) ⊎ (i ≡ j → ⊥)
-same_or_not lengths i j h k = by (eqb_tells (row lengths j) (row lengths i))
-  where
-    by : (((row lengths j == row lengths i) ≡ true) × (row lengths j ≡ row lengths i)) ⊎ (((row lengths j == row lengths i) ≡ false) × (row lengths j ≡ row lengths i → ⊥))
-        → (j ≡ i) ⊎ (i ≡ j → ⊥)
-    by xs = grind (arith, nat_tests, row_once)
+-- two elements are one, or not
+pub same_or_not : (k m : ℕ) (i j : List ℕ) → ((m ≡ k) × (j ≡ i)) ⊎ (((k ≡ m) × (i ≡ j)) → ⊥)
+same_or_not k m i j = elim (eqb_tells m k) [
+  | inl a ↦ elim (same_index j i) [ inl b ↦ inl (a.1, b) | inr n ↦ inr (λ p. n (sym p.1)) ]
+  | inr a ↦ inr (λ p. a.1 (sym p.0))
+]
 
 -- ---- a filled file
 
@@ -94,20 +76,10 @@ filled_apart header k v index sound e fixed h d m =
     subst (λ (z : Cell). IsOrApart (cell_of header v index) z) j.2
     (cells_apart header k number.0 v w.0 index j.0 sound e number.1 (fixed_element header v index fixed h)
     (fixed_element header w.0 j.0 (not_so (is_record header w.0) kept.1) other)
-    (by number.0 w.0 j.0 number.1 other (eqb_tells number.0 k)))
+    (same_or_not k number.0 index j.0))
   where
     not_so : (t : Bool) → not t ≡ true → t ≡ false
     not_so t g = grind (arith, nat_tests)
-
-    by : (n : ℕ) (w : Var) (j : List ℕ) → slice_get header.vars n ≡ Some w → IsIndex (inner_lengths header w) j
-        → (((n == k) ≡ true) × (n ≡ k)) ⊎ (((n == k) ≡ false) × (n ≡ k → ⊥)) → ((n ≡ k) × (j ≡ index)) ⊎ (((k ≡ n) × (index ≡ j)) → ⊥)
-    by n w j f g (inr (a, ne)) = inr (λ p. ne (sym p.0))
-    by n w j f g (inl (a, b)) =
-        let same : w ≡ v = same_Some w v (sym f ∙ ap (λ (z : ℕ). slice_get header.vars z) b ∙ e) in
-        elim (same_or_not (inner_lengths header v) index j h (subst (λ (z : Var). IsIndex (inner_lengths header z) j) same g)) [
-          | inl p ↦ inl (b, p)
-          | inr ne ↦ inr (λ p. ne p.1)
-        ]
 
 pub filled_reads : (header : Header) (file : List ℕ) (k : ℕ) (v : Var) (index : List ℕ) → is_sound header ≡ true → slice_get header.vars k ≡ Some v
     → is_record header v ≡ false → IsIndex (inner_lengths header v) index → read (filled header file) (place header v index) (size_of v.kind) ≡ fill_bytes v
@@ -126,10 +98,6 @@ filled_reads header file k v index sound e fixed h =
 pub past_count : (header : Header) (x : ℕ) → header_len header ≤ x → IsBesideCount header x
 past_count header x h = let whole = canon_len header in inr (omega arith)
 
-pub read_kept : (new old : List ℕ) (p n : ℕ) → ((i : ℕ) → i < n → at new (p + i) ≡ at old (p + i)) → read new p n ≡ read old p n
-read_kept new old p zero f = refl
-read_kept new old p (suc n) f = grind (arith, nat_tests, f 0, read_kept new old (p + 1) n (λ i l. grind (arith, nat_tests, f (suc i))))
-
 starts_filled : (script : Script) (header : Header) (file : List ℕ) → script.fresh ≡ true → script.filled ≡ true
     → start script header file ≡ filled header (longer (canon header) (end_for (setting_of script header) 0))
 starts_filled script header file e f = grind (arith, nat_tests)
@@ -142,7 +110,7 @@ pub filled_stays : (script : Script) (header : Header) (file : List ℕ) (order 
 filled_stays script header file order k v index fresh fills sound e fixed h untouched =
     let first = start script header file in
     let past = elements_past_header header k v index sound e (fixed_element header v index fixed h) in
-    read_kept (serial script header file order).bytes first (place header v index) (size_of v.kind)
+    read_same (serial script header file order).bytes first (place header v index) (place header v index) (size_of v.kind)
     (λ i l. end_kept script header first order (place header v index + i) (past_count header (place header v index + i) (omega arith)) (untouched i l))
     ∙ ap (λ (f : List ℕ). read f (place header v index) (size_of v.kind)) (starts_filled script header file fresh fills)
     ∙ filled_reads header (longer (canon header) (end_for (setting_of script header) 0)) k v index sound e fixed h

@@ -1,5 +1,5 @@
 -- A record that all ranks filled reads its fill values.
-use Rattle.whole_run_laws.proofs.Words.{◌≡◌, ℕ, zero, suc, ◌+◌, ◌*◌, ◌<◌, ◌≤◌, refl, sym, ◌∙◌, ap, subst, inl, inr, List, [], ◌∷◌, ◌++◌, length, map, drop, replicate, true, Option, Some, None, add-one, arith, mul-div_cancel, mul-le-mul_left, drop-append-add, take_all, flat_map-append, append-nil, length-map, map-append, take_at, flat_map, slice_get, zip, AllByRecursion, enumerate_from, range_with_len, each_weaker, map_map, div_grows, in_map, map_in, Header, Var, Post, Part, Offer, Pair, size_of, at, read, Counted, meeting, puts_of, Setting, told, box_indices, fill_bytes, share_begin, shifted, is_sound, inner_lengths, is_record, product, In, IsIndex, place, box_post, box_region, look_record, code_of_look, posts_of, cells, coordinates, elements, index_at, byte_or, Cell, said_at, said_by, bytes_of, bytes_of_some, said_by_puts, coordinates_all, elements_past_header, boxes_right, length-coordinates, post_says, same_len, share_grows, share_within, shifted_is, completed, puts_met, unless_told, AllFill, filling, share_boxes, posts_filled, IsOrApart, part, part_joined, part_none, nat_tests, common_steps}
+use Rattle.whole_run_laws.proofs.Words.{◌≡◌, ℕ, zero, suc, ◌+◌, ◌*◌, ◌<◌, ◌≤◌, refl, sym, ◌∙◌, ap, subst, List, [], ◌∷◌, ◌++◌, length, map, replicate, true, Option, Some, None, add-one, arith, mul-div_cancel, mul-le-mul_left, drop-append-add, take_all, flat_map-append, append-nil, length-map, map-append, take_at, flat_map, slice_get, zip, AllByRecursion, enumerate_from, range_with_len, each_weaker, map_map, div_grows, in_map, map_in, Header, Var, Post, Part, Offer, Pair, size_of, at, read, Counted, meeting, puts_of, Setting, told, box_indices, fill_bytes, share_begin, shifted, is_sound, inner_lengths, is_record, product, In, IsIndex, place, box_post, box_region, look_record, code_of_look, posts_of, cells, coordinates, elements, index_at, byte_or, Cell, said_at, said_by, bytes_of, bytes_of_some, said_by_puts, coordinates_all, elements_past_header, boxes_right, length-coordinates, post_says, same_len, share_grows, share_within, shifted_is, completed, puts_met, unless_told, AllFill, filling, share_boxes, posts_filled, IsOrApart, part, part_joined, part_none, nat_tests, common_steps}
 use Rattle.nc_base.specs.declared.answer.Code.TheVariants as code
 use Rattle.whole_run_laws.proofs.KeptLaws.{meeting_said}
 use Rattle.whole_run_laws.proofs.FilledFile.{read_all, cell_of, fill_long, cells_apart, record_element, index_in, in_index, same_or_not, past_count, says_that}
@@ -141,7 +141,4 @@ record_reads s offers c k number v index sound there of_records fill some none h
         subst (λ (z : Cell). IsOrApart (cell_of s.header v (number ∷ index)) z) j.2
         (cells_apart s.header k k v v (number ∷ index) (number ∷ j.0) sound there there (record_element s.header v number index of_records h)
         (record_element s.header v number j.0 of_records other)
-        (elim (same_or_not lengths index j.0 h other) [
-          | inl p ↦ inl (refl, ap (λ (z : List ℕ). number ∷ z) p)
-          | inr ne ↦ inr (λ p. ne (ap (λ (z : List ℕ). drop 1 z) p.1))
-        ]))
+        (same_or_not k k (number ∷ index) (number ∷ j.0)))

@@ -1,7 +1,19 @@
 -- No window's hull is longer than its buffer, and no call of a step transfers more.
-use Rattle.whole_run_laws.proofs.Words.{◌≡◌, ℕ, suc, ◌+◌, ◌<◌, ◌≤◌, ap, subst, inl, inr, ◌⊎◌, List, [], ◌∷◌, ◌++◌, length, map, Bool, true, false, cond, not, max, ◌&&◌, arith, filter, flat_map, nat_le, nat_lt, is_none, enumerate_from, equal_itself, filter_in, filter_ascends, flat_in, in_either, in_order_ascends, last_below, map_in, Header, Post, Hints, Script, DiskCall, Mark, Meet, Solo, Offer, calls_from, collective_windows, get_bytes, gets_of, grow_to, hull_len, in_order, last_of, loads, mark_calls, meeting_calls, overlays, put_calls, run_calls, sieved, sieving_windows, solo_calls, store_records, Counted, Setting, end_for, meeting, puts_of, told, is_lawful, In, is_empty, needed_by, Going, advance, after_mark, closed, first_state, offers_of, setting_of, Puts, bytes_of, covered, is_count_store, longest, transferred, le_two, window_short, nat_tests}
+use Rattle.whole_run_laws.proofs.Words.{either, leb-true, and_first, and_second, is_within, lawful_parts, ◌≡◌, ℕ, suc, ◌+◌, ◌<◌, ◌≤◌, ap, subst, inl, inr, ◌⊎◌, List, [], ◌∷◌, ◌++◌, length, map, Bool, true, false, cond, not, max, ◌&&◌, arith, filter, flat_map, nat_le, nat_lt, is_none, enumerate_from, equal_itself, filter_in, filter_ascends, flat_in, in_either, in_order_ascends, last_below, map_in, Header, Post, Hints, Script, DiskCall, Mark, Meet, Solo, Offer, calls_from, collective_windows, get_bytes, gets_of, grow_to, hull_len, in_order, last_of, loads, mark_calls, meeting_calls, overlays, put_calls, run_calls, sieved, sieving_windows, solo_calls, store_records, Counted, Setting, meeting, puts_of, told, is_lawful, In, is_empty, Going, advance, after_mark, closed, first_state, offers_of, setting_of, Puts, bytes_of, covered, is_count_store, longest, transferred, le_two, window_short, nat_tests}
 use borrow.Author.Tests.{ltb-true, ltb-false}
-use Rattle.whole_run_laws.proofs.Hints.{some_buffers}
+
+-- ---- the buffers of a lawful script
+
+record Buffers (hints : Hints) : Type 0 where
+  cb : 1 ≤ hints.cb_buffer
+  rd : 1 ≤ hints.rd_buffer
+  wr : 1 ≤ hints.wr_buffer
+
+at_least_one : (high n : ℕ) → is_within 1 high n ≡ true → 1 ≤ n
+at_least_one high n h = leb-true 1 n (and_first (nat_le 1 n) _ h)
+
+some_buffers : (script : Script) → is_lawful script ≡ true → Buffers script.hints
+some_buffers script h = grind (arith, nat_tests, lawful_parts script h, and_first, at_least_one, and_second)
 
 -- ---- hulls
 
@@ -26,27 +38,20 @@ sieving_short buffer bytes w l h = sieved_short (length bytes) buffer bytes w l 
 call_short : (a call : DiskCall) (n : ℕ) → a ≡ call → transferred a ≤ n → transferred call ≤ n
 call_short a call n e h = subst (λ (c : DiskCall). transferred c ≤ n) e h
 
-load_short : (w : List ℕ) (n : ℕ) (call : DiskCall) → hull_len w ≤ n → In (loads w) call → transferred call ≤ n
-load_short w n call l xs = grind (arith, nat_tests, call_short)
+grow_short : (size end n : ℕ) (call : DiskCall) → In (grow_to size end) call → transferred call ≤ n
+grow_short size end n call h = grind (arith, nat_tests, call_short)
 
 overlay_short : (w : List ℕ) (n : ℕ) (call : DiskCall) → hull_len w ≤ n → In (overlays w) call → transferred call ≤ n
 overlay_short w n call l h = grind (arith, nat_tests, call_short)
 
-grow_short : (size end n : ℕ) (call : DiskCall) → In (grow_to size end) call → transferred call ≤ n
-grow_short size end n call h = grind (arith, nat_tests, call_short)
-
 put_short : (s : Setting) (cut : List ℕ → List (List ℕ)) (puts : Puts) (size n : ℕ) (call : DiskCall)
     → ((w : List ℕ) → In (cut (in_order (covered s.header puts))) w → hull_len w ≤ n) → In (put_calls s cut puts size) call → transferred call ≤ n
-put_short s cut puts size n call f h = by (is_none (told s puts) && not (is_empty (in_order (covered s.header puts)))) h
-  where
-    either : In (grow_to size (end_for s (needed_by s.header puts))) call ⊎ In (flat_map overlays (cut (in_order (covered s.header puts)))) call → transferred call ≤ n
-    either xs = grind (arith, nat_tests, grow_short, flat_in, overlay_short)
-
-    by : (t : Bool) → In (cond t (grow_to size (end_for s (needed_by s.header puts)) ++ flat_map overlays (cut (in_order (covered s.header puts)))) []) call → transferred call ≤ n
-    by t k = grind (arith, nat_tests, either, in_either)
+put_short s cut puts size n call f h =
+    either (λ calls. In calls call → transferred call ≤ n) (is_none (told s puts) && not (is_empty (in_order (covered s.header puts)))) _ []
+    (λ e k. grind (arith, nat_tests, in_either, grow_short, flat_in, overlay_short)) (λ e k. absurd k) h
 
 get_short : (ws : List (List ℕ)) (n : ℕ) (call : DiskCall) → ((w : List ℕ) → In ws w → hull_len w ≤ n) → In (flat_map loads ws) call → transferred call ≤ n
-get_short ws n call f h = let w = flat_in loads ws call h in load_short w.0 n call (f w.0 w.1) w.2
+get_short ws n call f h = grind (arith, nat_tests, flat_in, call_short)
 
 count_stored : (s : Setting) (grew : Bool) (call : DiskCall) → In (store_records s grew) call → is_count_store s.header call ≡ true
 count_stored s grew call k = grind (arith, nat_tests, equal_itself)
@@ -89,39 +94,32 @@ solo_short hints s r o c call l m h =
     (λ w g. le_two (hull_len w) hints.wr_buffer _ (sieving_short hints.wr_buffer (in_order (covered s.header (puts_of (r, o)))) w l g) (omega arith))
     (λ w g. le_two (hull_len w) hints.rd_buffer _ (sieving_short hints.rd_buffer (get_bytes s (gets_of o)) w m g) (omega arith)) h
 
-nothing_in : (ws : List (List ℕ)) (n : ℕ) (w : List ℕ) → ws ≡ [] → In ws w → hull_len w ≤ n
-nothing_in ws n w e h = absurd (subst (λ (vs : List (List ℕ)). In vs w) e h)
-
 pub solo_puts_short : (hints : Hints) (s : Setting) (r : ℕ) (o : Offer) (c : Counted) (call : DiskCall) → 1 ≤ hints.wr_buffer → o.batch.gets ≡ []
     → In (solo_calls hints s r o c) call → transferred call ≤ hints.wr_buffer
 solo_puts_short hints s r o c call l e h =
     let none : sieving_windows hints.rd_buffer (get_bytes s (gets_of o)) ≡ [] = ap (λ (gets : List Post). sieving_windows hints.rd_buffer (get_bytes s gets)) e in
-    solo_parts hints s r o c hints.wr_buffer call (λ w g. sieving_short hints.wr_buffer (in_order (covered s.header (puts_of (r, o)))) w l g) (λ w g. nothing_in _ hints.wr_buffer w none g) h
+    solo_parts hints s r o c hints.wr_buffer call (λ w g. sieving_short hints.wr_buffer (in_order (covered s.header (puts_of (r, o)))) w l g) (λ w g. absurd (subst (λ (ws : List (List ℕ)). In ws w) none g)) h
 
 pub solo_gets_short : (hints : Hints) (s : Setting) (r : ℕ) (o : Offer) (c : Counted) (call : DiskCall) → 1 ≤ hints.rd_buffer → o.batch.puts ≡ []
     → In (solo_calls hints s r o c) call → transferred call ≤ hints.rd_buffer
 solo_gets_short hints s r o c call l e h =
     let none : sieving_windows hints.wr_buffer (in_order (covered s.header (puts_of (r, o)))) ≡ [] =
     ap (λ (puts : List Post). sieving_windows hints.wr_buffer (in_order (covered s.header (map (λ (post : Post). let z : ℕ × Post = (r, post) in z) puts)))) e in
-    solo_parts hints s r o c hints.rd_buffer call (λ w g. nothing_in _ hints.rd_buffer w none g) (λ w g. sieving_short hints.rd_buffer (get_bytes s (gets_of o)) w l g) h
+    solo_parts hints s r o c hints.rd_buffer call (λ w g. absurd (subst (λ (ws : List (List ℕ)). In ws w) none g)) (λ w g. sieving_short hints.rd_buffer (get_bytes s (gets_of o)) w l g) h
 
 -- ---- the calls of a run
 
-abbrev Short : Hints → Header → DiskCall → Type 0
-Short hints header call = (transferred call ≤ longest hints) ⊎ (is_count_store header call ≡ true)
+mark_short : (hints : Hints) (s : Setting) (state : Counted × List Going) (m : Mark) (call : DiskCall) → Buffers hints → In (mark_calls hints s state m) call
+    → ShortOrCount (longest hints) s.header call
+mark_short hints s (c, goings) (Meet k) call some h = grind (arith, nat_tests, meeting_short hints s (offers_of (map (advance s.header) goings)) c call some.cb h)
+mark_short hints s (c, goings) (Solo r n) call some h = grind (arith, nat_tests, le_two, solo_short, some.rd, some.wr)
 
-mark_short : (hints : Hints) (s : Setting) (state : Counted × List Going) (m : Mark) (call : DiskCall) → 1 ≤ hints.cb_buffer → 1 ≤ hints.wr_buffer → 1 ≤ hints.rd_buffer
-    → In (mark_calls hints s state m) call → Short hints s.header call
-mark_short hints s (c, goings) (Meet k) call a b d h = grind (arith, nat_tests, meeting_short hints s (offers_of (map (advance s.header) goings)) c call a h)
-mark_short hints s (c, goings) (Solo r n) call a b d h = grind (arith, nat_tests, le_two, solo_short)
-
-calls_short : (hints : Hints) (s : Setting) (state : Counted × List Going) (order : List Mark) (call : DiskCall) → 1 ≤ hints.cb_buffer → 1 ≤ hints.wr_buffer → 1 ≤ hints.rd_buffer
-    → In (calls_from hints s state order) call → Short hints s.header call
-calls_short hints s state [] call a b d h = inr (count_stored s (nat_lt state.0.records (closed s state).records) call h)
-calls_short hints s state (m ∷ order) call a b d h = grind (arith, nat_tests, calls_short hints s (after_mark s state m) order call a b d, in_either, mark_short)
+calls_short : (hints : Hints) (s : Setting) (state : Counted × List Going) (order : List Mark) (call : DiskCall) → Buffers hints → In (calls_from hints s state order) call
+    → ShortOrCount (longest hints) s.header call
+calls_short hints s state [] call some h = inr (count_stored s (nat_lt state.0.records (closed s state).records) call h)
+calls_short hints s state (m ∷ order) call some h = grind (arith, nat_tests, calls_short hints s (after_mark s state m) order call some, in_either, mark_short)
 
 pub run_short : (script : Script) (header : Header) (file : List ℕ) (order : List Mark) (call : DiskCall) → is_lawful script ≡ true
     → In (run_calls script header file order) call → (transferred call ≤ longest script.hints) ⊎ (is_count_store header call ≡ true)
 run_short script header file order call lawful h =
-    let some = some_buffers script lawful in
-    calls_short script.hints (setting_of script header) (first_state header file script.calls) order call some.cb some.wr some.rd h
+    calls_short script.hints (setting_of script header) (first_state header file script.calls) order call (some_buffers script lawful) h

@@ -67,15 +67,15 @@ opened_kept script header file order x opened h k = grind (arith, nat_tests, end
 
 -- ---- lengths
 
-state_long : (s : Setting) (state : Counted × List Going) (order : List Mark) → length state.0.file ≤ length (fold (after_mark s) state order).0.file
-state_long s state [] = omega arith
-state_long s state (m ∷ order) = let a = mark_grows s state m in let b = state_long s (after_mark s state m) order in omega arith
+pub fold_grows : {A B : Type 0} (size : B → ℕ) (f : B → A → B) → ((b : B) (x : A) → size b ≤ size (f b x)) → (b : B) (xs : List A) → size b ≤ size (fold f b xs)
+fold_grows size f h b [] = omega arith
+fold_grows size f h b (x ∷ xs) = grind (arith, nat_tests, fold_grows size f h (f b x) xs)
 
 pub end_long : (script : Script) (header : Header) (file : List ℕ) (order : List Mark) → length file ≤ length (serial_from script header file order).bytes
 end_long script header file order =
     let s = setting_of script header in
     let state = first_state header file script.calls in
     let last = fold (after_mark s) state order in
-    let a = state_long s state order in
+    let a = fold_grows (λ (z : Counted × List Going). length z.0.file) (after_mark s) (mark_grows s) state order in
     let b = raised_grows s last.0 (greatest (map (λ g. g.rank.known) (map (λ g. (advance s.header g).0) last.1))) in
     omega arith

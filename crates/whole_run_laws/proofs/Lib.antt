@@ -1,6 +1,5 @@
 mod Words
 mod KeptLaws
-mod Hints
 mod OneOrder
 mod HullLengths
 mod Courses

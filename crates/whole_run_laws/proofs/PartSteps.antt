@@ -1,5 +1,5 @@
 -- The puts of a step one after another, and an independent put of many regions region by region.
-use Rattle.whole_run_laws.proofs.Words.{◌≡◌, ℕ, zero, suc, ◌+◌, ◌≤◌, max, refl, sym, ◌∙◌, ap, inl, inr, ◌⊎◌, List, [], ◌∷◌, ◌++◌, length, map, Bool, true, false, cond, ltb, Option, Some, None, arith, cases_lt, or_cases, nat_tests, common_steps, fold-append, map-append, AllByRecursion, filter, flat_map, fold, slice_get, some_or_none, and_first, no_both, Code, Pair, Header, NcType, Var, Post, Call, Put, Varn, Given, Part, Region, Values, Offer, Want, at, longer, written, Counted, Setting, after_puts, end_for, put_post, put_some, told, product, data_bytes, data_code, direction_of, find_var, is_varn, look, look_at, look_parts, look_region, part_posts, parts_code, Rank, answer, answers, batch_of, code_of_look, offers_look, posts_of, needed, needed_by, bound, check_parts, check_var, elements_of_all, has_element, part_regions, widen, Cell, write_cells, Going, go, solo_of, Holding, Holds, Key, Puts, first_end, holdings, key_below, second_end, at-longer, longer-enough, longer_long, after_grows, key_equal, end_grows, cells_said, same_file, outcome, outcome_posts, makes, on_part, own_values, put_parts}
+use Rattle.whole_run_laws.proofs.Words.{◌≡◌, ℕ, zero, suc, ◌+◌, ◌≤◌, max, refl, sym, ◌∙◌, ap, inl, inr, List, [], ◌∷◌, ◌++◌, length, map, Bool, true, false, cond, ltb, Option, Some, None, arith, cases_lt, or_cases, nat_tests, common_steps, fold-append, map-append, AllByRecursion, filter, flat_map, fold, slice_get, some_or_none, and_first, no_both, Code, Header, NcType, Var, Post, Call, Put, Varn, Given, Part, Region, Values, Offer, Want, at, longer, written, Counted, Setting, after_puts, end_for, put_post, put_some, told, product, data_bytes, data_code, direction_of, find_var, is_varn, look, look_at, look_parts, look_region, part_posts, parts_code, Rank, answer, answers, batch_of, code_of_look, offers_look, posts_of, needed, needed_by, bound, check_parts, check_var, elements_of_all, has_element, part_regions, widen, Cell, write_cells, Going, go, solo_of, Holding, Holds, Key, Puts, first_end, holdings, key_below, second_end, at-longer, longer-enough, longer_long, after_grows, key_equal, end_grows, cells_said, same_file, outcome, outcome_posts, makes, on_part, own_values, put_parts}
 use Rattle.nc_base.specs.declared.answer.Code.TheVariants as code
 use Rattle.nc_base.specs.declared.request.Call.TheVariants as call
 use Rattle.nc_base.specs.declared.step.OfferKind.TheVariants as offer
@@ -86,17 +86,16 @@ own_keys header number id [] h = tt
 own_keys header number id (p ∷ posts) h = ((λ t. (number, h.0 t)), own_keys header number id posts h.1)
 
 no_pair_of_one : (s : Setting) (number id : ℕ) (posts : List Post) → HaveId id posts → told s (numbered number posts) ≡ None
-no_pair_of_one s number id posts all = by (some_or_none (told s (numbered number posts)))
-  where
-    by : (told s (numbered number posts) ≡ None) ⊎ ((p : Pair) × (told s (numbered number posts) ≡ Some p)) → told s (numbered number posts) ≡ None
-    by (inl e) = e
-    by (inr (p, e)) =
-        let held = holdings s.header (numbered number posts) in
-        let keys = own_keys s.header number id posts all in
-        let is = pair_is_least s (numbered number posts) p e in
-        let first = holder_is held (number, id) (first_end p) p.at keys is.first in
-        let second = holder_is held (number, id) (second_end p) p.at keys is.second in
-        no_both (key_below (number, id) (number, id)) ((λ t. key_below (first t) (second t)) ∙ is.in_order) (not_below_itself (number, id))
+no_pair_of_one s number id posts all = elim (some_or_none (told s (numbered number posts))) [
+  | inl e ↦ e
+  | inr (p, e) ↦
+      let held = holdings s.header (numbered number posts) in
+      let keys = own_keys s.header number id posts all in
+      let is = pair_is_least s (numbered number posts) p e in
+      let first = holder_is held (number, id) (first_end p) p.at keys is.first in
+      let second = holder_is held (number, id) (second_end p) p.at keys is.second in
+      no_both (key_below (number, id) (number, id)) ((λ t. key_below (first t) (second t)) ∙ is.in_order) (not_below_itself (number, id))
+]
 
 -- ---- the posts of a call have its id
 

@@ -1,5 +1,5 @@
 -- A get of many regions gives the values of gets of the regions, joined.
-use Rattle.whole_run_laws.proofs.Words.{◌≡◌, ℕ, ◌≤◌, refl, sym, ◌∙◌, ap, ◌⊎◌, List, [], ◌∷◌, length, map, true, false, Option, None, option_map, fold-append, flat_map, Pair, Header, Post, Varn, Given, Part, Counted, Setting, after_puts, end_for, look, code_of_look, posts_of, Going, longer-enough, outcome, outcome_posts, joined, last_values, makes, on_part, request_values, then_more, arith, nat_tests}
+use Rattle.whole_run_laws.proofs.Words.{◌≡◌, ℕ, ◌≤◌, refl, sym, ◌∙◌, ◌⊎◌, List, [], ◌∷◌, length, map, true, false, Option, None, option_map, fold-append, flat_map, Pair, Header, Post, Varn, Given, Part, Counted, Setting, after_puts, end_for, look, code_of_look, posts_of, Going, longer-enough, outcome, outcome_posts, joined, last_values, makes, on_part, request_values, then_more, arith, nat_tests}
 use Rattle.nc_base.specs.declared.answer.Code.TheVariants as code
 use Rattle.nc_base.specs.declared.request.Call.TheVariants as call
 use Rattle.serial_spec.specs.Looks as looks
@@ -35,30 +35,18 @@ varn_values s file known id name given many ok = grind (arith, nat_tests, varn_g
 nothing_left : (s : Setting) (pair : Option Pair) (file : List ℕ) → end_for s 0 ≤ length file → after_puts s [] pair file ≡ file
 nothing_left s pair file h = grind (arith, nat_tests, longer-enough)
 
-module _ (s : Setting) (number : ℕ) (name : List ℕ) (state : Counted × Going) (whole : end_for s 0 ≤ length state.0.file) (mode : state.1.rank.independent ≡ true) where
+module _ (s : Setting) (number : ℕ) (state : Counted × Going) (name : List ℕ) where
   abbrev get_look : Given → looks.Look
   get_look given = look s.header state.1.rank.known 0 name given None
 
-  get_answer : (given : Given) → last_values (makes s number state (call.Get false name given)).1 ≡ request_values s state.0.file 0 (posts_of (get_look given))
-  get_answer given = grind (arith, nat_tests, fold-append, nothing_left)
+  get_answer : (given : Given) → state.1.rank.independent ≡ true → end_for s 0 ≤ length state.0.file
+      → last_values (makes s number state (call.Get false name given)).1 ≡ request_values s state.0.file 0 (posts_of (get_look given))
+  get_answer given mode whole = grind (arith, nat_tests, fold-append, nothing_left)
 
-  answers_joined : (given : Given) → given.form ≡ Varn → code_of_look (get_look given) ≡ code.Ok
+  pub varn_answer : (given : Given) → state.1.rank.independent ≡ true → end_for s 0 ≤ length state.0.file → given.form ≡ Varn → code_of_look (get_look given) ≡ code.Ok
       → last_values (makes s number state (call.Get false name given)).1
       ≡ joined (map (λ part. last_values (makes s number state (call.Get false name (on_part part))).1) given.parts)
-  answers_joined given many ok =
-      get_answer given
+  varn_answer given mode whole many ok =
+      get_answer given mode whole
       ∙ varn_values s state.0.file state.1.rank.known 0 name given many ok
-      ∙ ap joined (map_same given.parts)
-    where
-      map_same : (parts : List Part)
-          → map (λ part. request_values s state.0.file 0 (posts_of (get_look (on_part part)))) parts
-          ≡ map (λ part. last_values (makes s number state (call.Get false name (on_part part))).1) parts
-      map_same [] = refl
-      map_same (p ∷ parts) = λ t. sym (get_answer (on_part p)) t ∷ map_same parts t
-
-pub varn_answer : (s : Setting) (number : ℕ) (state : Counted × Going) (name : List ℕ) (given : Given)
-    → state.1.rank.independent ≡ true → end_for s 0 ≤ length state.0.file → given.form ≡ Varn
-    → code_of_look (look s.header state.1.rank.known 0 name given None) ≡ code.Ok
-    → last_values (makes s number state (call.Get false name given)).1
-    ≡ joined (map (λ part. last_values (makes s number state (call.Get false name (on_part part))).1) given.parts)
-varn_answer s number state name given mode whole many ok = answers_joined s number name state whole mode given many ok
+      ∙ (λ t. joined (map (λ part. sym (get_answer (on_part part) mode whole) t) given.parts))

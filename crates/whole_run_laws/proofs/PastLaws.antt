@@ -1,11 +1,10 @@
 -- No completed put holds a byte of the header, so its bytes stay but for the record count.
-use Rattle.whole_run_laws.proofs.Words.{◌≡◌, ℕ, ◌<◌, ◌≤◌, refl, sym, ◌∙◌, ap, subst, inl, inr, ◌⊎◌, List, [], ◌∷◌, map, Bool, true, false, ◌||◌, Option, Some, None, arith, flat_map-append, slice_get, ◌==◌, list_all, range_with_len, fails_each, and_first, and_second, or_first_false, any_in, flat_in, in_either, range_low, each_in, map_in, numbered_in, Header, Var, Post, Script, Mark, Meet, Solo, Offer, Reply, refused, wrong_length, size_of, at, Counted, puts_of, Setting, solo, header_len, is_sound, is_of_rank_below, IsLegal, is_lawful, In, IsElementBelow, place, records_of, check_some, elements, places, advance, after_mark, first_going, first_state, Going, hears, offers_of, serial_from, setting_of, bytes_of, bytes_of_some, covered, Puts, accepted_elements, elements_past_header, Fit, good_first, heard_fits, most_posts_held, offer_fits, completed, completed_from, completed_puts, IsBesideCount, is_held, puts_at, puts_met, set_cases, nat_tests}
+use Rattle.whole_run_laws.proofs.Words.{holds_or_not, some_or_none, ◌≡◌, ℕ, ◌<◌, ◌≤◌, sym, ◌∙◌, ap, subst, inl, inr, List, [], ◌∷◌, map, true, false, ◌||◌, Option, Some, arith, flat_map-append, slice_get, list_all, range_with_len, fails_each, and_first, and_second, or_first_false, any_in, flat_in, in_either, range_low, each_in, map_in, numbered_in, Header, Var, Post, Script, Mark, Meet, Solo, Offer, Reply, refused, wrong_length, size_of, at, Counted, puts_of, Setting, header_len, is_sound, is_of_rank_below, IsLegal, is_lawful, In, IsElementBelow, place, records_of, check_some, elements, places, advance, after_mark, first_going, first_state, Going, hears, offers_of, serial_from, setting_of, bytes_of, bytes_of_some, covered, Puts, accepted_elements, elements_past_header, Fit, good_first, heard_fits, most_posts_held, offer_fits, completed, completed_from, completed_puts, IsBesideCount, is_held, puts_at, puts_met, nat_tests}
 use borrow.Author.Tests.{ltb-true}
-use Rattle.nc_base.specs.declared.answer.Code.TheVariants as code
 use Rattle.nc_base.specs.declared.request.Direction.TheVariants as way
 use Rattle.join_laws.proofs.CountLaws.{passes_accepted as accepted}
 use Rattle.join_laws.proofs.WholeLaws.{get_map as mapped_from}
-use Rattle.whole_run_laws.proofs.Courses.{AreAlong, first_along, heard_by, mark_along, meets, offered, offered_alone, steps}
+use Rattle.whole_run_laws.proofs.Courses.{AreAlong, first_along, mark_along, moved, offered, offered_alone, steps}
 use Rattle.whole_run_laws.proofs.KeptLaws.{end_kept}
 
 -- ---- an accepted put
@@ -14,23 +13,16 @@ abbrev Past : Header → Post → Type 0
 Past header p = (x : ℕ) → In (bytes_of header p) x → header_len header ≤ x
 
 post_past : (header : Header) (known : ℕ) (p : Post) → is_sound header ≡ true → (refused header known way.Put p || wrong_length header p) ≡ false → Past header p
-post_past header known p sound e x m = by (slice_get header.vars p.var) refl (accepted _ (or_first_false (refused header known way.Put p) _ e)) m
-  where
-    by : (o : Option Var) → slice_get header.vars p.var ≡ o → check_some header (slice_get header.vars p.var) p.region known way.Put ≡ code.Ok
-        → In (bytes_of_some header (slice_get header.vars p.var) p) x → header_len header ≤ x
-    by None f ok k = absurd (subst (λ (o : Option Var). In (bytes_of_some header o p) x) f k)
-    by (Some v) f ok k =
-        let within = subst (λ (o : Option Var). In (bytes_of_some header o p) x) f k in
-        let fine = sym (ap (λ (o : Option Var). check_some header o p.region known way.Put) f) ∙ ok in
-        let y = flat_in (λ (y : ℕ). range_with_len y (size_of v.kind)) (places header v p.region) x within in
-        let i = map_in (λ (i : List ℕ). place header v i) (elements p.region) y.0 y.1 in
-        let is = each_in (IsElementBelow header v (records_of header v p.region)) (elements p.region) i.0 (accepted_elements header p.var v p.region known way.Put sound f fine) i.1 in
-        let low = elements_past_header header p.var v i.0 sound f is.0 in
-        let from = range_low y.0 (size_of v.kind) x y.2 in
-        at_least (header_len header) (place header v i.0) y.0 x low i.2 from
-      where
-        at_least : (a b c d : ℕ) → a ≤ b → b ≡ c → c ≤ d → a ≤ d
-        at_least a b c d h g l = omega arith
+post_past header known p sound e x m = elim (some_or_none (slice_get header.vars p.var)) [
+  | inl f ↦ absurd (subst (λ (o : Option Var). In (bytes_of_some header o p) x) f m)
+  | inr (v, f) ↦
+      let fine = sym (ap (λ (o : Option Var). check_some header o p.region known way.Put) f) ∙ accepted _ (or_first_false (refused header known way.Put p) _ e) in
+      let y = flat_in (λ (y : ℕ). range_with_len y (size_of v.kind)) (places header v p.region) x (subst (λ (o : Option Var). In (bytes_of_some header o p) x) f m) in
+      let i = map_in (λ (i : List ℕ). place header v i) (elements p.region) y.0 y.1 in
+      let is = each_in (IsElementBelow header v (records_of header v p.region)) (elements p.region) i.0 (accepted_elements header p.var v p.region known way.Put sound f fine) i.1 in
+      let low = elements_past_header header p.var v i.0 sound f is.0 in
+      omega (arith, low, i.2, range_low y.0 (size_of v.kind) x y.2)
+]
 
 -- ---- a rank whose puts are accepted
 
@@ -81,20 +73,12 @@ heard_fit header ranks g next o y sound f e h = grind (arith, nat_tests, heard_f
 
 pub mark_fit : (s : Setting) (ranks : ℕ) (m : Mark) (rest : List Mark) (c : Counted) (goings : List Going) → is_sound s.header ≡ true → is_of_rank_below ranks m ≡ true
     → AreAlong ranks (m ∷ rest) goings → AllFit s.header ranks goings → AllFit s.header ranks (after_mark s (c, goings) m).1
-mark_fit s ranks (Meet j) rest c goings sound known a fit = λ q g e.
-    let h = heard_by s c a.on q g e in
-    let at = meets s.header a.on q h.before h.was in
-    heard_fit s.header ranks h.before g at.asks.offer h.reply sound (fit q h.before h.was) at.asks.is_offer h.is
-mark_fit s ranks (Solo r n) rest c goings sound known a fit =
-    let st = steps s c (ltb-true r ranks known) a.on in
-    let y = (solo s r st.at.asks.offer c).1 in
-    let next = hears s.header (advance s.header st.before).0 y in
-    let own = heard_fit s.header ranks st.before next st.at.asks.offer y sound (fit r st.before st.was) st.at.asks.is_offer refl in
-    subst (λ (z : Counted × List Going). AllFit s.header ranks z.1) (sym st.state) (λ q g e. by q g next own (set_cases goings r q next g e))
-  where
-    by : (q : ℕ) (g next : Going) → IsFit s.header ranks next → ((q ≡ r) × (g ≡ next)) ⊎ (((r == q) ≡ false) × (slice_get goings q ≡ Some g)) → IsFit s.header ranks g
-    by q g next own (inl (z, w)) = subst (IsFit s.header ranks) (sym w) own
-    by q g next own (inr (b, e)) = fit q g e
+mark_fit s ranks m rest c goings sound known a fit q g e =
+    let w = moved s ranks q m rest c goings g known a e in
+    elim w.is [
+      | inl f ↦ subst (IsFit s.header ranks) (sym f) (fit q w.before w.was)
+      | inr h ↦ heard_fit s.header ranks w.before g h.0 h.1 sound (fit q w.before w.was) h.2 h.3
+    ]
 
 -- ---- a run
 
@@ -126,9 +110,7 @@ all_past script header file order x sound lawful legal held =
 
 pub header_stays : (script : Script) (header : Header) (file : List ℕ) (order : List Mark) (x : ℕ) → is_sound header ≡ true → is_lawful script ≡ true → IsLegal script order
     → IsBesideCount header x → x < header_len header → at (serial_from script header file order).bytes x ≡ at file x
-header_stays script header file order x sound lawful legal beside below =
-    end_kept script header file order x beside (by (is_held header (completed_puts script header file order) x) refl)
-  where
-    by : (t : Bool) → is_held header (completed_puts script header file order) x ≡ t → t ≡ false
-    by false e = refl
-    by true e = let low = all_past script header file order x sound lawful legal e in absurd (omega arith)
+header_stays script header file order x sound lawful legal beside below = elim (holds_or_not (is_held header (completed_puts script header file order) x)) [
+  | inl e ↦ absurd (omega (arith, below, all_past script header file order x sound lawful legal e))
+  | inr e ↦ end_kept script header file order x beside e
+]

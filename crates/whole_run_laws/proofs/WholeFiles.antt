@@ -1,9 +1,6 @@
 -- The file of a run goes at least to the end for no records.
-use Rattle.whole_run_laws.proofs.Words.{ℕ, ◌≤◌, List, [], ◌∷◌, length, arith, fold, Header, Var, Script, Mark, written, fill_bytes, fill_var, filled, Counted, end_for, fixed_variables, inner_lengths, place, coordinates, Going, after_mark, first_state, setting_of, start, state_after, longer_long, mark_grows, written_grows, end_grows, nat_tests}
-
-fold_grows : {A B : Type 0} (size : B → ℕ) (f : B → A → B) → ((b : B) (x : A) → size b ≤ size (f b x)) → (b : B) (xs : List A) → size b ≤ size (fold f b xs)
-fold_grows size f h b [] = omega arith
-fold_grows size f h b (x ∷ xs) = grind (arith, nat_tests, fold_grows size f h (f b x) xs)
+use Rattle.whole_run_laws.proofs.Words.{ℕ, ◌≤◌, List, length, arith, Header, Var, Script, Mark, written, fill_bytes, fill_var, filled, Counted, end_for, fixed_variables, inner_lengths, place, coordinates, Going, after_mark, first_state, setting_of, start, state_after, longer_long, mark_grows, written_grows, end_grows, nat_tests}
+use Rattle.whole_run_laws.proofs.KeptLaws.{fold_grows}
 
 var_grows : (header : Header) (file : List ℕ) (v : Var) → length file ≤ length (fill_var header file v)
 var_grows header file v =
