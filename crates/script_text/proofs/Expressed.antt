@@ -1,44 +1,17 @@
 -- A lawful script that words can express is read from what is printed of it.
 use Rattle.script_text.proofs.Words.{◌≡◌, ◌∙◌, ℕ, zero, suc, ◌+◌, ◌%◌, ◌^◌, ◌≤◌, List, [], ◌∷◌, ◌++◌, find, map, sum, length, length-append, codes, Bool, true, false, not, cond, nat_le, ◌==◌, ◌&&◌, Option, Some, None, is_some, option_map, refl, ap, subst, arith, bytes_eq, list_all, range_with_len, enumerate_from, and_parts, and_from, cond-false, cond-true, eqb-true, eq-eqb, leb-true, ne_eqb, length-map, sum_by-cons, bytes_eq-Decides, ScriptKind, Header, Extra, Hints, Script, Call, MeetKind, most_dims, most_vars, is_version, kinds, kind_number, added_dims, added_vars, agree, are_different, are_lawful_hints, is_alignment, is_lawful, is_lawful_call, is_lawful_dim, is_lawful_extra, is_lawful_header, is_lawful_var, is_within, kind_numbers, most_calls, most_ranks, most_values, posted_ids, values_in_script, shown, Plain, Within, kind_at, differs_at, is_difference, mismatch, Reads, most_bytes, most_lines, is_expressible, is_expressible_call, is_expressible_header, printed_lines, nat_tests}
+use Rattle.serial_spec.proofs.Common.{lawful_parts}
 use Rattle.nc_base.specs.declared.errors.ScriptKind.TheVariants as kind
 use Rattle.script_text.proofs.Lines.{empty_list}
 use Rattle.script_text.proofs.PrintedDefinitions.{is_value_of}
 use Rattle.script_text.proofs.Places.{position_cons}
 use Rattle.script_text.proofs.CallLines.{call_tokens_of, own_lines, call_lines, DataEnd}
 use Rattle.script_text.proofs.DefinedLines.{lines_of_own, definition_lines}
-use Rattle.script_text.proofs.KnownLines.{hint_tokens, HintsFit}
+use Rattle.script_text.proofs.KnownLines.{hint_tokens, ranks_told, hints_told}
 use Rattle.script_text.proofs.ExpressedDefinitions.{defined_of, header_told, no_attributes}
 use Rattle.script_text.proofs.ExpressedCalls.{chains_told, all_counted}
 use Rattle.script_text.proofs.ScriptLines.{all_lines, before_data, fill_lines, from_data, script_with}
 use Rattle.script_text.proofs.Whole.{Whole, create_again, from_drafted, version_head, whole_from, whole_again, whole_long}
-
--- ---- ranks and hints
-
-any_unit : (low high n : ℕ) → is_within low high n ≡ true → is_value_of (Within low high 1) n ≡ true
-any_unit low high n h = let unit : n % 1 ≡ 0 = omega arith in and_from _ _ h (eq-eqb (n % 1) 0 unit)
-
-alignment : (n : ℕ) → is_alignment n ≡ true → is_value_of (Within 4 1048576 4) n ≡ true
-alignment n h = grind (arith, nat_tests, and_parts, eqb-true, and_from, eq-eqb)
-
-hints_told : (h : Hints) → are_lawful_hints h ≡ true → HintsFit h
-hints_told h lawful =
-    let p7 = and_parts _ (is_within 1 (2 ^ 25) h.striping_unit) lawful in
-    let p6 = and_parts _ (is_alignment h.var_align) p7.0 in
-    let p5 = and_parts _ (is_alignment h.header_align) p6.0 in
-    let p4 = and_parts _ (is_within 1 64 h.line_room) p5.0 in
-    let p3 = and_parts _ (is_within 1 (2 ^ 25) h.wr_buffer) p4.0 in
-    let p2 = and_parts _ (is_within 1 (2 ^ 25) h.rd_buffer) p3.0 in
-    let p1 = and_parts (is_within 1 64 h.cb_nodes) (is_within 1 (2 ^ 25) h.cb_buffer) p2.0 in
-    record {
-      cb_nodes = any_unit 1 64 h.cb_nodes p1.0;
-      cb_buffer = any_unit 1 (2 ^ 25) h.cb_buffer p1.1;
-      rd_buffer = any_unit 1 (2 ^ 25) h.rd_buffer p2.1;
-      wr_buffer = any_unit 1 (2 ^ 25) h.wr_buffer p3.1;
-      line_room = any_unit 1 64 h.line_room p4.1;
-      header_align = alignment h.header_align p5.1;
-      var_align = alignment h.var_align p6.1;
-      striping_unit = any_unit 1 (2 ^ 25) h.striping_unit p7.1;
-    }
 
 -- ---- ranks that agree don't differ
 
@@ -81,29 +54,6 @@ agreement (own ∷ others) h =
     ap (difference_by ranks first) (nothing_found (is_difference ranks first) 0 (length first + 1) (λ k. ap is_some (none_differs all first k same)))
 
 -- ---- a script for a new dataset, by its parts
-
-record LawfulParts (s : Script) : Type 0 where
-  ranks : is_within 1 most_ranks s.ranks ≡ true
-  long : (length s.calls == s.ranks) ≡ true
-  hints : are_lawful_hints s.hints ≡ true
-  header : is_lawful_header s ≡ true
-  calls : list_all (λ own. list_all (is_lawful_call s.ranks own.0) own.1) (enumerate_from 0 s.calls) ≡ true
-  ids : list_all (λ own. are_different (posted_ids own)) s.calls ≡ true
-  few : nat_le (values_in_script s) most_values ≡ true
-  agreed : agree s.calls ≡ true
-
-lawful_parts : (s : Script) → is_lawful s ≡ true → LawfulParts s
-lawful_parts s h =
-    let p11 = and_parts _ (agree s.calls) h in
-    let p10 = and_parts _ (nat_le (values_in_script s) most_values) p11.0 in
-    let p9 = and_parts _ (nat_le (sum (map (λ own. length own) s.calls)) most_calls) p10.0 in
-    let p8 = and_parts _ (list_all (λ own. are_different (posted_ids own)) s.calls) p9.0 in
-    let p7 = and_parts _ (list_all (λ own. list_all (is_lawful_call s.ranks own.0) own.1) (enumerate_from 0 s.calls)) p8.0 in
-    let p5 = and_parts _ (nat_le (added_vars s.extra) most_vars) (and_parts _ (list_all is_lawful_extra s.extra) p7.0).0 in
-    let p3 = and_parts _ (is_lawful_header s) (and_parts _ (nat_le (added_dims s.extra) most_dims) p5.0).0 in
-    let p2 = and_parts _ (are_lawful_hints s.hints) p3.0 in
-    let p1 = and_parts (is_within 1 most_ranks s.ranks) (length s.calls == s.ranks) p2.0 in
-    record { ranks = p1.0; long = p1.1; hints = p2.1; header = p3.1; calls = p7.1; ids = p8.1; few = p10.1; agreed = p11.1 }
 
 -- of a script for a new dataset
 record NewHeader (s : Script) : Type 0 where
@@ -174,22 +124,19 @@ expressed_whole s lawful h =
     let new = new_header s e1.0 parts.header in
     let version = s.header.version in
     let d = defined_of s.header s.filled in
-    let ranks = any_unit 1 most_ranks s.ranks parts.ranks in
-    let small = leb-true s.ranks most_ranks (and_parts (nat_le 1 s.ranks) (nat_le s.ranks most_ranks) parts.ranks).1 in
-    let known = create_again version s.ranks 0 s.hints d (new_version version new.version) ranks (hints_told s.hints parts.hints)
+    let known = create_again version s.ranks 0 s.hints d (new_version version new.version) (ranks_told s.ranks parts.some_rank parts.few_ranks) (hints_told s.hints parts.hints)
     (header_told s.header s.filled e1.1 new.dims new.few_dims new.vars new.few_vars) (omega arith) in
-    let values = leb-true (values_in_script s) most_values parts.few in
     let end : DataEnd s.ranks 0 s.calls = record {
-      long = eqb-true (length s.calls) s.ranks parts.long;
-      chains = chains_told s.ranks 0 s.calls parts.calls e2.1 parts.ids;
-      few = omega (arith, values, all_counted s.calls);
+      long = parts.one_list_each;
+      chains = chains_told s.ranks 0 s.calls parts.each_call e2.1 parts.ids_once;
+      few = omega (arith, parts.few_values, all_counted s.calls);
     } in
     let first = version_head version new.version in
     let agree = agreement s.calls parts.agreed in
     let plain = no_attributes s.header e1.1 in
     subst Counted (same_script version s.ranks s.hints s.filled s.calls s.fresh s.header.records s.extra (new_version version new.version) e1.0 new.records new.nothing_added s.header) (record {
-      whole = whole_from version s.ranks 0 s.hints [] d s.calls first small known end agree;
-      long = ap length (from_drafted version s.ranks 0 s.hints [] d s.calls first small known end agree) ∙ all_long first.existing version s.ranks s.hints s.header s.filled s.calls plain.0 plain.1;
+      whole = whole_from version s.ranks 0 s.hints [] d s.calls first parts.few_ranks known end agree;
+      long = ap length (from_drafted version s.ranks 0 s.hints [] d s.calls first parts.few_ranks known end agree) ∙ all_long first.existing version s.ranks s.hints s.header s.filled s.calls plain.0 plain.1;
     })
 
 pub expressed_again : (s : Script) → is_lawful s ≡ true → is_expressible s ≡ true → length (shown s) ≤ most_bytes → printed_lines s ≤ most_lines → Reads (shown s) s

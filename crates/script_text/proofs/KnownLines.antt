@@ -1,12 +1,12 @@
 -- The number of ranks and the hints, and what is known before `data` as a whole.
-use Rattle.script_text.proofs.Words.{◌≡◌, ◌∙◌, ℕ, ◌+◌, ◌^◌, ◌≤◌, ◌<◌, min, List, [], ◌∷◌, ◌++◌, map, Bool, true, false, ◌==◌, Option, Some, None, is_some, slice_set, Result, Ok, refl, ap, subst, arith, bytes_eq, codes, decimal, list_all, and_parts, and_from, faultless_some, ScriptKind, Hints, OverlapRule, Refuse, Serial, most_values, shown_hint, shown_hints, Word, Plain, Line, ◌>>=◌, or_fault, bare, Within, HintForm, HintRow, flag, rule_number, rule_of, off_or_on, refuse_or_serial, hint_table, hint_of_text, hint_form, shown_value, none_given, hint_in, hints_of, number_within, hint_value, hint_line, ranks_line, Defined, no_definition, definition, Added, nothing_added, addition, Known, nothing_known, known_after, at_line, data_line, definition_step, definitions, nat_tests, take, drop}
+use Rattle.script_text.proofs.Words.{◌%◌, eq-eqb, le-leb, eqb-true, is_within, is_alignment, are_lawful_hints, ◌≡◌, ◌∙◌, ℕ, ◌+◌, ◌^◌, ◌≤◌, ◌<◌, min, List, [], ◌∷◌, ◌++◌, map, Bool, true, false, ◌==◌, Option, Some, None, is_some, slice_set, Result, Ok, refl, ap, subst, arith, bytes_eq, codes, decimal, list_all, and_parts, and_from, ScriptKind, Hints, OverlapRule, Refuse, Serial, most_values, shown_hint, shown_hints, Word, Plain, Line, ◌>>=◌, bare, Within, HintForm, HintRow, flag, rule_number, rule_of, off_or_on, refuse_or_serial, hint_table, hint_of_text, hint_form, shown_value, none_given, hint_in, hints_of, number_within, hint_value, hint_line, ranks_line, Defined, no_definition, definition, Added, nothing_added, addition, Known, nothing_known, known_after, at_line, data_line, definition_step, definitions, nat_tests, take, drop}
 use Rattle.std.proofs.Common.{flat_map}
 use Rattle.nc_base.specs.declared.errors.ScriptKind.TheVariants as kind
-use Rattle.script_text.proofs.Steps.{same_ok, word_read, whole_value, tested, looked, carried, step_then}
+use Rattle.script_text.proofs.Steps.{same_ok, word_read, tested, looked, carried, step_then}
 use Rattle.script_text.proofs.Lexing.{is_plain}
 use Rattle.script_text.proofs.Lines.{spelled}
 use Rattle.script_text.proofs.PrintedValues.{is_read}
-use Rattle.script_text.proofs.PrintedDefinitions.{is_value_of, within_again, within_plain, are_hints, hint_read, hint_or_fits, ranks_read}
+use Rattle.script_text.proofs.PrintedDefinitions.{is_value_of, within_again, within_plain}
 use Rattle.script_text.proofs.CallLines.{are_read, line_ok}
 use Rattle.script_text.proofs.AddedLines.{Leads, Runs, Replay, replay_on, addition_read}
 use Rattle.script_text.proofs.DefinedChains.{DefinedOk, definition_read}
@@ -57,20 +57,34 @@ pub record HintsFit (h : Hints) : Type 0 where
   pub var_align : is_value_of (Within 4 1048576 4) h.var_align ≡ true
   pub striping_unit : is_value_of (Within 1 33554432 1) h.striping_unit ≡ true
 
-nodes_fit : (n : ℕ) → is_value_of (Within 1 64 1) n ≡ true → is_value_of (Within 1 64 1) (min n 8) ≡ true
-nodes_fit n h = grind (arith, nat_tests)
+any_unit : (low high n : ℕ) → is_within low high n ≡ true → is_value_of (Within low high 1) n ≡ true
+any_unit low high n h = let unit : n % 1 ≡ 0 = omega arith in and_from _ _ h (eq-eqb (n % 1) 0 unit)
 
-pub hints_fit : (ranks : ℕ) (hints : List (Option ℕ)) → is_value_of (Within 1 64 1) ranks ≡ true → are_hints hint_table hints ≡ true → HintsFit (hints_of ranks hints)
-hints_fit ranks hints r h = record {
-  cb_nodes = hint_or_fits hint_table hints 0 (min ranks 8) h (nodes_fit ranks r);
-  cb_buffer = hint_or_fits hint_table hints 1 16777216 h refl;
-  rd_buffer = hint_or_fits hint_table hints 2 4194304 h refl;
-  wr_buffer = hint_or_fits hint_table hints 3 524288 h refl;
-  line_room = hint_or_fits hint_table hints 4 2 h refl;
-  header_align = hint_or_fits hint_table hints 7 4 h refl;
-  var_align = hint_or_fits hint_table hints 8 4 h refl;
-  striping_unit = hint_or_fits hint_table hints 9 1 h refl;
-}
+pub ranks_told : (n : ℕ) → 1 ≤ n → n ≤ 64 → is_value_of (Within 1 64 1) n ≡ true
+ranks_told n low high = any_unit 1 64 n (and_from _ _ (le-leb 1 n low) (le-leb n 64 high))
+
+alignment : (n : ℕ) → is_alignment n ≡ true → is_value_of (Within 4 1048576 4) n ≡ true
+alignment n h = grind (arith, nat_tests, and_parts, eqb-true, and_from, eq-eqb)
+
+pub hints_told : (h : Hints) → are_lawful_hints h ≡ true → HintsFit h
+hints_told h lawful =
+    let p7 = and_parts _ (is_within 1 (2 ^ 25) h.striping_unit) lawful in
+    let p6 = and_parts _ (is_alignment h.var_align) p7.0 in
+    let p5 = and_parts _ (is_alignment h.header_align) p6.0 in
+    let p4 = and_parts _ (is_within 1 64 h.line_room) p5.0 in
+    let p3 = and_parts _ (is_within 1 (2 ^ 25) h.wr_buffer) p4.0 in
+    let p2 = and_parts _ (is_within 1 (2 ^ 25) h.rd_buffer) p3.0 in
+    let p1 = and_parts (is_within 1 64 h.cb_nodes) (is_within 1 (2 ^ 25) h.cb_buffer) p2.0 in
+    record {
+      cb_nodes = any_unit 1 64 h.cb_nodes p1.0;
+      cb_buffer = any_unit 1 (2 ^ 25) h.cb_buffer p1.1;
+      rd_buffer = any_unit 1 (2 ^ 25) h.rd_buffer p2.1;
+      wr_buffer = any_unit 1 (2 ^ 25) h.wr_buffer p3.1;
+      line_room = any_unit 1 64 h.line_room p4.1;
+      header_align = alignment h.header_align p5.1;
+      var_align = alignment h.var_align p6.1;
+      striping_unit = any_unit 1 (2 ^ 25) h.striping_unit p7.1;
+    }
 
 -- ---- the lines of the hints
 
@@ -125,10 +139,6 @@ hints_run version k h fit =
 
 -- ---- what is known before `data`
 
-abbrev ranks_ok : Option ℕ → Bool
-ranks_ok None = true
-ranks_ok (Some n) = is_value_of (Within 1 64 1) n
-
 -- what is added to an existing dataset, or what is defined of a new one
 abbrev pub What : Bool → ℕ → Defined → Added → ℕ → Type 0
 What true version d a values = (d ≡ no_definition) × Replay 0 nothing_added a.extras values a
@@ -136,8 +146,6 @@ What false version d a values = (a ≡ nothing_added) × DefinedOk version value
 
 -- of an existing dataset, or of a new one
 pub record KnownAs (existing : Bool) (version : ℕ) (k : Known) : Type 0 where
-  pub ranks : ranks_ok k.ranks ≡ true
-  pub hints : are_hints hint_table k.hints ≡ true
   pub few : k.values ≤ most_values
   pub what : What existing version k.defined k.added k.values
 
@@ -149,7 +157,7 @@ what_nothing true version = (refl, (refl, refl))
 what_nothing false version = (refl, record { dims = tt; vars = tt; attrs = tt; has_titles = refl; own = tt; counted = refl })
 
 pub nothing_ok : (version : ℕ) → KnownOk version nothing_known
-nothing_ok version = record { ranks = refl; hints = refl; few = omega arith; what = what_nothing (version == 0) version }
+nothing_ok version = record { few = omega arith; what = what_nothing (version == 0) version }
 
 content_on : (b : Bool) (version : ℕ) (k next : Known) (first : List ℕ) (ws : List Word) → list_all is_read ws ≡ true → KnownAs b version k
     → elim b as (λ x. Result Known ScriptKind) [
@@ -160,43 +168,35 @@ content_on true version k next first ws read ok h =
     step_then (addition k.values k.added first ws) _ next h (λ a told h.
     let by = addition_read k.values k.added first ws a ok.few read told in
     subst (KnownAs true version) (same_ok (record k { added = a.1; values = k.values + a.0 }) next h)
-    (record { ranks = ok.ranks; hints = ok.hints; few = by.few; what = (ok.what.0, replay_on 0 k.values nothing_added k.added a ok.what.1 by) }))
+    (record { few = by.few; what = (ok.what.0, replay_on 0 k.values nothing_added k.added a ok.what.1 by) }))
 content_on false version k next first ws read ok h =
     step_then (definition version k.values k.defined first ws) _ next h (λ a told h.
     let by = definition_read version k.values k.defined first ws a ok.few read ok.what.1 told in
     subst (KnownAs false version) (same_ok (record k { defined = a.1; values = k.values + a.0 }) next h)
-    (record { ranks = ok.ranks; hints = ok.hints; few = by.few; what = (ok.what.0, by.same) }))
+    (record { few = by.few; what = (ok.what.0, by.same) }))
 
 known_on : (version : ℕ) (k next : Known) (first : List ℕ) (ws : List Word) → list_all is_read ws ≡ true → KnownOk version k → known_after version k first ws ≡ Ok next → KnownOk version next
 known_on version k next first ws read ok h =
     tested (bytes_eq first (codes "ranks")) _ _ _ h
-    (λ i e. step_then (ranks_line k.ranks ws) _ next e (λ n told e.
-    subst (KnownOk version) (same_ok (record k { ranks = Some n }) next e) (record { ranks = ranks_read k.ranks ws n told; hints = ok.hints; few = ok.few; what = ok.what })))
+    (λ i e. step_then (ranks_line k.ranks ws) _ next e (λ n told e. subst (KnownOk version) (same_ok (record k { ranks = Some n }) next e) (record { few = ok.few; what = ok.what })))
     (λ i e. tested (bytes_eq first (codes "hint")) _ _ _ e
     (λ j l. step_then (hint_line k.hints ws) _ next l (λ v told l.
-    subst (KnownOk version) (same_ok (record k { hints = slice_set k.hints v.0 (Some v.1) }) next l)
-    (record { ranks = ok.ranks; hints = hint_read k.hints ws v ok.hints told; few = ok.few; what = ok.what })))
+    subst (KnownOk version) (same_ok (record k { hints = slice_set k.hints v.0 (Some v.1) }) next l) (record { few = ok.few; what = ok.what })))
     (λ j. content_on (version == 0) version k next first ws read ok))
 
 -- ---- the definitions as a whole
 
--- at `data`: what is known, the number of ranks, and the lines that follow
+-- at `data`: what is known, and the lines that follow
 pub record AtData (version : ℕ) (r : ℕ × (Known × List Line)) : Type 0 where
   pub known : KnownOk version r.1.0
-  pub ranks : r.1.0.ranks ≡ Some r.0
   pub read : are_read r.1.1 ≡ true
 
-abbrev StepOk : ℕ → Option ℕ × Known → Type 0
-StepOk version (None, k) = KnownOk version k
-StepOk version (Some n, k) = KnownOk version k × (k.ranks ≡ Some n)
-
-step_ok : (version : ℕ) (k : Known) (w : Word) (ws : List Word) (s : Option ℕ × Known) → list_all is_read ws ≡ true → KnownOk version k → definition_step version k w ws ≡ Ok s → StepOk version s
+step_ok : (version : ℕ) (k : Known) (w : Word) (ws : List Word) (s : Option ℕ × Known) → list_all is_read ws ≡ true → KnownOk version k → definition_step version k w ws ≡ Ok s → KnownOk version s.1
 step_ok version k w ws s read ok h =
     step_then (bare w) _ s h (λ first is h. tested (bytes_eq first (codes "data")) _ _ _ h
-    (λ i e. step_then (data_line k ws) _ s e (λ n told e. step_then (or_fault kind.MissingWord k.ranks) _ n told (λ m there z.
-    subst (StepOk version) (same_ok (Some n, k) s e) (ok, faultless_some kind.MissingWord k.ranks m there ∙ ap (λ (x : ℕ). Some x) (whole_value (m, ws) n z).0))))
+    (λ i e. step_then (data_line k ws) _ s e (λ n told e. subst (λ (x : Option ℕ × Known). KnownOk version x.1) (same_ok (Some n, k) s e) ok))
     (λ i e. step_then (known_after version k first ws) _ s e (λ next told e.
-    subst (StepOk version) (same_ok (None, next) s e) (known_on version k next first ws read ok told))))
+    subst (λ (x : Option ℕ × Known). KnownOk version x.1) (same_ok (None, next) s e) (known_on version k next first ws read ok told))))
 
 pub definitions_read : (past version : ℕ) (lines : List Line) (k : Known) (r : ℕ × (Known × List Line)) → are_read lines ≡ true → KnownOk version k → definitions past version k lines ≡ Ok r → AtData version r
 definitions_read past version [] k r read ok h = absurd (cc)
@@ -204,7 +204,5 @@ definitions_read past version (l ∷ lines) k r read ok h =
     let both = and_parts (list_all is_read l.rest) (are_read lines) read in
     let a = carried (at_line l.number (definition_step version k l.first l.rest)) _ r h in
     let next = step_ok version k l.first l.rest a.value both.0 ok (line_ok l.number _ a.value a.first) in
-    looked a.value.0 _ _ _ a.rest (λ i. definitions_read past version lines a.value.1 r both.1 (subst (λ (o : Option ℕ). StepOk version (o, a.value.1)) i next))
-    (λ n i j.
-    let told = subst (λ (o : Option ℕ). StepOk version (o, a.value.1)) i next in
-    subst (AtData version) (same_ok (n, (a.value.1, lines)) r j) (record { known = told.0; ranks = told.1; read = both.1 }))
+    looked a.value.0 _ _ _ a.rest (λ i. definitions_read past version lines a.value.1 r both.1 next)
+    (λ n i j. subst (AtData version) (same_ok (n, (a.value.1, lines)) r j) (record { known = next; read = both.1 }))

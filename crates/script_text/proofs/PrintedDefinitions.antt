@@ -16,9 +16,6 @@ abbrev pub is_value_of : HintForm → ℕ → Bool
 is_value_of (Within low high unit) n = nat_le low n && nat_le n high && n % unit == 0
 is_value_of (Either zero_word one_word) n = n == 0 || n == 1
 
-within_read : (low high unit : ℕ) (w : List ℕ) (n : ℕ) → number_within low high unit w ≡ Some n → is_value_of (Within low high unit) n ≡ true
-within_read low high unit w n h = grind (arith, nat_tests, nat_le)
-
 abbrev within_by : ℕ → ℕ → ℕ → Option ℕ → Option ℕ
 within_by low high unit o = elim o [ None ↦ None | Some m ↦ cond (nat_le low m && nat_le m high && m % unit == 0) (Some m) None ]
 
@@ -31,52 +28,7 @@ within_again low high unit n h top = ap (within_by low high unit) (size_again n 
 pub within_plain : (low high unit n : ℕ) → is_value_of (Within low high unit) n ≡ true → high < 2 ^ 63 → is_plain (decimal n) ≡ true
 within_plain low high unit n h top = size_plain n (within_low low high unit n h top)
 
-either_read : (a b w : List ℕ) (n : ℕ) → one_of_two a b w ≡ Some n → is_value_of (Either a b) n ≡ true
-either_read a b w n h = grind (arith, nat_tests, bytes_eq)
-
-value_read : (f : HintForm) (ws : List Word) (r : ℕ × List Word) → hint_value f ws ≡ Ok r → is_value_of f r.0 ≡ true
-value_read (Within low high unit) ws r h = let w = read_word (number_within low high unit) kind.BadNumber ws r h in within_read low high unit w.0 r.0 w.1
-value_read (Either a b) ws r h = let w = read_word (one_of_two a b) kind.UnknownWord ws r h in either_read a b w.0 r.0 w.1
-
--- the values that were given are of the forms, one for one
-abbrev pub are_hints : List HintRow → List (Option ℕ) → Bool
-are_hints [] [] = true
-are_hints [] (o ∷ os) = false
-are_hints (f ∷ fs) [] = false
-are_hints (f ∷ fs) (None ∷ os) = are_hints fs os
-are_hints (f ∷ fs) (Some n ∷ os) = is_value_of f.form n && are_hints fs os
-
-abbrev form_at : List HintRow → ℕ → HintForm
-form_at fs h = (unwrap_or (slice_get fs h) no_row).form
-
-hints_set : (fs : List HintRow) (os : List (Option ℕ)) (h v : ℕ) → are_hints fs os ≡ true → is_value_of (form_at fs h) v ≡ true → are_hints fs (slice_set os h (Some v)) ≡ true
-hints_set [] [] h v a b = refl
-hints_set [] (o ∷ os) h v a b = absurd (cc)
-hints_set (f ∷ fs) [] h v a b = absurd (cc)
-hints_set (f ∷ fs) (None ∷ os) zero v a b = and_from _ _ b a
-hints_set (f ∷ fs) (Some n ∷ os) zero v a b = and_from _ _ b (and_parts (is_value_of f.form n) (are_hints fs os) a).1
-hints_set (f ∷ fs) (None ∷ os) (suc h) v a b = hints_set fs os h v a b
-hints_set (f ∷ fs) (Some n ∷ os) (suc h) v a b =
-    grind (arith, nat_tests, hints_set fs os h v (and_parts (is_value_of f.form n) (are_hints fs os) a).1 b, and_parts, and_from)
-
-pub hint_read : (hints : List (Option ℕ)) (ws : List Word) (r : ℕ × ℕ) → are_hints hint_table hints ≡ true → hint_line hints ws ≡ Ok r → are_hints hint_table (slice_set hints r.0 (Some r.1)) ≡ true
-hint_read hints ws r all h =
-    step_then (reads_as hint_of_text kind.UnknownWord ws) _ r h (λ n is h. free_then (is_some (hint_in n.0 hints)) _ _ r h (λ free h. step_then (hint_value (hint_form n.0) n.1) _ r h (λ v told h. end_then v.1 _ r h (λ none h.
-    subst (λ (x : ℕ × ℕ). are_hints hint_table (slice_set hints x.0 (Some x.1)) ≡ true) (same_ok (n.0, v.0) r h) (hints_set hint_table hints n.0 v.0 all (value_read (hint_form n.0) n.1 v told))))))
-
-pub hint_or_fits : (fs : List HintRow) (os : List (Option ℕ)) (k d : ℕ) → are_hints fs os ≡ true → is_value_of (form_at fs k) d ≡ true → is_value_of (form_at fs k) (unwrap_or (hint_in k os) d) ≡ true
-hint_or_fits [] [] k d a b = b
-hint_or_fits [] (o ∷ os) k d a b = absurd (cc)
-hint_or_fits (f ∷ fs) [] k d a b = absurd (cc)
-hint_or_fits (f ∷ fs) (None ∷ os) zero d a b = b
-hint_or_fits (f ∷ fs) (Some n ∷ os) zero d a b = (and_parts (is_value_of f.form n) (are_hints fs os) a).0
-hint_or_fits (f ∷ fs) (None ∷ os) (suc k) d a b = hint_or_fits fs os k d a b
-hint_or_fits (f ∷ fs) (Some n ∷ os) (suc k) d a b = hint_or_fits fs os k d (and_parts (is_value_of f.form n) (are_hints fs os) a).1 b
-
 -- ---- the number of ranks
-
-pub ranks_read : (ranks : Option ℕ) (ws : List Word) (n : ℕ) → ranks_line ranks ws ≡ Ok n → is_value_of (Within 1 64 1) n ≡ true
-ranks_read ranks ws n h = grind (arith, nat_tests)
 
 pub ranks_again : (n : ℕ) → is_value_of (Within 1 64 1) n ≡ true → ranks_line None (Plain (decimal n) ∷ []) ≡ Ok n
 ranks_again n h = grind (arith, nat_tests, go_on, decimal, word_read, within_again)

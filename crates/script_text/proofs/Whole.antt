@@ -1,6 +1,8 @@
 -- A whole script: what is printed of what was read is read as the same script.
 use Rattle.script_text.proofs.Words.{◌≡◌, ◌∙◌, ℕ, zero, suc, ◌+◌, ◌%◌, ◌^◌, ◌≤◌, ◌<◌, List, [], ◌∷◌, ◌++◌, map, replicate, length, Bool, true, false, cond, nat_lt, nat_le, ◌==◌, ◌&&◌, Option, Some, None, Result, Ok, Err, refl, sym, ap, subst, arith, codes, decimal, list_all, utf8_valid_len, and_parts, and_from, or_cases, cond-true, ne_eqb, eqb-true, finished, ScriptKind, ScriptErr, Hints, Extra, Script, Call, is_version, kinds, most_values, shown, Word, Plain, Line, text_lines, significant, ◌>>=◌, Within, hints_of, Defined, no_definition, Added, nothing_added, Known, nothing_known, ranks_line, Called, mismatch, at_line, version_of_text, head, definitions, data_part, finish, script_of, no_calls, script_of_lines, most_bytes, most_lines, Reads, length-map, all_joined, nat_tests, length-replicate}
 use Rattle.std.proofs.Common.{flat_map}
+use Rattle.serial_spec.proofs.Common.{IsLawful, lawful_parts}
+use Rattle.script_laws.proofs.LawfulLaws.{read_lawful}
 use borrow.Author.Tests.{leb-true, le-ltb, ltb-false}
 use Rattle.script_text.proofs.Steps.{go_on, same_ok, word_read, step_then}
 use Rattle.script_text.proofs.Lines.{is_line, spelled, body, numbered, lead_on, lead_lines, lines_again, significant_lines, valid_lines, valid_bytes}
@@ -11,7 +13,7 @@ use Rattle.script_text.proofs.AddedLines.{Leads, Runs, run_again, Replay, replay
 use Rattle.script_text.proofs.DefinedChains.{DefinedOk}
 use Rattle.script_text.proofs.DefinedLines.{at_state, define_on, told_again, nothing_but, definitions_run}
 use Rattle.script_text.proofs.ReadWords.{significant_read}
-use Rattle.script_text.proofs.KnownLines.{hint_tokens, all_given, hints_again, HintsFit, hints_fit, with_hints, hints_run, What, nothing_ok, definitions_read}
+use Rattle.script_text.proofs.KnownLines.{hint_tokens, all_given, hints_again, HintsFit, ranks_told, hints_told, with_hints, hints_run, What, nothing_ok, definitions_read}
 use Rattle.script_text.proofs.ScriptLines.{ranks_words, fill_lines, before_data, from_data, head_words, all_lines, script_with, all_spelled}
 
 -- ---- what is known at `data` is known again
@@ -175,28 +177,22 @@ known_again : (b : Bool) (version n : ℕ) (h : Hints) (k : Known) → (version 
 known_again true version n h k test r fit few what = grind (arith, nat_tests, eqb-true version 0 test, open_again n k.values h k.added r fit what.1)
 known_again false version n h k test r fit few what = grind (arith, nat_tests, create_again version n k.values h k.defined test r fit what.1 few)
 
-at_most_64 : (n : ℕ) → is_value_of (Within 1 64 1) n ≡ true → n ≤ 64
-at_most_64 n h = leb-true n 64 (and_parts (nat_le 1 n) (nat_le n 64) (and_parts (nat_le 1 n && nat_le n 64) (n % 1 == 0) h).0).1
-
-pub whole_read : (past : ℕ) (lines : List Line) (script : Script) → are_read lines ≡ true → script_of_lines past lines ≡ Ok script → Whole script
-whole_read past [] script read h = absurd (cc)
-whole_read past (l ∷ lines) script read h =
+pub whole_read : (past : ℕ) (lines : List Line) (script : Script) → IsLawful script → are_read lines ≡ true → script_of_lines past lines ≡ Ok script → Whole script
+whole_read past [] script lawful read h = absurd (cc)
+whole_read past (l ∷ lines) script lawful read h =
     step_then (at_line l.number (head l.first l.rest)) (λ v. told_after past v lines) script h (λ version heads h. step_then (definitions past version nothing_known lines) _ script h (λ d told h.
     step_then (data_part past (no_calls d.0 d.1.0) d.1.1) _ script h (λ c called h. step_then (finish c.0 c.1.0.calls c.1.1) _ script h (λ f ends h.
     let n = d.0 in
     let k = d.1.0 in
     let calls = c.1.0.calls in
+    let same = same_ok (script_of version n k calls) script h in
+    let law = subst IsLawful (sym same) lawful in
     let first = head_read l.first l.rest version (line_ok l.number (head l.first l.rest) version heads) in
     let known = definitions_read past version lines nothing_known d (and_parts _ _ read).1 (nothing_ok version) told in
-    let r : is_value_of (Within 1 64 1) n ≡ true = ranks_of k.ranks n known.ranks known.known.ranks in
     let end : DataEnd n k.values calls = all_called n k.values c.1.0 (data_holds n k.values past d.1.1 (no_calls n k) c (none_called n k known.known.few) known.read called) in
-    let again = known_again (version == 0) version n (hints_of n k.hints) k refl r (hints_fit n k.hints r known.known.hints) known.known.few known.known.what in
-    subst Whole (same_ok (script_of version n k calls) script h)
-    (whole_from version n k.values (hints_of n k.hints) k.added.extras k.defined calls first (at_most_64 n r) again end (finished c.0 calls c.1.1 f ends))))))
-  where
-    ranks_of : (o : Option ℕ) (n : ℕ) → o ≡ Some n → elim o as (λ x. Bool) [ None ↦ true | Some m ↦ is_value_of (Within 1 64 1) m ] ≡ true → is_value_of (Within 1 64 1) n ≡ true
-    ranks_of None n e h = absurd (cc)
-    ranks_of (Some m) n e h = let same : m ≡ n = cc in subst (λ x. is_value_of (Within 1 64 1) x ≡ true) same h
+    let again = known_again (version == 0) version n (hints_of n k.hints) k refl (ranks_told n law.some_rank law.few_ranks) (hints_told (hints_of n k.hints) law.hints) known.known.few known.known.what in
+    subst Whole same
+    (whole_from version n k.values (hints_of n k.hints) k.added.extras k.defined calls first law.few_ranks again end (finished c.0 calls c.1.1 f ends))))))
 
 -- ---- a whole text
 
@@ -225,4 +221,4 @@ whole_long script w = ap (λ (text : List ℕ). length (text_lines text)) (sym w
 pub shown_again : (text : List ℕ) (script : Script) → Reads text script → length (shown script) ≤ most_bytes → length (text_lines (shown script)) ≤ most_lines → Reads (shown script) script
 shown_again text script reads short few =
     let t = is_text text script reads in
-    whole_again script (whole_read (length (text_lines text) + 1) (significant text) script (significant_read text (valid_bytes text t.valid)) t.told) short few
+    whole_again script (whole_read (length (text_lines text) + 1) (significant text) script (lawful_parts script (read_lawful text script reads)) (significant_read text (valid_bytes text t.valid)) t.told) short few
