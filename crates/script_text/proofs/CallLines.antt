@@ -1,5 +1,5 @@
 -- The calls of all ranks, printed rank by rank, are read as the same calls.
-use Rattle.script_text.proofs.Words.{◌≡◌, ◌∙◌, ℕ, zero, suc, ◌+◌, ◌≤◌, ◌<◌, List, [], ◌∷◌, ◌++◌, map, length, replicate, Bool, true, false, not, nat_lt, slice_set, Result, Ok, Err, refl, sym, ap, subst, append_assoc, append-nil, length-append, arith, bytes_eq, codes, decimal, list_all, enumerate_from, and_parts, and_from, cond-true, ne_eqb, set_at, ScriptKind, ScriptErr, Call, most_values, values_in_call, call_word, shown_call, Word, Plain, Line, is_comment, is_digit, bare, next, Called, calls_of, rank_of_text, with_call, call_line, call_of, called_after, at_line, call_step, data_part, flat_map-append, nat_tests, length-set, length-replicate}
+use Rattle.script_text.proofs.Words.{all_joined, is_expressible_call, ◌≡◌, ◌∙◌, ℕ, zero, suc, ◌+◌, ◌≤◌, ◌<◌, List, [], ◌∷◌, ◌++◌, map, length, replicate, Bool, true, false, not, nat_lt, slice_set, Result, Ok, Err, refl, ap, subst, append_assoc, append-nil, length-append, arith, bytes_eq, codes, decimal, list_all, enumerate_from, and_parts, and_from, cond-true, ne_eqb, set_at, ScriptKind, ScriptErr, Call, most_values, values_in_call, call_word, shown_call, Word, Plain, Line, is_comment, is_digit, bare, next, Called, calls_of, rank_of_text, with_call, call_line, call_of, called_after, at_line, call_step, data_part, flat_map-append, nat_tests, length-replicate}
 use Rattle.std.proofs.Common.{flat_map}
 use borrow.Author.Tests.{ltb-true, lt-ltb}
 use Rattle.script_text.proofs.Steps.{went, go_on, same_ok, whole_value, tested, carried, step_then}
@@ -21,10 +21,6 @@ abbrev pub Chains : ℕ → ℕ → List (List Call) → Type 0
 Chains ranks r [] = Unit {0}
 Chains ranks r (own ∷ more) = Chain ranks r [] own × Chains ranks (r + 1) more
 
-chain_pushed : (ranks r : ℕ) (own cs : List Call) (c : Call) → Chain ranks r own cs → CallAgain ranks r (own ++ cs) c → Chain ranks r own (cs ++ c ∷ [])
-chain_pushed ranks r own [] c h k = (subst (λ xs. CallAgain ranks r xs c) (append-nil own) k, tt)
-chain_pushed ranks r own (x ∷ cs) c h k = (h.0, chain_pushed ranks r (own ++ x ∷ []) cs c h.1 (subst (λ xs. CallAgain ranks r xs c) (sym (append_assoc own (x ∷ []) cs)) k))
-
 abbrev pub count : List Call → ℕ
 count [] = 0
 count (c ∷ cs) = values_in_call c + count cs
@@ -37,12 +33,15 @@ count-pushed : (cs : List Call) (c : Call) → count (cs ++ c ∷ []) ≡ count 
 count-pushed [] c = omega arith
 count-pushed (x ∷ cs) c = omega (arith, count-pushed cs c)
 
-chains_set : (ranks a r k : ℕ) (calls : List (List Call)) (c : Call) → a + r ≡ k → r < length calls → Chains ranks a calls → CallAgain ranks k (calls_of r calls) c → Chains ranks a (slice_set calls r (calls_of r calls ++ c ∷ []))
-chains_set ranks a r k [] c e low h again = absurd (omega arith)
-chains_set ranks a zero k (own ∷ more) c e low h again =
-    let same : k ≡ a = omega arith in
-    (chain_pushed ranks a [] own c h.0 (subst (λ x. CallAgain ranks x own c) same again), h.1)
-chains_set ranks a (suc r) k (own ∷ more) c e low h again = (h.0, chains_set ranks (a + 1) r k more c (omega arith) (omega arith) h.1 again)
+abbrev pub are_named : List (List Call) → Bool
+are_named calls = list_all (list_all is_expressible_call) calls
+
+named_set : (calls : List (List Call)) (r : ℕ) (c : Call) → are_named calls ≡ true → is_expressible_call c ≡ true → are_named (slice_set calls r (calls_of r calls ++ c ∷ [])) ≡ true
+named_set [] r c h k = refl
+named_set (own ∷ more) zero c h k =
+    let both = and_parts (list_all is_expressible_call own) (are_named more) h in
+    and_from _ _ (all_joined is_expressible_call own (c ∷ []) both.0 (and_from _ _ k refl)) both.1
+named_set (own ∷ more) (suc r) c h k = let both = and_parts (list_all is_expressible_call own) (are_named more) h in and_from _ _ both.0 (named_set more r c both.1 k)
 
 pub count_set : (calls : List (List Call)) (r : ℕ) (c : Call) → r < length calls → count_all (slice_set calls r (calls_of r calls ++ c ∷ [])) ≡ count_all calls + values_in_call c
 count_set [] r c low = absurd (omega arith)
@@ -50,9 +49,8 @@ count_set (own ∷ more) zero c low = omega (arith, count-pushed own c)
 count_set (own ∷ more) (suc r) c low = omega (arith, count_set more r c (omega arith))
 
 -- what was called so far, v values having come before the first call
-pub record Holds (ranks v : ℕ) (d : Called) : Type 0 where
-  pub long : length d.calls ≡ ranks
-  pub chains : Chains ranks 0 d.calls
+pub record Holds (v : ℕ) (d : Called) : Type 0 where
+  pub named : are_named d.calls ≡ true
   pub counted : d.values ≡ v + count_all d.calls
   pub few : d.values ≤ most_values
 
@@ -62,14 +60,13 @@ rank_bound ranks w r h = grind (arith, nat_tests, nat_lt, same_ok, ltb-true)
 next_read : (ws : List Word) (r : List ℕ × List Word) → next ws ≡ Ok r → list_all is_read ws ≡ true → list_all is_read r.1 ≡ true
 next_read ws r h all = grind (arith, nat_tests, went, same_ok, and_parts)
 
-pub holds_on : (ranks v : ℕ) (d e : Called) (first : List ℕ) (ws : List Word) → Holds ranks v d → list_all is_read ws ≡ true → called_after d first ws ≡ Ok e → Holds ranks v e
-holds_on ranks v d e first ws holds read h =
+pub holds_on : (v : ℕ) (d e : Called) (first : List ℕ) (ws : List Word) → Holds v d → list_all is_read ws ≡ true → called_after d first ws ≡ Ok e → Holds v e
+holds_on v d e first ws holds read h =
     step_then (rank_of_text (length d.calls) first) _ e h (λ r ranked h. step_then (call_line d r ws) _ e h (λ c lined h. step_then (next ws) _ c lined (λ w worded k.
     let low = rank_bound (length d.calls) first r ranked in
     let again = call_read (length d.calls) r (calls_of r d.calls) d.values w.0 w.1 c holds.few (next_read ws w worded read) k in
-    subst (Holds ranks v) (same_ok (with_call r c d) e h) (record {
-      long = length-set d.calls r (calls_of r d.calls ++ c ∷ []) ∙ holds.long;
-      chains = chains_set ranks 0 r r d.calls c (omega arith) low holds.chains (subst (λ n. CallAgain n r (calls_of r d.calls) c) holds.long again.same);
+    subst (Holds v) (same_ok (with_call r c d) e h) (record {
+      named = named_set d.calls r c holds.named again.named;
       counted = omega (arith, holds.counted, count_set d.calls r c low);
       few = again.few;
     }))))
@@ -92,21 +89,21 @@ line_ok n (Err e) x h = absurd (cc)
 abbrev pub data_by : ℕ → Line → List Line → Result (Bool × Called) ScriptErr → Result (ℕ × (Called × List Line)) ScriptErr
 data_by past l lines r = elim r [ Err e ↦ Err e | Ok s ↦ elim s.0 [ true ↦ Ok (l.number, (s.1, lines)) | false ↦ data_part past s.1 lines ] ]
 
-step_holds : (ranks v : ℕ) (d : Called) (w : Word) (ws : List Word) (s : Bool × Called) → Holds ranks v d → list_all is_read ws ≡ true → call_step d w ws ≡ Ok s → Holds ranks v s.1
-step_holds ranks v d w ws s holds read h =
+step_holds : (v : ℕ) (d : Called) (w : Word) (ws : List Word) (s : Bool × Called) → Holds v d → list_all is_read ws ≡ true → call_step d w ws ≡ Ok s → Holds v s.1
+step_holds v d w ws s holds read h =
     step_then (bare w) _ s h (λ first is h. tested (bytes_eq first (codes "end")) _ _ _ h
-    (λ i k. subst (λ (x : Bool × Called). Holds ranks v x.1) (whole_value ((true, d), ws) s k).0 holds)
+    (λ i k. subst (λ (x : Bool × Called). Holds v x.1) (whole_value ((true, d), ws) s k).0 holds)
     (λ i k. step_then (called_after d first ws) _ s k (λ e told k.
-    subst (λ (x : Bool × Called). Holds ranks v x.1) (same_ok (false, e) s k) (holds_on ranks v d e first ws holds read told))))
+    subst (λ (x : Bool × Called). Holds v x.1) (same_ok (false, e) s k) (holds_on v d e first ws holds read told))))
 
-pub data_holds : (ranks v past : ℕ) (lines : List Line) (d : Called) (r : ℕ × (Called × List Line)) → Holds ranks v d → are_read lines ≡ true → data_part past d lines ≡ Ok r → Holds ranks v r.1.0
-data_holds ranks v past [] d r holds read h = absurd (cc)
-data_holds ranks v past (l ∷ lines) d r holds read h =
+pub data_holds : (v past : ℕ) (lines : List Line) (d : Called) (r : ℕ × (Called × List Line)) → Holds v d → are_read lines ≡ true → data_part past d lines ≡ Ok r → Holds v r.1.0
+data_holds v past [] d r holds read h = absurd (cc)
+data_holds v past (l ∷ lines) d r holds read h =
     let both = and_parts (list_all is_read l.rest) (are_read lines) read in
     let a = carried (at_line l.number (call_step d l.first l.rest)) _ r h in
-    let next = step_holds ranks v d l.first l.rest a.value holds both.0 (line_ok l.number _ a.value a.first) in
-    tested a.value.0 _ _ _ a.rest (λ i k. subst (λ (x : ℕ × (Called × List Line)). Holds ranks v x.1.0) (same_ok (l.number, (a.value.1, lines)) r k) next)
-    (λ i. data_holds ranks v past lines a.value.1 r next both.1)
+    let next = step_holds v d l.first l.rest a.value holds both.0 (line_ok l.number _ a.value a.first) in
+    tested a.value.0 _ _ _ a.rest (λ i k. subst (λ (x : ℕ × (Called × List Line)). Holds v x.1.0) (same_ok (l.number, (a.value.1, lines)) r k) next)
+    (λ i. data_holds v past lines a.value.1 r next both.1)
 
 -- ---- printed lines of calls
 

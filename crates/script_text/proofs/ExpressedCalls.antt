@@ -12,10 +12,10 @@ use Rattle.script_text.proofs.CallLines.{Chain, Chains, count, count_all}
 values_told : (vs : Values) → are_values vs ≡ true → are_expressible_values vs ≡ true → Fitting None 0 vs
 values_told vs lawful h = grind (arith, nat_tests, and_parts, nat_le, all_more, and_from, leb-true, not, nat_lt)
 
-no_values : (vs : Values) → is_nothing vs ≡ true → PostedAgain Iget 0 vs
+no_values : (vs : Values) → is_nothing vs ≡ true → PostedAgain Iget vs
 no_values vs h = grind (arith, nat_tests, nothing_posted)
 
-posted_told : (k : PostKind) (vs : Values) → is_post_of k vs ≡ true → are_expressible_values vs ≡ true → PostedAgain k 0 vs
+posted_told : (k : PostKind) (vs : Values) → is_post_of k vs ≡ true → are_expressible_values vs ≡ true → PostedAgain k vs
 posted_told Iget vs lawful h = no_values vs lawful
 posted_told Iput vs lawful h = (put_values 0 vs (values_told vs lawful h)).0
 posted_told Bput vs lawful h = (put_values 0 vs (values_told vs lawful h)).1
@@ -43,7 +43,7 @@ call_told ranks r own (call.Post id k n g vs) lawful h new =
     let a = and_parts (is_given g) (is_post_of k vs) lawful in
     let b = and_parts (is_id id && is_name n) (are_expressible_values vs) h in
     let d = and_parts (is_id id) (is_name n) b.0 in
-    post_same ranks r own k id n g 0 vs (ltb-true id (2 ^ 32) d.0) new d.1 (region_told g a.0) (posted_told k vs a.1 b.1)
+    post_same ranks r own k id n g vs (ltb-true id (2 ^ 32) d.0) new d.1 (region_told g a.0) (posted_told k vs a.1 b.1)
 call_told ranks r own c lawful h new = plain_told ranks r own c tt lawful h
 
 -- ---- the ids of a rank's posts

@@ -1,5 +1,5 @@
 -- The number of ranks and the hints, and what is known before `data` as a whole.
-use Rattle.script_text.proofs.Words.{◌%◌, eq-eqb, le-leb, eqb-true, is_within, is_alignment, are_lawful_hints, ◌≡◌, ◌∙◌, ℕ, ◌+◌, ◌^◌, ◌≤◌, ◌<◌, min, List, [], ◌∷◌, ◌++◌, map, Bool, true, false, ◌==◌, Option, Some, None, is_some, slice_set, Result, Ok, refl, ap, subst, arith, bytes_eq, codes, decimal, list_all, and_parts, and_from, ScriptKind, Hints, OverlapRule, Refuse, Serial, most_values, shown_hint, shown_hints, Word, Plain, Line, ◌>>=◌, bare, Within, HintForm, HintRow, flag, rule_number, rule_of, off_or_on, refuse_or_serial, hint_table, hint_of_text, hint_form, shown_value, none_given, hint_in, hints_of, number_within, hint_value, hint_line, ranks_line, Defined, no_definition, definition, Added, nothing_added, addition, Known, nothing_known, known_after, at_line, data_line, definition_step, definitions, nat_tests, take, drop}
+use Rattle.script_text.proofs.Words.{◌%◌, eq-eqb, le-leb, eqb-true, is_within, is_alignment, are_lawful_hints, ◌≡◌, ◌∙◌, ℕ, ◌+◌, ◌^◌, ◌≤◌, ◌<◌, List, [], ◌∷◌, ◌++◌, map, Bool, true, false, ◌==◌, Option, Some, None, is_some, slice_set, Result, Ok, refl, ap, subst, arith, bytes_eq, codes, decimal, list_all, and_parts, and_from, ScriptKind, Hints, OverlapRule, Refuse, Serial, most_values, shown_hint, shown_hints, Word, Plain, Line, ◌>>=◌, bare, Within, HintForm, HintRow, flag, rule_number, rule_of, off_or_on, refuse_or_serial, hint_table, hint_of_text, hint_form, shown_value, none_given, hint_in, hints_of, number_within, hint_value, hint_line, ranks_line, Defined, no_definition, definition, Added, nothing_added, addition, Known, nothing_known, known_after, at_line, data_line, definition_step, definitions, nat_tests, take, drop}
 use Rattle.std.proofs.Common.{flat_map}
 use Rattle.nc_base.specs.declared.errors.ScriptKind.TheVariants as kind
 use Rattle.script_text.proofs.Steps.{same_ok, word_read, tested, looked, carried, step_then}

@@ -1,5 +1,5 @@
 -- Numbers, bits, lists and names that are printed are read as themselves, and what is read of them is within its range.
-use Rattle.script_text.proofs.Words.{◌≡◌, ◌∙◌, ℕ, zero, suc, ◌+◌, ◌-◌, ◌*◌, ◌/◌, ◌%◌, ◌^◌, ◌≤◌, ◌<◌, List, [], ◌∷◌, ◌++◌, map, length, get_or, fold, Bool, true, false, not, nat_lt, nat_le, ◌==◌, ◌&&◌, ◌||◌, Option, Some, None, option_map, option_and_then, ℤ, pos, negsuc, neg_ℤ, unsigned_abs, refl, ap, subst, length-append, arith, decimal, signed_decimal, list_all, slice_split, All, and_parts, and_from, ne_eqb, eq-eqb, cond-true, cond-false, le-leb, lt-ltb, not-true, decimal_by_steps_wide, length-decimal-le_wide, common_steps, take_at, get_or_at, fold_push, AllPass-from_list_all, slice_split_at, slice_split_none, digit_bounds, natural_small, no_sum, sixteens-le, sixteens, size_read, hex, hex_digit, joined, bracketed, size_list, is_digit, digits_value, natural_of, below, size_of_text, number_of_text, hex_sum, hex_value, bits_of_text, starts_name, in_name, is_name, between_brackets, is_comma, parts, all_some, list_of_text, all_joined, nat_tests}
+use Rattle.script_text.proofs.Words.{◌≡◌, ◌∙◌, ℕ, zero, suc, ◌+◌, ◌-◌, ◌*◌, ◌/◌, ◌%◌, ◌^◌, ◌≤◌, ◌<◌, List, [], ◌∷◌, ◌++◌, map, length, get_or, fold, Bool, true, false, not, nat_lt, nat_le, ◌==◌, ◌&&◌, ◌||◌, Option, Some, None, option_map, option_and_then, ℤ, pos, negsuc, neg_ℤ, unsigned_abs, refl, ap, subst, length-append, arith, decimal, signed_decimal, list_all, slice_split, All, and_parts, and_from, ne_eqb, eq-eqb, cond-true, cond-false, le-leb, lt-ltb, not-true, decimal_by_steps_wide, length-decimal-le_wide, common_steps, take_at, get_or_at, fold_push, AllPass-from_list_all, slice_split_at, slice_split_none, digit_bounds, natural_small, no_sum, sixteens-le, sixteens, hex, hex_digit, joined, bracketed, size_list, is_digit, digits_value, natural_of, below, size_of_text, number_of_text, hex_sum, hex_value, bits_of_text, starts_name, in_name, is_name, between_brackets, is_comma, parts, all_some, list_of_text, all_joined, nat_tests}
 use native.Mathlib.Nat.{mul-le-mul_right}
 use Rattle.script_text.proofs.Lexing.{is_graphic, is_plain, hex_again}
 use Rattle.script_text.proofs.Lines.{all_more}
@@ -193,13 +193,6 @@ is_size n = nat_lt n (2 ^ 63)
 
 size_low : (n : ℕ) → is_size n ≡ true → n < 2 ^ 63
 size_low n h = grind (arith, common_steps)
-
-sizes_bound : (ws : List (List ℕ)) (ns : List ℕ) → all_some (map size_of_text ws) ≡ Some ns → list_all is_size ns ≡ true
-sizes_bound [] ns h = let same : [] ≡ ns = cc in subst (λ (xs : List ℕ). list_all is_size xs ≡ true) same refl
-sizes_bound (w ∷ ws) ns h = grind (arith, nat_tests, sizes_bound ws, option_map, and_from, lt-ltb, size_read)
-
-pub list_bound : (w : List ℕ) (ns : List ℕ) → list_of_text w ≡ Some ns → list_all is_size ns ≡ true
-list_bound w ns h = grind (arith, nat_tests, option_and_then, sizes_bound)
 
 digit_item : (d : ℕ) → is_digit d ≡ true → is_item_byte d ≡ true
 digit_item d h = let b = digit_bounds d h in and_from _ _ (digit_graphic d h) (ap not (ne_eqb d 44 (omega arith)))

@@ -1,8 +1,8 @@
 -- Hints, dimensions and variables that are printed are read again.
-use Rattle.script_text.proofs.Words.{◌≡◌, ◌⊎◌, ◌∙◌, ℕ, zero, suc, ◌%◌, ◌^◌, ◌<◌, List, [], ◌∷◌, length, Bool, true, false, not, cond, nat_le, ◌==◌, ◌&&◌, ◌||◌, Option, Some, None, is_some, slice_get, slice_set, unwrap_or, Ok, refl, sym, ap, subst, inl, inr, arith, bytes_eq, codes, decimal, list_all, list_any, and_parts, and_from, cond-true, cond-false, NcType, Dim, most_dims, most_vars, record_limit, type_word, bracketed, Word, Plain, is_name, size_of_text, between_brackets, parts, reads_as, HintForm, Within, Either, HintRow, hint_table, hint_of_text, hint_form, hint_in, no_row, number_within, one_of_two, hint_value, hint_line, ranks_line, type_of, is_among, length_of_text, is_unlimited, dim_names, dim_line, var_head, name_list, size_read, nat_tests}
+use Rattle.script_text.proofs.Words.{◌≡◌, ◌⊎◌, ◌∙◌, ℕ, ◌%◌, ◌^◌, ◌<◌, List, [], ◌∷◌, length, Bool, true, false, not, cond, nat_le, ◌==◌, ◌&&◌, ◌||◌, Option, Some, None, Ok, refl, sym, ap, subst, inl, inr, arith, bytes_eq, codes, decimal, list_all, list_any, and_parts, and_from, cond-true, cond-false, NcType, Dim, most_dims, most_vars, record_limit, type_word, bracketed, Word, Plain, is_name, size_of_text, between_brackets, parts, reads_as, HintForm, Within, Either, number_within, ranks_line, type_of, is_among, length_of_text, is_unlimited, dim_names, dim_line, var_head, name_list, size_read, nat_tests}
 use borrow.Author.Tests.{leb-true, not-false}
 use Rattle.nc_base.specs.declared.errors.ScriptKind.TheVariants as kind
-use Rattle.script_text.proofs.Steps.{go_on, same_ok, passed, read_word, word_read, step_then, free_then, word_then, end_then}
+use Rattle.script_text.proofs.Steps.{go_on, same_ok, passed, word_read, step_then, free_then, word_then, end_then}
 use Rattle.script_text.proofs.Lexing.{is_plain, is_good}
 use Rattle.script_text.proofs.Lines.{all_more}
 use Rattle.script_text.proofs.Numerals.{below_bound, below_again, size_again, size_plain, decimal_word, brackets_again, parts_again, bracketed_plain, is_item, name_item, name_plain}
@@ -40,9 +40,6 @@ length_word n = cond (n == 0) (codes "unlimited") (decimal n)
 
 abbrev pub dim_tokens : Dim → List Word
 dim_tokens d = Plain d.name ∷ Plain (length_word d.len) ∷ []
-
-abbrev length_by : Option ℕ → Option ℕ
-length_by o = elim o [ None ↦ None | Some n ↦ cond (n == 0) None (Some n) ]
 
 -- a length that is read: unlimited, or a number within the limit
 length_is : (version : ℕ) (w : List ℕ) (n : ℕ) → length_of_text version w ≡ Some n → (n ≡ 0) ⊎ (((n == 0) ≡ false) × (n < record_limit version) × (n < 2 ^ 63))

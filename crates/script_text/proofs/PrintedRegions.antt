@@ -1,5 +1,5 @@
 -- Names, regions, ids and choices that are printed are read again.
-use Rattle.script_text.proofs.Words.{◌≡◌, ◌∙◌, ℕ, zero, suc, ◌+◌, ◌^◌, ◌≤◌, ◌<◌, List, [], ◌∷◌, ◌++◌, map, length, Bool, true, false, not, nat_lt, nat_le, ◌==◌, ◌&&◌, Option, Some, Result, Ok, refl, sym, ap, subst, append_assoc, append-nil, length-append, arith, bytes_eq, codes, decimal, list_all, and_parts, and_from, cond-true, ne_eqb, faultless_some, ScriptKind, Form, Given, Part, Choice, Every, Listed, most_parts, has_lists_of, has_its_lists, is_given, is_empty, size_list, part_words, form_words, choice_words, Word, Plain, is_word, is_name, size_of_text, list_of_text, ◌>>=◌, reads_as, size, list, name, name_of_text, given_of, given_parts, part, part_list, region, id_of_text, one_id, ids, choice, is_id, is_expressible_choice, all_joined, nat_tests, cond_some}
+use Rattle.script_text.proofs.Words.{◌≡◌, ◌∙◌, ℕ, zero, suc, ◌+◌, ◌^◌, ◌≤◌, ◌<◌, List, [], ◌∷◌, ◌++◌, map, length, Bool, true, false, not, nat_lt, nat_le, ◌==◌, ◌&&◌, Option, Some, Result, Ok, refl, sym, ap, subst, append_assoc, append-nil, arith, bytes_eq, codes, decimal, list_all, and_parts, and_from, cond-true, ne_eqb, faultless_some, ScriptKind, Form, Given, Part, Choice, Every, Listed, most_parts, has_lists_of, has_its_lists, is_given, is_empty, size_list, part_words, form_words, choice_words, Word, Plain, is_word, is_name, size_of_text, list_of_text, ◌>>=◌, reads_as, size, list, name, name_of_text, given_of, given_parts, part, part_list, region, id_of_text, one_id, ids, choice, is_id, is_expressible_choice, all_joined, nat_tests, cond_some}
 use Rattle.std.proofs.Common.{flat_map}
 use borrow.Author.Tests.{ltb-true, ltb-false, lt-ltb, le-ltb, leb-true}
 use Rattle.nc_base.specs.declared.errors.ScriptKind.TheVariants as kind
@@ -7,9 +7,8 @@ use Rattle.nc_base.specs.declared.request.Form.TheVariants as form
 use Rattle.script_text.proofs.Steps.{went, go_on, same_ok, passed, faultless, read_word, word_read, word_before, whole_value, carried, carry_on, by_false, tested, step_then, free_then}
 use Rattle.script_text.proofs.Lexing.{spelling, is_plain, is_good}
 use Rattle.script_text.proofs.Lines.{empty_list}
-use Rattle.script_text.proofs.Numerals.{decimal_word, below_bound, below_again, size_again, size_plain, is_size, list_bound, list_again, list_plain}
+use Rattle.script_text.proofs.Numerals.{decimal_word, below_bound, below_again, size_again, size_plain, is_size, list_again, list_plain}
 use Rattle.script_text.proofs.PrintedValues.{is_read, plain_spelled, not_letters}
-use Rattle.script_spec.proofs.NumeralLaws.{size_read as size_bound}
 
 -- what was read of the words was read of those that are left
 abbrev pub Kept : List Word → List Word → Type 0
@@ -34,9 +33,6 @@ name_again n more h = word_read name_of_text kind.BadName n n more (cond-true _ 
 
 -- ---- sizes and lists
 
-pub size_read : (ws : List Word) (r : ℕ × List Word) → size ws ≡ Ok r → r.0 < 2 ^ 63
-size_read ws r h = let w = read_word size_of_text kind.BadNumber ws r h in size_bound w.0 r.0 w.1
-
 pub size_word : (n : ℕ) (more : List Word) → n < 2 ^ 63 → size (Plain (decimal n) ∷ more) ≡ Ok (n, more)
 size_word n more h = word_read size_of_text kind.BadNumber (decimal n) n more (size_again n h)
 
@@ -46,9 +42,8 @@ are_sizes ns = list_all is_size ns
 list_word : (ns : List ℕ) (more : List Word) → are_sizes ns ≡ true → list (Plain (size_list ns) ∷ more) ≡ Ok (ns, more)
 list_word ns more h = word_read list_of_text kind.BadNumber (size_list ns) ns more (list_again ns h)
 
-list_then : {B P : Type 0} (ws : List Word) (f : List ℕ × List Word → Result B ScriptKind) (y : B) → (list ws >>= f) ≡ Ok y → ((s : List ℕ × List Word) → are_sizes s.0 ≡ true → Kept ws s.1 → f s ≡ Ok y → P) → P
-list_then ws f y h k =
-    step_then (list ws) f y h (λ s is. let w = read_word list_of_text kind.BadNumber ws s is in k s (list_bound w.0 s.0 w.1) (kept list_of_text kind.BadNumber ws s is))
+list_then : {B P : Type 0} (ws : List Word) (f : List ℕ × List Word → Result B ScriptKind) (y : B) → (list ws >>= f) ≡ Ok y → ((s : List ℕ × List Word) → Kept ws s.1 → f s ≡ Ok y → P) → P
+list_then ws f y h k = step_then (list ws) f y h (λ s is. k s (kept list_of_text kind.BadNumber ws s is))
 
 -- ---- parts
 
@@ -58,33 +53,19 @@ part_tokens p = Plain (size_list p.start) ∷ Plain (size_list p.count) ∷ []
 abbrev is_part : Part → Bool
 is_part p = are_sizes p.start && are_sizes p.count
 
-record PartRead (ws : List Word) (r : Part × List Word) : Type 0 where
-  sized : is_part r.0 ≡ true
-  rest : Kept ws r.1
-
-part_read : (ws : List Word) (r : Part × List Word) → part ws ≡ Ok r → PartRead ws r
-part_read ws r h =
-    list_then ws _ r h (λ s hs ks h. list_then s.1 _ r h (λ c hc kc h.
-    subst (PartRead ws) (same_ok (record { start = s.0; count = c.0 }, c.1) r h) (record { sized = and_from _ _ hs hc; rest = λ a. kc (ks a) })))
+part_kept : (ws : List Word) (r : Part × List Word) → part ws ≡ Ok r → Kept ws r.1
+part_kept ws r h =
+    list_then ws _ r h (λ s ks h. list_then s.1 _ r h (λ c kc h.
+    subst (λ (x : Part × List Word). Kept ws x.1) (same_ok (record { start = s.0; count = c.0 }, c.1) r h) (λ a. kc (ks a))))
 
 part_again : (p : Part) (more : List Word) → is_part p ≡ true → part (Plain (size_list p.start) ∷ Plain (size_list p.count) ∷ more) ≡ Ok (p, more)
 part_again p more h = grind (arith, nat_tests, and_parts, go_on, list_word)
 
-part_pushed : (found : List Part) (p : Part) → list_all is_part found ≡ true → is_part p ≡ true → list_all is_part (found ++ p ∷ []) ≡ true
-part_pushed found p a b = all_joined is_part found (p ∷ []) a (and_from _ _ b refl)
-
-record PartsRead (long : ℕ) (ws : List Word) (r : List Part × List Word) : Type 0 where
-  sized : list_all is_part r.0 ≡ true
-  all : long ≡ length r.0
-  rest : Kept ws r.1
-
-parts_read : (n : ℕ) (found : List Part) (ws : List Word) (r : List Part × List Word) → list_all is_part found ≡ true → part_list n found ws ≡ Ok r → PartsRead (length found + n) ws r
-parts_read zero found ws r h e = subst (PartsRead (length found + 0) ws) (same_ok (found, ws) r e) (record { sized = h; all = omega arith; rest = λ a. a })
-parts_read (suc n) found ws r h e =
+parts_kept : (n : ℕ) (found : List Part) (ws : List Word) (r : List Part × List Word) → part_list n found ws ≡ Ok r → Kept ws r.1
+parts_kept zero found ws r e = subst (λ (x : List Part × List Word). Kept ws x.1) (same_ok (found, ws) r e) (λ a. a)
+parts_kept (suc n) found ws r e =
     let a = carried (part ws) (λ p. part_list n (found ++ p.0 ∷ []) p.1) r e in
-    let one = part_read ws a.value a.first in
-    let more = parts_read n (found ++ a.value.0 ∷ []) a.value.1 r (part_pushed found a.value.0 h one.sized) a.rest in
-    record { sized = more.sized; all = omega (arith, more.all, length-append found (a.value.0 ∷ [])); rest = λ b. more.rest (one.rest b) }
+    λ b. parts_kept n (found ++ a.value.0 ∷ []) a.value.1 r a.rest (part_kept ws a.value a.first b)
 
 parts_again : (ps found : List Part) (more : List Word) → list_all is_part ps ≡ true → part_list (length ps) found (flat_map part_tokens ps ++ more) ≡ Ok (found ++ ps, more)
 parts_again [] found more h = ap (λ (xs : List Part). Ok (xs, more)) (sym (append-nil found))
@@ -131,31 +112,22 @@ varm_again s c d m hs hc hd hm = grind (arith, nat_tests, and_from, list_plain, 
 varn_again : (ps : List Part) → list_all is_part ps ≡ true → (length ps == 0) ≡ false → nat_lt most_parts (length ps) ≡ false → RegionAgain (given_parts ps)
 varn_again ps h some few = grind (arith, nat_tests, ltb-false, and_from, size_plain, parts_good, go_on, decimal, flat_map, size_word, passed, nat_lt, parts_again)
 
--- a region that is read, and the words that are left
-pub record RegionRead (ws : List Word) (r : Given × List Word) : Type 0 where
-  pub same : RegionAgain r.0
-  pub rest : Kept ws r.1
+-- the words that are left of a region that is read
+given : (ws : List Word) (x y : Given × List Word) → ◌≡◌ {A = Result (Given × List Word) ScriptKind} (Ok x) (Ok y) → Kept ws x.1 → Kept ws y.1
+given ws x y e k = subst (λ (z : Given × List Word). Kept ws z.1) (same_ok x y e) k
 
-given : {ws : List Word} (x y : Given × List Word) → ◌≡◌ {A = Result (Given × List Word) ScriptKind} (Ok x) (Ok y) → RegionAgain x.0 → Kept ws x.1 → RegionRead ws y
-given {ws} x y e h k = subst (RegionRead ws) (same_ok x y e) (record { same = h; rest = k })
-
-pub region_read : (f : Form) (ws : List Word) (r : Given × List Word) → region f ws ≡ Ok r → RegionRead ws r
-region_read form.Var ws r h = given (given_of form.Var [] [] [] [], ws) r h (record { good = refl; again = λ more. refl }) (λ a. a)
-region_read form.Var1 ws r h = list_then ws _ r h (λ s hs ks h. given (given_of form.Var1 s.0 [] [] [], s.1) r h (var1_again s.0 hs) ks)
-region_read form.Vara ws r h =
-    list_then ws _ r h (λ s hs ks h. list_then s.1 _ r h (λ c hc kc h. given (given_of form.Vara s.0 c.0 [] [], c.1) r h (vara_again s.0 c.0 hs hc) (λ a. kc (ks a))))
-region_read form.Vars ws r h =
-    list_then ws _ r h (λ s hs ks h. list_then s.1 _ r h (λ c hc kc h. list_then c.1 _ r h (λ d hd kd h.
-    given (given_of form.Vars s.0 c.0 d.0 [], d.1) r h (vars_again s.0 c.0 d.0 hs hc hd) (λ a. kd (kc (ks a))))))
-region_read form.Varm ws r h =
-    list_then ws _ r h (λ s hs ks h. list_then s.1 _ r h (λ c hc kc h. list_then c.1 _ r h (λ d hd kd h. list_then d.1 _ r h (λ m hm km h.
-    given (given_of form.Varm s.0 c.0 d.0 m.0, m.1) r h (varm_again s.0 c.0 d.0 m.0 hs hc hd hm) (λ a. km (kd (kc (ks a))))))))
-region_read form.Varn ws r h =
-    step_then (size ws) _ r h (λ n is h. free_then _ _ _ r h (λ some h. free_then _ _ _ r h (λ few h. step_then (part_list n.0 [] n.1) _ r h (λ ps told h.
-    let parts = parts_read n.0 [] n.1 ps refl told in
-    let long : n.0 ≡ length ps.0 = omega (arith, parts.all) in
-    given (given_parts ps.0, ps.1) r h (varn_again ps.0 parts.sized (subst (λ m. (m == 0) ≡ false) long some) (subst (λ m. nat_lt most_parts m ≡ false) long few))
-    (λ a. parts.rest (kept size_of_text kind.BadNumber ws n is a))))))
+pub region_kept : (f : Form) (ws : List Word) (r : Given × List Word) → region f ws ≡ Ok r → Kept ws r.1
+region_kept form.Var ws r h = given ws (given_of form.Var [] [] [] [], ws) r h (λ a. a)
+region_kept form.Var1 ws r h = list_then ws _ r h (λ s ks h. given ws (given_of form.Var1 s.0 [] [] [], s.1) r h ks)
+region_kept form.Vara ws r h = list_then ws _ r h (λ s ks h. list_then s.1 _ r h (λ c kc h. given ws (given_of form.Vara s.0 c.0 [] [], c.1) r h (λ a. kc (ks a))))
+region_kept form.Vars ws r h =
+    list_then ws _ r h (λ s ks h. list_then s.1 _ r h (λ c kc h. list_then c.1 _ r h (λ d kd h. given ws (given_of form.Vars s.0 c.0 d.0 [], d.1) r h (λ a. kd (kc (ks a))))))
+region_kept form.Varm ws r h =
+    list_then ws _ r h (λ s ks h. list_then s.1 _ r h (λ c kc h. list_then c.1 _ r h (λ d kd h. list_then d.1 _ r h (λ m km h.
+    given ws (given_of form.Varm s.0 c.0 d.0 m.0, m.1) r h (λ a. km (kd (kc (ks a))))))))
+region_kept form.Varn ws r h =
+    step_then (size ws) _ r h (λ n is h. free_then (n.0 == 0) _ _ r h (λ some h. free_then (nat_lt most_parts n.0) _ _ r h (λ few h. step_then (part_list n.0 [] n.1) _ r h (λ ps told h.
+    given ws (given_parts ps.0, ps.1) r h (λ a. parts_kept n.0 [] n.1 ps told (kept size_of_text kind.BadNumber ws n is a))))))
 
 -- ---- a region that has just the lists of its form
 
@@ -251,10 +223,10 @@ pub choice_told : (c : Choice) → is_expressible_choice c ≡ true → ChoiceAg
 choice_told Every h = record { good = refl; again = refl }
 choice_told (Listed ns) h = record { good = ids_good ns h; again = listed_again ns h }
 
-pub choice_read : (ws : List Word) (c : Choice) → choice ws ≡ Ok c → ChoiceAgain c
-choice_read [] c h = subst ChoiceAgain (same_ok (Listed []) c h) (record { good = refl; again = refl })
+pub choice_read : (ws : List Word) (c : Choice) → choice ws ≡ Ok c → is_expressible_choice c ≡ true
+choice_read [] c h = subst (λ (x : Choice). is_expressible_choice x ≡ true) (same_ok (Listed []) c h) refl
 choice_read (w ∷ ws) c h =
-    tested (is_word (codes "all") w) _ _ _ h (λ i k. subst ChoiceAgain (whole_value (Every, ws) c k).0 (record { good = refl; again = refl }))
+    tested (is_word (codes "all") w) _ _ _ h (λ i k. subst (λ (x : Choice). is_expressible_choice x ≡ true) (whole_value (Every, ws) c k).0 refl)
     (λ i k.
     let a = went (ids [] (w ∷ ws)) _ c k in
-    subst ChoiceAgain (same_ok (Listed a.value) c a.rest) (choice_told (Listed a.value) (ids_read (w ∷ ws) [] a.value refl a.first)))
+    subst (λ (x : Choice). is_expressible_choice x ≡ true) (same_ok (Listed a.value) c a.rest) (ids_read (w ∷ ws) [] a.value refl a.first))

@@ -1,17 +1,18 @@
 -- A whole script: what is printed of what was read is read as the same script.
-use Rattle.script_text.proofs.Words.{◌≡◌, ◌∙◌, ℕ, zero, suc, ◌+◌, ◌%◌, ◌^◌, ◌≤◌, ◌<◌, List, [], ◌∷◌, ◌++◌, map, replicate, length, Bool, true, false, cond, nat_lt, nat_le, ◌==◌, ◌&&◌, Option, Some, None, Result, Ok, Err, refl, sym, ap, subst, arith, codes, decimal, list_all, utf8_valid_len, and_parts, and_from, or_cases, cond-true, ne_eqb, eqb-true, finished, ScriptKind, ScriptErr, Hints, Extra, Script, Call, is_version, kinds, most_values, shown, Word, Plain, Line, text_lines, significant, ◌>>=◌, Within, hints_of, Defined, no_definition, Added, nothing_added, Known, nothing_known, ranks_line, Called, mismatch, at_line, version_of_text, head, definitions, data_part, finish, script_of, no_calls, script_of_lines, most_bytes, most_lines, Reads, length-map, all_joined, nat_tests, length-replicate}
+use Rattle.script_text.proofs.Words.{◌≡◌, ◌∙◌, ℕ, zero, suc, ◌+◌, ◌^◌, ◌≤◌, ◌<◌, List, [], ◌∷◌, ◌++◌, map, replicate, length, Bool, true, false, cond, nat_lt, ◌==◌, Option, Some, None, Result, Ok, Err, refl, sym, ap, subst, arith, codes, decimal, list_all, utf8_valid_len, and_parts, and_from, or_cases, cond-true, ne_eqb, eqb-true, finished, ScriptKind, ScriptErr, Hints, Extra, Script, Call, is_version, kinds, most_values, shown, Word, Plain, Line, text_lines, significant, ◌>>=◌, Within, hints_of, Defined, no_definition, Added, nothing_added, Known, nothing_known, ranks_line, mismatch, at_line, version_of_text, head, definitions, data_part, finish, script_of, no_calls, script_of_lines, most_bytes, most_lines, Reads, length-map, all_joined, nat_tests}
 use Rattle.std.proofs.Common.{flat_map}
 use Rattle.serial_spec.proofs.Common.{IsLawful, lawful_parts}
 use Rattle.script_laws.proofs.LawfulLaws.{read_lawful}
-use borrow.Author.Tests.{leb-true, le-ltb, ltb-false}
+use borrow.Author.Tests.{le-ltb, ltb-false}
 use Rattle.script_text.proofs.Steps.{go_on, same_ok, word_read, step_then}
 use Rattle.script_text.proofs.Lines.{is_line, spelled, body, numbered, lead_on, lead_lines, lines_again, significant_lines, valid_lines, valid_bytes}
 use Rattle.script_text.proofs.Numerals.{size_again, size_plain}
 use Rattle.script_text.proofs.PrintedDefinitions.{is_value_of, ranks_again, within_plain}
-use Rattle.script_text.proofs.CallLines.{Chains, count_all, Holds, DataEnd, are_read, data_holds, call_lines, Calls, all_calls_run, data_again, line_ok}
+use Rattle.script_text.proofs.CallLines.{are_named, count_all, Holds, DataEnd, are_read, data_holds, call_lines, Calls, all_calls_run, data_again, line_ok}
 use Rattle.script_text.proofs.AddedLines.{Leads, Runs, run_again, Replay, replay_runs, extra_line}
 use Rattle.script_text.proofs.DefinedChains.{DefinedOk}
 use Rattle.script_text.proofs.DefinedLines.{at_state, define_on, told_again, nothing_but, definitions_run}
+use Rattle.script_text.proofs.ExpressedCalls.{chains_told}
 use Rattle.script_text.proofs.ReadWords.{significant_read}
 use Rattle.script_text.proofs.KnownLines.{hint_tokens, all_given, hints_again, HintsFit, ranks_told, hints_told, with_hints, hints_run, What, nothing_ok, definitions_read}
 use Rattle.script_text.proofs.ScriptLines.{ranks_words, fill_lines, before_data, from_data, head_words, all_lines, script_with, all_spelled}
@@ -107,19 +108,16 @@ head_again b past version wss script e h = grind (arith, nat_tests, numbered, de
 
 -- ---- the script again
 
-chains_empty : (ranks r n : ℕ) → Chains ranks r (replicate n [])
-chains_empty ranks r zero = tt
-chains_empty ranks r (suc n) = (tt, chains_empty ranks (r + 1) n)
+none_named : (n : ℕ) → are_named (replicate n []) ≡ true
+none_named zero = refl
+none_named (suc n) = none_named n
 
 pub count_empty : (n : ℕ) → count_all (replicate n []) ≡ 0
 count_empty zero = refl
 count_empty (suc n) = omega (arith, count_empty n)
 
-none_called : (n : ℕ) (k : Known) → k.values ≤ most_values → Holds n k.values (no_calls n k)
-none_called n k few = record { long = length-replicate n []; chains = chains_empty n 0 n; counted = omega (arith, count_empty n); few = few }
-
-all_called : (n values : ℕ) (d : Called) → Holds n values d → DataEnd n values d.calls
-all_called n values d holds = record { long = holds.long; chains = holds.chains; few = omega (arith, holds.counted, holds.few) }
+none_called : (n : ℕ) (k : Known) → k.values ≤ most_values → Holds k.values (no_calls n k)
+none_called n k few = record { named = none_named n; counted = omega (arith, count_empty n); few = few }
 
 abbrev pub finish_by : ℕ → Option ScriptKind → Result (Unit {0}) ScriptErr
 finish_by n o = elim o [ None ↦ Ok tt | Some e ↦ Err (record { line = n; kind = e }) ]
@@ -189,7 +187,8 @@ whole_read past (l ∷ lines) script lawful read h =
     let law = subst IsLawful (sym same) lawful in
     let first = head_read l.first l.rest version (line_ok l.number (head l.first l.rest) version heads) in
     let known = definitions_read past version lines nothing_known d (and_parts _ _ read).1 (nothing_ok version) told in
-    let end : DataEnd n k.values calls = all_called n k.values c.1.0 (data_holds n k.values past d.1.1 (no_calls n k) c (none_called n k known.known.few) known.read called) in
+    let holds = data_holds k.values past d.1.1 (no_calls n k) c (none_called n k known.known.few) known.read called in
+    let end : DataEnd n k.values calls = record { long = law.one_list_each; chains = chains_told n 0 calls law.each_call holds.named law.ids_once; few = omega (arith, holds.counted, holds.few) } in
     let again = known_again (version == 0) version n (hints_of n k.hints) k refl (ranks_told n law.some_rank law.few_ranks) (hints_told (hints_of n k.hints) law.hints) known.known.few known.known.what in
     subst Whole same
     (whole_from version n k.values (hints_of n k.hints) k.added.extras k.defined calls first law.few_ranks again end (finished c.0 calls c.1.1 f ends))))))
