@@ -3,6 +3,7 @@ pub mod Capping
 mod EndLaws
 pub mod Soundness
 pub mod WrittenLengths
+pub mod CountedSound
 pub mod ElementPlaces
 mod Searches
 pub mod CreatedFiles
