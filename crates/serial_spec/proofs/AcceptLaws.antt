@@ -1,6 +1,5 @@
 -- The elements of an accepted region are elements of the variable, and their bytes lie within the file of the records that it needs.
-use Rattle.serial_spec.proofs.Words.{◌≡◌, ℕ, zero, suc, ◌+◌, ◌-◌, ◌*◌, ◌<◌, ◌≤◌, refl, sym, ◌∙◌, ap, subst, List, [], ◌∷◌, length, map, drop, Bool, true, false, not, ◌||◌, cond, Option, Some, None, arith, mul-le-mul_right, nat_tests, list_any, AllByRecursion, range_with_len, flat_map, slice_get, slice_index, MatchBool, ◌==◌, not-false, length-map, or_first_false, or_second_false, equal_zero, equal_suc, and_first, and_second, each_map, each_append, each_flat_map, each_weaker, Header, Var, Region, Direction, Put, Get, Code, Post, size_of, product, length_of, lengths, starts_with_zero, without_record, end_of, place, record_of, within_record, HasRecord, IsIndex, IsElementBelow, is_sound, coordinates, index_at, elements, places, bound, bounds, bad_edge, some_edge, some_start, other_shape, asks_too_much, first_code, check_var, check_some, check, records_of, records_of_some, needed, needed_by, Puts, bytes_of, bytes_of_some, covered}
-use borrow.Author.Tests.{eqb-true}
+use Rattle.serial_spec.proofs.Words.{◌≡◌, ℕ, zero, suc, ◌+◌, ◌-◌, ◌*◌, ◌<◌, ◌≤◌, refl, sym, ◌∙◌, ap, subst, List, [], ◌∷◌, length, map, drop, Bool, true, false, not, ◌||◌, cond, Option, Some, None, arith, mul-le-mul_right, nat_tests, list_any, AllByRecursion, range_with_len, flat_map, slice_get, slice_index, MatchBool, ◌==◌, not-false, length-map, or_first_false, or_second_false, equal_zero, equal_suc, and_first, and_second, each_map, each_append, each_flat_map, each_weaker, Header, Var, Region, Direction, Put, Get, Code, Post, size_of, product, length_of, lengths, starts_with_zero, without_record, end_of, place, record_of, within_record, HasRecord, IsIndex, IsElementBelow, is_sound, coordinates, index_at, elements, places, bound, bounds, bad_edge, some_edge, some_start, other_shape, asks_too_much, first_code, check_var, check_some, check, records_of, records_of_some, needed, needed_by, Puts, bytes_of, bytes_of_some, covered, eqb-true}
 use Rattle.nc_base.specs.declared.answer.Code.TheVariants as code
 use Rattle.serial_spec.proofs.RowLaws.{row_below}
 use Rattle.serial_spec.proofs.RoomLaws.{none_later, element_inside, end_grows}

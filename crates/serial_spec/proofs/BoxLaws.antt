@@ -1,6 +1,5 @@
 -- The boxes of a range of row-major numbers have just the indices with these numbers, in order.
-use Rattle.serial_spec.proofs.Words.{◌≡◌, ℕ, zero, suc, ◌+◌, ◌-◌, ◌*◌, ◌/◌, ◌%◌, ◌<◌, ◌≤◌, refl, sym, ◌∙◌, ap, List, [], ◌∷◌, ◌++◌, length, map, take, drop, replicate, false, append_assoc, arith, add-mul, le_of_mul-le-mul_right, mul-le-mul_right, drop-append-add, take-append-add, div-add-mod', mod_below, le-div, drop-drop, drop-append-le, take-append-le, length-drop, map-append, append-nil, length-map, flat_map-append, flat_map, ◌==◌, range_with_len, eqb-false, some_factor, map_map, flat_same, Part, product, coordinates, boxes, in_row, whole_rows, shifted, box_indices, AreBoxes, part, part_joined, part_none, part_map, nat_tests, leb_tells, inl, inr, holds_or_not}
-use borrow.Author.Tests.{ltb-true, ltb-false, eqb-true}
+use Rattle.serial_spec.proofs.Words.{◌≡◌, ℕ, zero, suc, ◌+◌, ◌-◌, ◌*◌, ◌/◌, ◌%◌, ◌<◌, ◌≤◌, refl, sym, ◌∙◌, ap, List, [], ◌∷◌, ◌++◌, length, map, take, drop, replicate, false, append_assoc, arith, add-mul, le_of_mul-le-mul_right, mul-le-mul_right, drop-append-add, take-append-add, div-add-mod', mod_below, le-div, drop-drop, drop-append-le, take-append-le, length-drop, map-append, append-nil, length-map, flat_map-append, flat_map, ◌==◌, range_with_len, eqb-false, some_factor, map_map, flat_same, Part, product, coordinates, boxes, in_row, whole_rows, shifted, box_indices, AreBoxes, part, part_joined, part_none, part_map, nat_tests, leb_tells, inl, inr, holds_or_not, ltb-true, ltb-false, eqb-true}
 use Rattle.serial_spec.proofs.ElementLaws.{length-coordinates}
 
 -- ---- rows of one length
@@ -125,40 +124,25 @@ record InRow (size x q r : ℕ) : Type 0 where
 in_row_of : (size x : ℕ) → 0 < size → InRow size x (x / size) (x % size)
 in_row_of size x h = record { whole = div-add-mod' x size; less = mod_below x size h }
 
--- the last row's part, from its front
-last_part : (n : ℕ) (lengths : List ℕ) (q r to : ℕ) → Right lengths → InRow (product lengths) to q r → to ≤ n * product lengths
-    → flat_map box_indices (in_row q (boxes lengths 0 r)) ≡ part (q * product lengths) to (coordinates (n ∷ lengths))
-last_part n lengths q r to ih w h =
-    let size = product lengths in
-    let low : r ≤ size = omega (arith, w.less) in
-    in_row_indices q (boxes lengths 0 r) ∙ ap (λ ys. map (λ c. q ∷ c) ys) (ih 0 r (omega arith) low) ∙ elim (leb_tells (suc q) n) [
-      | inl e ↦
-          sym (part_map (λ c. q ∷ c) (coordinates lengths) 0 r)
-          ∙ sym (part_within (slice lengths) size (slice_long lengths) n q 0 r (q * size) (q * size) to e.1 (omega arith) low refl (omega arith) (sym w.whole))
-      | inr e ↦
-          (let past : n ≤ q = omega (arith, e.1) in
-          let over = mul-le-mul_right size past in
-          ap (λ ys. map (λ c. q ∷ c) ys) (part_none (coordinates lengths) 0 r (omega (arith, over, w.whole)))
-          ∙ sym (part_none (coordinates (n ∷ lengths)) (q * size) to (omega (arith, over))))
-    ]
-
--- both ends in one row
-row_less : (n size q r x : ℕ) → InRow size x q r → x < n * size → q < n
-row_less n size q r x w h = elim (leb_tells (suc q) n) [
+row_less : (n size q x : ℕ) → q * size ≤ x → x < n * size → q < n
+row_less n size q x h k = elim (leb_tells (suc q) n) [
   | inl e ↦ e.1
-  | inr e ↦ (let past : n ≤ q = omega (arith, e.1) in absurd (omega (arith, mul-le-mul_right size past, w.whole, h)))
+  | inr e ↦ (let past : n ≤ q = omega (arith, e.1) in absurd (omega (arith, mul-le-mul_right size past, h, k)))
 ]
 
-one_row : (n : ℕ) (lengths : List ℕ) (q r s from to : ℕ) → Right lengths → InRow (product lengths) from q r → InRow (product lengths) to q s
-    → from ≤ to → from < n * product lengths
-    → flat_map box_indices (in_row q (boxes lengths r s)) ≡ part from to (coordinates (n ∷ lengths))
-one_row n lengths q r s from to ih v w h k =
-    let ordered : r ≤ s = omega (arith, v.whole, w.whole) in
-    let low : s ≤ product lengths = omega (arith, w.less) in
-    in_row_indices q (boxes lengths r s)
-    ∙ ap (λ ys. map (λ c. q ∷ c) ys) (ih r s ordered low)
-    ∙ sym (part_map (λ c. q ∷ c) (coordinates lengths) r s)
-    ∙ sym (part_within (slice lengths) (product lengths) (slice_long lengths) n q r s (q * product lengths) from to (row_less n (product lengths) q r from v k) ordered low refl (sym v.whole) (sym w.whole))
+-- a part of one row: of row n, which isn't there, it is empty
+row_part : (n : ℕ) (lengths : List ℕ) (q lo hi from to : ℕ) → Right lengths → lo ≤ hi → hi ≤ product lengths → (lo < hi → q < n)
+    → from ≡ q * product lengths + lo → to ≡ q * product lengths + hi
+    → flat_map box_indices (in_row q (boxes lengths lo hi)) ≡ part from to (coordinates (n ∷ lengths))
+row_part n lengths q lo hi from to ih h k there e f =
+    in_row_indices q (boxes lengths lo hi) ∙ ap (λ ys. map (λ c. q ∷ c) ys) (ih lo hi h k) ∙ elim (leb_tells (suc lo) hi) [
+      | inl l ↦
+          sym (part_map (λ c. q ∷ c) (coordinates lengths) lo hi)
+          ∙ sym (part_within (slice lengths) (product lengths) (slice_long lengths) n q lo hi (q * product lengths) from to (there l.1) h k refl e f)
+      | inr l ↦
+          ap (λ ys. map (λ c. q ∷ c) ys) (part_none (coordinates lengths) lo hi (omega (arith, l.1)))
+          ∙ sym (part_none (coordinates (n ∷ lengths)) from to (omega (arith, l.1, e, f)))
+    ]
 
 -- whole rows, and the last row's part
 from_front : (n : ℕ) (lengths : List ℕ) (p q r to : ℕ) → Right lengths → InRow (product lengths) to q r → to ≤ n * product lengths → p ≤ q
@@ -173,7 +157,8 @@ from_front n lengths p q r to ih w h k =
     let far : p * product lengths + (q - p) * product lengths ≡ q * product lengths = sym (add-mul p (q - p) (product lengths)) ∙ ap (λ (k : ℕ). k * product lengths) there in
     flat_map-append box_indices (whole_rows lengths p q) (in_row q (boxes lengths 0 r))
     ∙ (λ t. (whole_indices lengths p q ∙ sym (part_rows (slice lengths) (product lengths) (slice_long lengths) n p (q - p) (p * product lengths) (q * product lengths) (omega arith) refl (sym far))) t
-    ++ last_part n lengths q r to ih w h t)
+    ++ row_part n lengths q 0 r (q * product lengths) to ih (omega arith) (omega arith) (λ l. row_less n (product lengths) q (q * product lengths) (omega arith) (omega (arith, l)))
+    (omega arith) (sym sum) t)
     ∙ sym (part_joined (coordinates (n ∷ lengths)) (p * product lengths) (q * product lengths) to over (omega arith))
 
 rest_small : (n size x : ℕ) → x ≤ n * size → x % size ≤ size
@@ -181,7 +166,12 @@ rest_small n size x h = grind (arith, nat_tests, mod_below)
 
 same_row : (n : ℕ) (lengths : List ℕ) (from to : ℕ) → Right lengths → from ≤ to → to ≤ n * product lengths → from / product lengths ≡ to / product lengths
     → flat_map box_indices (in_row (from / product lengths) (boxes lengths (from % product lengths) (to % product lengths))) ≡ part from to (coordinates (n ∷ lengths))
-same_row n lengths from to ih h k e = grind (arith, nat_tests, ltb-true, some_factor, one_row, in_row_of, ltb-false, in_row_indices, rest_small, part_none)
+same_row n lengths from to ih h k e =
+    let size = product lengths in
+    let a : from / size * size + from % size ≡ from = div-add-mod' from size in
+    let b : from / size * size + to % size ≡ to = ap (λ (q : ℕ). q * size + to % size) e ∙ div-add-mod' to size in
+    row_part n lengths (from / size) (from % size) (to % size) from to ih (omega (arith, a, b)) (rest_small n size to k)
+    (λ l. row_less n size (from / size) from (omega (arith, a)) (omega (arith, a, b, l))) (sym a) (sym b)
 
 -- from within one row to a later one
 first_part : (n : ℕ) (lengths : List ℕ) (p q r s from to : ℕ) → Right lengths → InRow (product lengths) from p r → InRow (product lengths) to q s
@@ -199,16 +189,9 @@ first_part n lengths p q r s from to ih v w h k =
     let few : q ≤ n = le_of_mul-le-mul_right upto (omega arith) in
     ap (λ parts. flat_map box_indices parts) (append_assoc (in_row p (boxes lengths r (product lengths))) (whole_rows lengths (p + 1) q) (in_row q (boxes lengths 0 s)))
     ∙ flat_map-append box_indices (in_row p (boxes lengths r (product lengths))) (whole_rows lengths (p + 1) q ++ in_row q (boxes lengths 0 s))
-    ∙ (λ t. first (omega arith) (omega arith) one t ++ from_front n lengths (p + 1) q s to ih w h next t)
+    ∙ (λ t. row_part n lengths p r (product lengths) from ((p + 1) * product lengths) ih (omega arith) (omega arith) (λ z. omega arith) (sym a) one t
+    ++ from_front n lengths (p + 1) q s to ih w h next t)
     ∙ sym (part_joined (coordinates (n ∷ lengths)) from ((p + 1) * product lengths) to (omega arith) (omega arith))
-  where
-    first : p < n → r ≤ product lengths → (p + 1) * product lengths ≡ p * product lengths + product lengths
-        → flat_map box_indices (in_row p (boxes lengths r (product lengths))) ≡ part from ((p + 1) * product lengths) (coordinates (n ∷ lengths))
-    first below low one =
-        in_row_indices p (boxes lengths r (product lengths))
-        ∙ ap (λ ys. map (λ c. p ∷ c) ys) (ih r (product lengths) low (omega arith))
-        ∙ sym (part_map (λ c. p ∷ c) (coordinates lengths) r (product lengths))
-        ∙ sym (part_within (slice lengths) (product lengths) (slice_long lengths) n p r (product lengths) (p * product lengths) from ((p + 1) * product lengths) below low (omega arith) refl (sym v.whole) one)
 
 rows_right : (n : ℕ) (lengths : List ℕ) → Right lengths → Right (n ∷ lengths)
 rows_right n lengths ih from to h k = elim (holds_or_not (from / product lengths == to / product lengths)) [

@@ -1,6 +1,5 @@
 -- A test of each number below a bound.
-use Rattle.serial_spec.proofs.Words.{◌≡◌, ◌≤◌, ◌<◌, ◌+◌, ℕ, zero, suc, refl, arith, subst, Bool, true, false, nat_tests, ◌==◌, list_all, range_with_len, and_first, and_second}
-use borrow.Author.Tests.{eqb-true}
+use Rattle.serial_spec.proofs.Words.{◌≡◌, ◌≤◌, ◌<◌, ◌+◌, ℕ, zero, suc, refl, arith, subst, Bool, true, false, nat_tests, ◌==◌, list_all, range_with_len, and_first, and_second, eqb-true}
 
 each_passes : (test : ℕ → Bool) (a n : ℕ) → list_all test (range_with_len a n) ≡ true → (x : ℕ) → a ≤ x → x < a + n → test x ≡ true
 each_passes test a zero h x low high = absurd (omega (arith, low, high))

@@ -1,6 +1,5 @@
 -- Keys in order: the least of some keys, keys without repetition, and the two least of them.
-use Rattle.serial_spec.proofs.Words.{◌≡◌, ◌<◌, ◌≤◌, refl, sym, ◌∙◌, subst, inl, inr, ◌⊎◌, List, [], ◌∷◌, length, Bool, true, false, ◌||◌, not, cond, arith, nat_tests, filter, fold, list_any, or_cases, not-true, not_from_false, and_first, and_second, no_false, or_first_false, Key, same_key, key_below, distinct, lesser_key, least_key, In, either, holds_or_not}
-use borrow.Author.Tests.{eqb-true}
+use Rattle.serial_spec.proofs.Words.{◌≡◌, ◌<◌, ◌≤◌, refl, sym, ◌∙◌, subst, inl, inr, ◌⊎◌, List, [], ◌∷◌, length, Bool, true, false, ◌||◌, not, cond, arith, nat_tests, filter, fold, list_any, or_cases, not-true, not_from_false, and_first, and_second, no_false, or_first_false, Key, same_key, key_below, distinct, lesser_key, least_key, In, either, holds_or_not, eqb-true}
 use Rattle.serial_spec.proofs.MemberLaws.{any_member, in_filter, filter_in}
 
 -- ---- keys

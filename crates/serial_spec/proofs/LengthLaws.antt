@@ -1,5 +1,6 @@
 -- Every spelling of a header has the length of the one that is written.
-use Rattle.serial_spec.proofs.Words.{◌≡◌, ℕ, ◌+◌, ◌≤◌, List, [], ◌∷◌, ◌++◌, length, Bool, true, false, cond, refl, sym, ap, ◌∙◌, length-append, inl, inr, arith, flat_map, ◌==◌, Width, w32, w64, byte_len, to_be_bytes, length-replicate, Header, Dim, Attr, Var, NcType, size_of, vsize, count_width, begin_width, padded, count, tag, name, list_of, dimension, attribute, variable, magic, canon, header_len, number_of, Joined, ◌▹◌, Exactly, Each, Number, Padded, NameOf, ListOf, TypeOf, DimensionOf, AttributeOf, VariableOf, RecordsOf, Spells, nat_tests}
+use Rattle.serial_spec.proofs.Words.{◌≡◌, ℕ, ◌+◌, ◌≤◌, List, [], ◌∷◌, ◌++◌, length, Bool, cond, refl, sym, ap, ◌∙◌, length-append, inl, inr, arith, flat_map, ◌==◌, Width, w32, w64, byte_len, to_be_bytes, length-replicate, Header, Dim, Attr, Var, NcType, size_of, vsize, count_width, begin_width, padded, count, tag, name, list_of, dimension, attribute, variable, magic, canon, header_len, number_of, Joined, ◌▹◌, Exactly, Each, Number, Padded, NameOf, ListOf, TypeOf, DimensionOf, AttributeOf, VariableOf, RecordsOf, Spells, nat_tests}
+use Rattle.serial_spec.proofs.ValueLaws.{be_long}
 
 -- every string of the set has the length of the text
 abbrev pub Long : (List ℕ → Type 0) → List ℕ → Type 0
@@ -51,8 +52,7 @@ attr_long v a s h =
     joined_long _ _ (joined_long _ _ (joined_long _ _ (name_long v a.name) (type_long v a.kind)) (number_long (count_width v) a.count)) (padded_long a.bytes) s h.1
 
 pub width_long : (t : Bool) (n : ℕ) → length (to_be_bytes (cond t w64 w32) n) ≡ byte_len (cond t w64 w32)
-width_long true n = refl
-width_long false n = refl
+width_long t n = be_long (cond t w64 w32) n
 
 var_long : (header : Header) (v : Var) → Long (VariableOf header.version v) (variable header v)
 var_long header v =

@@ -1,7 +1,6 @@
 -- A byte after writes and puts is what the last of them that has it says, else the old one.
-use Rattle.serial_spec.proofs.Words.{◌≡◌, ℕ, suc, ◌+◌, ◌-◌, ◌<◌, ◌≤◌, refl, sym, ◌∙◌, ap, List, [], ◌∷◌, ◌++◌, length, take, drop, get_or, Bool, true, false, cond, Option, Some, None, arith, common_steps, flat_map-append, fold-append, get_or-append_right, get_or_append_left, nat_tests, fold, flat_map, zip, ◌==◌, slice_get, enumerate_from, range_with_len, option_or, length-range_with_len, equal_above, equal_below, neither_some, option_or_assoc, none_last, Header, Var, Post, at, longer, written, one_says, said_at, byte_or, Cell, write_cells, said_by, size_of, cells, places, Puts, bytes_of_some, said_by_puts, Setting, put_post, put_some, after_puts, zero}
+use Rattle.serial_spec.proofs.Words.{◌≡◌, ℕ, suc, ◌+◌, ◌-◌, ◌<◌, ◌≤◌, refl, sym, ◌∙◌, ap, List, [], ◌∷◌, ◌++◌, length, take, drop, get_or, Bool, true, false, cond, Option, Some, None, arith, common_steps, flat_map-append, fold-append, get_or-append_right, get_or_append_left, nat_tests, fold, flat_map, zip, ◌==◌, slice_get, enumerate_from, range_with_len, option_or, length-range_with_len, equal_above, equal_below, neither_some, option_or_assoc, none_last, Header, Var, Post, at, longer, written, one_says, said_at, byte_or, Cell, write_cells, said_by, size_of, cells, places, Puts, bytes_of_some, said_by_puts, Setting, put_post, put_some, after_puts, zero, ltb-true, ltb-false}
 use Rattle.std.proofs.lemmas.List.{length-append}
-use borrow.Author.Tests.{ltb-true, ltb-false}
 use Rattle.serial_spec.proofs.FileLaws.{at-longer, at-written_before, at-written_after, written-front}
 
 -- ---- options

@@ -1,6 +1,5 @@
 -- The pair of variables that is computed is the least pair that shares a byte, and there is none where none is computed.
-use Rattle.serial_spec.proofs.Words.{◌≡◌, ℕ, zero, suc, ◌+◌, ◌<◌, ◌≤◌, refl, sym, ◌∙◌, ap, subst, inl, inr, ◌⊎◌, List, [], ◌∷◌, true, false, Option, Some, None, arith, slice_get, nat_lt, IsTrue, option_or, told_else, both_none, Header, Var, share, sharing, sharing_with, sharing_from, Shares, IsSharing, nat_tests, some_or_none, first_counts, second_counts, holds_or_not}
-use borrow.Author.Tests.{ltb-true, ltb-false}
+use Rattle.serial_spec.proofs.Words.{◌≡◌, ℕ, zero, suc, ◌+◌, ◌<◌, ◌≤◌, refl, sym, ◌∙◌, ap, subst, inl, inr, ◌⊎◌, List, [], ◌∷◌, true, false, Option, Some, None, arith, slice_get, nat_lt, IsTrue, option_or, told_else, both_none, Header, Var, share, sharing, sharing_with, sharing_from, Shares, IsSharing, nat_tests, some_or_none, first_counts, second_counts, holds_or_not, ltb-true, ltb-false}
 use Rattle.serial_spec.proofs.ApartLaws.{none_with}
 
 -- `Shares` over a list of variables

@@ -1,70 +1,34 @@
-use Rattle.serial_spec.proofs.Words.{◌≡◌, ℕ, refl, inl, inr, lit<, take, arith, Int, canon, AttributeOf, DimensionOf, VariableOf, ListOf, dataset_a, odd_header_a, dim, var, word}
+use Rattle.serial_spec.proofs.Words.{◌≡◌, ℕ, refl, inl, inr, lit<, take, arith, Int, canon, DimensionOf, VariableOf, dataset_a, odd_header_a, dim, var, word}
 use Rattle.std.specs.Prelude.{[], ◌∷◌, ◌++◌}
-use Rattle.serial_spec.proofs.SpellingLaws.{both}
+use Rattle.serial_spec.proofs.SpellingLaws.{cut}
 use Rattle.serial_spec.proofs.LengthLaws.{spelling_long}
 use Rattle.serial_spec.proofs.worked_headers.worked_spellings.Goals as goal
 
+-- a name of one letter, and a length
 dimension_spelled : DimensionOf 1 (dim 120 4) (word 0 0 0 1 ++ 120 ∷ 1 ∷ 2 ∷ 3 ∷ [] ++ word 0 0 0 4)
-dimension_spelled =
-    both (word 0 0 0 1 ++ 120 ∷ 1 ∷ 2 ∷ 3 ∷ []) (word 0 0 0 4)
-    (both (word 0 0 0 1) (120 ∷ 1 ∷ 2 ∷ 3 ∷ []) (lit< tt, refl) (both (120 ∷ []) (1 ∷ 2 ∷ 3 ∷ []) refl refl))
-    (lit< tt, refl)
+dimension_spelled = cut 8 (cut 4 (lit< tt, refl) (cut 1 refl refl)) (lit< tt, refl)
 
-dimensions_spelled : ListOf 1 10 (DimensionOf 1) (dim 120 4 ∷ []) (word 0 0 0 10 ++ word 0 0 0 1 ++ word 0 0 0 1 ++ 120 ∷ 1 ∷ 2 ∷ 3 ∷ [] ++ word 0 0 0 4)
-dimensions_spelled =
-    inr
-    (both (word 0 0 0 10 ++ word 0 0 0 1) (word 0 0 0 1 ++ 120 ∷ 1 ∷ 2 ∷ 3 ∷ [] ++ word 0 0 0 4)
-    (both (word 0 0 0 10) (word 0 0 0 1) refl (lit< tt, refl))
-    (both (word 0 0 0 1 ++ 120 ∷ 1 ∷ 2 ∷ 3 ∷ [] ++ word 0 0 0 4) [] dimension_spelled refl))
-
--- a tag before no attributes
-none_spelled : ListOf 1 12 (AttributeOf 1) [] (word 0 0 0 12 ++ word 0 0 0 0)
-none_spelled =
-    inr
-    (both (word 0 0 0 12 ++ word 0 0 0 0) []
-    (both (word 0 0 0 12) (word 0 0 0 0) refl (lit< tt, refl))
-    refl)
-
+-- a name, one dimension, no attributes, a type, any vsize and a begin
 variable_spelled : VariableOf 1 (record (var 118 Int (0 ∷ [])) { begin = 80 }) (word 0 0 0 1 ++ 118 ∷ 0 ∷ 0 ∷ 0 ∷ [] ++ word 0 0 0 1 ++ word 0 0 0 0 ++ word 0 0 0 0 ++ word 0 0 0 0 ++ word 0 0 0 4 ++ word 255 255 255 255 ++ word 0 0 0 80)
 variable_spelled =
-    both (word 0 0 0 1 ++ 118 ∷ 0 ∷ 0 ∷ 0 ∷ [] ++ word 0 0 0 1 ++ word 0 0 0 0 ++ word 0 0 0 0 ++ word 0 0 0 0 ++ word 0 0 0 4 ++ word 255 255 255 255) (word 0 0 0 80)
-    (both (word 0 0 0 1 ++ 118 ∷ 0 ∷ 0 ∷ 0 ∷ [] ++ word 0 0 0 1 ++ word 0 0 0 0 ++ word 0 0 0 0 ++ word 0 0 0 0 ++ word 0 0 0 4) (word 255 255 255 255)
-    (both (word 0 0 0 1 ++ 118 ∷ 0 ∷ 0 ∷ 0 ∷ [] ++ word 0 0 0 1 ++ word 0 0 0 0 ++ word 0 0 0 0 ++ word 0 0 0 0) (word 0 0 0 4)
-    (both (word 0 0 0 1 ++ 118 ∷ 0 ∷ 0 ∷ 0 ∷ [] ++ word 0 0 0 1 ++ word 0 0 0 0) (word 0 0 0 0 ++ word 0 0 0 0)
-    (both (word 0 0 0 1 ++ 118 ∷ 0 ∷ 0 ∷ 0 ∷ [] ++ word 0 0 0 1) (word 0 0 0 0)
-    (both (word 0 0 0 1 ++ 118 ∷ 0 ∷ 0 ∷ 0 ∷ []) (word 0 0 0 1)
-    (both (word 0 0 0 1) (118 ∷ 0 ∷ 0 ∷ 0 ∷ []) (lit< tt, refl) (both (118 ∷ []) (0 ∷ 0 ∷ 0 ∷ []) refl refl))
-    (lit< tt, refl))
-    (both (word 0 0 0 0) [] (lit< tt, refl) refl))
-    (inl (refl, refl)))
-    (refl, refl))
-    refl)
+    cut 32
+    (cut 28 (cut 24 (cut 16 (cut 12 (cut 8 (cut 4 (lit< tt, refl) (cut 1 refl refl)) (lit< tt, refl)) (cut 4 (lit< tt, refl) refl)) (inl (refl, refl))) (refl, refl)) refl)
     (lit< tt, refl)
-
-variables_spelled : ListOf 1 11 (VariableOf 1) (record (var 118 Int (0 ∷ [])) { begin = 80 } ∷ []) (word 0 0 0 11 ++ word 0 0 0 1 ++ word 0 0 0 1 ++ 118 ∷ 0 ∷ 0 ∷ 0 ∷ [] ++ word 0 0 0 1 ++ word 0 0 0 0 ++ word 0 0 0 0 ++ word 0 0 0 0 ++ word 0 0 0 4 ++ word 255 255 255 255 ++ word 0 0 0 80)
-variables_spelled =
-    inr
-    (both (word 0 0 0 11 ++ word 0 0 0 1) (word 0 0 0 1 ++ 118 ∷ 0 ∷ 0 ∷ 0 ∷ [] ++ word 0 0 0 1 ++ word 0 0 0 0 ++ word 0 0 0 0 ++ word 0 0 0 0 ++ word 0 0 0 4 ++ word 255 255 255 255 ++ word 0 0 0 80)
-    (both (word 0 0 0 11) (word 0 0 0 1) refl (lit< tt, refl))
-    (both (word 0 0 0 1 ++ 118 ∷ 0 ∷ 0 ∷ 0 ∷ [] ++ word 0 0 0 1 ++ word 0 0 0 0 ++ word 0 0 0 0 ++ word 0 0 0 0 ++ word 0 0 0 4 ++ word 255 255 255 255 ++ word 0 0 0 80) [] variable_spelled refl))
 
 too_short : ◌≡◌ {A = ℕ} 79 80 → ⊥
 too_short h = omega (arith, h)
 
+-- dimensions behind a tag, a tag before no attributes, and variables behind a tag
 pub returns-clause-odd : goal.returns-clause-odd
 unfolding canon
-returns-clause-odd c =
-    let counted = 67 ∷ 68 ∷ 70 ∷ 1 ∷ [] ++ word 0 0 0 0 in
-    let dims = word 0 0 0 10 ++ word 0 0 0 1 ++ word 0 0 0 1 ++ 120 ∷ 1 ∷ 2 ∷ 3 ∷ [] ++ word 0 0 0 4 in
-    let attrs = word 0 0 0 12 ++ word 0 0 0 0 in
-    let vars = word 0 0 0 11 ++ word 0 0 0 1 ++ word 0 0 0 1 ++ 118 ∷ 0 ∷ 0 ∷ 0 ∷ [] ++ word 0 0 0 1 ++ word 0 0 0 0 ++ word 0 0 0 0 ++ word 0 0 0 0 ++ word 0 0 0 4 ++ word 255 255 255 255 ++ word 0 0 0 80 in (
-      refl,
-      both (counted ++ dims ++ attrs) vars
-          (both (counted ++ dims) attrs
-          (both counted dims (both (67 ∷ 68 ∷ 70 ∷ 1 ∷ []) (word 0 0 0 0) refl (inl (lit< tt, refl))) dimensions_spelled)
-          none_spelled)
-          variables_spelled,
-    )
+returns-clause-odd c = (
+  refl,
+  cut 36
+      (cut 28
+      (cut 8 (cut 4 refl (inl (lit< tt, refl))) (inr (cut 8 (cut 4 refl (lit< tt, refl)) (cut 12 dimension_spelled refl))))
+      (inr (cut 8 (cut 4 refl (lit< tt, refl)) refl)))
+      (inr (cut 8 (cut 4 refl (lit< tt, refl)) (cut 36 variable_spelled refl))),
+)
 
 pub returns-clause-short : goal.returns-clause-short
 unfolding canon

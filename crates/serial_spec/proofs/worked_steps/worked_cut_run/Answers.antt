@@ -1,6 +1,5 @@
-use Rattle.serial_spec.proofs.Words.{◌≡◌, ◌≤◌, ◌<◌, ℕ, zero, suc, refl, inl, inr, ◌⊎◌, lit<, arith, List, [], ◌∷◌, length, Bool, true, false, Some, filter, slice_get, nat_lt, ◌==◌, list_all, range_with_len, and_first, if_some_at, no_none_some, Answer, Ok, Meet, Solo, Disk, file_a, whole_then_ends, dataset_a, at, Counted, canon, IsLegal, concerns, marks, answer, Going, setting_of, state_after, HasAnswers, IsTorn, StoodAt, in_step, in_close, between, may_change}
+use Rattle.serial_spec.proofs.Words.{◌≡◌, ◌≤◌, ◌<◌, ℕ, zero, suc, refl, inl, inr, ◌⊎◌, lit<, arith, List, [], ◌∷◌, length, Bool, true, false, Some, filter, slice_get, nat_lt, ◌==◌, list_all, range_with_len, and_first, if_some_at, no_none_some, Answer, Ok, Meet, Solo, Disk, file_a, whole_then_ends, dataset_a, at, Counted, canon, IsLegal, concerns, marks, answer, Going, setting_of, state_after, HasAnswers, IsTorn, StoodAt, in_step, in_close, between, may_change, eqb-true, ltb-true}
 use Rattle.std.specs.Prelude.{◌||◌, ◌&&◌}
-use borrow.Author.Tests.{eqb-true, ltb-true}
 use Rattle.serial_spec.proofs.EachBelow.{each_below}
 use Rattle.serial_spec.proofs.worked_steps.worked_cut_run.Goals as goal
 
