@@ -2,6 +2,7 @@
 use Rattle.aggregator_rounds.proofs.Words.{◌≡◌, ℕ, ◌<◌, ◌≤◌, ◌⊎◌, inl, inr, refl, sym, subst, List, [], ◌∷◌, ◌++◌, arith, ◌+◌, ◌-◌, length, Bool, true, false, range_with_len, Owned, In, ranges, IsAscending, extents, EndBelow, in_left, in_right, in_either, in_flat, flat_in, in_range, range_low, range_high, IsCovered, IsPast, BeginBefore, in_extents, cases_lt, nat_tests}
 use Rattle.aggregator_rounds.proofs.PastSteps.{past_in, past_kept}
 use borrow.Author.Tests.{ltb-true, ltb-false}
+use Rattle.overlay_laws.proofs.HullLaws.{ascending_few}
 
 -- ---- covered bytes
 
@@ -50,18 +51,11 @@ covered_front place left front x h c = subst (λ (w : List Owned). IsCovered w x
 
 -- ---- how many numbers there are between two
 
-within_short : (xs : List ℕ) (a e : ℕ) → IsAscending xs → ((x : ℕ) → In xs x → (a ≤ x) × (x < e)) → length xs ≤ e - a
-within_short [] a e h k = omega arith
-within_short (x ∷ xs) a e h k =
-    let first = k x (inl refl) in
-    let rest = within_short xs (x + 1) e h.1 (λ y m. let l = h.0 y m in let r = k y (inr m) in let g = r.1 in (omega arith, omega arith)) in
-    omega (arith, first.0, first.1)
-
 pub hole_short : (xs : List ℕ) (a e y : ℕ) → IsAscending xs → ((x : ℕ) → In xs x → (a ≤ x) × (x < e)) → a ≤ y → y < e → (In xs y → ⊥) → length xs + 1 ≤ e - a
 hole_short [] a e y h k l m n = omega arith
 hole_short (x ∷ xs) a e y h k l m n =
     elim (cases_lt y x) [
-      | inl g ↦ (let short = within_short (x ∷ xs) (y + 1) e h (λ z i. (grind (arith, nat_tests, h.0 z), (k z i).1)) in omega arith)
+      | inl g ↦ (let short = ascending_few (x ∷ xs) (y + 1) e h (λ z i. (grind (arith, nat_tests, h.0 z), (k z i).1)) in omega arith)
       | inr low ↦ (let apart : x ≡ y → ⊥ = λ s. n (inl s) in let past : x < y = omega arith in
           let rest = hole_short xs (x + 1) e y h.1 (λ z i. let g = h.0 z i in let r = k z (inr i) in let high = r.1 in (omega arith, omega arith)) (omega arith) m (λ i. n (inr i)) in
           omega (arith, (k x (inl refl)).0))

@@ -1,15 +1,11 @@
 -- What is left of a cover from a place on, by how many extents begin before the place.
 use Rattle.file_domains.proofs.Words.{◌≡◌, ℕ, zero, suc, ◌+◌, ◌-◌, ◌<◌, ◌≤◌, refl, sym, ◌∙◌, ap, subst, inl, inr, List, [], ◌∷◌, ◌++◌, length, take, drop, get_or, length-drop, ◌^◌, true, false, min, Some, slice_get, arith, take_all, get_or_default, filter, nat_le, ◌==◌, range_with_len, AllWithin, IsPartitionedBy, same_Some, slice_get-get_or, le-leb, leb-true, leb-false, at_in, no_none_some, Extent, In, EndBelow, below, IsCover, end_after, is_single, first_at, spans, range_above_none, IsLeft, filter-append, nat_tests, cases_lt}
+pub use Rattle.overlay_laws.proofs.CoverLaws.{long_enough}
 
 pub in_dropped : {X : Type 0} (k : ℕ) (xs : List X) (e : X) → In (drop k xs) e → In xs e
 in_dropped zero xs e h = h
 in_dropped (suc k) [] e h = h
 in_dropped (suc k) (x ∷ xs) e h = inr (in_dropped k xs e h)
-
-pub long_enough : (cover : List Extent) (e : Extent) → IsCover cover → In cover e → 1 ≤ e.len
-long_enough [] e h k = absurd k
-long_enough (d ∷ cover) e h (inl k) = subst (λ (z : Extent). 1 ≤ z.len) k h.0
-long_enough (d ∷ cover) e h (inr k) = long_enough cover e h.2 k
 
 pub ends_before : (cover : List Extent) (i j : ℕ) (d e : Extent) → IsCover cover → i < j → slice_get cover i ≡ Some d → slice_get cover j ≡ Some e → d.at + d.len < e.at
 ends_before [] i j d e h l f g = no_none_some d f

@@ -2,14 +2,12 @@
 use Rattle.nc_classic_c.proofs.Words.{◌≡◌, ℕ, ◌+◌, ◌-◌, ◌≤◌, ◌^◌, List, [], ◌∷◌, length, map, true, inl, inr, ap, subst, Some, arith, flat_map, range_with_len, IsPermutation, flat_map-map, same_Some, passes_each, no_none_some, Extent, Owned, first_of, last_of, spans, at_in, In, HaveSame, ranges, extents, EndBelow, IsCover, cover_in_order, last_joined, last_of_range, range_first, same_permuted, flat_in, in_flat, in_range, range_high, each_in, in_map, map_in, NcvExtent, bytes_asked, bytes_of, end_is_low, end_of, ends_are_low, entry, nat_tests, ◌<◌, ◌∙◌}
 use Rattle.std.proofs.Common.{slice_get}
 use borrow.Author.Tests.{ltb-true}
+use Rattle.overlay_laws.proofs.CoverLaws.{ranges_moved}
 
 abbrev bytes : Owned → List ℕ
 bytes o = range_with_len o.extent.at o.extent.len
 
 -- ---- entries in any order
-
-ranges_moved : (xs ys : List Owned) → ((o : Owned) → In xs o → In ys o) → (x : ℕ) → In (ranges xs) x → In (ranges ys) x
-ranges_moved xs ys moved x h = let r = flat_in bytes xs x h in in_flat bytes ys r.0 x (moved r.0 r.1) r.2
 
 ranges_asked : (asked : List NcvExtent) → ranges (map entry asked) ≡ flat_map bytes_of asked
 ranges_asked asked = flat_map-map bytes entry asked
@@ -18,21 +16,6 @@ pub entries_low : (asked : List NcvExtent) (list : List Owned) → ends_are_low 
 entries_low asked list h p e m = grind (arith, nat_tests, same_permuted (map entry asked) list p, passes_each end_is_low asked h, map_in, ltb-true, each_in)
 
 -- ---- a cover
-
-some_bytes : (cover : List Extent) (e : Extent) → IsCover cover → In cover e → 1 ≤ e.len
-some_bytes [] e h m = absurd m
-some_bytes (c ∷ cover) e h (inl same) = subst (λ (z : Extent). 1 ≤ z.len) same h.0
-some_bytes (c ∷ cover) e h (inr m) = some_bytes cover e h.2 m
-
-pub cover_low : (cover : List Extent) (list : List Owned) → IsCover cover → HaveSame (spans cover) (ranges list) → EndBelow (2 ^ 62) (extents list) → EndBelow (2 ^ 62) cover
-cover_low cover list h same low e m =
-    let some = some_bytes cover e h m in
-    let last = e.at + e.len - 1 in
-    let there = in_flat (λ (z : Extent). range_with_len z.at z.len) cover e last m (in_range e.at e.len last (omega arith) (omega arith)) in
-    let r = flat_in bytes list last (same.0 last there) in
-    let high = range_high r.0.extent.at r.0.extent.len last r.2 in
-    let end = low r.0.extent (in_map (λ (o : Owned). o.extent) list r.0 r.1) in
-    omega arith
 
 pub cover_bytes : (cover : List Extent) (list : List Owned) (asked : List NcvExtent) → IsCover cover → HaveSame (spans cover) (ranges list) → IsPermutation (map entry asked) list
     → spans cover ≡ bytes_asked asked

@@ -2,6 +2,7 @@
 use Rattle.nc_classic_c.proofs.Words.{◌≡◌, ◌↔◌, ℕ, zero, suc, ◌+◌, ◌-◌, ◌/◌, ◌^◌, ◌<◌, ◌≤◌, List, [], ◌∷◌, ◌++◌, length, map, Bool, true, false, ◌&&◌, inl, inr, refl, ap, ◌∙◌, leb, arith, length-append, filter, flat_map, nat_lt, nat_le, ◌==◌, range_with_len, enumerate_from, le-leb, leb-true, length-map, map-map, equal_true, no_both, and_first, and_second, Extent, first_of, windows, spans, low_of, share_of, LiesIn, bytes_in, round_windows, window_told, Window, In, IsAscending, told_of, walked, filter_two, filter_ascends, first_least, last_most, windows_walked, Division, NcvWindow, end_of, is_division, shown, step_windows, window_shown, nat_tests, filter_at_most, sym}
 use borrow.Author.Tests.{ltb-true, ltb-false, eqb-true}
 use Rattle.overlay_laws.proofs.DomainLaws.{share}
+use Rattle.overlay_laws.proofs.HullLaws.{ascending_few}
 
 -- ---- a division within its limits
 
@@ -113,13 +114,6 @@ shares_few lo hi d bytes a (suc n) h asc =
     let rest = shares_few lo hi d bytes (a + 1) n h asc in
     let both = length-append (share_windows lo hi d bytes a) (flat_map (share_windows lo hi d bytes) (range_with_len (a + 1) n)) in
     grind (arith, nat_tests, f, own, rest, both, length-map (windows d.buffer own) (window_shown a), split_few f a bytes, windows_few, filter_ascends)
-
-ascending_few : (xs : List ℕ) (lo hi : ℕ) → IsAscending xs → ((x : ℕ) → In xs x → (lo ≤ x) × (x < hi)) → length xs ≤ hi - lo
-ascending_few [] lo hi h within = omega arith
-ascending_few (x ∷ xs) lo hi h within =
-    let here = within x (inl refl) in
-    let rest = ascending_few xs (x + 1) hi h.1 (λ y m. (let next = h.0 y m in omega arith, (within y (inr m)).1)) in
-    omega (arith, here.0, here.1)
 
 pub windows_few_in_all : (lo hi : ℕ) (d : Division) (bytes : List ℕ) → 1 ≤ d.buffer → IsAscending bytes → hi ≡ end_of bytes → length (windows_from lo hi d bytes 0) ≤ hi
 windows_few_in_all lo hi d bytes h asc end =

@@ -1,6 +1,8 @@
 -- A cursor that cuts extents goes over the same windows as one that cuts bytes.
-use Rattle.overlay_laws.proofs.Words.{◌≡◌, ℕ, zero, suc, ◌+◌, ◌-◌, ◌<◌, ◌≤◌, refl, sym, ◌∙◌, ap, subst, inl, inr, List, [], ◌∷◌, ◌++◌, length, Bool, max, arith, length-append, append-nil, mod_below, div-add-mod', filter, map, nat_lt, nat_le, ◌==◌, range_with_len, length-range_with_len, lt-ltb, le-ltb, le-leb, lt-leb, leb-true, leb-false, equal_below, equal_true, range_append, Extent, first_of, last_of, hull_len, windows, sieving_windows, in_order, In, HaveSame, IsAscending, walked, round_end, below, above, IsCover, end_after, is_single, first_at, hull_of, extents_walked, told_of, spans, filter-append, nat_tests, either}
-use Rattle.overlay_laws.proofs.HullLaws.{range_low, range_high, in_either, in_in_order, in_order_in, in_order_ascends}
+use Rattle.overlay_laws.proofs.Words.{◌≡◌, ℕ, zero, suc, ◌+◌, ◌-◌, ◌<◌, ◌≤◌, refl, sym, ◌∙◌, ap, subst, inl, inr, List, [], ◌∷◌, ◌++◌, length, Bool, max, arith, length-append, append-nil, mod_below, div-add-mod', filter, map, nat_lt, nat_le, ◌==◌, range_with_len, length-range_with_len, lt-ltb, le-ltb, le-leb, lt-leb, leb-true, leb-false, equal_below, equal_true, range_append, Extent, first_of, last_of, hull_len, windows, sieving_windows, in_order, In, HaveSame, IsAscending, walked, round_end, below, above, IsCover, end_after, is_single, first_at, hull_of, extents_walked, told_of, spans, filter-append, nat_tests, either, ◌^◌, Owned, ranges, extents}
+use Rattle.overlay_laws.specs.Lines.{EndBelow}
+use Rattle.overlay_laws.proofs.Members.{in_map}
+use Rattle.overlay_laws.proofs.HullLaws.{range_low, range_high, in_either, in_in_order, in_order_in, in_order_ascends, in_range, flat_in, in_flat}
 use Rattle.overlay_laws.proofs.WalkLaws.{filter_none, filter_all, drop_first, windows_walked, sieved_walked}
 
 -- ---- bytes of a cover
@@ -12,6 +14,25 @@ spans_past (e ∷ cover) n y h k =
       | inl g ↦ (let l = range_low e.at e.len y g in let m = h e (inl refl) in omega arith)
       | inr g ↦ spans_past cover n y (λ d l. h d (inr l)) g
     ]
+
+pub long_enough : (cover : List Extent) (e : Extent) → IsCover cover → In cover e → 1 ≤ e.len
+long_enough [] e h k = absurd k
+long_enough (d ∷ cover) e h (inl k) = subst (λ (z : Extent). 1 ≤ z.len) k h.0
+long_enough (d ∷ cover) e h (inr k) = long_enough cover e h.2 k
+
+pub ranges_moved : (xs ys : List Owned) → ((o : Owned) → In xs o → In ys o) → (x : ℕ) → In (ranges xs) x → In (ranges ys) x
+ranges_moved xs ys p x h =
+    let r = flat_in (λ (o : Owned). range_with_len o.extent.at o.extent.len) xs x h in
+    in_flat (λ (o : Owned). range_with_len o.extent.at o.extent.len) ys r.0 x (p r.0 r.1) r.2
+
+-- a cover of the bytes of entries ends where they do
+pub cover_ends : (cover : List Extent) (list : List Owned) → IsCover cover → HaveSame (spans cover) (ranges list) → EndBelow (2 ^ 62) (extents list) → EndBelow (2 ^ 62) cover
+cover_ends cover list h same ends e m =
+    let some = long_enough cover e h m in
+    let last = in_range e.at e.len (e.at + (e.len - 1)) (omega arith) (omega arith) in
+    let f = flat_in (λ (o : Owned). range_with_len o.extent.at o.extent.len) list (e.at + (e.len - 1))
+    (same.0 (e.at + (e.len - 1)) (in_flat (λ (d : Extent). range_with_len d.at d.len) cover e (e.at + (e.len - 1)) m last)) in
+    omega (arith, range_high f.0.extent.at f.0.extent.len (e.at + (e.len - 1)) f.2, ends f.0.extent (in_map (λ (o : Owned). o.extent) list f.0 f.1))
 
 -- ---- the part of a range before a place, and from it on
 

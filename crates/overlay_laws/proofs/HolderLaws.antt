@@ -1,6 +1,5 @@
 -- Entries and the puts that they were gathered from hold the same bytes for the same requests.
-use Rattle.overlay_laws.proofs.Words.{◌≡◌, ℕ, refl, sym, ◌∙◌, ap, subst, inl, inr, List, [], ◌∷◌, true, arith, nat_tests, flat_map, map, range_with_len, and_from, or_left, or_right, or_cases, and_first, and_second, no_false, Header, Post, Owned, Puts, Key, bytes_of, holdings, holdings_of_entries, same_key, Holds, shared_pair, shared_pair_of, same_pair, Source, AreOf, IsGathered, In, HaveSame}
-use borrow.Author.Tests.{eqb-true}
+use Rattle.overlay_laws.proofs.Words.{◌≡◌, ℕ, refl, sym, ◌∙◌, ap, subst, inl, inr, List, [], ◌∷◌, true, arith, nat_tests, flat_map, map, range_with_len, and_from, or_left, or_right, or_cases, and_first, and_second, no_false, Header, Post, Owned, Puts, Key, bytes_of, holdings, holdings_of_entries, same_key, Holds, shared_pair, shared_pair_of, same_pair, Source, AreOf, IsGathered, In, HaveSame, eqb-true}
 use Rattle.overlay_laws.proofs.HullLaws.{any_in, in_any, in_left, in_right, in_either, in_flat, flat_in}
 
 pub same_keys : (a b : Key) → same_key a b ≡ true → (a.0 ≡ b.0) × (a.1 ≡ b.1)

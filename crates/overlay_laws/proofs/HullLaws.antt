@@ -64,6 +64,14 @@ pub last_below : (xs : List ℕ) (n : ℕ) → 1 ≤ n → ((x : ℕ) → In xs 
 last_below [] n l h = omega arith
 last_below (y ∷ ys) n l h = let a = h y (inl refl) in let b = last_below ys n l (λ x k. h x (inr k)) in omega arith
 
+-- no more than lie between two places
+pub ascending_few : (xs : List ℕ) (lo hi : ℕ) → IsAscending xs → ((x : ℕ) → In xs x → (lo ≤ x) × (x < hi)) → length xs ≤ hi - lo
+ascending_few [] lo hi h within = omega arith
+ascending_few (x ∷ xs) lo hi h within =
+    let here = within x (inl refl) in
+    let rest = ascending_few xs (x + 1) hi h.1 (λ y m. (let next = h.0 y m in omega arith, (within y (inr m)).1)) in
+    omega (arith, here.0, here.1)
+
 pub first_last : (xs : List ℕ) → first_of xs ≤ last_of xs + 1
 first_last [] = omega arith
 first_last (y ∷ ys) = omega arith

@@ -1,6 +1,5 @@
 -- Cells written one after another: each byte is what the last cell that has it says, else the old one.
-use Rattle.overlay_laws.proofs.Words.{◌≡◌, ℕ, refl, sym, ◌∙◌, subst, inl, inr, List, [], ◌∷◌, length, Some, ext_get_or, equal_true, one_hit, cells_said, no_none_some, first_counts, at, written, length-written_inside, same_Some, said_at, Says, IsOneValued, Cell, write_cells, said_by, IsWithin, arith, nat_tests, some_or_none, second_counts}
-use borrow.Author.Tests.{eqb-true}
+use Rattle.overlay_laws.proofs.Words.{◌≡◌, ℕ, refl, sym, ◌∙◌, subst, inl, inr, List, [], ◌∷◌, length, Some, ext_get_or, equal_true, one_hit, cells_said, no_none_some, first_counts, at, written, length-written_inside, same_Some, said_at, Says, IsOneValued, Cell, write_cells, said_by, IsWithin, arith, nat_tests, some_or_none, second_counts, eqb-true}
 
 -- ---- cells
 

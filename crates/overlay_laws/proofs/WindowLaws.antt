@@ -1,6 +1,5 @@
 -- Windows that are read, overlaid and written are cells that are written; windows that have every cell are the cells.
-use Rattle.overlay_laws.proofs.Words.{◌≡◌, ℕ, ◌+◌, ◌-◌, ◌<◌, ◌≤◌, refl, sym, ◌∙◌, ap, inl, inr, ◌⊎◌, List, [], ◌∷◌, ◌++◌, length, drop, get_or, Option, Some, None, arith, common_steps, flat_map-append, fold-append, get_or-take, get_or-drop, fold, flat_map, nat_lt, map, enumerate_from, at-written_before, at-written_after, length-written_inside, said_below, said_past, said_inside, at-written_inside, said_append, cells_said, no_none_some, neither_some, second_counts, first_counts, at, written, option_or, said_at, byte_or, Cell, write_cells, said_by, IsWithin, IsFrom, moved_down, IsPart, AreParts, SomeSays, clip, clips, IsInOne, HasEach, nat_tests, cond, some_or_none, leb_tells}
-use borrow.Author.Tests.{ltb-true, ltb-false}
+use Rattle.overlay_laws.proofs.Words.{◌≡◌, ℕ, ◌+◌, ◌-◌, ◌<◌, ◌≤◌, refl, sym, ◌∙◌, ap, inl, inr, ◌⊎◌, List, [], ◌∷◌, ◌++◌, length, drop, get_or, Option, Some, None, arith, common_steps, flat_map-append, fold-append, get_or-take, get_or-drop, fold, flat_map, nat_lt, map, enumerate_from, at-written_before, at-written_after, length-written_inside, said_below, said_past, said_inside, at-written_inside, said_append, cells_said, no_none_some, neither_some, second_counts, first_counts, at, written, option_or, said_at, byte_or, Cell, write_cells, said_by, IsWithin, IsFrom, moved_down, IsPart, AreParts, SomeSays, clip, clips, IsInOne, HasEach, nat_tests, cond, some_or_none, leb_tells, ltb-true, ltb-false}
 use Rattle.overlay_laws.proofs.SaidLaws.{cells_long, same_file, same_said}
 
 -- ---- cells seen from a place on

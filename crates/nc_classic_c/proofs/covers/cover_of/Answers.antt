@@ -1,7 +1,8 @@
 -- The sorted entries have the bytes of the extents.
 use Rattle.nc_classic_c.proofs.Words.{◌^◌, List, sym, subst, Owned, HaveSame, ranges, extents, EndBelow, spans}
-use Rattle.nc_classic_c.proofs.CoverLaws.{cover_bytes, cover_low, entries_low}
+use Rattle.nc_classic_c.proofs.CoverLaws.{cover_bytes, entries_low}
 use Rattle.nc_classic_c.proofs.covers.cover_of.Goals as goal
+use Rattle.overlay_laws.proofs.CoverLaws.{cover_ends}
 
 pub cover-requires-clause-ends : goal.cover-requires-clause-ends
 cover-requires-clause-ends c =
@@ -10,7 +11,7 @@ cover-requires-clause-ends c =
 
 pub returns-clause-ends : goal.returns-clause-ends
 returns-clause-ends c =
-    cover_low c.in_ok-whole.whole c.in_ok-list.list.items c.in_ok-whole.ensures.apart
+    cover_ends c.in_ok-whole.whole c.in_ok-list.list.items c.in_ok-whole.ensures.apart
     (subst (λ (os : List Owned). HaveSame (spans c.in_ok-whole.whole) (ranges os)) c.as_slice.ensures.value c.in_ok-whole.ensures.bytes)
     (entries_low c.args.asked.now c.in_ok-list.list.items c.requires c.in_ok-list.ensures.entries)
 
