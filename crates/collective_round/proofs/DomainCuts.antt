@@ -3,6 +3,7 @@ use Rattle.collective_round.proofs.Words.{◌≡◌, ℕ, ◌+◌, ◌-◌, ◌*
 use Rattle.std.proofs.Common.{slice_get}
 use borrow.Author.Tests.{ltb-true}
 use Rattle.collective_round.proofs.DomainSteps.{collective_is, in_range_hints, same_domains}
+use Rattle.list_laws.proofs.Ranges.{range_next}
 
 -- ---- domains that adjoin
 
@@ -37,9 +38,6 @@ ends_below domains n hi h e l d m = let end = ends_within domains n d h m in ome
 abbrev pub share_bytes : ℕ → ℕ → ℕ → ℕ → List Extent → ℕ → List ℕ
 share_bytes lo hi nodes unit cover a = filter (λ x. (x - low_of lo unit) / share_of lo hi nodes unit == a) (spans cover)
 
-one_more : (a : ℕ) → range_with_len 0 (a + 1) ≡ range_with_len 0 a ++ a ∷ []
-one_more a = let same : 0 + a ≡ a = omega arith in range_append 0 a 1 ∙ ap (λ (k : ℕ). range_with_len 0 a ++ k ∷ []) same
-
 -- the windows of so many shares
 abbrev so_far : ℕ → (ℕ → List ℕ) → ℕ → List Told
 so_far size bytes a = map told_of (flat_map (λ i. windows size (bytes i)) (range_with_len 0 a))
@@ -48,7 +46,7 @@ windows_push : (size : ℕ) (bytes : ℕ → List ℕ) (a : ℕ) → so_far size
 windows_push size bytes a =
     sym (map-append told_of (flat_map (λ i. windows size (bytes i)) (range_with_len 0 a)) (windows size (bytes a)))
     ∙ ap (λ (ws : List (List ℕ)). map told_of ws) (flat_map_more (λ i. windows size (bytes i)) [] (range_with_len 0 a) a)
-    ∙ ap (λ (r : List ℕ). map told_of (flat_map (λ i. windows size (bytes i)) r)) (sym (one_more a))
+    ∙ ap (λ (r : List ℕ). map told_of (flat_map (λ i. windows size (bytes i)) r)) (sym (range_next a))
 
 windows_more : (size : ℕ) (cover : List Extent) (bytes : ℕ → List ℕ) (a : ℕ) (domains : List Extent) (d : Extent) → flat_map (λ e. turns_of size e cover) domains ≡ so_far size bytes a
     → bytes_in d cover ≡ bytes a → flat_map (λ e. turns_of size e cover) (domains ++ d ∷ []) ≡ so_far size bytes (a + 1)

@@ -7,7 +7,7 @@ pub use Rattle.list_laws.proofs.Numbers.{le_two, same_factor, same_le, some_fact
 pub use Rattle.list_laws.proofs.Optional.{both_none, first_counts, if_some_at, neither_some, no_none_some, none_before_map, none_last, none_of_test, not_some, option_or_assoc, second_counts, some_not_none, some_of_map, some_or_none, told_else, told_unless, untold, value_of_some}
 pub use Rattle.list_laws.proofs.Parts.{part, part_joined, part_map, part_none}
 pub use Rattle.list_laws.proofs.Places.{drop_at, each_more, entry_below, entry_beside, entry_numbered, entry_read, entry_replicate, entry_set, entry_set_other, entry_zip, first_same, get_left, get_right, left_more, middle_at, position_below, set_own, take_at_most, take_next}
-pub use Rattle.list_laws.proofs.Ranges.{all_below, pieces_long, range_append, range_first, range_push, range_rest, spans_long}
+pub use Rattle.list_laws.proofs.Ranges.{all_below, none_in_range, pieces_long, range_append, range_first, range_next, range_push, range_rest, spans_long}
 pub use Rattle.list_laws.proofs.Refills.{refilled}
 pub use Rattle.list_laws.proofs.Results.{on_err, on_ok}
 pub use Rattle.list_laws.proofs.Truth.{all_three, and_first, and_second, either, equal_above, equal_below, equal_itself, equal_suc, equal_true, equal_zero, holds_or_not, no_both, no_false, not_zero, or_false, or_first_false, or_second_false}

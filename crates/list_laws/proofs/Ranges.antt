@@ -1,5 +1,5 @@
 -- Numbers one after another.
-use Rattle.list_laws.proofs.Words.{◌≡◌, ℕ, zero, suc, ◌+◌, ◌*◌, ◌∙◌, ap, refl, List, ◌∷◌, ◌++◌, length, arith, [], ◌<◌, ◌≤◌, Some, false, leb, flat_map, slice_get, list_any, range_with_len, or_from, lt-leb, length-range_with_len}
+use Rattle.list_laws.proofs.Words.{◌≡◌, ℕ, zero, suc, ◌+◌, ◌*◌, ◌∙◌, ap, refl, List, ◌∷◌, ◌++◌, length, arith, [], ◌<◌, ◌≤◌, Some, Bool, ◌||◌, false, leb, flat_map, slice_get, list_any, range_with_len, or_from, lt-leb, length-range_with_len}
 use Rattle.std.proofs.lemmas.List.{length-append}
 
 pub range_append : (a m n : ℕ) → range_with_len a (m + n) ≡ range_with_len a m ++ range_with_len (a + m) n
@@ -21,6 +21,9 @@ pub range_push : (a k b : ℕ) → a + k ≡ b → range_with_len a (suc k) ≡ 
 range_push a zero b e = ap (λ (x : ℕ). x ∷ []) (omega arith)
 range_push a (suc k) b e = ap (λ (xs : List ℕ). a ∷ xs) (range_push (a + 1) k b (omega arith))
 
+pub range_next : (n : ℕ) → range_with_len 0 (n + 1) ≡ range_with_len 0 n ++ n ∷ []
+range_next n = let next : n + 1 ≡ suc n = omega arith in ap (λ (k : ℕ). range_with_len 0 k) next ∙ range_push 0 n n (omega arith)
+
 pub spans_long : (size : ℕ) (xs : List ℕ) → length (flat_map (λ x. range_with_len x size) xs) ≡ length xs * size
 spans_long size [] = omega arith
 spans_long size (x ∷ xs) =
@@ -41,3 +44,12 @@ range_rest a (suc n) ys j x h =
 pub all_below : (c k n : ℕ) → k + n ≤ c → list_any (λ m. leb c m) (range_with_len k n) ≡ false
 all_below c k zero h = refl
 all_below c k (suc n) h = or_from (leb c k) (list_any (λ m. leb c m) (range_with_len (k + 1) n)) (lt-leb c k (omega arith)) (all_below c (k + 1) n (omega arith))
+
+-- none of these passes
+pub none_in_range : (test : ℕ → Bool) (a n : ℕ) → ((i : ℕ) → i < n → test (a + i) ≡ false) → list_any test (range_with_len a n) ≡ false
+none_in_range test a zero h = refl
+none_in_range test a (suc n) h =
+    let here : a ≡ a + 0 = omega arith in
+    let first : test a ≡ false = ap test here ∙ h 0 (omega arith) in
+    let later = none_in_range test (a + 1) n (λ i l. let there : a + 1 + i ≡ a + suc i = omega arith in ap test there ∙ h (suc i) (omega arith)) in
+    λ t. first t || later t

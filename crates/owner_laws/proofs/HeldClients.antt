@@ -3,6 +3,7 @@ use Rattle.owner_laws.proofs.Words.{◌≡◌, ℕ, zero, suc, ◌+◌, ◌<◌,
 use Rattle.serial_spec.specs.Owner as owner
 use Rattle.join_laws.proofs.StepLaws.{Free}
 use Rattle.list_laws.proofs.Optional.{some_or_none}
+use Rattle.list_laws.proofs.Ranges.{none_in_range}
 
 -- an entry of a list in which one was set: it is that one, or as before
 pub set_cases : {X : Type 0} (xs : List X) (r q : ℕ) (x y : X) → slice_get (set xs r x) q ≡ Some y → ((q ≡ r) × (y ≡ x)) ⊎ (((r == q) ≡ false) × (slice_get xs q ≡ Some y))
@@ -65,12 +66,6 @@ any_one f a zero k l e = absurd (omega arith)
 any_one f a (suc n) zero l e = grind (arith, nat_tests)
 any_one f a (suc n) (suc k) l e = grind (arith, nat_tests, any_one f (a + 1) n k)
 
-any_none : (f : ℕ → Bool) (a n : ℕ) → ((k : ℕ) → k < n → f (a + k) ≡ false) → list_any f (range_with_len a n) ≡ false
-any_none f a zero h = refl
-any_none f a (suc n) h =
-    let first = h 0 (omega arith) in
-    grind (arith, nat_tests, any_none f (a + 1) n (λ k l. let z : (a + 1) + k ≡ a + suc k = omega arith in ap f z ∙ h (suc k) (omega arith)))
-
 module _ (ranks : ℕ) (before : List Arrival) (d : Owner) (kept : Kept ranks before d) where
   -- it waits where it is held
   pub waits_is : (q : ℕ) (x : Client) → slice_get d.clients q ≡ Some x → waits ranks before q ≡ holds x
@@ -80,7 +75,7 @@ module _ (ranks : ℕ) (before : List Arrival) (d : Owner) (kept : Kept ranks be
       mine = kept.each q x e
 
       by : (x.held ≡ None) ⊎ ((o : Offer) × (x.held ≡ Some o)) → waits ranks before q ≡ holds x
-      by (inl f) = rw f (any_none (has_fewer before q) 0 ranks (λ k l. let p = entry_below d.clients k (rw kept.long l) in fewest k (one_if p.0.held) (kept.each k p.0 p.1).count))
+      by (inl f) = rw f (none_in_range (has_fewer before q) 0 ranks (λ k l. let p = entry_below d.clients k (rw kept.long l) in fewest k (one_if p.0.held) (kept.each k p.0 p.1).count))
         where
           fewest : (k n : ℕ) → length (meeting_offers k before) ≡ d.met + n → has_fewer before q (0 + k) ≡ false
           fewest k n c = let own = mine.count in grind (arith, nat_tests)

@@ -1,6 +1,7 @@
 -- What goes between ranks and aggregators, one thing more.
 use Rattle.plan_sums.proofs.Words.{◌≡◌, ◌<◌, ℕ, ◌+◌, ◌-◌, ◌^◌, refl, sym, ◌∙◌, ap, List, [], ◌∷◌, ◌++◌, length, map, take, get_or, min, Bool, true, false, cond, arith, ◌==◌, filter, flat_map, range_with_len, sum_by, append-nil, append_assoc, map-append, take_more, filter-append, flat_map-map, sum_by_push, flat_map-append, Direction, Put, Get, Share, WindowPlan, windows_in, DomainPlan, StepPlan, bytes_of, cell, cells_in, domains_in, is_served_by, shares_by, shares_in, shares_of, some_cell, phase_of, cell_of, served_by, Cell, Served}
-use Rattle.plan_sums.proofs.ListLaws.{flat_next, flat_push, next_range}
+use Rattle.plan_sums.proofs.ListLaws.{flat_next, flat_push}
+use Rattle.list_laws.proofs.Ranges.{range_next}
 
 -- ---- a rank's bytes
 
@@ -62,7 +63,7 @@ served_more steps n puts gets old new given taken before more =
     more
     ∙ ap (λ (served : Served). old ++ served ∷ []) one
     ∙ ap (λ (all : List Served). all ++ served_by steps n ∷ []) before
-    ∙ sym (ap (λ (ks : List ℕ). map (served_by steps) ks) (next_range n) ∙ map-append (served_by steps) (range_with_len 0 n) (n ∷ []))
+    ∙ sym (ap (λ (ks : List ℕ). map (served_by steps) ks) (range_next n) ∙ map-append (served_by steps) (range_with_len 0 n) (n ∷ []))
 
 pub rank_more : (steps : List StepPlan) (rank nodes : ℕ) (all : List Served) (old new : List Cell) → all ≡ map (served_by steps) (range_with_len 0 nodes)
     → old ≡ cells_in steps rank nodes → new ≡ old ++ flat_map (λ served. some_cell (cell_of rank served)) all → new ≡ cells_in steps (rank + 1) nodes
@@ -72,5 +73,5 @@ rank_more steps rank nodes all old new are before more =
     ∙ ap (λ (cells : List Cell). cells_in steps rank nodes ++ cells)
     (ap (λ (served : List Served). flat_map (λ one. some_cell (cell_of rank one)) served) are
     ∙ flat_map-map (λ (served : Served). some_cell (cell_of rank served)) (served_by steps) (range_with_len 0 nodes))
-    ∙ sym (ap (λ (ks : List ℕ). flat_map (λ r. flat_map (λ a. some_cell (cell steps r a)) (range_with_len 0 nodes)) ks) (next_range rank)
+    ∙ sym (ap (λ (ks : List ℕ). flat_map (λ r. flat_map (λ a. some_cell (cell steps r a)) (range_with_len 0 nodes)) ks) (range_next rank)
     ∙ flat_push (λ (r : ℕ). flat_map (λ a. some_cell (cell steps r a)) (range_with_len 0 nodes)) (range_with_len 0 rank) rank)

@@ -20,6 +20,3 @@ flat_added {X} {Y} f xs i x begun old new there is before more =
 -- what is joined to the first so many is joined to one more
 pub taken_more : {X : Type 0} (before xs : List X) (i : ℕ) (d : X) → i < length xs → (before ++ take i xs) ++ get_or xs i d ∷ [] ≡ before ++ take (i + 1) xs
 taken_more {X} before xs i d there = append_assoc before (take i xs) (get_or xs i d ∷ []) ∙ ap (λ (ys : List X). before ++ ys) (sym (take_more xs i d there))
-
-pub next_range : (n : ℕ) → range_with_len 0 (n + 1) ≡ range_with_len 0 n ++ n ∷ []
-next_range n = let next : n + 1 ≡ suc n = omega arith in ap (λ (k : ℕ). range_with_len 0 k) next ∙ range_push 0 n n (omega arith)

@@ -108,10 +108,6 @@ pub maybe : {A B : Type 0} (P : B → Type 0) (o : Option A) (x : B) (f : A → 
 maybe P None x f h k = h
 maybe P (Some a) x f h k = k a refl
 
-pub by_test : {A : Type 0} (P : A → Type 0) (b : Bool) (x y : A) → (b ≡ true → P x) → (b ≡ false → P y) → P (cond b x y)
-by_test P true x y h k = h refl
-by_test P false x y h k = k refl
-
 -- ---- what comes of two tests, one after the other
 
 pub by_false : {A : Type 0} (b : Bool) (x y : A) → b ≡ false → elim b as (λ t. A) [ true ↦ x | false ↦ y ] ≡ y

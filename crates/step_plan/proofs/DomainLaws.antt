@@ -1,6 +1,7 @@
 -- One domain more is planned, and the windows of all are those of the model.
 use Rattle.step_plan.proofs.Words.{◌≡◌, ℕ, suc, ◌+◌, ◌-◌, ◌^◌, ◌<◌, ◌≤◌, inl, inr, refl, sym, ◌∙◌, ap, subst, List, [], ◌∷◌, ◌++◌, length, map, take, Option, Some, get_or, append_assoc, arith, flat_map-append, append-nil, map-append, take_more, take_all, length_push, flat_map-map, same_Some, flat_map, IfOk, Result, Ok, Err, range_with_len, no_none_some, range_push, Extent, Owned, Hints, DiskCall, collective_windows, in_order, loads, overlays, sieving_windows, spans, load_calls, store_calls, ranges, HaveSame, told_of, IsCover, cover_in_order, in_either, turns_of, Told, AreDomains, loads_are, stores_are, get_calls, put_calls, told_plan, AreShared, WindowPlan, in_one_range, last_end, reach_of, windows_in, AreDivided, AreDomainPlans, AreSievedPlans, IsDomainPlan, DomainPlan}
 use Rattle.std.proofs.Common.{min, slice_get}
+use Rattle.list_laws.proofs.Ranges.{range_next}
 
 -- ---- the calls of windows that are told
 
@@ -32,7 +33,7 @@ divided_more hints list cover domains count none plans plan l extent number here
       ∙ ap (λ (ns : List (Option ℕ)). ns ++ plan.aggregator ∷ []) h.numbered
       ∙ ap (λ (n : Option ℕ). map Some (range_with_len 0 count) ++ n ∷ []) number
       ∙ sym (map-append Some (range_with_len 0 count) (count ∷ []))
-      ∙ ap (λ (ns : List ℕ). map Some ns) (sym (one_more count));
+      ∙ ap (λ (ns : List ℕ). map Some ns) (sym (range_next count));
   each = λ d m. elim (in_either plans (plan ∷ []) d m) [
     | inl i ↦ h.each d i
     | inr i ↦ elim i [ inl same ↦ subst (λ (p : DomainPlan). IsDomainPlan hints list cover p) same here | inr n ↦ absurd n ]
@@ -54,9 +55,6 @@ divided_more hints list cover domains count none plans plan l extent number here
 
     next : take (count + 1) domains ≡ take count domains ++ domain ∷ []
     next = take_more domains count none l
-
-    one_more : (n : ℕ) → range_with_len 0 (n + 1) ≡ range_with_len 0 n ++ n ∷ []
-    one_more n = (let s : n + 1 ≡ suc n = omega arith in ap (λ (k : ℕ). range_with_len 0 k) s) ∙ range_push 0 n n (omega arith)
 
 pub all_divided : (hints : Hints) (list : List Owned) (cover domains : List Extent) (plans : List DomainPlan)
     → IsCover cover → HaveSame (spans cover) (ranges list) → AreDomains cover domains

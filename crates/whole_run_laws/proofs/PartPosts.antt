@@ -4,6 +4,7 @@ use Rattle.std.proofs.Common.{is_none}
 use Rattle.nc_base.specs.declared.answer.Code.TheVariants as code
 use Rattle.nc_base.specs.declared.request.Value.TheVariants as value
 use Rattle.serial_spec.specs.Looks as looks
+use Rattle.list_laws.proofs.Ranges.{none_in_range}
 
 -- ---- a call that is not refused
 
@@ -66,14 +67,6 @@ none_of_range test a zero h i l = absurd (omega arith)
 none_of_range test a (suc n) h zero l = grind (arith, nat_tests, or_first_false)
 none_of_range test a (suc n) h (suc i) l =
     grind (arith, nat_tests, none_of_range test (a + 1) n (or_second_false (test a) (list_any test (range_with_len (a + 1) n)) h) i (omega arith), or_second_false)
-
-none_in_range : (test : ℕ → Bool) (a n : ℕ) → ((i : ℕ) → i < n → test (a + i) ≡ false) → list_any test (range_with_len a n) ≡ false
-none_in_range test a zero h = refl
-none_in_range test a (suc n) h =
-    let here : a ≡ a + 0 = omega arith in
-    let first : test a ≡ false = ap test here ∙ h 0 (omega arith) in
-    let later = none_in_range test (a + 1) n (λ i l. let there : a + 1 + i ≡ a + suc i = omega arith in ap test there ∙ h (suc i) (omega arith)) in
-    λ t. first t || later t
 
 right_values : (kind : NcType) (values : Values) (all : ℕ) → parts_code kind all (Some values) ≡ code.Ok → AreRight kind values all
 right_values kind values all h =

@@ -1,6 +1,7 @@
 -- The shares of ranks, counted one owner after another.
 use Rattle.window_plan.proofs.Words.{◌≡◌, ℕ, suc, ◌+◌, ◌-◌, ◌^◌, ◌<◌, sym, ◌∙◌, ap, List, [], ◌∷◌, ◌++◌, length, take, get_or, max, min, arith, flat_map_more, take_more, range_with_len, range_push, bytes_for, own_bytes, ranks_in, share_of, Owner, Share}
 use Rattle.std.specs.Prelude.{flat_map}
+use Rattle.list_laws.proofs.Ranges.{range_next}
 
 bytes_joined : (rank : ℕ) (owners : List Owner) (o : Owner) → bytes_for rank (owners ++ o ∷ []) ≡ bytes_for rank owners + own_bytes rank o
 bytes_joined rank [] o = omega arith
@@ -24,10 +25,7 @@ ranks_more owners i none ranks now l before is =
     = ap ranks_in (take_more owners i none l) ∙ ranks_joined (take i owners) (get_or owners i none) in
     omega arith
 
-one_more : (n : ℕ) → range_with_len 0 (n + 1) ≡ range_with_len 0 n ++ n ∷ []
-one_more n = let next : n + 1 ≡ suc n = omega arith in ap (λ (k : ℕ). range_with_len 0 k) next ∙ range_push 0 n n (omega arith)
-
 pub shares_more : (f : ℕ → List Share) (n : ℕ) (old new : List Share) → old ≡ flat_map f (range_with_len 0 n) → new ≡ old ++ f n → new ≡ flat_map f (range_with_len 0 (n + 1))
 shares_more f n old new before more =
     more ∙ ap (λ (shares : List Share). shares ++ f n) before ∙ flat_map_more f [] (range_with_len 0 n) n
-    ∙ ap (λ (ks : List ℕ). flat_map f ks) (sym (one_more n))
+    ∙ ap (λ (ks : List ℕ). flat_map f ks) (sym (range_next n))
