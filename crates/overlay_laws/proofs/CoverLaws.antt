@@ -1,5 +1,5 @@
 -- A cursor that cuts extents goes over the same windows as one that cuts bytes.
-use Rattle.overlay_laws.proofs.Words.{◌≡◌, ℕ, zero, suc, ◌+◌, ◌-◌, ◌<◌, ◌≤◌, refl, sym, ◌∙◌, ap, subst, inl, inr, List, [], ◌∷◌, ◌++◌, length, Bool, max, arith, length-append, append-nil, mod_below, div-add-mod', filter, map, nat_lt, nat_le, ◌==◌, range_with_len, length-range_with_len, lt-ltb, le-ltb, le-leb, lt-leb, leb-true, leb-false, equal_below, equal_true, range_append, Extent, first_of, last_of, hull_len, windows, sieving_windows, in_order, In, HaveSame, IsAscending, walked, round_end, below, above, IsCover, end_after, is_single, first_at, hull_of, extents_walked, told_of, spans, filter-append, nat_tests, either, ◌^◌, Owned, ranges, extents}
+use Rattle.overlay_laws.proofs.Words.{◌≡◌, ℕ, zero, suc, ◌+◌, ◌-◌, ◌<◌, ◌≤◌, refl, sym, ◌∙◌, ap, subst, inl, inr, List, [], ◌∷◌, ◌++◌, length, Bool, max, arith, length-append, append-nil, mod_below, div-add-mod', filter, map, nat_lt, nat_le, ◌==◌, range_with_len, length-range_with_len, lt-ltb, le-ltb, le-leb, lt-leb, leb-true, leb-false, equal_below, equal_true, range_append, Extent, first_of, last_of, hull_len, windows, sieving_windows, in_order, In, HaveSame, IsAscending, walked, round_end, below, above, IsCover, end_after, is_single, first_at, hull_of, extents_walked, told_of, spans, filter-append, nat_tests, either, ◌^◌, Owned, ranges, extents, true, false, cond, append_assoc}
 use Rattle.overlay_laws.specs.Lines.{EndBelow}
 use Rattle.overlay_laws.proofs.Members.{in_map}
 use Rattle.overlay_laws.proofs.HullLaws.{range_low, range_high, in_either, in_in_order, in_order_in, in_order_ascends, in_range, flat_in, in_flat}
@@ -7,13 +7,21 @@ use Rattle.overlay_laws.proofs.WalkLaws.{filter_none, filter_all, drop_first, wi
 
 -- ---- bytes of a cover
 
+spans_from : (n : ℕ) (cover : List Extent) → ((d : Extent) → In cover d → n ≤ d.at) → (y : ℕ) → In (spans cover) y → n ≤ y
+spans_from n [] h y k = absurd k
+spans_from n (e ∷ cover) h y k = elim (in_either (range_with_len e.at e.len) (spans cover) y k) [
+  | inl g ↦ omega (arith, range_low e.at e.len y g, h e (inl refl))
+  | inr g ↦ spans_from n cover (λ d l. h d (inr l)) y g
+]
+
 pub spans_past : (cover : List Extent) (n y : ℕ) → ((d : Extent) → In cover d → n < d.at) → In (spans cover) y → n < y
-spans_past [] n y h k = absurd k
-spans_past (e ∷ cover) n y h k =
-    elim (in_either (range_with_len e.at e.len) (spans cover) y k) [
-      | inl g ↦ (let l = range_low e.at e.len y g in let m = h e (inl refl) in omega arith)
-      | inr g ↦ spans_past cover n y (λ d l. h d (inr l)) g
-    ]
+spans_past cover n y h k = spans_from (suc n) cover h y k
+
+pub spans_below_none : (stop : ℕ) (cover : List Extent) → ((d : Extent) → In cover d → stop ≤ d.at) → filter (λ y. nat_lt y stop) (spans cover) ≡ []
+spans_below_none stop cover h = filter_none (λ y. nat_lt y stop) (spans cover) (λ y k. le-ltb y stop (spans_from stop cover h y k))
+
+pub range_above_none : (stop a n : ℕ) → a + n ≤ stop → filter (λ y. nat_le stop y) (range_with_len a n) ≡ []
+range_above_none stop a n h = filter_none (λ y. nat_le stop y) (range_with_len a n) (λ y k. let l = range_high a n y k in lt-leb stop y (omega arith))
 
 pub long_enough : (cover : List Extent) (e : Extent) → IsCover cover → In cover e → 1 ≤ e.len
 long_enough [] e h k = absurd k
@@ -34,19 +42,7 @@ cover_ends cover list h same ends e m =
     (same.0 (e.at + (e.len - 1)) (in_flat (λ (d : Extent). range_with_len d.at d.len) cover e (e.at + (e.len - 1)) m last)) in
     omega (arith, range_high f.0.extent.at f.0.extent.len (e.at + (e.len - 1)) f.2, ends f.0.extent (in_map (λ (o : Owned). o.extent) list f.0 f.1))
 
--- ---- the part of a range before a place, and from it on
-
-range_below_all : (stop a n : ℕ) → a + n ≤ stop → filter (λ y. nat_lt y stop) (range_with_len a n) ≡ range_with_len a n
-range_below_all stop a n h = filter_all (λ y. nat_lt y stop) (range_with_len a n) (λ y k. let l = range_high a n y k in lt-ltb y stop (omega arith))
-
-range_below_none : (stop a n : ℕ) → stop ≤ a → filter (λ y. nat_lt y stop) (range_with_len a n) ≡ []
-range_below_none stop a n h = filter_none (λ y. nat_lt y stop) (range_with_len a n) (λ y k. let l = range_low a n y k in le-ltb y stop (omega arith))
-
-range_above_all : (stop a n : ℕ) → stop ≤ a → filter (λ y. nat_le stop y) (range_with_len a n) ≡ range_with_len a n
-range_above_all stop a n h = filter_all (λ y. nat_le stop y) (range_with_len a n) (λ y k. let l = range_low a n y k in le-leb stop y (omega arith))
-
-pub range_above_none : (stop a n : ℕ) → a + n ≤ stop → filter (λ y. nat_le stop y) (range_with_len a n) ≡ []
-range_above_none stop a n h = filter_none (λ y. nat_le stop y) (range_with_len a n) (λ y k. let l = range_high a n y k in lt-leb stop y (omega arith))
+-- ---- a cover that is cut at a place
 
 cut_range : (stop a n : ℕ) → a < stop → stop < a + n → range_with_len a n ≡ range_with_len a (stop - a) ++ range_with_len stop (a + n - stop)
 cut_range stop a n h k =
@@ -54,58 +50,51 @@ cut_range stop a n h k =
     let f : a + (stop - a) ≡ stop = omega arith in
     ap (λ (m : ℕ). range_with_len a m) e ∙ range_append a (stop - a) (a + n - stop) ∙ ap (λ (m : ℕ). range_with_len a (stop - a) ++ range_with_len m (a + n - stop)) f
 
-range_below_cut : (stop a n : ℕ) → a < stop → stop < a + n → filter (λ y. nat_lt y stop) (range_with_len a n) ≡ range_with_len a (stop - a)
-range_below_cut stop a n h k =
-    ap (λ r. filter (λ y. nat_lt y stop) r) (cut_range stop a n h k)
-    ∙ filter-append (λ y. nat_lt y stop) (range_with_len a (stop - a)) (range_with_len stop (a + n - stop))
-    ∙ ap (λ r. r ++ filter (λ y. nat_lt y stop) (range_with_len stop (a + n - stop))) (range_below_all stop a (stop - a) (omega arith))
-    ∙ ap (λ r. range_with_len a (stop - a) ++ r) (range_below_none stop stop (a + n - stop) (omega arith))
-    ∙ append-nil (range_with_len a (stop - a))
+cut_by : (stop : ℕ) (e : Extent) (cover : List Extent) (t u : Bool) → nat_le stop e.at ≡ t → nat_le (e.at + e.len) stop ≡ u
+    → spans cover ≡ spans (below stop cover) ++ spans (above stop cover)
+    → spans (e ∷ cover) ≡ spans (cond t [] (cond u (e ∷ below stop cover) (record { at = e.at; len = stop - e.at } ∷ [])))
+    ++ spans (cond t (e ∷ cover) (cond u (above stop cover) (record { at = stop; len = e.at + e.len - stop } ∷ cover)))
+cut_by stop e cover true u g f both = refl
+cut_by stop e cover false true g f both =
+    ap (λ r. range_with_len e.at e.len ++ r) both ∙ sym (append_assoc (range_with_len e.at e.len) (spans (below stop cover)) (spans (above stop cover)))
+cut_by stop e cover false false g f both =
+    ap (λ r. r ++ spans cover) (cut_range stop e.at e.len (leb-false stop e.at g) (leb-false (e.at + e.len) stop f))
+    ∙ append_assoc (range_with_len e.at (stop - e.at)) (range_with_len stop (e.at + e.len - stop)) (spans cover)
+    ∙ ap (λ r. r ++ (range_with_len stop (e.at + e.len - stop) ++ spans cover)) (sym (append-nil (range_with_len e.at (stop - e.at))))
 
-range_above_cut : (stop a n : ℕ) → a < stop → stop < a + n → filter (λ y. nat_le stop y) (range_with_len a n) ≡ range_with_len stop (a + n - stop)
-range_above_cut stop a n h k =
-    ap (λ r. filter (λ y. nat_le stop y) r) (cut_range stop a n h k)
-    ∙ filter-append (λ y. nat_le stop y) (range_with_len a (stop - a)) (range_with_len stop (a + n - stop))
-    ∙ ap (λ r. r ++ filter (λ y. nat_le stop y) (range_with_len stop (a + n - stop))) (range_above_none stop a (stop - a) (omega arith))
-    ∙ range_above_all stop stop (a + n - stop) (omega arith)
+-- its bytes are those of one part, and behind them those of the other
+cut_spans : (stop : ℕ) (cover : List Extent) → spans cover ≡ spans (below stop cover) ++ spans (above stop cover)
+cut_spans stop [] = refl
+cut_spans stop (e ∷ cover) = cut_by stop e cover (nat_le stop e.at) (nat_le (e.at + e.len) stop) refl refl (cut_spans stop cover)
 
--- ---- the part of a cover before a place, and from it on
+below_low : (stop : ℕ) (cover : List Extent) (y : ℕ) → In (spans (below stop cover)) y → y < stop
+below_low stop [] y = λ k. absurd k
+below_low stop (e ∷ cover) y =
+    either (λ (xs : List Extent). In (spans xs) y → y < stop) (nat_le stop e.at) _ _ (λ g k. absurd k)
+    (λ g. either (λ (xs : List Extent). In (spans xs) y → y < stop) (nat_le (e.at + e.len) stop) _ _
+    (λ f k. elim (in_either (range_with_len e.at e.len) (spans (below stop cover)) y k) [ inl m ↦ omega (arith, range_high e.at e.len y m, leb-true (e.at + e.len) stop f) | inr m ↦ below_low stop cover y m ])
+    (λ f k. elim (in_either (range_with_len e.at (stop - e.at)) [] y k) [ inl m ↦ omega (arith, range_high e.at (stop - e.at) y m, leb-false stop e.at g) | inr m ↦ absurd m ]))
 
-pub spans_below_none : (stop : ℕ) (cover : List Extent) → ((d : Extent) → In cover d → stop ≤ d.at) → filter (λ y. nat_lt y stop) (spans cover) ≡ []
-spans_below_none stop [] h = refl
-spans_below_none stop (e ∷ cover) h =
-    filter-append (λ y. nat_lt y stop) (range_with_len e.at e.len) (spans cover)
-    ∙ ap (λ r. r ++ filter (λ y. nat_lt y stop) (spans cover)) (range_below_none stop e.at e.len (h e (inl refl)))
-    ∙ spans_below_none stop cover (λ d k. h d (inr k))
-
-pub spans_above_all : (stop : ℕ) (cover : List Extent) → ((d : Extent) → In cover d → stop ≤ d.at) → filter (λ y. nat_le stop y) (spans cover) ≡ spans cover
-spans_above_all stop [] h = refl
-spans_above_all stop (e ∷ cover) h =
-    filter-append (λ y. nat_le stop y) (range_with_len e.at e.len) (spans cover)
-    ∙ ap (λ r. r ++ filter (λ y. nat_le stop y) (spans cover)) (range_above_all stop e.at e.len (h e (inl refl)))
-    ∙ ap (λ r. range_with_len e.at e.len ++ r) (spans_above_all stop cover (λ d k. h d (inr k)))
-
-none_below : (stop : ℕ) (e : Extent) (cover : List Extent) → IsCover (e ∷ cover) → stop ≤ e.at + e.len → filter (λ y. nat_lt y stop) (spans cover) ≡ []
-none_below stop e cover h l = spans_below_none stop cover (λ d k. omega (arith, h.1 d k))
-
-below_first : (stop : ℕ) (e : Extent) (cover : List Extent) → IsCover (e ∷ cover) → filter (λ y. nat_lt y stop) (spans cover) ≡ spans (below stop cover)
-    → filter (λ y. nat_lt y stop) (spans (e ∷ cover)) ≡ spans (below stop (e ∷ cover))
-below_first stop e cover h ih = grind (arith, nat_tests, filter-append, range_below_all, range_below_none, range_below_cut, none_below stop e cover h)
+above_high : (stop : ℕ) (cover : List Extent) → IsCover cover → (d : Extent) → In (above stop cover) d → stop ≤ d.at
+above_high stop [] h d = λ k. absurd k
+above_high stop (e ∷ cover) h d =
+    either (λ (xs : List Extent). In xs d → stop ≤ d.at) (nat_le stop e.at) _ _
+    (λ g k. elim k [ inl m ↦ subst (λ (z : Extent). stop ≤ z.at) m (leb-true stop e.at g) | inr m ↦ omega (arith, h.1 d m, leb-true stop e.at g) ])
+    (λ g. either (λ (xs : List Extent). In xs d → stop ≤ d.at) (nat_le (e.at + e.len) stop) _ _ (λ f k. above_high stop cover h.2 d k)
+    (λ f k. elim k [ inl m ↦ subst (λ (z : Extent). stop ≤ z.at) m (omega arith) | inr m ↦ omega (arith, h.1 d m, leb-false (e.at + e.len) stop f) ]))
 
 pub spans_below : (stop : ℕ) (cover : List Extent) → IsCover cover → filter (λ y. nat_lt y stop) (spans cover) ≡ spans (below stop cover)
-spans_below stop [] h = refl
-spans_below stop (e ∷ cover) h = below_first stop e cover h (spans_below stop cover h.2)
-
-all_above : (stop : ℕ) (e : Extent) (cover : List Extent) → IsCover (e ∷ cover) → stop ≤ e.at + e.len → filter (λ y. nat_le stop y) (spans cover) ≡ spans cover
-all_above stop e cover h l = spans_above_all stop cover (λ d k. omega (arith, h.1 d k))
-
-above_first : (stop : ℕ) (e : Extent) (cover : List Extent) → IsCover (e ∷ cover) → filter (λ y. nat_le stop y) (spans cover) ≡ spans (above stop cover)
-    → filter (λ y. nat_le stop y) (spans (e ∷ cover)) ≡ spans (above stop (e ∷ cover))
-above_first stop e cover h ih = grind (arith, nat_tests, filter-append, range_above_all, range_above_none, range_above_cut, all_above stop e cover h)
+spans_below stop cover h =
+    ap (λ r. filter (λ y. nat_lt y stop) r) (cut_spans stop cover) ∙ filter-append (λ y. nat_lt y stop) (spans (below stop cover)) (spans (above stop cover))
+    ∙ (λ i. filter_all (λ y. nat_lt y stop) (spans (below stop cover)) (λ y k. lt-ltb y stop (below_low stop cover y k)) i
+    ++ spans_below_none stop (above stop cover) (above_high stop cover h) i)
+    ∙ append-nil (spans (below stop cover))
 
 pub spans_above : (stop : ℕ) (cover : List Extent) → IsCover cover → filter (λ y. nat_le stop y) (spans cover) ≡ spans (above stop cover)
-spans_above stop [] h = refl
-spans_above stop (e ∷ cover) h = above_first stop e cover h (spans_above stop cover h.2)
+spans_above stop cover h =
+    ap (λ r. filter (λ y. nat_le stop y) r) (cut_spans stop cover) ∙ filter-append (λ y. nat_le stop y) (spans (below stop cover)) (spans (above stop cover))
+    ∙ (λ i. filter_none (λ y. nat_le stop y) (spans (below stop cover)) (λ y k. lt-leb stop y (below_low stop cover y k)) i
+    ++ filter_all (λ y. nat_le stop y) (spans (above stop cover)) (λ y k. le-leb stop y (spans_from stop (above stop cover) (above_high stop cover h) y k)) i)
 
 -- ---- both parts are covers
 

@@ -1,5 +1,5 @@
 -- The words of this crate's proofs, from where they stand.
-pub use Rattle.list_laws.proofs.Std.{◌^◌, AllByRecursion, Bool, Contains, Contains-permutation, IsPermutation, IsPermutation-sym, List, None, Option, Some, [], and_from, ap, append-nil, arith, cases_eq, common_steps, cond, div-add-mod', div-mul-add, div_below, div_ceil_times, drop, drop_more, enumerate_from, eqb-true, ext_get_or, false, filter, filter-append, flat_map, flat_map-append, fold, fold-append, get_or, get_or-append_right, get_or-drop, get_or-take, get_or_append_left, get_or_past, inl, inr, le-div, le-leb, le-ltb, leb-false, leb-true, leb_tells, length, length-map, length-range_with_len, list_any, lt-leb, lt-ltb, map-append, max, min, mod_below, mul-le, mul-le-mul_right, mul_comm, nat_le, nat_lt, nat_tests, not, option_map, option_or, or_cases, or_left, or_right, range_with_len, refl, same_Some, slice_get, slice_get-map, slice_get_read, subst, suc, sym, take, true, zero, zip, ℕ, ◌%◌, ◌&&◌, ◌*◌, ◌++◌, ◌+◌, ◌-◌, ◌/◌, ◌<◌, ◌==◌, ◌∙◌, ◌∷◌, ◌≡◌, ◌≤◌, ◌⊎◌, ltb-false, ltb-true}
+pub use Rattle.list_laws.proofs.Std.{◌^◌, append_assoc, AllByRecursion, Bool, Contains, Contains-permutation, IsPermutation, IsPermutation-sym, List, None, Option, Some, [], and_from, ap, append-nil, arith, cases_eq, common_steps, cond, div-add-mod', div-mul-add, div_below, div_ceil_times, drop, drop_more, enumerate_from, eqb-true, ext_get_or, false, filter, filter-append, flat_map, flat_map-append, fold, fold-append, get_or, get_or-append_right, get_or-drop, get_or-take, get_or_append_left, get_or_past, inl, inr, le-div, le-leb, le-ltb, leb-false, leb-true, leb_tells, length, length-map, length-range_with_len, list_any, lt-leb, lt-ltb, map-append, max, min, mod_below, mul-le, mul-le-mul_right, mul_comm, nat_le, nat_lt, nat_tests, not, option_map, option_or, or_cases, or_left, or_right, range_with_len, refl, same_Some, slice_get, slice_get-map, slice_get_read, subst, suc, sym, take, true, zero, zip, ℕ, ◌%◌, ◌&&◌, ◌*◌, ◌++◌, ◌+◌, ◌-◌, ◌/◌, ◌<◌, ◌==◌, ◌∙◌, ◌∷◌, ◌≡◌, ◌≤◌, ◌⊎◌, ltb-false, ltb-true}
 pub use Rattle.std.proofs.lemmas.List.{length-append}
 pub use Rattle.std.specs.List.{slice_index_or}
 pub use Rattle.std.specs.Prelude.{map}
