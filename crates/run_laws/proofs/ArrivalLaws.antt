@@ -1,5 +1,5 @@
 -- A run of ranks at their next offers is that of ranks which wait where they heard their last reply.
-use Rattle.run_laws.proofs.Words.{◌≡◌, ℕ, suc, refl, sym, ◌∙◌, ap, List, [], ◌∷◌, ◌++◌, map, set, Option, Some, None, slice_get, fold, nat_lt, map_map, Header, Call, Hints, Script, Mark, Offer, mark_calls, store_records, run_calls, Setting, Counted, Going, advance, solo_of, after_mark, first_state, setting_of, closed, serial_from, calls_so_far, Arrived, Stand, solo_to, step_to, step_calls, calls_over, ended_from, all_calls_over, first_stand, map-set, arith, nat_tests}
+use Rattle.run_laws.proofs.Words.{◌≡◌, ℕ, suc, refl, sym, ◌∙◌, ap, List, [], ◌∷◌, ◌++◌, map, set, Option, Some, None, slice_get, fold, nat_lt, map_map, Header, Call, Hints, Script, Mark, Offer, mark_calls, store_records, run_calls, Setting, Counted, Going, advance, solo_of, after_mark, first_state, setting_of, closed, serial_from, calls_so_far, Arrived, Stand, solo_to, step_to, step_calls, calls_over, ended_from, all_calls_over, first_stand, map-set, arith, nat_tests, append_assoc, DiskCall}
 use Rattle.run_laws.proofs.OrderLaws.{calls_close}
 use Rattle.run_laws.proofs.StandingLaws.{calls_at}
 
@@ -46,6 +46,13 @@ pub arrival_calls : (hints : Hints) (s : Setting) (state : Counted × List Going
     → calls_over hints s (gone_up s state) order ≡ calls_so_far hints s state order
 arrival_calls hints s state [] = refl
 arrival_calls hints s state (m ∷ order) = grind (arith, nat_tests, arrival_calls hints s (after_mark s state m) order, arrival_call, arrival_step)
+
+pub calls_split : (hints : Hints) (s : Setting) (stand : Stand) (marks more : List Mark)
+    → calls_over hints s stand (marks ++ more) ≡ calls_over hints s stand marks ++ calls_over hints s (fold (step_to s) stand marks) more
+calls_split hints s stand [] more = refl
+calls_split hints s stand (m ∷ marks) more =
+    ap (λ (cs : List DiskCall). step_calls hints s stand m ++ cs) (calls_split hints s (step_to s stand m) marks more)
+    ∙ sym (append_assoc (step_calls hints s stand m) (calls_over hints s (step_to s stand m) marks) (calls_over hints s (fold (step_to s) (step_to s stand m) marks) more))
 
 arrival_end : (s : Setting) (state : Counted × List Going) (order : List Mark)
     → ended_from s (gone_up s state) order ≡ closed s (fold (after_mark s) state order)

@@ -1,5 +1,6 @@
 -- Who comes to a meeting, and with which call.
 use Rattle.run_plan.proofs.Words.{◌≡◌, ℕ, suc, ◌+◌, ◌<◌, ◌^◌, refl, sym, ◌∙◌, ap, List, [], ◌∷◌, ◌++◌, length, map, drop, get_or, Option, Some, None, append_assoc, arith, drop_more, length-map, slice_get, enumerate_from, value_of_some, Answer, Header, Call, Script, Mark, Offer, Going, blank, AllBeside, AreNear, Arrived, Caller, AreRunners, HaveArrived, arrived, arrived_all, Runner, arrived_held, AllHold, comes, free, holding, Comes, caller, caller_at, meeting_callers, runner_caller}
+use Rattle.join_laws.proofs.AlikeLaws.{as_many}
 
 -- ---- few calls are answered
 
@@ -23,9 +24,6 @@ one_more runners i x done now whole l is step all =
     ∙ ap (λ (ys : List Runner). done ++ map runner_caller (enumerate_from i ys)) (sym (drop_more runners i x l)) ∙ all
 
 -- ---- those of the run
-
-as_many : (g h : Going) → AreNear g h → length g.answers ≡ length h.answers
-as_many g h n = sym (length-map g.answers blank) ∙ ap (λ (xs : List Answer). length xs) n.answers ∙ length-map h.answers blank
 
 beside : (ps qs : List Arrived) (first : ℕ) → AllBeside ps qs → map caller_at (enumerate_from first ps) ≡ map caller_at (enumerate_from first qs)
 beside [] [] first h = refl

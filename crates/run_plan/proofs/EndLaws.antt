@@ -83,8 +83,3 @@ are_planned script header size before opening at first last plan lawful firsts n
         (plan_ends script header file at.steps size at.size at.records plan.close first last lawful long firsts each (are_over script last free arrived)
         (subst (λ (steps : List StepPlan). HasPlannedAll script.hints (setting_of script header) steps at.steps (plan_stage size header.records (arrived_all header script.calls first))
         (plan_stage at.size at.records (arrived_all header script.calls last))) none planned) end.close)
-
--- what holds of a value where there is one
-pub ok_so : {T E : Type 0} {P Q : T → Type 0} (r : Result T E) → ((x : T) → P x → Q x) → IfOk r P → IfOk r Q
-ok_so (Ok x) f h = f x h
-ok_so (Err e) f h = tt

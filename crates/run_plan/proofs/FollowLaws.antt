@@ -1,14 +1,8 @@
 -- Steps that are planned, one after another.
 use Rattle.run_plan.proofs.Words.{◌≡◌, ℕ, ◌<◌, refl, sym, ◌∙◌, ap, subst, List, [], ◌∷◌, ◌++◌, length, set, true, Some, append_assoc, arith, flat_map-append, fold-append, append-nil, map-append, set-set, fold, slice_get, list_all, Header, Hints, Script, DiskCall, Mark, Setting, is_lawful, setting_of, all_joined, entry_set, set_own, is_solo_of, calls_over, step_calls, step_to, Arrived, Stand, ranks_lawful, file_calls, StepPlan, calls_of, arrived, arrived_all, IsGrownBy, Runner, calls_there, get_arrived, set_arrived, calls_in, order_in, plan_stage, rank_plan, AreStepsOf, Follows, HasPlanned, HasPlannedAll, IsBeside, PlanStage, RankPlan}
+use Rattle.run_laws.proofs.ArrivalLaws.{calls_split}
 
 -- ---- one list of steps after another
-
-calls_split : (hints : Hints) (s : Setting) (stand : Stand) (marks more : List Mark)
-    → calls_over hints s stand (marks ++ more) ≡ calls_over hints s stand marks ++ calls_over hints s (fold (step_to s) stand marks) more
-calls_split hints s stand [] more = refl
-calls_split hints s stand (m ∷ marks) more =
-    ap (λ (cs : List DiskCall). step_calls hints s stand m ++ cs) (calls_split hints s (step_to s stand m) marks more)
-    ∙ sym (append_assoc (step_calls hints s stand m) (calls_over hints s (step_to s stand m) marks) (calls_over hints s (fold (step_to s) (step_to s stand m) marks) more))
 
 order_joined : (xs ys : List StepPlan) → order_in (xs ++ ys) ≡ order_in xs ++ order_in ys
 order_joined xs ys = map-append (λ (step : StepPlan). step.mark) xs ys

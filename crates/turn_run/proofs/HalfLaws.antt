@@ -3,10 +3,8 @@ use Rattle.turn_run.proofs.Words.{◌≡◌, ℕ, ◌+◌, ◌-◌, ◌≤◌, L
 use Rattle.std.proofs.Common.{IfSome}
 use Rattle.turn_run.proofs.MeetFile.{not_below, raised_none}
 use Rattle.turn_run.proofs.StageLaws.{some_each}
-
-none_of : {A : Type 0} (xs : List A) → is_empty xs ≡ true → xs ≡ []
-none_of [] h = refl
-none_of (x ∷ xs) h = absurd (cc)
+use Rattle.serial_spec.proofs.FileLaws.{longer-enough}
+use Rattle.serial_spec.proofs.MemberLaws.{empty_list}
 
 abbrev have_no_gets : List Batch → Type 0
 have_no_gets batches = list_all (λ b. is_empty b.gets) batches ≡ true
@@ -15,7 +13,7 @@ no_gets : (batches : List Batch) → have_no_gets batches → gets_in batches �
 no_gets [] h = refl
 no_gets (b ∷ bs) h =
     let parts = and_parts (is_empty b.gets) (list_all (λ (c : Batch). is_empty c.gets) bs) h in
-    ap (λ (gets : List Post). gets ++ gets_in bs) (none_of b.gets parts.0) ∙ no_gets bs parts.1
+    ap (λ (gets : List Post). gets ++ gets_in bs) (empty_list b.gets parts.0) ∙ no_gets bs parts.1
 
 -- rows without a blob are those of no gets
 rows_of_none : {X : Type 0} (f : Post → X) (slice batches : List Batch) → slice ≡ batches → have_no_gets slice → map (λ (b : Batch). []) slice ≡ map (λ b. map f b.gets) batches
@@ -25,7 +23,7 @@ rows_of_none {X} f slice batches same none = each slice none ∙ ap (λ (bs : Li
     each [] h = refl
     each (b ∷ bs) h =
         let parts = and_parts (is_empty b.gets) (list_all (λ (c : Batch). is_empty c.gets) bs) h in
-        ap (λ rows. [] ∷ rows) (each bs parts.1) ∙ ap (λ (gets : List Post). map f gets ∷ map (λ (c : Batch). map f c.gets) bs) (sym (none_of b.gets parts.0))
+        ap (λ rows. [] ∷ rows) (each bs parts.1) ∙ ap (λ (gets : List Post). map f gets ∷ map (λ (c : Batch). map f c.gets) bs) (sym (empty_list b.gets parts.0))
 
 pub got_of_none : (s : Setting) (slice batches : List Batch) (table : List (List (List ℕ))) → slice ≡ batches → have_no_gets slice → table ≡ map (λ (b : Batch). []) slice
     → (held : Option (List ℕ)) → IfSome held (λ file. table ≡ map (λ b. map (get_post s file) b.gets) batches)
@@ -50,7 +48,7 @@ no_puts : (n : ℕ) (batches : List Batch) → have_no_puts batches → flat_map
 no_puts n [] h = refl
 no_puts n (b ∷ bs) h =
     let parts = and_parts (is_empty b.puts) (list_all (λ (c : Batch). is_empty c.puts) bs) h in
-    ap (λ (posts : List Post). map (λ (p : Post). (n, p)) posts ++ flat_map puts_of_batch (enumerate_from (n + 1) bs)) (none_of b.puts parts.0) ∙ no_puts (n + 1) bs parts.1
+    ap (λ (posts : List Post). map (λ (p : Post). (n, p)) posts ++ flat_map puts_of_batch (enumerate_from (n + 1) bs)) (empty_list b.puts parts.0) ∙ no_puts (n + 1) bs parts.1
 
 pub puts_of_none : (slice batches : List Batch) → slice ≡ batches → have_no_puts slice → puts_in batches ≡ []
 puts_of_none slice batches same none = ap puts_in (sym same) ∙ no_puts 0 slice none
@@ -65,12 +63,9 @@ told_none s = by_rule s.overlap
 pub told_of_none : (s : Setting) (puts : Puts) → puts ≡ [] → None ≡ told s puts
 told_of_none s puts none = sym (ap (told s) none ∙ told_none s)
 
-longer_none : (file : List ℕ) (n : ℕ) → n ≤ length file → longer file n ≡ file
-longer_none file n h = let none : n - length file ≡ 0 = omega arith in ap (λ (k : ℕ). file ++ replicate k 0) none ∙ append-nil file
-
 round_none : (s : Setting) (r : ℕ) (file : List ℕ) → end_for s 0 ≤ length file → (after_round s [] (counted file r)).file ≡ file
 round_none s r file h =
-    ap (λ (bytes : List ℕ). (raised s (counted bytes r) (needed_now s [])).file) (ap (λ (pair : Option Pair). after_puts s [] pair file) (told_none s) ∙ longer_none file (end_for s 0) h)
+    ap (λ (bytes : List ℕ). (raised s (counted bytes r) (needed_now s [])).file) (ap (λ (pair : Option Pair). after_puts s [] pair file) (told_none s) ∙ longer-enough file (end_for s 0) h)
     ∙ ap (λ (c : Counted). c.file) (raised_none s (counted file r) (needed_now s []) (omega (arith, no_need s)))
 
 pub bytes_of_none : (s : Setting) (r len : ℕ) (puts : Puts) (held : Option (List ℕ)) → puts ≡ [] → IfSome held (λ file. length file ≡ len) → end_for s 0 ≤ len

@@ -1,13 +1,8 @@
 -- Stages: steps one after another.
 use Rattle.turn_run.proofs.Words.{IfSome_then, ◌≡◌, ℕ, refl, sym, ◌∙◌, ap, subst, List, [], ◌∷◌, ◌++◌, Option, Some, None, append_assoc, append-nil, fold-append, fold, IfSome, Hints, Mark, DiskCall, with_end, Setting, calls_over, step_calls, step_to, Arrived, Stand, IsLike, stage, stand_of, HasLed, IsLed, Leads, LeadsAlike, Stage, with_end-with_end, with_end-nil, if_some_at, HasGone, rank_stage, set, slice_get}
+use Rattle.run_laws.proofs.ArrivalLaws.{calls_split}
 
 -- ---- steps one after another
-
-calls_split : (hints : Hints) (s : Setting) (stand : Stand) (marks more : List Mark)
-    → calls_over hints s stand (marks ++ more) ≡ calls_over hints s stand marks ++ calls_over hints s (fold (step_to s) stand marks) more
-calls_split hints s stand [] more = refl
-calls_split hints s stand (m ∷ marks) more = ap (λ (cs : List DiskCall). step_calls hints s stand m ++ cs) (calls_split hints s (step_to s stand m) marks more)
-    ∙ sym (append_assoc (step_calls hints s stand m) (calls_over hints s (step_to s stand m) marks) (calls_over hints s (fold (step_to s) (step_to s stand m) marks) more))
 
 pub some_each : {X : Type 0} (m : Option X) {P : X → Type 0} → ((x : X) → m ≡ Some x → P x) → IfSome m P
 some_each None f = tt

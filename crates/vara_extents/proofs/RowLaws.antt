@@ -1,7 +1,7 @@
 -- Rows of runs: in one dimension the places of runs go up by equal steps.
 use Rattle.vara_extents.proofs.Words.{◌≡◌, ℕ, zero, suc, ◌+◌, ◌*◌, ◌/◌, ◌%◌, ◌<◌, ◌≤◌, inl, inr, refl, sym, ap, subst, ◌∙◌, List, [], ◌∷◌, length, get_or, Bool, true, false, arith, slice_get, length-map, div-mul-add, mod-mul-add, div-add-mod', mod_below, mul-le, mul-div_cancel, mul-mod_left, Header, Var, Region, size_of, product, length_of, recsize, is_record, starts_with_zero, lengths_of, place, index_at, coordinates_of, index_of, weighted, AreRuns, HaveRows, nat_tests}
 use Rattle.serial_spec.specs.Place as spec
-use Rattle.vara_extents.proofs.RowSteps.{rest, rest_is, fixed_is, record_place_is, record_row, same_rests, split}
+use Rattle.vara_extents.proofs.RowSteps.{record_first, rest, rest_is, fixed_is, record_place_is, record_row, same_rests, split}
 use Rattle.vara_extents.proofs.RunLaws.{kept, same_runs}
 
 -- ---- the dimensions of a row
@@ -131,15 +131,11 @@ fixed_sums : (header : Header) (v : Var) (g : Region) → is_record header v ≡
     → AreSums header v g (weights_of (size_of v.kind) (lengths_of header v.dims) g.stride) (v.begin + spec.row (lengths_of header v.dims) g.start * size_of v.kind)
 fixed_sums header v g e h = grind (arith, nat_tests, length-lengths_of, length-weights_of, row_weighted, length-coordinates_of, fixed_is)
 
-some_dims : (header : Header) (ids : List ℕ) → starts_with_zero (lengths_of header ids) ≡ true → 1 ≤ length ids
-some_dims header [] e = absurd (cc)
-some_dims header (id ∷ ids) e = omega arith
-
 record_sums : (header : Header) (v : Var) (g : Region) → is_record header v ≡ true → HasShape v g
     → AreSums header v g (get_or g.stride 0 0 * recsize header ∷ weights_of (size_of v.kind) (lengths_of header (rest v.dims)) (rest g.stride))
     (v.begin + get_or g.start 0 0 * recsize header + spec.row (lengths_of header (rest v.dims)) (rest g.start) * size_of v.kind)
 record_sums header v g e h =
-    let some = some_dims header v.dims e in
+    let some = record_first header v.dims e in
     let dims = length-lengths_of header (rest v.dims) in
     let starts = same_rests g.start v.dims h.starts in
     let counts = same_rests g.count v.dims h.counts in

@@ -214,7 +214,7 @@ pub has_record_entry : (header : Header) (v : Var) (g : Region) (number : ℕ) �
     → (1 ≤ length g.start) × (1 ≤ length g.count) × (1 ≤ length g.stride)
 has_record_entry header v g number e valid = record_entries g.start g.count g.stride number (index_record header v (index_of g number) e valid).0
 
-record_first : (header : Header) (dims : List ℕ) → starts_with_zero (lengths_of header dims) ≡ true → 1 ≤ length dims
+pub record_first : (header : Header) (dims : List ℕ) → starts_with_zero (lengths_of header dims) ≡ true → 1 ≤ length dims
 record_first header [] e = cc
 record_first header (id ∷ dims) e = omega arith
 

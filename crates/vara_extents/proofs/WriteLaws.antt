@@ -2,9 +2,7 @@
 use Rattle.vara_extents.proofs.Words.{◌≡◌, ℕ, ◌+◌, ◌-◌, ◌*◌, ◌<◌, ◌≤◌, ◌⊎◌, inl, inr, refl, sym, ap, ◌∙◌, List, [], ◌∷◌, ◌++◌, length, map, take, drop, get_or, max, arith, cases_eq, cases_lt, drop-drop, length-append, get_or_append_left, get_or-append_right, take-add, common_steps, same_number_lists, Header, Var, Extent, Region, size_of, written, at, product, cells, places, put, Cell, write_cells, at-written_before, at-written_after, at-written_inside, joined_to, joined, element_extents, extents_of, cut_by}
 use Rattle.vara_extents.proofs.JoinLaws.{join_next, join_apart}
 use Rattle.vara_extents.proofs.NumberLaws.{length-places}
-
-length-written : (file : List ℕ) (x : ℕ) (b : List ℕ) → length (written file x b) ≡ max (length file) (x + length b)
-length-written file x b = grind (arith, common_steps)
+use Rattle.serial_spec.proofs.FileLaws.{length-written}
 
 -- two writes one after another, the second where the first ends
 pub written_two : (file : List ℕ) (x : ℕ) (a b : List ℕ) → written (written file x a) (x + length a) b ≡ written file x (a ++ b)

@@ -1,7 +1,8 @@
 -- The plan of a run, from its first stage to its end.
 use Rattle.run_plan.proofs.Words.{refl, sym, ◌∙◌, subst, List, rules, with_items_is, StepPlan, AreRunners, Runner, first_count, first_free, first_runners, order_in, HasEnded}
-use Rattle.run_plan.proofs.EndLaws.{are_planned, ok_so}
+use Rattle.run_plan.proofs.EndLaws.{are_planned}
 use Rattle.run_plan.proofs.run.plan_run.Goals as goal
+use Rattle.step_plan.proofs.DomainLaws.{ok_so}
 
 pub hold_meetings-requires-clause-runners : goal.hold_meetings-requires-clause-runners
 hold_meetings-requires-clause-runners g c =
