@@ -5,6 +5,7 @@ use Rattle.nc_classic_c.specs.declared.causes.Cause.TheVariants as cause
 use Rattle.nc_classic_c.specs.Making.{is_asked}
 use Rattle.nc_classic_c.specs.Sizes.{fits}
 use Rattle.nc_classic_c.proofs.Filling.{filled_whole}
+use Rattle.serial_spec.proofs.SpellingLaws.{writable_is_sound}
 
 -- ---- begins and records
 
@@ -48,9 +49,6 @@ pub no_room : (D : NcvHeaderDef) (room : ℕ) (bytes : List ℕ) → refusal_of 
     → why_unmade D room ≡ Some (of_whole cause.Room)
 no_room D room bytes h e l = grind (arith, nat_tests)
 
-sound : (header : Header) → is_writable header ≡ true → is_sound header ≡ true
-sound header w = and_first _ _ (and_first _ _ (and_first _ _ (and_first _ _ w)))
-
 module _ (D : NcvHeaderDef) (len : ℕ) (bytes old new : List ℕ) (h : refusal_of D ≡ None) (e : bytes ≡ canon (made_header D)) (w : is_writable (made_header D) ≡ true)
     (law : (header : Header) (more : List ℕ) → is_writable header ≡ true → BeginsWith (take (2 ^ 20) (canon header ++ more)) header (header_len header)) (l : len ≡ length bytes) where
   header_made : length bytes ≤ length old → new ≡ filled old bytes → IsMade D len old new
@@ -63,7 +61,7 @@ module _ (D : NcvHeaderDef) (len : ℕ) (bytes old new : List ℕ) (h : refusal_
         bytes = f ∙ ap (λ (x : List ℕ). filled old x) e;
         read_back = (
           subst (λ (x : List ℕ). BeginsWith (take (2 ^ 20) x) (made_header D) (header_len (made_header D))) (sym is) (law (made_header D) (drop (length bytes) old) w),
-          sound (made_header D) w,
+          writable_is_sound (made_header D) w,
         );
       }
 

@@ -1,5 +1,6 @@
 -- Requests that are the same or not, and entries among the first of a list.
 use Rattle.overlap_report.proofs.Words.{◌≡◌, ℕ, zero, suc, ◌+◌, ◌<◌, ◌≤◌, ◌⊎◌, refl, sym, ◌∙◌, ap, subst, inl, inr, List, [], ◌∷◌, ◌++◌, length, take, get_or, true, false, arith, nat_tests, take_more, take_all, entry_in, key_itself, Extent, Owned, Key, same_key, key_below, In, extents, IsByPlace, EndBelow, in_either, in_left, in_right, map_in, in_extents}
+pub use Rattle.serial_spec.proofs.KeyLaws.{not_below_itself}
 
 -- ---- keys
 
@@ -17,9 +18,6 @@ key_apart_back a b r h k = grind (arith, nat_tests)
 
 pub equal_key : (a b : Key) → a ≡ b → same_key a b ≡ true
 equal_key a b e = subst (λ (k : Key). same_key a k ≡ true) e (key_itself a)
-
-pub not_below_itself : (a : Key) → key_below a a ≡ false
-not_below_itself a = grind (arith, nat_tests)
 
 pub below_or_above : (a b : Key) → same_key a b ≡ false → key_below a b ≡ false → key_below b a ≡ true
 below_or_above a b h k = grind (arith, nat_tests)

@@ -1,6 +1,7 @@
 -- A file in which each slab stands at its new place is the redefined one: the redefined file is such a file, and there is no other.
 use Rattle.redef_laws.proofs.Words.{◌≡◌, ℕ, ◌+◌, ◌-◌, ◌<◌, ◌≤◌, refl, sym, ◌∙◌, ap, subst, inl, inr, ◌⊎◌, List, [], ◌∷◌, get_or, true, arith, cases_lt, same_number_lists, get_or-take, and_first, Header, Extra, Slab, slabs, at, header_len, is_sound, is_writable, AreApart, redefined, KeepsVars, Moves, IsRedefined, redefined_keeps, read_at, redefined_is, In, IsApplied, new_end, IsMoved, nat_tests}
 use Rattle.redef_laws.proofs.ElementSlabs.{HasSlab, element_in_slab, slab_bytes}
+pub use Rattle.serial_spec.proofs.SpellingLaws.{writable_is_sound}
 
 -- ---- a byte lies in a slab, or apart from all
 
@@ -81,9 +82,6 @@ redefined_moved old new file left sound keeps r = record { long = r.long; head =
             apart (inr h) = let lies = found.2 in inl (omega arith)
 
 -- ---- the law
-
-pub writable_is_sound : (header : Header) → is_writable header ≡ true → is_sound header ≡ true
-writable_is_sound header h = and_first _ _ (and_first _ _ (and_first _ _ (and_first _ _ h)))
 
 pub moved_is_redefined : (old new : Header) (extras : List Extra) (file left : List ℕ) → is_sound new ≡ true → IsApplied old extras new → IsMoved old new file left
     → left ≡ redefined file old new

@@ -2,18 +2,12 @@
 use Rattle.redef_mover.proofs.Words.{◌≡◌, ◌↔◌, ℕ, ◌<◌, refl, ◌∙◌, ap, List, [], ◌∷◌, true, arith, filter, flat_map, reverse, and_first, Header, Extra, Slab, highest_first, move_calls, slabs, zero_calls, header_len, is_writable, added, redefined, with_extra, sound_end, In, IsApplied, changes, gaps, rising, IsRisen, new_end, AreShifted, IsMoved, all_calls, gap_calls, slab_calls, carried, carry_calls, IsCarriable, relocation_calls, nat_tests}
 use Rattle.nc_base.specs.declared.script.Extra.TheVariants as extra
 use Rattle.redef_mover.proofs.CarryLaws.{carried_is}
+use Rattle.serial_spec.proofs.AddedLaws.{records_stay}
 
 -- ---- the record count stays
 
-pub one_keeps : (header : Header) (e : Extra) → (with_extra header e).records ≡ header.records
-one_keeps header e = grind (arith, nat_tests)
-
-all_keep : (header : Header) (extras : List Extra) → (added header extras).records ≡ header.records
-all_keep header [] = refl
-all_keep header (e ∷ extras) = all_keep (with_extra header e) extras ∙ one_keeps header e
-
 pub same_records : (old new : Header) (extras : List Extra) → IsApplied old extras new → new.records ≡ old.records
-same_records old new extras h = ap (λ (k : Header). k.records) h.made ∙ all_keep old extras
+same_records old new extras h = ap (λ (k : Header). k.records) h.made ∙ records_stay old extras
 
 -- ---- what a relocation asks
 

@@ -19,7 +19,7 @@ pub use Rattle.script_text.proofs.DefinedLines.{leads_by, no_colon}
 pub use Rattle.script_text.proofs.Expressed.{agreement}
 pub use Rattle.script_text.proofs.ExpressedCalls.{NewId, all_counted}
 pub use Rattle.script_text.proofs.KnownLines.{hint_leads}
-pub use Rattle.script_text.proofs.Lines.{empty_list}
+pub use Rattle.serial_spec.proofs.MemberLaws.{empty_list}
 pub use Rattle.script_text.proofs.Places.{Later, bytes_own, bytes_same, more_ids, place_cases, place_here, place_later}
 pub use Rattle.script_text.proofs.PrintedRegions.{name_again, region_with, same_region}
 pub use Rattle.script_text.proofs.PrintedValues.{HasRoom, less_room, number_fit, pattern_fit, room_again}

@@ -2,7 +2,6 @@
 use Rattle.script_text.proofs.Words.{◌≡◌, ◌∙◌, ℕ, zero, suc, ◌+◌, ◌≤◌, List, [], ◌∷◌, ◌++◌, find, map, sum, length, length-append, codes, Bool, true, false, not, cond, nat_le, ◌==◌, ◌&&◌, Option, Some, None, is_some, option_map, refl, ap, subst, arith, bytes_eq, list_all, range_with_len, and_parts, and_from, cond-false, cond-true, eqb-true, eq-eqb, leb-true, ne_eqb, length-map, sum_by-cons, bytes_eq-Decides, ScriptKind, Header, Extra, Hints, Script, Call, MeetKind, most_dims, most_vars, is_version, kinds, kind_number, agree, is_lawful, is_lawful_dim, is_lawful_header, is_lawful_var, kind_numbers, shown, Plain, kind_at, differs_at, is_difference, mismatch, Reads, most_bytes, most_lines, is_expressible, is_expressible_call, is_expressible_header, printed_lines, nat_tests}
 use Rattle.serial_spec.proofs.Common.{lawful_parts}
 use Rattle.nc_base.specs.declared.errors.ScriptKind.TheVariants as kind
-use Rattle.script_text.proofs.Lines.{empty_list}
 use Rattle.script_text.proofs.Places.{position_cons}
 use Rattle.script_text.proofs.CallLines.{call_tokens_of, own_lines, call_lines, DataEnd}
 use Rattle.script_text.proofs.DefinedLines.{lines_of_own, definition_lines}
@@ -11,6 +10,7 @@ use Rattle.script_text.proofs.ExpressedDefinitions.{defined_of, header_told, no_
 use Rattle.script_text.proofs.ExpressedCalls.{chains_told, all_counted}
 use Rattle.script_text.proofs.ScriptLines.{all_lines, before_data, fill_lines, from_data, script_with}
 use Rattle.script_text.proofs.Whole.{Whole, create_again, from_drafted, version_head, whole_from, whole_again, whole_long}
+use Rattle.serial_spec.proofs.MemberLaws.{empty_list}
 
 -- ---- ranks that agree don't differ
 

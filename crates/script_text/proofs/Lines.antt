@@ -13,10 +13,6 @@ all_more p q more (x ∷ xs) h =
     let both = and_parts _ _ h in
     and_from _ _ (more x both.0) (all_more p q more xs both.1)
 
-pub empty_list : {A : Type 0} (xs : List A) → is_empty xs ≡ true → xs ≡ []
-empty_list [] h = refl
-empty_list (x ∷ xs) h = absurd (cc)
-
 -- ---- bytes that are printed
 
 abbrev pub is_printable : ℕ → Bool

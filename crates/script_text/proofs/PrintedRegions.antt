@@ -6,9 +6,9 @@ use Rattle.nc_base.specs.declared.errors.ScriptKind.TheVariants as kind
 use Rattle.nc_base.specs.declared.request.Form.TheVariants as form
 use Rattle.script_text.proofs.Steps.{went, go_on, same_ok, passed, faultless, read_word, word_read, word_before, whole_value, carried, carry_on, by_false, tested, step_then, free_then}
 use Rattle.script_text.proofs.Lexing.{spelling, is_plain, is_good}
-use Rattle.script_text.proofs.Lines.{empty_list}
 use Rattle.script_text.proofs.Numerals.{decimal_word, below_bound, below_again, size_again, size_plain, is_size, list_again, list_plain}
 use Rattle.script_text.proofs.PrintedValues.{is_read, plain_spelled, not_letters}
+use Rattle.serial_spec.proofs.MemberLaws.{empty_list}
 
 -- what was read of the words was read of those that are left
 abbrev pub Kept : List Word → List Word → Type 0

@@ -64,6 +64,10 @@ placed_more h found =
       );
     }
 
+pub records_stay : (header : Header) (extras : List Extra) → (added header extras).records ≡ header.records
+records_stay header [] = refl
+records_stay header (e ∷ extras) = grind (arith, nat_tests, records_stay (with_extra header e) extras)
+
 -- ---- the lengths stay
 
 same_lengths : (dims more : List Dim) (ids : List ℕ) → AllByRecursion (λ id. nat_le (length dims) id ≡ false) ids

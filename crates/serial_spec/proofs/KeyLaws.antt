@@ -13,6 +13,9 @@ key_equal a b h = pair_same a b (eqb-true _ _ (and_first _ _ h)) (eqb-true _ _ (
 pub key_itself : (a : Key) → same_key a a ≡ true
 key_itself a = grind (arith, nat_tests)
 
+pub not_below_itself : (a : Key) → key_below a a ≡ false
+not_below_itself a = grind (arith, nat_tests)
+
 -- a key that is not below another is it or above it
 above : (a b : Key) → key_below a b ≡ false → same_key a b ≡ false → key_below b a ≡ true
 above a b h k = grind (arith, nat_tests)

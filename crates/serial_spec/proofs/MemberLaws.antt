@@ -1,5 +1,10 @@
 -- The items of a list, by their places, and those that pass a test.
 use Rattle.serial_spec.proofs.Words.{◌≡◌, ℕ, zero, suc, refl, ap, ◌∙◌, subst, List, [], ◌∷◌, Bool, true, false, cond, Some, inl, inr, filter, slice_get, list_any, or_left, or_right, In, arith, nat_tests, ◌++◌, sym, flat_map, map, or_cases, eqb-true, no_false, ◌==◌}
+use Rattle.serial_spec.specs.Lists.{is_empty}
+
+pub empty_list : {X : Type 0} (xs : List X) → is_empty xs ≡ true → xs ≡ []
+empty_list [] h = refl
+empty_list (x ∷ xs) h = absurd cc
 
 pub in_left : {X : Type 0} (xs ys : List X) (x : X) → In xs x → In (xs ++ ys) x
 in_left [] ys x h = absurd h

@@ -7,16 +7,15 @@ use Rattle.nc_base.specs.declared.step.Want.TheVariants as want
 use Rattle.serial_spec.specs.Looks as looks
 use Rattle.whole_run_laws.proofs.PartPosts.{varn_puts}
 use Rattle.whole_run_laws.proofs.ToldLaws.{pair_is_least}
+use Rattle.serial_spec.proofs.FileLaws.{length-written}
+use Rattle.serial_spec.proofs.KeyLaws.{not_below_itself}
 
 -- ---- a file and the same one made longer
-
-written_long : (file : List ℕ) (x : ℕ) (b : List ℕ) → length (written file x b) ≡ max (length file) (x + length b)
-written_long file x b = grind (arith, common_steps)
 
 cells_longer : (f g : List ℕ) (n : ℕ) (cs : List Cell) → length f ≡ max (length g) n → length (write_cells f cs) ≡ max (length (write_cells g cs)) n
 cells_longer f g n [] e = e
 cells_longer f g n (c ∷ cs) e =
-    grind (arith, nat_tests, cells_longer (written f c.0 c.1) (written g c.0 c.1) n cs (omega (arith, e, (written_long f c.0 c.1), (written_long g c.0 c.1))), written_long)
+    grind (arith, nat_tests, cells_longer (written f c.0 c.1) (written g c.0 c.1) n cs (omega (arith, e, (length-written f c.0 c.1), (length-written g c.0 c.1))), length-written)
 
 put_longer : (s : Setting) (v : Option Var) (post : Post) (f g : List ℕ) (n : ℕ) → length f ≡ max (length g) n
     → length (put_some s v post f) ≡ max (length (put_some s v post g)) n
@@ -66,9 +65,6 @@ both_in_turn s a b file h =
     ∙ sym (in_turn s (a ++ b) file h)
 
 -- ---- one request tells no pair
-
-not_below_itself : (k : Key) → key_below k k ≡ false
-not_below_itself k = grind (arith, nat_tests)
 
 holder_is : (held : List Holding) (k key : Key) (x : ℕ) → AllByRecursion (λ (h : Holding). h.0 ≡ k) held → Holds held key x → k ≡ key
 holder_is [] k key x all h = absurd cc
