@@ -6,7 +6,7 @@ use Rattle.file_owner.specs.declared.service.Halt.TheVariants as halt
 use Rattle.file_owner.proofs.AlikeLaws.{alike_by, alike_long, lines_twice}
 use Rattle.file_owner.proofs.OwnerRuns.{goes_on, GoesOn}
 use Rattle.file_owner.proofs.RefusedSteps.{stood_later}
-use Rattle.file_owner.proofs.StopLaws.{filter_joined}
+use Rattle.file_owner.proofs.StopLaws.{filter_joined, only_stops}
 use Rattle.file_owner.proofs.GainedLaws.{gained_is, have_put, arrived_is, StoppedAt, stopped_at, left_at}
 
 -- ---- the clauses
@@ -120,21 +120,6 @@ module _ (hints : Hints) (s : Setting) (old now : Receiver RankItem) (left : Lis
 
       held_none : (m : Option Offer) → m ≡ None → one_if m ≡ 0
       held_none m e = grind (arith, nat_tests)
-
-  only_stops : (m : Option Client) (xs : List RankItem) → (k : ℕ) × (stop_held m ++ map (λ (i : RankItem). Stop) xs ≡ replicate k Stop)
-  only_stops m xs = by_client m
-    where
-      stops_are : (ys : List RankItem) → map (λ (i : RankItem). Stop) ys ≡ replicate (length ys) Stop
-      stops_are [] = refl
-      stops_are (y ∷ ys) = ap (λ (items : List OwnerItem). Stop ∷ items) (stops_are ys)
-
-      by_held : (held : Option Offer) (ended : Option Bool) → (k : ℕ) × (stop_held (Some (record { held = held; ended = ended })) ++ map (λ (i : RankItem). Stop) xs ≡ replicate k Stop)
-      by_held None ended = (length xs, stops_are xs)
-      by_held (Some p) ended = (suc (length xs), ap (λ (items : List OwnerItem). Stop ∷ items) (stops_are xs))
-
-      by_client : (client : Option Client) → (k : ℕ) × (stop_held client ++ map (λ (i : RankItem). Stop) xs ≡ replicate k Stop)
-      by_client None = (length xs, stops_are xs)
-      by_client (Some x) = by_held x.held x.ended
 
   pub out_failed : (senders k : ℕ) → ((file : List ℕ) → owner_at before file ≡ opening senders (counted file k)) → before.order ≡ [] → before.clients ≡ replicate senders free_client → length before.lines ≡ senders → senders ≡ old.senders
       → of_stranger h ≡ None → HasFailed s (opening senders) k (passed (arrived old now) (length before.lines) (gained before.lines lines)) marks (of_stranger h)

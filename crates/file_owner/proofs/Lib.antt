@@ -4,7 +4,7 @@ mod GainedLaws
 mod EndLaws
 mod HaltedLaws
 mod HaltLaws
-mod StopLaws
+pub mod StopLaws
 mod ArriveSteps
 mod RefusedSteps
 mod PutLaws

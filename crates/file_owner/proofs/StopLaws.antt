@@ -1,5 +1,5 @@
 -- What was taken, and the stops for it, one item after another.
-use Rattle.file_owner.proofs.Words.{◌≡◌, ℕ, ◌<◌, refl, sym, ◌∙◌, ap, subst, inl, inr, ◌⊎◌, List, [], ◌∷◌, ◌++◌, map, set, Bool, true, append_assoc, arith, cases_eq, nat_tests, append-nil, filter, nat_lt, list_all, OwnerItem, Stop, RankItem, End, Receiver, own_items, Arrival, is_offer, HasEnd, own_here, Grows, stops_for, HaveEnded, HaveMet, IsMore, own_two, entry_set_other, common_steps}
+use Rattle.file_owner.proofs.Words.{◌≡◌, ℕ, ◌<◌, refl, sym, ◌∙◌, ap, subst, inl, inr, ◌⊎◌, List, [], ◌∷◌, ◌++◌, map, set, Bool, true, append_assoc, arith, cases_eq, nat_tests, append-nil, filter, nat_lt, list_all, OwnerItem, Stop, RankItem, End, Receiver, own_items, Arrival, is_offer, HasEnd, own_here, Grows, stops_for, HaveEnded, HaveMet, IsMore, own_two, entry_set_other, common_steps, Client, Option, Some, None, length, replicate, stop_held, Offer, suc}
 use Rattle.nc_base.specs.declared.step.RankItem.TheVariants as item
 use Rattle.file_owner.proofs.AlikeLaws.{lines_as, lines_twice}
 
@@ -68,3 +68,16 @@ met_one old mid now before after last flags left end a h items senders of low st
   stopped = grind (arith, nat_tests, lines_twice before after last (stops_for h.more) (stops_for (a ∷ [])) h.stopped stop, lines_as, stops_joined);
   noted = λ arrivals e. subst (λ (xs : List Arrival). HaveEnded end xs) (append_assoc arrivals h.more (a ∷ [])) (note (arrivals ++ h.more) (h.noted arrivals e));
 }
+
+-- the stops of a rank that is gone
+stops_are : (xs : List RankItem) → map (λ (i : RankItem). Stop) xs ≡ replicate (length xs) Stop
+stops_are [] = refl
+stops_are (x ∷ xs) = ap (λ (items : List OwnerItem). Stop ∷ items) (stops_are xs)
+
+pub only_stops : (m : Option Client) (xs : List RankItem) → (k : ℕ) × (stop_held m ++ map (λ (i : RankItem). Stop) xs ≡ replicate k Stop)
+only_stops None xs = (length xs, stops_are xs)
+only_stops (Some x) xs = by_held x.held x.ended
+  where
+    by_held : (held : Option Offer) (ended : Option Bool) → (k : ℕ) × (stop_held (Some (record { held = held; ended = ended })) ++ map (λ (i : RankItem). Stop) xs ≡ replicate k Stop)
+    by_held None ended = (length xs, stops_are xs)
+    by_held (Some p) ended = (suc (length xs), ap (λ (items : List OwnerItem). Stop ∷ items) (stops_are xs))

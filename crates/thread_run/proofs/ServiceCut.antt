@@ -1,5 +1,6 @@
 -- The part of a run on threads that was done when a fault cut it off, from what the owner tells.
 use Rattle.thread_run.proofs.Words.{point, ◌≡◌, ℕ, suc, ◌-◌, ◌<◌, refl, sym, ◌∙◌, ap, List, [], ◌∷◌, ◌++◌, length, map, replicate, Bool, true, false, Option, Some, None, arith, append-nil, slice_get, filter, Hints, Mark, Offer, OwnerItem, Stop, RankItem, StepErr, Owner, Client, event, given_along, is_strange, own_items, owed, served, stop_held, stops, Setting, Arrival, is_offer, passed, HasCutService, owed_stop, served_on, goes_on, stops_at, nat_tests}
+use Rattle.file_owner.proofs.StopLaws.{only_stops}
 
 -- ---- the part of a run that was done
 
@@ -54,18 +55,6 @@ front s (a ∷ rest) d = by (is_strange s d a) refl (front s rest (event s d a).
           owner = long.owner ∙ again.owner ∙ sym short.owner;
           owes = λ q. ap (λ (e : Owner). owed s e again.later q) short.owner ∙ again.owes q ∙ ap (λ (e : Owner). stops e again.later q) (sym short.owner);
         }
-
-stops_are : (xs : List RankItem) → map (λ (i : RankItem). Stop) xs ≡ replicate (length xs) Stop
-stops_are [] = refl
-stops_are (x ∷ xs) = ap (λ (items : List OwnerItem). Stop ∷ items) (stops_are xs)
-
-only_stops : (m : Option Client) (xs : List RankItem) → (k : ℕ) × (stop_held m ++ map (λ (i : RankItem). Stop) xs ≡ replicate k Stop)
-only_stops None xs = (length xs, stops_are xs)
-only_stops (Some x) xs = by_held x.held x.ended
-  where
-    by_held : (held : Option Offer) (ended : Option Bool) → (k : ℕ) × (stop_held (Some (record { held = held; ended = ended })) ++ map (λ (i : RankItem). Stop) xs ≡ replicate k Stop)
-    by_held None ended = (length xs, stops_are xs)
-    by_held (Some p) ended = (suc (length xs), ap (λ (items : List OwnerItem). Stop ∷ items) (stops_are xs))
 
 pub service_done : (hints : Hints) (s : Setting) (d : Owner) (ranks : ℕ) (arrivals : List Arrival) (given : ℕ → List OwnerItem) (order : List Mark) → order ≡ (served s d arrivals).marks
     → ((q : ℕ) → q < ranks → given q ≡ owed s d arrivals q) → (h : Service s d ranks arrivals given order) × ((served s d h.first).owner ≡ (served s d arrivals).owner)
