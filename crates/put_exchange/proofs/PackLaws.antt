@@ -1,5 +1,6 @@
 -- Packing: one entry more goes into the list of its rank, and one list more into a message.
 use Rattle.put_exchange.proofs.Words.{◌≡◌, ℕ, zero, suc, ◌+◌, ◌<◌, ◌≤◌, inl, inr, refl, sym, ◌∙◌, ap, List, [], ◌∷◌, ◌++◌, length, map, take, set, get_or, Bool, true, false, cond, Some, ◌&&◌, arith, and_parts, and_right, eqb-true, eqb_tells, append-nil, length-map, map-append, take_more, length-range_with_len, filter, filter-append, slice_get-get_or, slice_get, ◌==◌, range_with_len, range_push, equal_true, Batch, Owned, Vec, Global, In, map_in, filter_in, cell_of, clip, part_bytes, slot_in, meets, of_rank, ArePieces, Told, puts_of_some, source_of, AreCuts, binned, bytes_of, cells_in, cells_of, cut_in, cuts_by, has_pieces, hull_of, posts_of, sent, sent_by, Cut, Sent, nat_tests}
+use Rattle.overlay_laws.proofs.WalkLaws.{map_range}
 
 -- ---- the cuts of a rank's entries
 
@@ -44,14 +45,10 @@ cuts_more xs o t e = sym (cuts_tested xs o t o.rank true (ap (λ (b : Bool). b &
 
 -- ---- lists for all ranks
 
-same_map : {X : Type 0} (f g : ℕ → X) (a n : ℕ) → ((j : ℕ) → a ≤ j → f j ≡ g j) → map f (range_with_len a n) ≡ map g (range_with_len a n)
-same_map f g a zero h = refl
-same_map f g a (suc n) h = λ i. h a (omega arith) i ∷ same_map f g (a + 1) n (λ j l. h j (omega arith)) i
-
 set_map : {X : Type 0} (f g : ℕ → X) (a n k : ℕ) (y : X) → k < n → y ≡ g (a + k) → ((j : ℕ) → (j ≡ a + k → ⊥) → f j ≡ g j)
     → set (map f (range_with_len a n)) k y ≡ map g (range_with_len a n)
 set_map f g a zero k y l e h = absurd (omega arith)
-set_map f g a (suc n) zero y l e h = grind (arith, nat_tests, same_map)
+set_map f g a (suc n) zero y l e h = grind (arith, nat_tests, map_range)
 set_map f g a (suc n) (suc k) y l e h =
     let next : a + suc k ≡ a + 1 + k = omega arith in
     let rest = set_map f g (a + 1) n k y (omega arith) (e ∙ ap g next) (λ j m. h j (λ s. m (s ∙ next))) in
@@ -105,7 +102,7 @@ binned_more n xs o t bins bin d below meet is put =
 -- one that has none changes nothing
 binned_kept : (n : ℕ) (xs : List Owned) (o : Owned) (t : Told) (bins : List (List Cut)) → meets t.0 (t.0 + t.1) o ≡ false
     → bins ≡ map (λ r. cuts_by t xs r) (range_with_len 0 n) → bins ≡ map (λ r. cuts_by t (xs ++ o ∷ []) r) (range_with_len 0 n)
-binned_kept n xs o t bins none is = grind (arith, nat_tests, same_map, cuts_kept, and_right)
+binned_kept n xs o t bins none is = grind (arith, nat_tests, map_range, cuts_kept, and_right)
 
 -- ---- the same along a list
 
