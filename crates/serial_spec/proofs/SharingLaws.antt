@@ -2,74 +2,79 @@
 use Rattle.serial_spec.proofs.Words.{◌≡◌, ℕ, zero, suc, ◌+◌, ◌<◌, ◌≤◌, refl, sym, ◌∙◌, ap, subst, inl, inr, ◌⊎◌, List, [], ◌∷◌, true, false, Option, Some, None, arith, slice_get, nat_lt, IsTrue, option_or, told_else, both_none, Header, Var, share, sharing, sharing_with, sharing_from, Shares, IsSharing, nat_tests, some_or_none, first_counts, second_counts, holds_or_not, ltb-true, ltb-false}
 use Rattle.serial_spec.proofs.ApartLaws.{none_with}
 
--- `Shares` over a list of variables
+-- the variable shares bytes with the one that stands there
+abbrev Partner : Header → Var → List Var → ℕ → Type 0
+Partner header v ws j = (w : Var) × (slice_get ws j ≡ Some w) × (share header v w ≡ true)
+
+-- `Shares` over a list of variables, and the same place by place
 abbrev SharesOf : Header → ℕ → List Var → ℕ → ℕ → Type 0
 SharesOf header first vs i j =
     (v : Var) × (slice_get vs i ≡ Some v)
     × (((j ≡ i) × (v.begin < first)) ⊎ ((i < j) × (w : Var) × (slice_get vs j ≡ Some w) × IsTrue (share header v w)))
 
+abbrev SharesIn : Header → ℕ → List Var → ℕ → ℕ → Type 0
+SharesIn header first [] i j = ⊥
+SharesIn header first (v ∷ vs) zero zero = v.begin < first
+SharesIn header first (v ∷ vs) zero (suc j) = Partner header v vs j
+SharesIn header first (v ∷ vs) (suc i) zero = ⊥
+SharesIn header first (v ∷ vs) (suc i) (suc j) = SharesIn header first vs i j
+
+shares_in : (header : Header) (first : ℕ) (vs : List Var) (i j : ℕ) → SharesOf header first vs i j → SharesIn header first vs i j
+shares_in header first [] i j (x, g, s) = absurd cc
+shares_in header first (v ∷ vs) zero zero (x, g, inl (e, l)) = let same : x ≡ v = cc in subst (λ (y : Var). y.begin < first) same l
+shares_in header first (v ∷ vs) zero zero (x, g, inr (l, w, f, s)) = absurd (omega arith)
+shares_in header first (v ∷ vs) zero (suc j) (x, g, inl (e, l)) = absurd (omega arith)
+shares_in header first (v ∷ vs) zero (suc j) (x, g, inr (l, w, f, s)) = let same : x ≡ v = cc in (w, f, subst (λ (y : Var). share header y w ≡ true) same s)
+shares_in header first (v ∷ vs) (suc i) zero (x, g, inl (e, l)) = absurd (omega arith)
+shares_in header first (v ∷ vs) (suc i) zero (x, g, inr (l, w, f, s)) = absurd (omega arith)
+shares_in header first (v ∷ vs) (suc i) (suc j) (x, g, inl (e, l)) = shares_in header first vs i j (x, g, inl (omega arith, l))
+shares_in header first (v ∷ vs) (suc i) (suc j) (x, g, inr (l, w, f, s)) = shares_in header first vs i j (x, g, inr (omega arith, w, f, s))
+
+shares_of : (header : Header) (first : ℕ) (vs : List Var) (i j : ℕ) → SharesIn header first vs i j → SharesOf header first vs i j
+shares_of header first [] i j s = absurd s
+shares_of header first (v ∷ vs) zero zero l = (v, refl, inl (refl, l))
+shares_of header first (v ∷ vs) zero (suc j) (w, f, s) = (v, refl, inr (omega arith, w, f, s))
+shares_of header first (v ∷ vs) (suc i) zero s = absurd s
+shares_of header first (v ∷ vs) (suc i) (suc j) s =
+    let r = shares_of header first vs i j s in
+    (r.0, r.1, elim r.2 [ inl a ↦ inl (ap suc a.0, a.1) | inr b ↦ inr (omega (arith, b.0), b.1, b.2, b.3) ])
+
 record IsLeast (header : Header) (first : ℕ) (vs : List Var) (i j : ℕ) : Type 0 where
-  pair : SharesOf header first vs i j
-  least_first : (a b : ℕ) → SharesOf header first vs a b → i ≤ a
-  least_second : (b : ℕ) → SharesOf header first vs i b → j ≤ b
+  pair : SharesIn header first vs i j
+  least_first : (a b : ℕ) → SharesIn header first vs a b → i ≤ a
+  least_second : (b : ℕ) → SharesIn header first vs i b → j ≤ b
 
 -- ---- the first partner of one variable
 
-record IsPartner (header : Header) (v : Var) (ws : List Var) (j : ℕ) : Type 0 where
-  other : Var
-  there : slice_get ws j ≡ Some other
-  shares : share header v other ≡ true
-  least : (b : ℕ) (w : Var) → slice_get ws b ≡ Some w → share header v w ≡ true → j ≤ b
-
 first_partner : (header : Header) (v : Var) (k m : ℕ) (ws : List Var) (p : ℕ × ℕ) → sharing_with header v k m ws ≡ Some p
-    → (j : ℕ) × (p ≡ (k, m + j)) × IsPartner header v ws j
+    → (j : ℕ) × (p ≡ (k, m + j)) × Partner header v ws j × ((b : ℕ) → Partner header v ws b → j ≤ b)
 first_partner header v k m [] p h = absurd cc
 first_partner header v k m (w ∷ ws) p h = elim (holds_or_not (share header v w)) [
   | inl e ↦
       (let told : Some (k, m) ≡ Some p = rw e at h in
       let same : (k, m) ≡ p = cc in
       let back : m ≡ m + 0 = omega arith in
-      (0, sym same ∙ ap (λ (n : ℕ). (k, n)) back, record { other = w; there = refl; shares = e; least = λ b x g s. omega arith }))
+      (0, sym same ∙ ap (λ (n : ℕ). (k, n)) back, (w, refl, e), λ b s. omega arith))
   | inr e ↦
       (let found = first_partner header v k (suc m) ws p (rw e at h) in
       let on : suc m + found.0 ≡ m + suc found.0 = omega arith in
-      (suc found.0, found.1 ∙ ap (λ (n : ℕ). (k, n)) on, record { other = found.2.other; there = found.2.there; shares = found.2.shares; least = later found.0 found.2 e }))
+      (suc found.0, found.1 ∙ ap (λ (n : ℕ). (k, n)) on, found.2, later found.0 found.3 e))
 ]
   where
-    later : (j : ℕ) → IsPartner header v ws j → share header v w ≡ false
-        → (b : ℕ) (x : Var) → slice_get (w ∷ ws) b ≡ Some x → share header v x ≡ true → suc j ≤ b
-    later j found e zero x g s =
+    later : (j : ℕ) → ((b : ℕ) → Partner header v ws b → j ≤ b) → share header v w ≡ false → (b : ℕ) → Partner header v (w ∷ ws) b → suc j ≤ b
+    later j low e zero (x, g, s) =
         let same : w ≡ x = cc in
         let yes : share header v w ≡ true = ap (λ (y : Var). share header v y) same ∙ s in
         absurd cc
-    later j found e (suc b) x g s = omega (arith, found.least b x g s)
+    later j low e (suc b) s = let l = low b s in omega arith
 
 -- ---- the least pair of a list
 
-begins_in : (first : ℕ) (v : Var) → nat_lt v.begin first ≡ false → v.begin < first → ⊥
-begins_in first v e h = let l : first ≤ v.begin = ltb-false _ _ e in absurd (omega arith)
-
 -- a variable that neither begins in the header nor has a partner stands first in no pair
 stands_alone : (header : Header) (first k m : ℕ) (v : Var) (vs : List Var) → nat_lt v.begin first ≡ false → sharing_with header v k m vs ≡ None
-    → (b : ℕ) → SharesOf header first (v ∷ vs) 0 b → ⊥
-stands_alone header first k m v vs e none zero (x, g, inl (s, l)) =
-    let same : x ≡ v = cc in
-    begins_in first v e (subst (λ (y : Var). y.begin < first) same l)
-stands_alone header first k m v vs e none (suc b) (x, g, inl (s, l)) = absurd (omega arith)
-stands_alone header first k m v vs e none zero (x, g, inr (l, w, f, s)) = absurd (omega arith)
-stands_alone header first k m v vs e none (suc b) (x, g, inr (l, w, f, s)) = grind (arith, nat_tests, none_with)
-
--- a pair behind the first variable is one of the list behind it
-behind : (header : Header) (first : ℕ) (v : Var) (vs : List Var) (a b : ℕ) → SharesOf header first (v ∷ vs) (suc a) b
-    → (c : ℕ) × (b ≡ suc c) × SharesOf header first vs a c
-behind header first v vs a zero (x, g, inl (s, l)) = absurd (omega arith)
-behind header first v vs a (suc b) (x, g, inl (s, l)) = (b, refl, (x, g, inl (omega arith, l)))
-behind header first v vs a zero (x, g, inr (l, w, f, s)) = absurd (omega arith)
-behind header first v vs a (suc b) (x, g, inr (l, w, f, s)) = (b, refl, (x, g, inr (omega arith, w, f, s)))
-
-before : (header : Header) (first : ℕ) (v : Var) (vs : List Var) (a b : ℕ) → SharesOf header first vs a b → SharesOf header first (v ∷ vs) (suc a) (suc b)
-before header first v vs a b (x, g, inl (s, l)) = (x, g, inl (ap suc s, l))
-before header first v vs a b (x, g, inr (l, w, f, s)) = (x, g, inr (omega arith, w, f, s))
+    → (b : ℕ) → SharesIn header first (v ∷ vs) zero b → ⊥
+stands_alone header first k m v vs e none zero l = absurd (omega (arith, l, ltb-false v.begin first e))
+stands_alone header first k m v vs e none (suc b) (w, f, s) = let no : share header v w ≡ false = none_with header v k m vs b w none f in absurd cc
 
 abbrev Found : Header → ℕ → ℕ → List Var → ℕ × ℕ → Type 0
 Found header first k vs p = (i : ℕ) × (j : ℕ) × (p ≡ (k + i, k + j)) × IsLeast header first vs i j
@@ -77,12 +82,7 @@ Found header first k vs p = (i : ℕ) × (j : ℕ) × (p ≡ (k + i, k + j)) × 
 in_header : (header : Header) (first k : ℕ) (v : Var) (vs : List Var) → nat_lt v.begin first ≡ true → Found header first k (v ∷ vs) (k, k)
 in_header header first k v vs e =
     let back : k ≡ k + 0 = omega arith in
-    let low : v.begin < first = ltb-true _ _ e in (
-      0,
-      0,
-      λ i. (back i, back i),
-      record { pair = (v, refl, inl (refl, low)); least_first = λ a b s. omega arith; least_second = λ b s. omega arith },
-    )
+    (0, 0, λ i. (back i, back i), record { pair = ltb-true v.begin first e; least_first = λ a b s. omega arith; least_second = λ b s. omega arith })
 
 with_partner : (header : Header) (first k : ℕ) (v : Var) (vs : List Var) (p : ℕ × ℕ) → nat_lt v.begin first ≡ false
     → sharing_with header v k (suc k) vs ≡ Some p → Found header first k (v ∷ vs) p
@@ -90,47 +90,27 @@ with_partner header first k v vs p e h =
     let found = first_partner header v k (suc k) vs p h in
     let back : k ≡ k + 0 = omega arith in
     let on : suc k + found.0 ≡ k + suc found.0 = omega arith in
-    let low : 0 < suc found.0 = omega arith in (
-      0,
-      suc found.0,
-      found.1 ∙ (λ i. (back i, on i)),
-      record {
-        pair = (v, refl, inr (low, found.2.other, found.2.there, found.2.shares));
-        least_first = λ a b s. omega arith;
-        least_second = second found.0 found.2;
-      },
-    )
+    (0, suc found.0, found.1 ∙ (λ i. (back i, on i)), record { pair = found.2; least_first = λ a b s. omega arith; least_second = second found.0 found.3 })
   where
-    second : (j : ℕ) → IsPartner header v vs j → (b : ℕ) → SharesOf header first (v ∷ vs) 0 b → suc j ≤ b
-    second j found zero (x, g, inl (s, l)) =
-        let same : x ≡ v = cc in
-        absurd (begins_in first v e (subst (λ (y : Var). y.begin < first) same l))
-    second j found (suc b) (x, g, inl (s, l)) = absurd (omega arith)
-    second j found zero (x, g, inr (l, w, f, s)) = absurd (omega arith)
-    second j found (suc b) (x, g, inr (l, w, f, s)) =
-        let same : x ≡ v = cc in
-        let lower = found.least b w f (subst (λ (y : Var). share header y w ≡ true) same s) in
-        omega arith
+    second : (j : ℕ) → ((b : ℕ) → Partner header v vs b → j ≤ b) → (b : ℕ) → SharesIn header first (v ∷ vs) zero b → suc j ≤ b
+    second j low zero l = absurd (omega (arith, l, ltb-false v.begin first e))
+    second j low (suc b) s = let l = low b s in omega arith
 
 further : (header : Header) (first k : ℕ) (v : Var) (vs : List Var) (p : ℕ × ℕ) → nat_lt v.begin first ≡ false
     → sharing_with header v k (suc k) vs ≡ None → Found header first (suc k) vs p → Found header first k (v ∷ vs) p
 further header first k v vs p e none found =
-    let i = found.0 in
-    let j = found.1 in
-    let one : suc k + i ≡ k + suc i = omega arith in
-    let two : suc k + j ≡ k + suc j = omega arith in (
-      suc i,
-      suc j,
-      found.2 ∙ (λ t. (one t, two t)),
-      record { pair = before header first v vs i j found.3.pair; least_first = lower i j found.3; least_second = second i j found.3 },
-    )
+    let one : suc k + found.0 ≡ k + suc found.0 = omega arith in
+    let two : suc k + found.1 ≡ k + suc found.1 = omega arith in
+    (suc found.0, suc found.1, found.2 ∙ (λ t. (one t, two t)), record { pair = found.3.pair; least_first = lower found.0 found.1 found.3; least_second = second found.0 found.1 found.3 })
   where
-    lower : (i j : ℕ) → IsLeast header first vs i j → (a b : ℕ) → SharesOf header first (v ∷ vs) a b → suc i ≤ a
+    lower : (i j : ℕ) → IsLeast header first vs i j → (a b : ℕ) → SharesIn header first (v ∷ vs) a b → suc i ≤ a
     lower i j l zero b s = absurd (stands_alone header first k (suc k) v vs e none b s)
-    lower i j l (suc a) b s = let c = behind header first v vs a b s in let m = l.least_first a c.0 c.2 in omega arith
+    lower i j l (suc a) zero s = absurd s
+    lower i j l (suc a) (suc b) s = let m = l.least_first a b s in omega arith
 
-    second : (i j : ℕ) → IsLeast header first vs i j → (b : ℕ) → SharesOf header first (v ∷ vs) (suc i) b → suc j ≤ b
-    second i j l b s = let c = behind header first v vs i b s in let m = l.least_second c.0 c.2 in omega (arith, c.1)
+    second : (i j : ℕ) → IsLeast header first vs i j → (b : ℕ) → SharesIn header first (v ∷ vs) (suc i) b → suc j ≤ b
+    second i j l zero s = absurd s
+    second i j l (suc b) s = let m = l.least_second b s in omega arith
 
 least_of : (header : Header) (first k : ℕ) (vs : List Var) (p : ℕ × ℕ) → sharing_from header first k vs ≡ Some p → Found header first k vs p
 least_of header first k [] p h = absurd cc
@@ -147,15 +127,15 @@ least_of header first k (v ∷ vs) p h = elim (holds_or_not (nat_lt v.begin firs
       ])
 ]
 
-no_pair : (header : Header) (first k : ℕ) (vs : List Var) → sharing_from header first k vs ≡ None → (a b : ℕ) → SharesOf header first vs a b → ⊥
-no_pair header first k [] h a b (x, g, s) = absurd cc
+no_pair : (header : Header) (first k : ℕ) (vs : List Var) → sharing_from header first k vs ≡ None → (a b : ℕ) → SharesIn header first vs a b → ⊥
+no_pair header first k [] h a b s = absurd s
 no_pair header first k (v ∷ vs) h zero b s =
     let out = told_else (nat_lt v.begin first) (k, k) _ h in
     stands_alone header first k (suc k) v vs out.0 (both_none (sharing_with header v k (suc k) vs) (sharing_from header first (suc k) vs) out.1).0 b s
-no_pair header first k (v ∷ vs) h (suc a) b s =
+no_pair header first k (v ∷ vs) h (suc a) zero s = absurd s
+no_pair header first k (v ∷ vs) h (suc a) (suc b) s =
     let out = told_else (nat_lt v.begin first) (k, k) _ h in
-    let c = behind header first v vs a b s in
-    no_pair header first (suc k) vs (both_none (sharing_with header v k (suc k) vs) (sharing_from header first (suc k) vs) out.1).1 a c.0 c.2
+    no_pair header first (suc k) vs (both_none (sharing_with header v k (suc k) vs) (sharing_from header first (suc k) vs) out.1).1 a b s
 
 -- ---- the law
 
@@ -165,10 +145,14 @@ sharing_found header first k m h =
     let i : found.0 ≡ k = omega (arith, ap (λ (p : ℕ × ℕ). p.0) found.2) in
     let j : found.1 ≡ m = omega (arith, ap (λ (p : ℕ × ℕ). p.1) found.2) in
     let there = subst (λ (n : ℕ). IsLeast header first header.vars n m) i (subst (λ (n : ℕ). IsLeast header first header.vars found.0 n) j found.3) in
-    record { pair = there.pair; least_first = there.least_first; least_second = there.least_second }
+    record {
+      pair = shares_of header first header.vars k m there.pair;
+      least_first = λ a b s. there.least_first a b (shares_in header first header.vars a b s);
+      least_second = λ b s. there.least_second b (shares_in header first header.vars k b s);
+    }
 
 pub sharing_none : (header : Header) (first : ℕ) → sharing header first ≡ None → (k m : ℕ) → Shares header first k m → ⊥
-sharing_none header first h k m s = no_pair header first 0 header.vars h k m s
+sharing_none header first h k m s = no_pair header first 0 header.vars h k m (shares_in header first header.vars k m s)
 
 same_least : (header : Header) (first : ℕ) (p q : ℕ × ℕ) → IsSharing header first p.0 p.1 → IsSharing header first q.0 q.1 → p ≡ q
 same_least header first p q a b =
