@@ -1,14 +1,11 @@
 -- The pieces of a request, as they are gone over.
-use Rattle.step_plan.proofs.Words.{◌≡◌, ℕ, ◌+◌, ◌-◌, ◌^◌, refl, sym, ◌∙◌, ap, List, [], ◌∷◌, Option, Some, None, fold, min, slice_get, IfSome, Header, Var, Extent, Post, no_none_some, extents_of, asked_with, pieces_of_some, with_piece, Asked}
+use Rattle.step_plan.proofs.Words.{◌≡◌, ℕ, ◌+◌, ◌-◌, ◌^◌, refl, sym, ◌∙◌, ap, subst, List, [], ◌∷◌, Option, Some, None, fold, min, slice_get, IfSome, Header, Var, Extent, Post, no_none_some, extents_of, asked_with, pieces_of_some, with_piece, Asked}
 
 pub pieces_left : (header : Header) (post : Post) (v : Var) (left : List Extent) (a : Asked) → slice_get header.vars post.var ≡ Some v
     → IfSome (slice_get header.vars post.var) (λ w. left ≡ extents_of header w post.region) → fold with_piece a left ≡ asked_with header post a
-pieces_left header post v left a there is = by_var (slice_get header.vars post.var) refl there is
-  where
-    by_var : (o : Option Var) → slice_get header.vars post.var ≡ o → o ≡ Some v → IfSome o (λ w. left ≡ extents_of header w post.region)
-        → fold with_piece a left ≡ asked_with header post a
-    by_var None e n h = no_none_some v n
-    by_var (Some w) e n h = ap (λ (es : List Extent). fold with_piece a es) (h ∙ ap (λ (m : Option Var). pieces_of_some header m post) (sym e))
+pieces_left header post v left a there is =
+    let same : left ≡ extents_of header v post.region = subst (λ (o : Option Var). IfSome o (λ w. left ≡ extents_of header w post.region)) there is in
+    ap (λ (es : List Extent). fold with_piece a es) (same ∙ ap (λ (m : Option Var). pieces_of_some header m post) (sym there))
 
 pub piece_more : (a : Asked) (e : Extent) (left rest : List Extent) (whole : Asked) → left ≡ e ∷ rest → fold with_piece a left ≡ whole → fold with_piece (with_piece a e) rest ≡ whole
 piece_more a e left rest whole is h = ap (λ (es : List Extent). fold with_piece a es) (sym is) ∙ h

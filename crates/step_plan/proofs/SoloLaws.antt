@@ -1,12 +1,11 @@
 -- A batch alone, as a list of one.
 use Rattle.step_plan.proofs.Words.{◌≡◌, ℕ, ◌^◌, ◌<◌, inl, inr, sym, ◌∙◌, ap, subst, List, [], ◌∷◌, map, None, flat_map, enumerate_from, append-nil, Header, Batch, Post, Owned, OverlapRule, told, greatest, needed, needed_by, Puts, In, Get, Put, AreAccepted, source_of, AreLaid, IsListOf, posts_in, puts_of_batch, AreGets, ArePuts, PutList, Laid, batch_needed, one_batch, own_puts, list_laid, own_told, IsAccepted}
 
+only_one : (batch : Batch) (slice : List Batch) (b : Batch) → slice ≡ batch ∷ [] → In slice b → batch ≡ b
+only_one batch slice b same m = elim (subst (λ (bs : List Batch). In bs b) same m) [ inl e ↦ e | inr none ↦ absurd none ]
+
 pub few_alone : (batch : Batch) (slice : List Batch) → slice ≡ batch ∷ [] → posts_in batch < 2 ^ 32 → (b : Batch) → In slice b → posts_in b < 2 ^ 32
-few_alone batch slice same few b m = by_member (subst (λ (bs : List Batch). In bs b) same m)
-  where
-    by_member : In (batch ∷ []) b → posts_in b < 2 ^ 32
-    by_member (inl e) = subst (λ (x : Batch). posts_in x < 2 ^ 32) e few
-    by_member (inr n) = absurd n
+few_alone batch slice same few b m = subst (λ (x : Batch). posts_in x < 2 ^ 32) (only_one batch slice b same m) few
 
 pub gets_alone : (header : Header) (batch : Batch) (slice : List Batch) → slice ≡ batch ∷ [] → ((p : Post) → In batch.gets p → IsAccepted header p.var p.region)
     → (p : Post) → In (flat_map (λ (b : Batch). b.gets) slice) p → IsAccepted header p.var p.region
@@ -36,16 +35,7 @@ own_needs header rank batch posts n same is = is ∙ ap (λ (ps : List Post). gr
 
 pub put_alone : (header : Header) (rank : ℕ) (batch : Batch) (slice : List Batch) → slice ≡ batch ∷ [] → ArePuts header (puts_of_batch (rank, batch)) → AreAccepted header Put slice
 put_alone header rank batch slice same are b p m n =
-    by_member (subst (λ (bs : List Batch). In bs b) same m)
-  where
-    by_member : In (batch ∷ []) b → IsAccepted header p.var p.region
-    by_member (inl e) = (own_puts header rank batch are p (subst (λ (x : Batch). In x.puts p) (sym e) n)).accepted
-    by_member (inr none) = absurd none
+    (own_puts header rank batch are p (subst (λ (x : Batch). In x.puts p) (sym (only_one batch slice b same m)) n)).accepted
 
 pub get_alone : (header : Header) (len : ℕ) (batch : Batch) (slice : List Batch) → slice ≡ batch ∷ [] → AreGets header len batch.gets → AreAccepted header Get slice
-get_alone header len batch slice same are b p m n =
-    by_member (subst (λ (bs : List Batch). In bs b) same m)
-  where
-    by_member : In (batch ∷ []) b → IsAccepted header p.var p.region
-    by_member (inl e) = (are p (subst (λ (x : Batch). In x.gets p) (sym e) n)).accepted
-    by_member (inr none) = absurd none
+get_alone header len batch slice same are b p m n = (are p (subst (λ (x : Batch). In x.gets p) (sym (only_one batch slice b same m)) n)).accepted
