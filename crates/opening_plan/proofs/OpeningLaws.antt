@@ -1,5 +1,5 @@
 -- What an opening is: its calls, and how long the file is then.
-use Rattle.opening_plan.proofs.Words.{◌≡◌, ◌==◌, ℕ, ◌<◌, ◌≤◌, ◌^◌, max, min, refl, sym, ◌∙◌, ap, subst, List, [], ◌∷◌, ◌++◌, length, append_assoc, Bool, true, false, arith, flat_map, reverse, append-nil, Header, Extra, Script, DiskCall, Grow, Load, Store, Slab, grow_to, head_load, move_calls, opening_calls, redefining_calls, zero_calls, longer, canon, header_len, end_of, brought, redefined, start, is_sound, and_first, and_second, within_is, longer-enough, longer_long, In, filled_long, IsApplied, gaps, rising, new_end, applied_shifted, applied_risen, applied_falls, applied_zeros, applied_moved, rising_all, written, all_calls, gap_calls, slab_calls, has_laws, relocated, HasLaws, carried_is, risen_up, IsKept, blank_file, dataset_end, empty_end, fill_calls_if, filled_if, first_calls, kept_created, kept_hints, no_extras, some_extras, start-created, redefined_sound, long_enough, records_kept, same_end, added_calls, carry_calls, AreLow}
+use Rattle.opening_plan.proofs.Words.{◌≡◌, ◌==◌, ℕ, ◌<◌, ◌≤◌, ◌^◌, max, min, refl, sym, ◌∙◌, ap, subst, List, [], ◌∷◌, ◌++◌, length, append_assoc, Bool, true, false, arith, flat_map, reverse, append-nil, Header, Extra, Script, DiskCall, Grow, Load, Store, Slab, grow_to, head_load, move_calls, opening_calls, redefining_calls, zero_calls, longer, canon, header_len, end_of, brought, redefined, start, is_sound, and_first, holds_or_not, inl, inr, and_second, within_is, longer-enough, longer_long, In, filled_long, IsApplied, gaps, rising, new_end, applied_shifted, applied_risen, applied_falls, applied_zeros, applied_moved, rising_all, written, all_calls, gap_calls, slab_calls, has_laws, relocated, HasLaws, carried_is, risen_up, IsKept, blank_file, dataset_end, empty_end, fill_calls_if, filled_if, first_calls, kept_created, kept_hints, no_extras, some_extras, start-created, redefined_sound, long_enough, records_kept, same_end, added_calls, carry_calls, AreLow}
 
 -- ---- the first bytes
 
@@ -14,28 +14,16 @@ some_head (x ∷ file) size n old new e l m p = p ∙ ap (λ (k : ℕ). old ++ L
 
 -- ---- whether the dataset is created, and whether the script adds something
 
-opening_created : (script : Script) (header : Header) (file : List ℕ) → script.fresh ≡ true
-    → opening_calls script header file ≡ Grow (empty_end header) ∷ Store 0 (header_len header) ∷ fill_calls_if script.filled script.hints header
-opening_created script header file f = rw f refl
+unchanged_calls : (script : Script) (old new : Header) (file : List ℕ) → (length script.extra == 0) ≡ true → first_calls script old new file ≡ opening_calls script new file
+unchanged_calls script old new file x = rw (x, first_calls) refl
 
-opening_opened : (script : Script) (header : Header) (file : List ℕ) → script.fresh ≡ false
-    → opening_calls script header file ≡ head_load file ++ grow_to (length file) (dataset_end header)
-opening_opened script header file f = rw f refl
+start_unchanged : (script : Script) (old new : Header) (file : List ℕ) → script.fresh ≡ false → (length script.extra == 0) ≡ true
+    → start script new (brought script old new file) ≡ longer file (dataset_end new)
+start_unchanged script old new file f x = rw (f, x, start, brought) refl
 
-start_opened : (script : Script) (header : Header) (file : List ℕ) → script.fresh ≡ false → start script header file ≡ longer file (dataset_end header)
-start_opened script header file f = rw f refl
-
-calls_by : (script : Script) (old new : Header) (file : List ℕ) (b : Bool) → (length script.extra == 0) ≡ b
-    → first_calls script old new file ≡ elim b [ true ↦ opening_calls script new file | false ↦ redefining_calls script.hints old new file ]
-calls_by script old new file b x = ap (λ (c : Bool). elim c [ true ↦ opening_calls script new file | false ↦ redefining_calls script.hints old new file ]) x
-
-added_by : (script : Script) (old new : Header) (b : Bool) → (length script.extra == 0) ≡ b
-    → added_calls script old new ≡ elim b [ true ↦ [] | false ↦ carry_calls script.hints.wr_buffer old new ]
-added_by script old new b x = ap (λ (c : Bool). elim c [ true ↦ [] | false ↦ carry_calls script.hints.wr_buffer old new ]) x
-
-brought_by : (script : Script) (old new : Header) (file : List ℕ) (b : Bool) → (length script.extra == 0) ≡ b
-    → brought script old new file ≡ elim b [ true ↦ file | false ↦ redefined file old new ]
-brought_by script old new file b x = ap (λ (c : Bool). elim c [ true ↦ file | false ↦ redefined file old new ]) x
+start_changed : (script : Script) (old new : Header) (file : List ℕ) → script.fresh ≡ false → (length script.extra == 0) ≡ false
+    → start script new (brought script old new file) ≡ longer (redefined file old new) (dataset_end new)
+start_changed script old new file f x = rw (f, x, start, brought) refl
 
 -- ---- a created dataset
 
@@ -48,7 +36,7 @@ pub created_calls : (script : Script) (header : Header) (file : List ℕ) (size 
     → len ≡ header_len header → calls ≡ Grow size ∷ Store 0 len ∷ fill_calls_if script.filled script.hints header → calls ≡ first_calls script header header file
 created_calls script header file size len calls k f s l e =
     e ∙ (λ t. Grow (s t) ∷ Store 0 (l t) ∷ fill_calls_if script.filled script.hints header)
-    ∙ sym (calls_by script header header file true (kept_created script k f) ∙ opening_created script header file f)
+    ∙ sym (unchanged_calls script header header file (kept_created script k f) ∙ rw f refl)
 
 -- the calls of a created dataset, one after another
 pub created_all : (none one two all list : List DiskCall) (first second : DiskCall) (more : List DiskCall) → none ≡ [] → one ≡ none ++ first ∷ [] → two ≡ one ++ second ∷ []
@@ -71,10 +59,10 @@ created_size script header file size f s =
 -- ---- a redefinition
 
 pub nothing_added : (script : Script) (old new : Header) → script.extra ≡ [] → added_calls script old new ≡ []
-nothing_added script old new e = added_by script old new true (no_extras script e)
+nothing_added script old new e = rw (no_extras script e, added_calls) refl
 
 pub something_added : (script : Script) (old new : Header) → (script.extra ≡ [] → ⊥) → added_calls script old new ≡ carry_calls script.hints.wr_buffer old new
-something_added script old new h = added_by script old new false (some_extras script h)
+something_added script old new h = rw (some_extras script h, added_calls) refl
 
 pub laws_of : (old new : Header) → (extras : List Extra) × IsApplied old extras new → HasLaws old new
 laws_of old new (extras, h) =
@@ -115,37 +103,23 @@ redefined_size old new file h =
 module _ (script : Script) (old new : Header) (opened : script.fresh ≡ false) (same : (length script.extra == 0) ≡ true → new ≡ old)
     (applied : (length script.extra == 0) ≡ false → IsApplied old script.extra new) where
   pub new_records : new.records ≡ old.records
-  new_records = by_test (length script.extra == 0) refl
-    where
-      by_test : (b : Bool) → (length script.extra == 0) ≡ b → new.records ≡ old.records
-      by_test true x = ap (λ (h : Header). h.records) (same x)
-      by_test false x = records_kept old new script.extra (applied x).made
+  new_records = elim (holds_or_not (length script.extra == 0)) [ inl x ↦ ap (λ (h : Header). h.records) (same x) | inr x ↦ records_kept old new script.extra (applied x).made ]
 
   pub new_sound : is_sound old ≡ true → is_sound new ≡ true
-  new_sound sound = by_test (length script.extra == 0) refl
-    where
-      by_test : (b : Bool) → (length script.extra == 0) ≡ b → is_sound new ≡ true
-      by_test true x = ap (λ (h : Header). is_sound h) (same x) ∙ sound
-      by_test false x = redefined_sound old new script.extra (applied x)
+  new_sound sound = elim (holds_or_not (length script.extra == 0)) [ inl x ↦ ap is_sound (same x) ∙ sound | inr x ↦ redefined_sound old new script.extra (applied x) ]
 
   pub same_place : new_end old new ≡ dataset_end new
   same_place = ap (λ (n : ℕ). end_of new (header_len new) n) (sym new_records)
 
   kept_calls : (length script.extra == 0) ≡ true → (file : List ℕ)
       → head_load file ++ grow_to (length file) (new_end old new) ++ added_calls script old new ≡ first_calls script old new file
-  kept_calls x file =
-      ap (λ (calls : List DiskCall). head_load file ++ grow_to (length file) (new_end old new) ++ calls) (added_by script old new true x)
-      ∙ append-nil (head_load file ++ grow_to (length file) (new_end old new))
-      ∙ ap (λ (n : ℕ). head_load file ++ grow_to (length file) n) same_place
-      ∙ sym (calls_by script old new file true x ∙ opening_opened script new file opened)
+  kept_calls x file = rw (x, opened, same_place, first_calls, added_calls, opening_calls) (append-nil (head_load file ++ grow_to (length file) (dataset_end new)))
 
   changed_calls : (length script.extra == 0) ≡ false → (file : List ℕ)
       → head_load file ++ grow_to (length file) (new_end old new) ++ added_calls script old new ≡ first_calls script old new file
   changed_calls x file =
-      ap (λ (calls : List DiskCall). head_load file ++ grow_to (length file) (new_end old new) ++ calls) (added_by script old new false x)
-      ∙ five (head_load file ++ grow_to (length file) (new_end old new)) (move_calls script.hints.wr_buffer old new) (zero_calls script.hints.wr_buffer old new)
-      (Store 0 (header_len new) ∷ [])
-      ∙ sym (calls_by script old new file false x)
+      rw (x, first_calls, added_calls) (five (head_load file ++ grow_to (length file) (new_end old new)) (move_calls script.hints.wr_buffer old new) (zero_calls script.hints.wr_buffer old new)
+      (Store 0 (header_len new) ∷ []))
     where
       five : (a m z s : List DiskCall) → a ++ (m ++ z ++ s) ≡ a ++ m ++ z ++ s
       five a m z s = sym (append_assoc a (m ++ z) s) ∙ ap (λ (t : List DiskCall). t ++ s) (sym (append_assoc a m z))
@@ -154,32 +128,20 @@ module _ (script : Script) (old new : Header) (opened : script.fresh ≡ false) 
       → none ≡ [] → head ≡ none ++ head_load file → grown ≡ head ++ grow_to bytes end → all ≡ grown ++ added_calls script old new → calls ≡ all
       → calls ≡ first_calls script old new file
   existing_calls file bytes end none head grown all calls b e n h g a c =
-      c ∙ a ∙ ap (λ t. t ++ added_calls script old new) (g ∙ (λ t. (h ∙ ap (λ calls. calls ++ head_load file) n) t ++ grow_to (sym b t) (e t))) ∙ by_test (length script.extra == 0) refl
-    where
-      by_test : (b : Bool) → (length script.extra == 0) ≡ b
-          → head_load file ++ grow_to (length file) (new_end old new) ++ added_calls script old new ≡ first_calls script old new file
-      by_test true x = kept_calls x file
-      by_test false x = changed_calls x file
+      c ∙ a ∙ ap (λ t. t ++ added_calls script old new) (g ∙ (λ t. (h ∙ ap (λ calls. calls ++ head_load file) n) t ++ grow_to (sym b t) (e t)))
+      ∙ elim (holds_or_not (length script.extra == 0)) [ inl x ↦ kept_calls x file | inr x ↦ changed_calls x file ]
 
   kept_size : (length script.extra == 0) ≡ true → (file : List ℕ) → max (length file) (new_end old new) ≡ length (start script new (brought script old new file))
   kept_size x file =
-      ap (λ (n : ℕ). max (length file) n) same_place ∙ sym (longer_long file (dataset_end new))
-      ∙ sym (ap (λ (f : List ℕ). length f)
-      (start_opened script new (brought script old new file) opened ∙ ap (λ (f : List ℕ). longer f (dataset_end new)) (brought_by script old new file true x)))
+      ap (λ (n : ℕ). max (length file) n) same_place ∙ sym (longer_long file (dataset_end new)) ∙ sym (ap (λ f. length f) (start_unchanged script old new file opened x))
 
   changed_size : (length script.extra == 0) ≡ false → (file : List ℕ) → max (length file) (new_end old new) ≡ length (start script new (brought script old new file))
   changed_size x file =
       let laws = laws_of old new (script.extra, applied x) in
       let long = longer-enough (redefined file old new) (dataset_end new) (omega (arith, same_end old new script.extra (applied x).made, long_enough old new file)) in
-      sym (redefined_size old new file laws)
-      ∙ sym (ap (λ (f : List ℕ). length f)
-      (start_opened script new (brought script old new file) opened ∙ ap (λ (f : List ℕ). longer f (dataset_end new)) (brought_by script old new file false x) ∙ long))
+      sym (redefined_size old new file laws) ∙ sym (ap (λ f. length f) (start_changed script old new file opened x ∙ long))
 
   pub existing_size : (file : List ℕ) (bytes end size : ℕ) → length file ≡ bytes → end ≡ new_end old new → size ≡ max bytes end
       → size ≡ length (start script new (brought script old new file))
   existing_size file bytes end size b e s =
-      s ∙ (λ t. max (sym b t) (e t)) ∙ by_test (length script.extra == 0) refl
-    where
-      by_test : (b : Bool) → (length script.extra == 0) ≡ b → max (length file) (new_end old new) ≡ length (start script new (brought script old new file))
-      by_test true x = kept_size x file
-      by_test false x = changed_size x file
+      s ∙ (λ t. max (sym b t) (e t)) ∙ elim (holds_or_not (length script.extra == 0)) [ inl x ↦ kept_size x file | inr x ↦ changed_size x file ]

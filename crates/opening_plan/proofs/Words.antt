@@ -1,5 +1,5 @@
 -- The words of this crate's proofs, from where they stand.
-pub use Rattle.list_laws.proofs.Std.{Bool, List, [], ap, append-nil, append_assoc, arith, both_ways, drop, false, flat_map, flat_map-append, get_or, length, map, map-append, max, min, on_ok_weaker, range_with_len, refl, reverse, slice_get, subst, sym, take, true, ℕ, ◌*◌, ◌++◌, ◌+◌, ◌-◌, ◌<◌, ◌^◌, ◌∙◌, ◌∷◌, ◌≡◌, ◌≤◌}
+pub use Rattle.list_laws.proofs.Std.{Bool, List, [], ap, append-nil, append_assoc, arith, both_ways, drop, false, flat_map, flat_map-append, get_or, inl, inr, length, map, map-append, max, min, on_ok_weaker, range_with_len, refl, reverse, slice_get, subst, sym, take, true, ℕ, ◌*◌, ◌++◌, ◌+◌, ◌-◌, ◌<◌, ◌^◌, ◌∙◌, ◌∷◌, ◌≡◌, ◌≤◌}
 pub use Rattle.std.proofs.Common.{◌==◌}
 pub use Rattle.std.proofs.Math.Seq.{take_all}
 pub use Rattle.dataset_start.proofs.Keeping.{kept_created, kept_hints, kept_wr_buffer}
@@ -11,7 +11,7 @@ pub use Rattle.dataset_start.specs.Readiness.{blank_file, dataset_end, empty_end
 pub use Rattle.fill_records.proofs.TornLaws.{filled_long}
 pub use Rattle.fill_records.proofs.VariableLaws.{fill_stores_more, fixed_end, fixed_stores, got, known_at, record_stores}
 pub use Rattle.fill_records.specs.Filling.{variable_stores}
-pub use Rattle.list_laws.proofs.Common.{and_first, and_second, if_some_at, range_append}
+pub use Rattle.list_laws.proofs.Common.{and_first, and_second, holds_or_not, if_some_at, range_append}
 pub use Rattle.list_laws.proofs.Types.{DiskCall, Extra, Grow, Header, Load, Script, Store}
 pub use Rattle.opening_plan.specs.Opening.{AreLow, added_calls, carry_calls}
 pub use Rattle.overlay_laws.proofs.Common.{In, count_is, stores_before}

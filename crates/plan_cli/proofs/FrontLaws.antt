@@ -11,16 +11,15 @@ begun_long bytes size e = omega (arith, length-append bytes (replicate (size - l
 
 begun_front : (bytes : List ℕ) (size : ℕ) → length bytes ≡ min size (2 ^ 20) → front (begun bytes size) ≡ bytes
 unfolding begun
-begun_front bytes size e = by_size (cases_lt (2 ^ 20) size)
-  where
-    by_size : (2 ^ 20 < size) ⊎ (size ≤ 2 ^ 20) → take (2 ^ 20) (bytes ++ replicate (size - length bytes) 0) ≡ bytes
-    by_size (inl h) =
-        let own : 2 ^ 20 ≡ length bytes = omega (arith, e, h) in
-        ap (λ (n : ℕ). take n (bytes ++ replicate (size - length bytes) 0)) own ∙ take-append_seam bytes (replicate (size - length bytes) 0)
-    by_size (inr h) =
-        let none : size - length bytes ≡ 0 = omega (arith, e, h) in
-        ap (λ (n : ℕ). take (2 ^ 20) (bytes ++ replicate n 0)) none ∙ ap (λ (t : List ℕ). take (2 ^ 20) t) (append-nil bytes)
-        ∙ take_all (2 ^ 20) bytes (omega (arith, e))
+begun_front bytes size e = elim (cases_lt (2 ^ 20) size) [
+  | inl h ↦
+      (let own : 2 ^ 20 ≡ length bytes = omega (arith, e, h) in
+      ap (λ (n : ℕ). take n (bytes ++ replicate (size - length bytes) 0)) own ∙ take-append_seam bytes (replicate (size - length bytes) 0))
+  | inr h ↦
+      (let none : size - length bytes ≡ 0 = omega (arith, e, h) in
+      ap (λ (n : ℕ). take (2 ^ 20) (bytes ++ replicate n 0)) none ∙ ap (λ (t : List ℕ). take (2 ^ 20) t) (append-nil bytes)
+      ∙ take_all (2 ^ 20) bytes (omega (arith, e)))
+]
 
 -- the file that is told, or one that begins with what was read
 pub opened : (held : Option (List ℕ)) (bytes : List ℕ) (size : ℕ) (header : Header) (n : ℕ) → IfSome held (λ file. bytes ≡ front file)

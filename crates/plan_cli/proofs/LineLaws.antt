@@ -5,20 +5,9 @@ use Rattle.dataset_start.specs.declared.stop.Stop.TheVariants as stops
 
 pub made_line : (stop : Stop) → fixed_line_of stop ≡ None → line_of stop ≡ option_map renamed (ncrun.line_of stop)
 made_line stops.Usage h = absurd cc
-made_line (stops.Script e) h = refl
-made_line (stops.Header e) h = refl
-made_line (stops.Layout e) h = refl
-made_line (stops.Redefinition e) h = refl
-made_line stops.Source h = refl
-made_line stops.Disk h = refl
-made_line stops.Memory h = refl
+made_line stop h = refl
 
 pub not_fixed : (stop : Stop) → fixed_line_of stop ≡ None → ncrun.fixed_line_of stop ≡ None
 not_fixed stops.Usage h = absurd cc
-not_fixed (stops.Script e) h = refl
-not_fixed (stops.Header e) h = refl
-not_fixed (stops.Layout e) h = refl
-not_fixed (stops.Redefinition e) h = refl
-not_fixed stops.Source h = refl
 not_fixed stops.Disk h = absurd cc
-not_fixed stops.Memory h = refl
+not_fixed stop h = refl

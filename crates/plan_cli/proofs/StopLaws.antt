@@ -22,12 +22,7 @@ pub unlaid : {T : Type 0} (script : script_type.Script) (held named : Option (Li
 unlaid script held named Failed (Ok x) f h o = tt
 unlaid script held named Failed (Err (stops.Layout e)) f h o = (f, h e refl)
 unlaid script held named Failed (Err stops.Memory) f h o = tt
-unlaid script held named Failed (Err stops.Usage) f h o = absurd o
-unlaid script held named Failed (Err (stops.Script e)) f h o = absurd o
-unlaid script held named Failed (Err (stops.Header e)) f h o = absurd o
-unlaid script held named Failed (Err (stops.Redefinition e)) f h o = absurd o
-unlaid script held named Failed (Err stops.Source) f h o = absurd o
-unlaid script held named Failed (Err stops.Disk) f h o = absurd o
+unlaid script held named Failed (Err stop) f h o = absurd o
 
 -- ---- a dataset that is there
 
@@ -46,11 +41,7 @@ unadded script held named Failed (Ok x) f h d o = tt
 unadded script held named Failed (Err (stops.Redefinition e)) f h d o = (f, h e refl)
 unadded script held named Failed (Err stops.Disk) f h d o = absurd (d refl)
 unadded script held named Failed (Err stops.Memory) f h d o = tt
-unadded script held named Failed (Err stops.Usage) f h d o = absurd o
-unadded script held named Failed (Err (stops.Script e)) f h d o = absurd o
-unadded script held named Failed (Err (stops.Header e)) f h d o = absurd o
-unadded script held named Failed (Err (stops.Layout e)) f h d o = absurd o
-unadded script held named Failed (Err stops.Source) f h d o = absurd o
+unadded script held named Failed (Err stop) f h d o = absurd o
 
 -- ---- the script, and its dataset
 
@@ -61,21 +52,14 @@ untaken left held named Untouched SourceFailed DatasetFailed (Ok x) u h s o = tt
 untaken left held named Untouched SourceFailed DatasetFailed (Err (stops.Script e)) u h s o = (u, h e refl)
 untaken left held named Untouched SourceFailed DatasetFailed (Err stops.Source) u h s o = (u, s refl)
 untaken left held named Untouched SourceFailed DatasetFailed (Err stops.Memory) u h s o = tt
-untaken left held named Untouched SourceFailed DatasetFailed (Err stops.Usage) u h s o = absurd o
-untaken left held named Untouched SourceFailed DatasetFailed (Err (stops.Header e)) u h s o = absurd o
-untaken left held named Untouched SourceFailed DatasetFailed (Err (stops.Layout e)) u h s o = absurd o
-untaken left held named Untouched SourceFailed DatasetFailed (Err (stops.Redefinition e)) u h s o = absurd o
-untaken left held named Untouched SourceFailed DatasetFailed (Err stops.Disk) u h s o = absurd o
+untaken left held named Untouched SourceFailed DatasetFailed (Err stop) u h s o = absurd o
 
 pub unprepared : {T : Type 0} (left held named : Option (List ℕ)) (Untouched SourceFailed DatasetFailed : Type 0) (script : script_type.Script) (result : Result T Stop)
     → Asks left script → (script.fresh ≡ true → Untouched) → IfErr result (IsUnprepared script held named DatasetFailed)
     → IfErr result (IsStoppedBy left held named Untouched SourceFailed DatasetFailed)
 unprepared left held named Untouched SourceFailed DatasetFailed script (Ok x) a u h = tt
-unprepared left held named Untouched SourceFailed DatasetFailed script (Err (stops.Header e)) a u h = (script, (a, h, u))
-unprepared left held named Untouched SourceFailed DatasetFailed script (Err (stops.Layout e)) a u h = (script, (a, h, u))
-unprepared left held named Untouched SourceFailed DatasetFailed script (Err (stops.Redefinition e)) a u h = (script, (a, h, u))
-unprepared left held named Untouched SourceFailed DatasetFailed script (Err stops.Disk) a u h = (script, (a, h, u))
 unprepared left held named Untouched SourceFailed DatasetFailed script (Err stops.Memory) a u h = tt
 unprepared left held named Untouched SourceFailed DatasetFailed script (Err stops.Usage) a u h = absurd h
 unprepared left held named Untouched SourceFailed DatasetFailed script (Err (stops.Script e)) a u h = absurd h
 unprepared left held named Untouched SourceFailed DatasetFailed script (Err stops.Source) a u h = absurd h
+unprepared left held named Untouched SourceFailed DatasetFailed script (Err stop) a u h = (script, (a, h, u))

@@ -1,5 +1,5 @@
 -- The first of the slabs that are left ends where the next gap begins.
-use Rattle.opening_plan.proofs.Words.{◌∙◌, ◌+◌, ◌-◌, ◌≤◌, ◌^◌, sym, refl, ap, length, List, ◌++◌, get_or, drop, ℕ, arith, Slab, Shift, behind, further, gap_calls, gaps_before, slab_of, none_after, none_behind, slabs_left, spaced_low}
+use Rattle.opening_plan.proofs.Words.{◌∙◌, ◌+◌, ◌-◌, ◌<◌, ◌≤◌, ◌^◌, sym, refl, ap, length, List, ◌++◌, get_or, drop, ℕ, arith, Slab, Shift, behind, further, gap_calls, gaps_before, slab_of, AreSpaced, none_after, none_behind, slabs_left, spaced_low}
 use Rattle.opening_plan.proofs.CallLaws.{none_left, one_zeros_left, slabs_further, spaced_first}
 use Rattle.opening_plan.proofs.zeros.push_gaps.Goals as goal
 
@@ -10,40 +10,36 @@ none = record { from = 0; to = 0; len = 0 }
 abbrev slab_at : ℕ → ℕ → List Shift → ℕ → Slab
 slab_at a b ss k = further a b (slab_of (get_or ss k none))
 
+-- it starts at the next gap's end, and ends below the bound
+record IsNext (at a b : ℕ) (ss : List Shift) (k : ℕ) : Type 0 where
+  low : at ≤ (slab_at a b ss k).to
+  high : (slab_at a b ss k).to + (slab_at a b ss k).len ≤ 2 ^ 62
+  spaced : AreSpaced ((slab_at a b ss k).to + (slab_at a b ss k).len) (2 ^ 62) (slabs_further a b (drop (k + 1) ss))
+
+next : (at a b : ℕ) (ss : List Shift) (k : ℕ) → k < length ss → AreSpaced at (2 ^ 62) (slabs_further a b (drop k ss)) → IsNext at a b ss k
+next at a b ss k more spaced =
+    let s = slab_at a b ss k in
+    let others = slabs_further a b (drop (k + 1) ss) in
+    let first = spaced_first at (2 ^ 62) s others (slabs_further a b (drop k ss)) (slabs_left a b ss k none more) spaced in
+    record { low = first.0; high = spaced_low (s.to + s.len) (2 ^ 62) others first.1; spaced = first.1 }
+
 pub overflow_add-place : goal.overflow_add-place
 overflow_add-place c =
-    let others = slabs_further c.args.offset.old c.args.offset.new (drop (c.loop-slab.slab-index + 1) c.args.slabs.now) in
-    let s = slab_at c.args.offset.old c.args.offset.new c.args.slabs.now c.loop-slab.slab-index in
-    let first = spaced_first c.loop-slab.at (2 ^ 62) s others (slabs_further c.args.offset.old c.args.offset.new (drop c.loop-slab.slab-index c.args.slabs.now))
-    (slabs_left c.args.offset.old c.args.offset.new c.args.slabs.now c.loop-slab.slab-index none c.loop-slab-test.true) c.loop-slab.invariant.spaced in
-    let inside = spaced_low (s.to + s.len) (2 ^ 62) others first.1 in
-    omega arith
+    let slab = next c.loop-slab.at c.args.offset.old c.args.offset.new c.args.slabs.now c.loop-slab.slab-index c.loop-slab-test.true c.loop-slab.invariant.spaced in
+    omega (arith, slab.high)
 
 pub overflow_sub-place : goal.overflow_sub-place
-overflow_sub-place c =
-    (spaced_first c.loop-slab.at (2 ^ 62) (slab_at c.args.offset.old c.args.offset.new c.args.slabs.now c.loop-slab.slab-index)
-    (slabs_further c.args.offset.old c.args.offset.new (drop (c.loop-slab.slab-index + 1) c.args.slabs.now))
-    (slabs_further c.args.offset.old c.args.offset.new (drop c.loop-slab.slab-index c.args.slabs.now))
-    (slabs_left c.args.offset.old c.args.offset.new c.args.slabs.now c.loop-slab.slab-index none c.loop-slab-test.true) c.loop-slab.invariant.spaced).0
+overflow_sub-place c = (next c.loop-slab.at c.args.offset.old c.args.offset.new c.args.slabs.now c.loop-slab.slab-index c.loop-slab-test.true c.loop-slab.invariant.spaced).low
 
 pub push_stores-requires-clause-low : goal.push_stores-requires-clause-low
 push_stores-requires-clause-low c =
-    let others = slabs_further c.args.offset.old c.args.offset.new (drop (c.loop-slab.slab-index + 1) c.args.slabs.now) in
-    let s = slab_at c.args.offset.old c.args.offset.new c.args.slabs.now c.loop-slab.slab-index in
-    let first = spaced_first c.loop-slab.at (2 ^ 62) s others (slabs_further c.args.offset.old c.args.offset.new (drop c.loop-slab.slab-index c.args.slabs.now))
-    (slabs_left c.args.offset.old c.args.offset.new c.args.slabs.now c.loop-slab.slab-index none c.loop-slab-test.true) c.loop-slab.invariant.spaced in
-    let low = first.0 in
-    let inside = spaced_low (s.to + s.len) (2 ^ 62) others first.1 in
-    omega arith
+    let slab = next c.loop-slab.at c.args.offset.old c.args.offset.new c.args.slabs.now c.loop-slab.slab-index c.loop-slab-test.true c.loop-slab.invariant.spaced in
+    omega (arith, slab.low, slab.high)
 
 pub overflow_add-at : goal.overflow_add-at
 overflow_add-at c =
-    let others = slabs_further c.args.offset.old c.args.offset.new (drop (c.loop-slab.slab-index + 1) c.args.slabs.now) in
-    let s = slab_at c.args.offset.old c.args.offset.new c.args.slabs.now c.loop-slab.slab-index in
-    let first = spaced_first c.loop-slab.at (2 ^ 62) s others (slabs_further c.args.offset.old c.args.offset.new (drop c.loop-slab.slab-index c.args.slabs.now))
-    (slabs_left c.args.offset.old c.args.offset.new c.args.slabs.now c.loop-slab.slab-index none c.loop-slab-test.true) c.loop-slab.invariant.spaced in
-    let inside = spaced_low (s.to + s.len) (2 ^ 62) others first.1 in
-    omega arith
+    let slab = next c.loop-slab.at c.args.offset.old c.args.offset.new c.args.slabs.now c.loop-slab.slab-index c.loop-slab-test.true c.loop-slab.invariant.spaced in
+    omega (arith, slab.high)
 
 pub loop-slab-init : goal.loop-slab-init
 loop-slab-init c = record { spaced = c.requires.spaced; place = refl; calls = refl }
@@ -59,7 +55,7 @@ loop-slab-preserved c =
     let others : List Slab = slabs_further a b (drop (i + 1) ss) in
     let split = slabs_left a b ss i none c.loop-slab-test.true in
     record {
-      spaced = (spaced_first at (2 ^ 62) s others (slabs_further a b (drop i ss)) split c.loop-slab.invariant.spaced).1;
+      spaced = (next at a b ss i c.loop-slab-test.true c.loop-slab.invariant.spaced).spaced;
       place = ap (λ xs. behind at xs) (sym split) ∙ c.loop-slab.invariant.place;
       calls = one_zeros_left (c.args.calls.now.items ++ gap_calls c.args.window (gaps_before c.args.at (slabs_further a b ss)))
           c.loop-slab.calls.items c.push_stores.new.calls.items c.args.window (at, s.to - at) (gaps_before (s.to + s.len) others) (gaps_before at (slabs_further a b (drop i ss)))

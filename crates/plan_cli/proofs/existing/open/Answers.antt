@@ -12,27 +12,23 @@ redefine-prepared-requires-clause-some g c = some_extras c.args.script.now (λ n
 pub returns-then-is_empty-clause-opening : goal.returns-then-is_empty-clause-opening
 returns-then-is_empty-clause-opening g c =
     let named : c.args.name ≡ Some c.in-Some.name = search rules in
-    let told = ap (λ (o : Option (Bor (List ℕ))). held_of g.D.DatasetFront (name_of o) c.args.dataset.now) named in
-    subst (λ (h : Option (List ℕ)). IfOk c.keep.result (λ p. IsOpening c.args.script.now h p.header p.opening)) (sym told)
-    (kept c.args.script.now c.in_ok-old.old.header c.in_ok-old.old.size (g.D.DatasetFront.held c.args.dataset.now c.in-Some.name.now) c.keep.result c.requires.opened
-    (no_extras c.args.script.now (c.is_empty.ensures.0 c.if-is_empty.true)) c.in_ok-old.ensures.opened c.in_ok-old.ensures.sound c.in_ok-old.ensures.faultless
-    c.keep.ensures.header c.keep.ensures.opening)
+    rw named
+    (kept c.args.script.now c.in_ok-old.old.header c.in_ok-old.old.size (g.D.DatasetFront.held c.args.dataset.now c.in-Some.name.now) c.requires.opened c.in_ok-old.ensures.opened
+    c.in_ok-old.ensures.faultless c.keep.result (no_extras c.args.script.now (c.is_empty.ensures.0 c.if-is_empty.true)) c.in_ok-old.ensures.sound c.keep.ensures.header c.keep.ensures.opening)
 
 pub returns-else-is_empty-clause-opening : goal.returns-else-is_empty-clause-opening
 returns-else-is_empty-clause-opening g c =
     let named : c.args.name ≡ Some c.in-Some.name = search rules in
-    let told = ap (λ (o : Option (Bor (List ℕ))). held_of g.D.DatasetFront (name_of o) c.args.dataset.now) named in
-    subst (λ (h : Option (List ℕ)). IfOk c.redefine-prepared.result (λ p. IsOpening c.args.script.now h p.header p.opening)) (sym told)
-    (added c.args.script.now c.in_ok-old.old.header c.in_ok-old.old.size (g.D.DatasetFront.held c.args.dataset.now c.in-Some.name.now) c.redefine-prepared.result c.requires.opened
-    (some_extras c.args.script.now (λ none. both_ways _ c.if-is_empty.false (c.is_empty.ensures.1 none))) c.in_ok-old.ensures.opened c.in_ok-old.ensures.faultless
+    rw named
+    (added c.args.script.now c.in_ok-old.old.header c.in_ok-old.old.size (g.D.DatasetFront.held c.args.dataset.now c.in-Some.name.now) c.requires.opened c.in_ok-old.ensures.opened
+    c.in_ok-old.ensures.faultless c.redefine-prepared.result (some_extras c.args.script.now (λ none. both_ways _ c.if-is_empty.false (c.is_empty.ensures.1 none)))
     c.redefine-prepared.ensures.applied c.redefine-prepared.ensures.opening)
 
 pub returns-else-is_empty-clause-stopped : goal.returns-else-is_empty-clause-stopped
 returns-else-is_empty-clause-stopped g c =
     let named : c.args.name ≡ Some c.in-Some.name = search rules in
-    let told = ap (λ (o : Option (Bor (List ℕ))). held_of g.D.DatasetFront (name_of o) c.args.dataset.now) named in
-    subst (λ (h : Option (List ℕ)). IfErr c.redefine-prepared.result (IsUnprepared c.args.script.now h (name_of c.args.name) (Rose (g.D.DatasetFront.faults c.args.dataset.now) (g.D.DatasetFront.faults c.look.new.dataset)))) (sym told)
-    (unadded c.args.script.now (g.D.DatasetFront.held c.args.dataset.now c.in-Some.name.now) (name_of c.args.name) _ c.redefine-prepared.result c.requires.opened
+    rw named
+    (unadded c.args.script.now (g.D.DatasetFront.held c.args.dataset.now c.in-Some.name.now) _ _ c.redefine-prepared.result c.requires.opened
     (λ e r. refuses c.args.script.now c.in_ok-old.old.header (g.D.DatasetFront.held c.args.dataset.now c.in-Some.name.now) c.in_ok-old.old.size e
     (some_extras c.args.script.now (λ none. both_ways _ c.if-is_empty.false (c.is_empty.ensures.1 none))) c.in_ok-old.ensures.opened (c.redefine-prepared.ensures.refused e r))
     c.redefine-prepared.ensures.unread c.redefine-prepared.ensures.only)

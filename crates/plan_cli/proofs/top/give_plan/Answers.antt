@@ -35,4 +35,4 @@ pub returns-in-Ok-print_plan-clause-silent : goal.returns-in-Ok-print_plan-claus
 returns-in-Ok-print_plan-clause-silent g c = λ s. absurd (given_is_told c.give.result c.give.ensures.statuses s)
 
 pub returns-in-Ok-print_plan-clause-told : goal.returns-in-Ok-print_plan-clause-told
-returns-in-Ok-print_plan-clause-told g c = given_without_line c.give.result _ c.give.ensures.statuses
+returns-in-Ok-print_plan-clause-told g c = given_without_line c.give.result c.give.ensures.statuses _
