@@ -7,18 +7,15 @@ pub loop-row-preserved : goal.loop-row-preserved
 loop-row-preserved c =
     let a = c.first_row-first.result in
     let row = c.loop-row.row in
-    let here : a + (row - a) ≡ row = omega arith in
-    let one : row + 1 - a ≡ (row - a) + 1 = omega arith in
-    next_piece (λ y. temp_row c.args.seed c.args.time y) [] (bits_of_runs c.loop-row.runs.items) (bits_of_runs c.push_temp_row.new.out.items) a (row - a) (row + 1 - a) row here one
+    next_piece (λ y. temp_row c.args.seed c.args.time y) [] (bits_of_runs c.loop-row.runs.items) (bits_of_runs c.push_temp_row.new.out.items) a (row - a) (row + 1 - a) row (omega arith) (omega arith)
     c.loop-row.invariant c.in_ok-push_temp_row.ensures
 
 pub returns : goal.returns
 returns c =
     let a = c.first_row-first.result in
     let row = c.loop-row.row in
-    let many : row - a ≡ first_row (c.args.rank + 1) - first_row c.args.rank = omega arith in
     let all =
     all_pieces (λ y. temp_row c.args.seed c.args.time y) [] (bits_of_runs c.loop-row.runs.items) a (first_row c.args.rank) (row - a) (first_row (c.args.rank + 1) - first_row c.args.rank)
-    c.first_row-first.ensures.value many c.loop-row.invariant
+    c.first_row-first.ensures.value (omega arith) c.loop-row.invariant
     ∙ temp_rows c.args.seed c.args.rank c.args.time in
     subst (λ (now : List ℕ). IfOk c.from_runs.result (λ values. values ≡ now)) all c.from_runs.ensures

@@ -10,5 +10,4 @@ loop-time-preserved c =
 
 pub returns : goal.returns
 returns c =
-    let whole : c.loop-time.time ≡ c.args.size = omega arith in
-    all_pieces (λ t. calls_of_record c.args.seed c.args.rank t) c.args.calls.now c.loop-time.calls 0 0 c.loop-time.time c.args.size refl whole c.loop-time.invariant
+    all_pieces (λ t. calls_of_record c.args.seed c.args.rank t) c.args.calls.now c.loop-time.calls 0 0 c.loop-time.time c.args.size refl (omega arith) c.loop-time.invariant
