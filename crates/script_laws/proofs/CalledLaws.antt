@@ -1,7 +1,7 @@
 -- The calls of all ranks, line by line.
-use Rattle.script_laws.proofs.Words.{◌≡◌, ◌∙◌, ℕ, zero, suc, ◌+◌, ◌≤◌, List, [], ◌∷◌, ◌++◌, length, map, replicate, sum, Bool, true, false, Option, Ok, IfOk, IfSome, refl, sym, ap, subst, arith, ◌==◌, slice_set, bytes_eq, codes, length-set, length-append, append-nil, le_of_eq, AllByRecursion, list_any, list_all, enumerate_from, filter_map-append, list_any-append, length-replicate, and_from, one_posted, none_posted, each_push, and_first, and_second, or_first_false, or_second_false, Call, most_values, is_lawful_call, values_in_call, posted_ids, are_different, each_passes, Word, Line, ◌>>=◌, bare, next, id_of_post, posted, is_posted, Called, calls_of, rank_of_text, with_call, call_of, call_line, called_after, at_line, call_step, data_part, nat_tests}
+use Rattle.script_laws.proofs.Words.{◌≡◌, ◌∙◌, ℕ, zero, suc, ◌+◌, ◌≤◌, List, [], ◌∷◌, ◌++◌, length, map, replicate, sum, Bool, true, false, Option, Ok, IfOk, IfSome, refl, sym, ap, subst, arith, ◌==◌, slice_set, bytes_eq, codes, length-set, length-append, append-nil, le_of_eq, AllByRecursion, list_any, list_all, enumerate_from, filter_map-append, list_any-append, length-replicate, and_from, one_posted, none_posted, each_push, and_first, and_second, or_first_false, or_second_false, Call, most_values, is_lawful_call, values_in_call, posted_ids, are_different, each_passes, Word, Line, ◌>>=◌, bare, next, id_of_post, posted, is_posted, Called, calls_of, rank_of_text, with_call, call_of, call_line, called_after, at_line, call_step, data_part, Known, no_calls, nat_tests}
 use Rattle.script_laws.proofs.ListLaws.{sum_cons, sum_more}
-use Rattle.script_laws.proofs.StepLaws.{first_then, then_with, ok_then, by_test, whole_line, at_line_kept}
+use Rattle.script_laws.proofs.StepLaws.{first_then, then_with, ok_then, by_test, if_read, whole_line, at_line_kept}
 use Rattle.script_laws.proofs.CallLaws.{FitsCall, call_read}
 
 -- ---- a call more of one rank
@@ -111,6 +111,15 @@ no_calls_fit size values lines h =
       held = omega (arith, none_sum own_values size refl);
       few = h;
     }
+
+-- the values of the definitions and of the calls that are read
+pub values_held : (past n : ℕ) (k : Known) (lines : List Line) (r : ℕ × (Called × List Line)) → k.values ≤ most_values → data_part past (no_calls n k) lines ≡ Ok r
+    → k.values + sum (map own_values r.1.0.calls) ≤ most_values
+values_held past n k lines r few h =
+    let most = length lines in
+    let fits = calls_read n k.values past 0 most (no_calls n k) lines (omega arith) (no_calls_fit n k.values 0 few) in
+    let f = if_read (data_part past (no_calls n k) lines) (λ x. FitsCalled n most k.values x.1.0) r h fits in
+    omega (arith, f.held, f.few)
 
 -- ---- the same as tests
 

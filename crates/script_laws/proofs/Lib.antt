@@ -1,13 +1,14 @@
 mod Words
-mod StepLaws
+pub mod StepLaws
 pub mod ListLaws
 mod WordLaws
-mod ValueLaws
-mod DimLaws
+pub mod Sequences
+pub mod ValueLaws
+pub mod DimLaws
 mod AddedLaws
 mod DefinedLaws
 mod CallLaws
-mod CalledLaws
+pub mod CalledLaws
 mod AgreeLaws
 mod ReadLaws
 mod RunLaws

@@ -1,6 +1,8 @@
 -- The values of a line: few, each a number of 20 digits at most, and so many bytes.
-use Rattle.script_laws.proofs.Words.{◌≡◌, ◌∙◌, ℕ, ◌+◌, ◌*◌, ◌≤◌, List, [], ◌∷◌, ◌++◌, length, Bool, not, ◌&&◌, Option, IfOk, refl, arith, nat_lt, is_some, flat_map, bytes_eq, codes, length-append, length-map-range_with_len, NcType, is_number, Values, Numbers, Text, Bits, Class, size_of, ext, most_elements, most_values, count_of, Word, Plain, Quoted, Broken, number_of_text, bits_of_text, refuse_if, reads_as, size, ended, within_limits, one_value, each_value, sequence_count, numbers_between, patterns_between, term, pattern_term, is_term, is_pattern_term, last_number, last_pattern, wrong_kind, may_be, are_numbers, are_patterns, are_text, seq_values, seqx_values, pattern_values, text_values, number_for, pattern_for, listed_values, listed_kind, values, external_bytes, ext_long, nat_tests, zero, suc, ◌^◌, ◌<◌, map, true, false, cond, Some, None, sym, subst, ◌==◌, option_map, ℤ, pos, negsuc, neg_ℤ, ◌+ℤ◌, ◌*ℤ◌, unsigned_abs, lt-ltb, le-leb, ltb-true, eqb-true, mul-le-mul_left, AllByRecursion, range_with_len, ints, and_from, not-false, faultless_some, natural_small, each_push, and_first, are_values, natural_of, or_fault, bare, sequence}
+use Rattle.script_laws.proofs.Words.{each_weaker, ◌≡◌, ◌∙◌, ℕ, ◌+◌, ◌*◌, ◌≤◌, List, [], ◌∷◌, ◌++◌, length, Bool, not, ◌&&◌, Option, IfOk, refl, arith, nat_lt, is_some, flat_map, bytes_eq, codes, length-append, length-map-range_with_len, NcType, is_number, Values, Numbers, Text, Bits, Class, size_of, ext, most_elements, most_values, count_of, Word, Plain, Quoted, Broken, number_of_text, bits_of_text, refuse_if, reads_as, size, ended, within_limits, one_value, each_value, sequence_count, numbers_between, patterns_between, term, pattern_term, is_term, is_pattern_term, last_number, last_pattern, wrong_kind, may_be, are_numbers, are_patterns, are_text, seq_values, seqx_values, pattern_values, text_values, number_for, pattern_for, listed_values, listed_kind, values, external_bytes, ext_long, nat_tests, zero, suc, ◌^◌, ◌<◌, true, false, cond, Some, None, sym, subst, ◌==◌, option_map, ℤ, pos, neg_ℤ, ◌+ℤ◌, ◌*ℤ◌, unsigned_abs, lt-ltb, le-leb, ltb-true, AllByRecursion, and_from, not-false, faultless_some, natural_small, each_push, and_first, are_values, natural_of, or_fault, bare, sequence}
 use borrow.Author.Tests.{ltb-false}
+use Rattle.list_laws.proofs.Common.{passes_each}
+use Rattle.script_laws.proofs.Sequences.{is_fit_number, numbers_fit}
 use Rattle.nc_base.specs.declared.errors.ScriptKind.TheVariants as kind
 use Rattle.nc_base.specs.declared.errors.LimitName.TheVariants as limit
 use Rattle.nc_base.specs.declared.request.Value.TheVariants as value
@@ -10,7 +12,7 @@ use Rattle.script_laws.proofs.StepLaws.{first_then, then_with, ok_then, by_test,
 
 -- ---- a number
 
-abbrev IsSmall : ℤ → Type 0
+abbrev pub IsSmall : ℤ → Type 0
 IsSmall z = unsigned_abs z < 10 ^ 20
 
 negative_small : (n : ℕ) → n < 10 ^ 20 → IsSmall (neg_ℤ (pos n))
@@ -21,7 +23,7 @@ mapped_small : (f : ℕ → ℤ) (o : Option ℕ) (z : ℤ) → ((n : ℕ) → o
 mapped_small f None z h e = absurd (cc)
 mapped_small f (Some n) z h e = let same : f n ≡ z = cc in subst IsSmall same (h n refl)
 
-number_small : (w : List ℕ) (z : ℤ) → number_of_text w ≡ Some z → IsSmall z
+pub number_small : (w : List ℕ) (z : ℤ) → number_of_text w ≡ Some z → IsSmall z
 number_small [] z h = absurd (cc)
 number_small (c ∷ cs) z h = by_sign (c == 45) h
   where
@@ -34,25 +36,9 @@ number_for_small t w z h = grind (arith, nat_tests, number_small)
 
 -- ---- the terms of a sequence
 
-middle_above : (a : ℤ) (x y most : ℕ) → x ≤ y → unsigned_abs a < most → unsigned_abs (a +ℤ pos y) < most → unsigned_abs (a +ℤ pos x) < most
-middle_above a x y most h p q = omega (arith, ints)
-
-middle_below : (a : ℤ) (x y most : ℕ) → x ≤ y → unsigned_abs a < most → unsigned_abs (a +ℤ neg_ℤ (pos y)) < most → unsigned_abs (a +ℤ neg_ℤ (pos x)) < most
-middle_below a x y most h p q = omega (arith, ints)
-
-term_small : (a b : ℤ) (k m : ℕ) → k ≤ m → IsSmall a → IsSmall (a +ℤ (b *ℤ pos m)) → IsSmall (a +ℤ (b *ℤ pos k))
-term_small a (pos p) k m h small last = middle_above a (p * k) (p * m) (10 ^ 20) (mul-le-mul_left p h) small last
-term_small a (negsuc p) k m h small last = middle_below a (suc p * k) (suc p * m) (10 ^ 20) (mul-le-mul_left (suc p) h) small last
-
-terms_small : (a b : ℤ) (m from len : ℕ) → from + len ≤ m + 1 → IsSmall a → IsSmall (a +ℤ (b *ℤ pos m)) → AllByRecursion IsSmall (map (λ k. a +ℤ (b *ℤ pos k)) (range_with_len from len))
-terms_small a b m from zero h small last = tt
-terms_small a b m from (suc len) h small last = (term_small a b from m (omega arith) small last, terms_small a b m (from + 1) len (omega arith) small last)
-
-is_term_small : (t : Option NcType) (n : ℕ) (z : ℤ) → is_term t n z ≡ true → 0 < n → IsSmall z
-is_term_small t n z h some = grind (arith, nat_tests, nat_lt (unsigned_abs z) (10 ^ 20), unsigned_abs z, eqb-true, ltb-true, and_first)
-
 sequence_small : (t : Option NcType) (a b : ℤ) (n : ℕ) → is_term t n a ≡ true → is_term t n (last_number a b n) ≡ true → AllByRecursion IsSmall (sequence a b n)
-sequence_small t a b n p q = grind (arith, nat_tests, terms_small, is_term_small)
+sequence_small t a b n p q =
+    each_weaker (λ z. is_fit_number t z ≡ true) IsSmall (λ z h. ltb-true _ _ (and_first _ _ h)) (sequence a b n) (passes_each (is_fit_number t) (sequence a b n) (numbers_fit t a b n p q))
 
 -- ---- how many, for an attribute of a type or for a call
 
@@ -124,8 +110,8 @@ module _ (t : Option NcType) (before : ℕ) where
 
   -- ---- the values
 
-  numbers_fit : (zs : List ℤ) → ListOf ℤ IsSmall t before zs → FitsValues t before (Numbers zs)
-  numbers_fit zs all = record { lawful = λ e. and_from _ _ (le-leb (length zs) most_elements (all.few.most e)) (all_pass is_number IsSmall (λ z h. lt-ltb _ _ h) zs all.good); few = all.few.all }
+  all_numbers : (zs : List ℤ) → ListOf ℤ IsSmall t before zs → FitsValues t before (Numbers zs)
+  all_numbers zs all = record { lawful = λ e. and_from _ _ (le-leb (length zs) most_elements (all.few.most e)) (all_pass is_number IsSmall (λ z h. lt-ltb _ _ h) zs all.good); few = all.few.all }
 
   patterns_fit : (ns : List ℕ) → FewMore t before (length ns) → FitsValues t before (pattern_values ns)
   patterns_fit [] few = record { lawful = λ e. refl; few = few.all }
@@ -137,7 +123,7 @@ module _ (t : Option NcType) (before : ℕ) where
   seq_read : (ws : List Word) → IfOk (seq_values t before ws) (FitsValues t before)
   seq_read ws =
       then_with (sequence_count (may_be are_numbers t) t before ws) _ _ (λ n. FewMore t before n.0) (count_read (may_be are_numbers t) ws) (λ n few.
-      then_with (numbers_between t n.0 n.1) _ _ (IsSequence n.0) (numbers_read n.0 n.1) (λ zs all. numbers_fit zs (record { good = all.small; few = longer (length zs) n.0 all.long few })))
+      then_with (numbers_between t n.0 n.1) _ _ (IsSequence n.0) (numbers_read n.0 n.1) (λ zs all. all_numbers zs (record { good = all.small; few = longer (length zs) n.0 all.long few })))
 
   seqx_read : (ws : List Word) → IfOk (seqx_values t before ws) (FitsValues t before)
   seqx_read ws =
@@ -156,9 +142,9 @@ module _ (t : Option NcType) (before : ℕ) where
       then_with (each_value (pattern_for t) t before [] ws) _ _ (ListOf ℕ (λ _. Unit {0}) t before) (all_read (pattern_for t) (λ _. Unit {0}) t before (λ _ _ _. tt) ws h)
       (λ ns all. record { lawful = λ e. le-leb _ _ (all.few.most e); few = all.few.all })
   listed_read class.Signed ws h =
-      then_with (each_value (number_for t) t before [] ws) _ _ (ListOf ℤ IsSmall t before) (all_read (number_for t) IsSmall t before (number_for_small t) ws h) numbers_fit
+      then_with (each_value (number_for t) t before [] ws) _ _ (ListOf ℤ IsSmall t before) (all_read (number_for t) IsSmall t before (number_for_small t) ws h) all_numbers
   listed_read class.Unsigned ws h =
-      then_with (each_value (number_for t) t before [] ws) _ _ (ListOf ℤ IsSmall t before) (all_read (number_for t) IsSmall t before (number_for_small t) ws h) numbers_fit
+      then_with (each_value (number_for t) t before [] ws) _ _ (ListOf ℤ IsSmall t before) (all_read (number_for t) IsSmall t before (number_for_small t) ws h) all_numbers
 
   pub values_read : (ws : List Word) → before ≤ most_values → IfOk (values t before ws) (FitsValues t before)
   values_read [] h = record { lawful = λ e. refl; few = omega arith }

@@ -1,9 +1,10 @@
 -- The lines that add to a dataset that is opened, each with its statement.
-use Rattle.script_spelling.proofs.Words.{◌≡◌, ◌∙◌, ℕ, ◌+◌, List, [], ◌∷◌, ◌++◌, true, Option, Ok, sym, ap, subst, append_assoc, bytes_eq, codes, Attr, Word, Plain, ended, dim_line, var_head, owner_name, attribute, added_shape, Added, dim_addition, var_addition, att_addition, addition, Known, went, same_ok, is_end, VarLine, DimIs, VarIs, AttIs, owner_word, extras_in, tested, step_then}
-use Rattle.nc_base.specs.declared.script.Extra.TheVariants as extra
+use Rattle.script_spelling.proofs.Words.{◌≡◌, ◌∙◌, ℕ, ◌+◌, List, [], ◌∷◌, ◌++◌, true, Option, Ok, sym, ap, subst, append_assoc, bytes_eq, codes, Attr, Word, Plain, ended, dim_line, var_head, owner_name, attribute, added_shape, Added, dim_addition, var_addition, att_addition, addition, Known, VarLine, DimIs, VarIs, AttIs, owner_word, extras_in}
+use Rattle.script_spelling.proofs.Steps.{went, same_ok, is_end, tested, step_then}
 use Rattle.script_spelling.proofs.LinesRead.{dim_said, added_said, owner_told, owner_then, attr_said}
 use Rattle.script_spelling.proofs.TakenLines.{Fine, Taken, grown_with}
 use Rattle.script_spelling.proofs.NewDefinitions.{at_first}
+use Rattle.nc_base.specs.declared.script.Extra.TheVariants as extra
 
 -- ---- what is added to a dataset that is opened
 

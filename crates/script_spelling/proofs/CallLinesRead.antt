@@ -1,5 +1,8 @@
 -- The lines of calls that are read spell them, and each rank has the calls of its lines.
-use Rattle.script_spelling.proofs.Words.{◌≡◌, ◌∙◌, ℕ, zero, suc, ◌+◌, ◌<◌, List, [], ◌∷◌, ◌++◌, map, length, replicate, Bool, true, false, cond, nat_lt, ◌==◌, Some, None, slice_set, Ok, refl, sym, ap, subst, append_assoc, append-nil, length-set, arith, bytes_eq, codes, AllZip, cons_option, list_all, range_with_len, and_from, lt-ltb, ltb-true, eq-eqb, ne_eqb, Call, Word, Plain, Quoted, Broken, Line, begins_rank, digits_value, next, Called, calls_of, rank_of_text, with_call, call_line, called_after, at_line, call_step, data_part, went, same_ok, whole_value, bytes_same, line_ok, SpellsCallLine, calls_in, nat_tests, tested, carried}
+use Rattle.script_spelling.proofs.Words.{◌≡◌, ◌∙◌, ℕ, zero, suc, ◌+◌, ◌<◌, List, [], ◌∷◌, ◌++◌, map, length, replicate, Bool, true, false, cond, nat_lt, ◌==◌, Some, None, slice_set, Ok, refl, sym, ap, subst, append_assoc, append-nil, length-set, arith, bytes_eq, codes, AllZip, cons_option, list_all, range_with_len, and_from, lt-ltb, ltb-true, eq-eqb, ne_eqb, Call, Word, Plain, Quoted, Broken, Line, begins_rank, digits_value, next, Called, calls_of, rank_of_text, with_call, call_line, called_after, at_line, call_step, data_part, SpellsCallLine, calls_in, nat_tests}
+use Rattle.script_spelling.proofs.Steps.{went, same_ok, whole_value, tested, carried}
+use Rattle.script_spelling.proofs.Places.{bytes_same}
+use Rattle.script_spelling.proofs.CallCounts.{line_ok}
 use Rattle.script_spelling.proofs.CallsRead.{call_spelled}
 
 -- ---- the calls of each rank, with more

@@ -1,9 +1,11 @@
 -- The words of calls that are read spell them, and each rank has the calls of its lines.
-use Rattle.script_spelling.proofs.Words.{◌≡◌, ◌∙◌, ℕ, ◌-◌, List, [], ◌∷◌, ◌++◌, take, drop, length, Bool, true, false, Some, None, option_map, Ok, refl, sym, ap, subst, append-nil, bytes_eq, codes, take-append-drop, cond_some, found_passes, faultless_some, Values, Numbers, Form, PostKind, Iput, Iget, Bput, Choice, Every, Listed, Given, Call, call_word, form_word, kind_word, with_all, Word, Plain, Quoted, Broken, is_word, or_fault, size, name, whole, values, after_prefix, before_suffix, forms, form_of_text, form_and_all, region, id_of_text, one_id, ids, choice, posted, is_posted, new_id, put_call, get_call, post_values, post_call, behind, plain_call, post_of_text, call_of, Family, Requests, Size, Name, Record, Nothing, Behind, CallRow, call_table, row_of_text, HasNoRegion, IsRow, found_row, made_word, went, same_ok, whole_value, carried, bytes_same, Each, SpellsPosted, SpellsChoice, SpellsPlace, SpellsBehind, SpellsPlain, SpellsCall, some_of_map, arith, nat_tests, tested, looked, step_then, free_then, end_then}
-use Rattle.nc_base.specs.declared.errors.ScriptKind.TheVariants as kind
-use Rattle.nc_base.specs.declared.request.Call.TheVariants as call
+use Rattle.script_spelling.proofs.Words.{◌≡◌, ◌∙◌, ℕ, ◌-◌, List, [], ◌∷◌, ◌++◌, take, drop, length, Bool, true, false, Some, None, option_map, Ok, refl, sym, ap, subst, append-nil, bytes_eq, codes, take-append-drop, cond_some, found_passes, faultless_some, Values, Numbers, Form, PostKind, Iput, Iget, Bput, Choice, Every, Listed, Given, Call, call_word, form_word, kind_word, with_all, Word, Plain, Quoted, Broken, is_word, or_fault, size, name, whole, values, after_prefix, before_suffix, forms, form_of_text, form_and_all, region, id_of_text, one_id, ids, choice, posted, is_posted, new_id, put_call, get_call, post_values, post_call, behind, plain_call, post_of_text, call_of, Family, Requests, Size, Name, Record, Nothing, Behind, CallRow, call_table, row_of_text, HasNoRegion, IsRow, found_row, made_word, Each, SpellsPosted, SpellsChoice, SpellsPlace, SpellsBehind, SpellsPlain, SpellsCall, some_of_map, arith, nat_tests}
+use Rattle.script_spelling.proofs.Steps.{went, same_ok, whole_value, carried, tested, looked, step_then, free_then, end_then}
+use Rattle.script_spelling.proofs.Places.{bytes_same}
 use Rattle.script_spelling.proofs.WordsRead.{WordRead, one_is, name_is, size_is, read_then, named_then}
 use Rattle.script_spelling.proofs.ValuesRead.{EachRead, each_on, values_spelled, region_spelled, region_of_form}
+use Rattle.nc_base.specs.declared.errors.ScriptKind.TheVariants as kind
+use Rattle.nc_base.specs.declared.request.Call.TheVariants as call
 
 -- ---- the words of calls
 
@@ -144,10 +146,10 @@ behind_spelled Record ws v h =
 behind_spelled Nothing ws u h = (whole_value (tt, ws) u h).1
 
 -- a call that a row makes is spelled by what stands behind the row's word
-made_spelled : (row : CallRow) → IsRow row → (ranks r : ℕ) (b : Behind row.family) (ws : List Word) → SpellsBehind ws row.family b → SpellsPlain ws (row.made ranks r b)
+pub made_spelled : (row : CallRow) → IsRow row → (ranks r : ℕ) (b : Behind row.family) (ws : List Word) → SpellsBehind ws row.family b → SpellsPlain ws (row.made ranks r b)
 made_spelled row is ranks r b ws h = grind (arith, nat_tests)
 
-apart_spelled : (c : Call) (ws : List Word) → HasNoRegion c → SpellsPlain ws c → SpellsCall ws c
+pub apart_spelled : (c : Call) (ws : List Word) → HasNoRegion c → SpellsPlain ws c → SpellsCall ws c
 apart_spelled c ws apart h = grind (arith, nat_tests)
 
 plain_spelled : (ranks r : ℕ) (w : List ℕ) (ws : List Word) (c : Call) → plain_call ranks r w ws ≡ Ok c → IsCall w ws c

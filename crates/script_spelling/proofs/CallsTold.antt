@@ -1,9 +1,25 @@
 -- Words that spell a lawful call are read as this call.
-use Rattle.script_spelling.proofs.Words.{◌≡◌, ◌∙◌, ℕ, ◌+◌, ◌≤◌, List, [], ◌∷◌, ◌++◌, Bool, true, false, Option, Some, None, Ok, refl, sym, ap, subst, append_assoc, append-nil, codes, and_parts, leb-true, count_of, Values, PostKind, Iput, Iget, Bput, Choice, Every, Listed, Given, Call, most_elements, most_values, is_given, are_values, is_post_of, is_lawful_call, values_in_call, call_word, Word, Plain, size_of_text, size, name, whole, values, region, id_of_text, ids, choice, posted, is_posted, new_id, put_call, get_call, post_values, post_call, behind, call_of, Family, Requests, Size, Name, Record, Nothing, Behind, CallRow, HasNoRegion, IsRow, made_word, of_row, go_on, passed, faultless, word_read, carry_on, by_false, HasRoom, name_again, put_word, get_word, post_word, NewId, Each, SpellsPosted, SpellsChoice, SpellsPlace, SpellsBehind, SpellsInRow, SpellsPlain, SpellsCall, arith, nat_tests}
-use Rattle.nc_base.specs.declared.errors.ScriptKind.TheVariants as kind
-use Rattle.nc_base.specs.declared.request.Call.TheVariants as call
+use Rattle.script_spelling.proofs.Words.{◌≡◌, ◌∙◌, ℕ, ◌+◌, ◌≤◌, List, [], ◌∷◌, ◌++◌, Bool, true, false, Option, Some, None, Ok, refl, sym, ap, subst, append_assoc, append-nil, codes, and_parts, leb-true, count_of, Values, PostKind, Iput, Iget, Bput, Choice, Every, Listed, Given, Call, most_elements, most_values, is_given, are_values, is_post_of, is_lawful_call, values_in_call, call_word, Word, Plain, size_of_text, size, name, whole, values, region, id_of_text, ids, choice, posted, is_posted, put_call, get_call, post_values, post_call, behind, call_of, Family, Requests, Size, Name, Record, Nothing, Behind, CallRow, HasNoRegion, IsRow, made_word, of_row, Form, form_word, kind_word, with_all, Each, SpellsPosted, SpellsChoice, SpellsPlace, SpellsBehind, SpellsInRow, SpellsPlain, SpellsCall, arith, nat_tests}
+use Rattle.script_spelling.proofs.Steps.{go_on, faultless, word_read, carry_on, by_false}
+use Rattle.script_spelling.proofs.Rooms.{HasRoom}
+use Rattle.script_spelling.proofs.WordsRead.{name_again}
+use Rattle.script_spelling.proofs.CallCounts.{NewId}
 use Rattle.script_spelling.proofs.ValuesTold.{other_word, values_told}
 use Rattle.script_spelling.proofs.RegionsTold.{region_told}
+use Rattle.nc_base.specs.declared.errors.ScriptKind.TheVariants as kind
+use Rattle.nc_base.specs.declared.request.Call.TheVariants as call
+
+-- ---- the words of calls
+
+module _ (ranks r : ℕ) (own : List Call) (before : ℕ) (ws : List Word) where
+  pub put_word : (all : Bool) (f : Form) → call_of ranks r own before (with_all all (codes "put_" ++ form_word f)) ws ≡ put_call all f before ws
+  put_word all f = grind (arith, nat_tests)
+
+  pub get_word : (all : Bool) (f : Form) → call_of ranks r own before (with_all all (codes "get_" ++ form_word f)) ws ≡ get_call all f ws
+  get_word all f = grind (arith, nat_tests)
+
+  pub post_word : (k : PostKind) (f : Form) → call_of ranks r own before (kind_word k ++ form_word f) ws ≡ post_call k (posted own) f before ws
+  post_word k f = grind (arith, nat_tests)
 
 -- ---- the values of a call
 

@@ -1,7 +1,9 @@
 -- A line that says a statement leads on to where the later statements lead to the same.
-use Rattle.script_spelling.proofs.Words.{◌≡◌, ◌∙◌, ℕ, suc, ◌+◌, ◌<◌, ◌≤◌, List, [], ◌∷◌, ◌++◌, length, Bool, true, false, cond, ◌==◌, Option, Some, None, is_some, slice_set, Ok, refl, sym, ap, subst, length-set, append_assoc, arith, bytes_eq, codes, eqb-true, equal_itself, position_below, count_of, Dim, Attr, Var, Values, Extra, most_values, values_in_extra, Word, Plain, ◌>>=◌, refuse_if, reads_as, hint_table, hint_form, hint_in, dim_line, var_names, var_line, owner_of_text, owner_place, attribute, Defined, with_dim, with_var, with_attr_of_owner, with_attr_at, with_title, att_line, definition, Added, addition, Known, go_on, word_read, HasRoom, Leads, pushes, found_name, count_attrs, count_own, count-attr, count-var, count-pushed, leads_by, hint_leads, VarLine, Statement, RanksAre, HintIs, IsFilled, DimIs, VarIs, AttIs, owner_word, Says, Stand, title_of, at_most_one, hint_values, fills_in, dims_in, vars_in, own_attrs, attrs_of, extras_in, nat_tests}
-use Rattle.nc_base.specs.declared.errors.ScriptKind.TheVariants as kind
-use Rattle.nc_base.specs.declared.script.Extra.TheVariants as extra
+use Rattle.script_spelling.proofs.Words.{◌≡◌, ◌∙◌, ℕ, suc, ◌+◌, ◌<◌, ◌≤◌, List, [], ◌∷◌, ◌++◌, length, Bool, true, false, cond, ◌==◌, Option, Some, None, is_some, slice_set, Ok, refl, sym, ap, subst, length-set, append_assoc, arith, bytes_eq, codes, eqb-true, equal_itself, position_below, count_of, Dim, Attr, Var, Values, Extra, most_values, values_in_extra, Word, Plain, ◌>>=◌, refuse_if, reads_as, hint_table, hint_form, hint_in, dim_line, var_names, var_line, owner_of_text, owner_place, attribute, Defined, with_dim, with_var, with_attr_of_owner, with_attr_at, with_title, att_line, definition, Added, addition, Known, VarLine, Statement, RanksAre, HintIs, IsFilled, DimIs, VarIs, AttIs, owner_word, Says, Stand, title_of, at_most_one, hint_values, fills_in, dims_in, vars_in, own_attrs, attrs_of, extras_in, nat_tests}
+use Rattle.script_spelling.proofs.Steps.{go_on, word_read}
+use Rattle.script_spelling.proofs.Rooms.{HasRoom}
+use Rattle.script_spelling.proofs.Leading.{Leads, leads_by, hint_leads}
+use Rattle.script_spelling.proofs.PushedAttrs.{pushes, found_name, count_attrs, count_own, count-attr, count-var, count-pushed}
 use Rattle.script_spelling.proofs.GrownVars.{are_apart, apart_pushed, names_pushed, names_kept, later_names, grown_vars, var_of, var_step, attr_step}
 use Rattle.script_spelling.proofs.TakenLines.{flag, Part, Grown, Fine, hint_here, hint_elsewhere, differ, grown_with}
 use Rattle.script_spelling.proofs.NewDefinitions.{defined_next}
@@ -9,6 +11,8 @@ use Rattle.script_spelling.proofs.AddedDefinitions.{added_next}
 use Rattle.script_spelling.proofs.KnownRead.{lines_version}
 use Rattle.script_spelling.proofs.LinesRead.{owner_told}
 use Rattle.script_spelling.proofs.LinesTold.{ranks_told, hint_told, dim_told, VarWords, var_told, with_line, added_told, attr_told, place_told, owner_found}
+use Rattle.nc_base.specs.declared.errors.ScriptKind.TheVariants as kind
+use Rattle.nc_base.specs.declared.script.Extra.TheVariants as extra
 
 -- ---- how many values there are
 

@@ -1,11 +1,14 @@
 -- Each line between the head and `data` says a statement, and what is known at `data` is what the statements say.
-use Rattle.script_spelling.proofs.Words.{◌≡◌, ◌∙◌, ℕ, ◌+◌, List, [], ◌∷◌, ◌++◌, map, Bool, true, false, cond, ◌==◌, Option, Some, None, Result, Ok, refl, sym, ap, subst, append-nil, arith, bytes_eq, codes, AllZip, faultless_some, ScriptKind, Word, Plain, Quoted, Broken, Line, ◌>>=◌, or_fault, definition, addition, Known, known_after, at_line, data_line, definition_step, definitions, went, same_ok, whole_value, bytes_same, line_ok, Statement, Says, nat_tests, tested, looked, carried}
-use Rattle.nc_base.specs.declared.errors.ScriptKind.TheVariants as kind
+use Rattle.script_spelling.proofs.Words.{◌≡◌, ◌∙◌, ℕ, ◌+◌, List, [], ◌∷◌, ◌++◌, map, Bool, true, false, cond, ◌==◌, Option, Some, None, Result, Ok, refl, sym, ap, subst, append-nil, arith, bytes_eq, codes, AllZip, faultless_some, ScriptKind, Word, Plain, Quoted, Broken, Line, ◌>>=◌, or_fault, definition, addition, Known, known_after, at_line, data_line, definition_step, definitions, Statement, Says, nat_tests}
+use Rattle.script_spelling.proofs.Steps.{went, same_ok, whole_value, tested, looked, carried}
+use Rattle.script_spelling.proofs.Places.{bytes_same}
+use Rattle.script_spelling.proofs.CallCounts.{line_ok}
 use Rattle.script_spelling.proofs.GrownVars.{none_grown}
 use Rattle.script_spelling.proofs.CallLinesRead.{words_of}
 use Rattle.script_spelling.proofs.TakenLines.{Part, Grown, Fine, Taken, ranks_taken, hint_taken}
 use Rattle.script_spelling.proofs.NewDefinitions.{defined_next, at_first, definition_taken}
 use Rattle.script_spelling.proofs.AddedDefinitions.{added_next, addition_taken}
+use Rattle.nc_base.specs.declared.errors.ScriptKind.TheVariants as kind
 
 -- ---- each line
 

@@ -1,11 +1,12 @@
 -- Lines that say statements are read up to `data`, and what is known then is what the statements say.
-use Rattle.script_spelling.proofs.Words.{◌≡◌, ◌∙◌, ℕ, suc, ◌+◌, ◌≤◌, List, [], ◌∷◌, ◌++◌, map, drop, Bool, true, false, ◌==◌, Option, Some, None, unwrap_or, Result, Ok, Err, refl, sym, ap, append-nil, arith, codes, AllZip, first_same, ScriptKind, Hints, most_values, Word, Plain, Line, HintRow, hint_table, hint_in, hint_or, no_hints, set_hints, hints_of, Known, at_line, definition_step, definitions, Leads, defined_by, step_again, Statement, Says, at_most_one, nat_tests}
-use Rattle.nc_base.specs.declared.errors.ScriptKind.TheVariants as kind
+use Rattle.script_spelling.proofs.Words.{◌≡◌, ◌∙◌, ℕ, suc, ◌+◌, ◌≤◌, List, [], ◌∷◌, ◌++◌, map, drop, Bool, true, false, ◌==◌, Option, Some, None, unwrap_or, Result, Ok, Err, refl, sym, ap, append-nil, arith, codes, AllZip, first_same, ScriptKind, Hints, most_values, Word, Plain, Line, HintRow, hint_table, hint_in, hint_or, no_hints, set_hints, hints_of, Known, at_line, definition_step, definitions, Statement, Says, at_most_one, nat_tests}
+use Rattle.script_spelling.proofs.Leading.{Leads, defined_by, step_again}
 use Rattle.script_spelling.proofs.CallLinesRead.{words_of}
 use Rattle.script_spelling.proofs.TakenLines.{flag, Grown}
 use Rattle.script_spelling.proofs.KnownRead.{lines_version}
 use Rattle.script_spelling.proofs.GrownVars.{none_grown}
 use Rattle.script_spelling.proofs.DefinitionsTold.{total, Sound, led}
+use Rattle.nc_base.specs.declared.errors.ScriptKind.TheVariants as kind
 
 -- ---- all lines up to `data`
 

@@ -1,20 +1,27 @@
 mod Words
-mod WordsRead
-mod ValuesRead
-mod CallsRead
-mod CallLinesRead
-mod LinesRead
-mod GrownVars
-mod TakenLines
-mod NewDefinitions
-mod AddedDefinitions
-mod KnownRead
-mod Spelled
-mod ValuesTold
-mod RegionsTold
-mod CallsTold
-mod CallLinesTold
-mod LinesTold
-mod DefinitionsTold
-mod KnownTold
-mod Told
+pub mod Steps
+pub mod Places
+pub mod WordsRead
+pub mod ValuesRead
+pub mod CallsRead
+pub mod CallCounts
+pub mod CallLinesRead
+pub mod LinesRead
+pub mod GrownVars
+pub mod TakenLines
+pub mod NewDefinitions
+pub mod AddedDefinitions
+pub mod KnownRead
+pub mod Spelled
+pub mod Rooms
+pub mod Agreement
+pub mod Leading
+pub mod PushedAttrs
+pub mod ValuesTold
+pub mod RegionsTold
+pub mod CallsTold
+pub mod CallLinesTold
+pub mod LinesTold
+pub mod DefinitionsTold
+pub mod KnownTold
+pub mod Told

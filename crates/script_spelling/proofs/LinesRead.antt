@@ -1,11 +1,11 @@
 -- What the words of a line between the head and `data` say, where they are read, and that it may stand there.
-use Rattle.script_spelling.proofs.Words.{◌≡◌, ◌∙◌, ℕ, zero, suc, ◌<◌, ◌≤◌, List, [], ◌∷◌, position, length, true, false, not, Option, Some, None, is_some, is_none, slice_get, unwrap_or, Ok, refl, sym, ap, subst, arith, bytes_eq, codes, list_any, list_all, and_parts, length-map, cond_some, none_of_test, not_some, some_of_map, faultless_some, NcType, Dim, Attr, Var, most_dims, most_dims_of_var, most_vars, Word, Plain, is_name, between_brackets, parts, all_some, or_fault, reads_as, name, values, HintForm, Within, Either, HintRow, hint_table, hint_form, hint_of_text, no_row, hint_in, hint_value, hint_line, ranks_line, number_within, one_of_two, type_of, length_of_text, is_among, dim_ids, dim_line, var_head, name_list, shape, added_shape, var_names, var_line, owner_of_text, owner_name, Title, same_title, attr_of, attribute_name, attribute, same_ok, bytes_same, VarLine, RanksAre, HintIs, DimIs, VarIs, AttIs, hint_value_of, owner_word, IsOwner, Says, DimStands, VarStands, nat_tests, step_then, free_then, end_then, ◌>>=◌, Result, ScriptKind, inr, cond-false, owner_again, no_colon}
-use Rattle.script_text.proofs.Steps.{decided}
+use Rattle.script_spelling.proofs.Words.{cond-true, ◌≡◌, ◌∙◌, ℕ, zero, suc, ◌<◌, ◌≤◌, List, [], ◌∷◌, position, length, true, false, Option, Some, None, is_some, is_none, slice_get, unwrap_or, Ok, refl, sym, ap, subst, arith, bytes_eq, codes, list_any, list_all, and_parts, length-map, cond_some, none_of_test, not_some, some_of_map, faultless_some, NcType, Dim, Attr, Var, most_dims, most_dims_of_var, most_vars, Word, Plain, is_name, between_brackets, parts, all_some, or_fault, reads_as, name, values, HintForm, Within, Either, HintRow, hint_table, hint_form, hint_of_text, no_row, hint_in, hint_value, hint_line, ranks_line, number_within, one_of_two, type_of, length_of_text, is_among, dim_ids, dim_line, var_head, name_list, shape, added_shape, var_names, var_line, owner_of_text, owner_name, Title, same_title, attr_of, attribute_name, attribute, VarLine, RanksAre, HintIs, DimIs, VarIs, AttIs, hint_value_of, owner_word, IsOwner, Says, DimStands, VarStands, nat_tests, ◌>>=◌, Result, ScriptKind, cond-false, and_left, ne_eqb}
+use Rattle.script_spelling.proofs.Steps.{same_ok, step_then, free_then, end_then, decided}
+use Rattle.script_spelling.proofs.Places.{bytes_same}
 use borrow.Author.Tests.{not-false, leb-false, ltb-false}
-use Rattle.nc_base.specs.declared.errors.ScriptKind.TheVariants as kind
-use Rattle.nc_base.specs.declared.errors.LimitName.TheVariants as limit
 use Rattle.script_spelling.proofs.WordsRead.{WordRead, word_is, NameRead, read_then, named_then}
 use Rattle.script_spelling.proofs.ValuesRead.{values_spelled}
+use Rattle.nc_base.specs.declared.errors.ScriptKind.TheVariants as kind
 
 three_words : (first one two : List ℕ) (ws a b : List Word) → ws ≡ Plain one ∷ a → a ≡ Plain two ∷ b → b ≡ [] → Plain first ∷ ws ≡ Plain first ∷ Plain one ∷ Plain two ∷ []
 three_words first one two ws a b e1 e2 e3 = ap (λ (xs : List Word). Plain first ∷ xs) e1 ∙ ap (λ (xs : List Word). Plain first ∷ Plain one ∷ xs) (e2 ∙ ap (λ (xs : List Word). Plain two ∷ xs) e3)
@@ -136,9 +136,12 @@ added_said dims names ws v ns h k =
 
 -- ---- attributes
 
+pub no_colon : (n : List ℕ) → is_name n ≡ true → bytes_eq n (codes ":") ≡ false
+no_colon n h = grind (arith, nat_tests, and_parts, and_left, ne_eqb)
+
 pub owner_told : (owner : Option (List ℕ)) → IsOwner owner → (owner_of_text (owner_word owner) ≡ Some (owner_word owner)) × (owner_name (owner_word owner) ≡ owner)
 owner_told None is = (refl, refl)
-owner_told (Some n) is = ((owner_again n (inr (no_colon n is, is))).1, cond-false _ _ _ (no_colon n is))
+owner_told (Some n) is = (cond-false _ _ _ (no_colon n is) ∙ cond-true _ _ _ is, cond-false _ _ _ (no_colon n is))
 
 -- the owner of an attribute, by its word
 pub owner_then : {B P : Type 0} (ws : List Word) (f : List ℕ × List Word → Result B ScriptKind) (y : B) → (reads_as owner_of_text kind.BadName ws >>= f) ≡ Ok y

@@ -1,13 +1,17 @@
 -- Words that say a statement are read as what they say, where it may stand.
-use Rattle.script_spelling.proofs.Words.{◌≡◌, ℕ, suc, ◌<◌, ◌≤◌, List, [], ◌∷◌, position, drop, length, Bool, true, false, not, nat_lt, ◌||◌, Some, None, Ok, refl, sym, ap, inr, arith, bytes_eq, codes, list_any, list_all, le-ltb, length-map, count_of, Dim, Attr, Var, Values, most_dims_of_var, most_vars, Word, Plain, is_name, between_brackets, parts, refuse_if, reads_as, name, values, HintForm, Within, Either, hint_value, ranks_line, number_within, one_of_two, type_of, length_of_text, is_among, dim_ids, is_added_record, dim_line, var_head, name_list, added_shape, var_names, var_line, owner_place, Title, same_title, attr_of, attribute_name, attribute, go_on, passed, faultless, word_read, by_false, place_here, place_later, HasRoom, name_again, no_colon, SpellsValues, VarLine, hint_value_of, DimStands, VarStands, nat_tests, ◌∙◌, Added, var_addition, ◌++◌}
+use Rattle.script_spelling.proofs.Words.{◌≡◌, ℕ, suc, ◌<◌, ◌≤◌, List, [], ◌∷◌, position, drop, length, Bool, true, false, not, nat_lt, ◌||◌, Some, None, Ok, refl, sym, ap, inr, arith, bytes_eq, codes, list_any, list_all, le-ltb, length-map, count_of, Dim, Attr, Var, Values, most_dims_of_var, most_vars, Word, Plain, is_name, between_brackets, parts, refuse_if, reads_as, name, values, HintForm, Within, Either, hint_value, ranks_line, number_within, one_of_two, type_of, length_of_text, is_among, dim_ids, is_added_record, dim_line, var_head, name_list, added_shape, var_names, var_line, owner_place, Title, same_title, attr_of, attribute_name, attribute, SpellsValues, VarLine, hint_value_of, DimStands, VarStands, nat_tests, ◌∙◌, Added, var_addition, ◌++◌}
+use Rattle.script_spelling.proofs.Steps.{go_on, passed, faultless, word_read, by_false}
+use Rattle.script_spelling.proofs.Places.{place_here, place_later}
+use Rattle.script_spelling.proofs.Rooms.{HasRoom}
+use Rattle.script_spelling.proofs.WordsRead.{name_again}
+use Rattle.script_spelling.proofs.LinesRead.{no_colon, all_found}
 use Rattle.std.proofs.Common.{inl}
+use Rattle.list_laws.proofs.Truth.{holds_or_not}
+use Rattle.script_spelling.proofs.GrownVars.{var_of}
+use Rattle.script_spelling.proofs.ValuesTold.{values_told}
 use Rattle.nc_base.specs.declared.errors.ScriptKind.TheVariants as kind
 use Rattle.nc_base.specs.declared.errors.LimitName.TheVariants as limit
 use Rattle.nc_base.specs.declared.script.Extra.TheVariants as extra
-use Rattle.list_laws.proofs.Truth.{holds_or_not}
-use Rattle.script_spelling.proofs.LinesRead.{all_found}
-use Rattle.script_spelling.proofs.GrownVars.{var_of}
-use Rattle.script_spelling.proofs.ValuesTold.{values_told}
 
 -- ---- ranks and hints
 

@@ -1,5 +1,6 @@
 -- Words that spell a region are read as this region, and what follows them is left.
-use Rattle.script_spelling.proofs.Words.{◌≡◌, ◌∙◌, ℕ, ◌≤◌, List, [], ◌∷◌, ◌++◌, flat_map, length, true, not, nat_lt, Ok, sym, ap, append_assoc, append-nil, arith, and_parts, le-ltb, leb-true, Form, Given, Part, most_parts, has_lists_of, is_given, Word, list_of_text, list, part_list, region, go_on, passed, word_read, carry_on, empty_list, region_with, same_region, SpellsOne, Each, SpellsForm, SpellsRegion, nat_tests, Result, ◌>>=◌, given_of, ScriptKind}
+use Rattle.script_spelling.proofs.Words.{◌≡◌, ◌∙◌, ℕ, ◌≤◌, List, [], ◌∷◌, ◌++◌, flat_map, length, true, not, nat_lt, Ok, sym, ap, append_assoc, append-nil, arith, and_parts, le-ltb, leb-true, Form, Given, Part, most_parts, has_lists_of, is_given, Word, list_of_text, list, part_list, region, SpellsOne, Each, SpellsForm, SpellsRegion, nat_tests, Result, ◌>>=◌, given_of, ScriptKind, ◌+◌}
+use Rattle.script_spelling.proofs.Steps.{go_on, passed, word_read, carry_on, empty_list}
 use Rattle.nc_base.specs.declared.errors.ScriptKind.TheVariants as kind
 use Rattle.nc_base.specs.declared.request.Form.TheVariants as form
 
@@ -26,6 +27,12 @@ lists_on more n ns f y (w ∷ ws) h on = go_on (list (w ∷ ws ++ more)) f (n, w
 lists_end : (more : List Word) (g k : Given) → g ≡ k → (ws : List Word) → Each list_of_text ws [] → ◌≡◌ {A = Result (Given × List Word) ScriptKind} (Ok (g, ws ++ more)) (Ok (k, more))
 lists_end more g k same [] h = ap (λ (x : Given). Ok (x, more)) same
 lists_end more g k same (w ∷ ws) h = absurd h
+
+abbrev pub region_with : Form → List ℕ → List ℕ → List ℕ → List ℕ → List Part → Given
+region_with f s c d m ps = record { form = f; start = s; count = c; stride = d; imap = m; parts = ps }
+
+pub same_region : (f : Form) (s c d m s2 c2 d2 m2 : List ℕ) (ps ps2 : List Part) → s2 ≡ s → c2 ≡ c → d2 ≡ d → m2 ≡ m → ps2 ≡ ps → region_with f s c d m ps ≡ region_with f s2 c2 d2 m2 ps2
+same_region f s c d m s2 c2 d2 m2 ps ps2 e1 e2 e3 e4 e5 = cc
 
 varn_told : (s c d m : List ℕ) (ps : List Part) (more ws : List Word) → SpellsForm form.Varn ws (region_with form.Varn s c d m ps) → has_lists_of form.Varn (region_with form.Varn s c d m ps) ≡ true → length ps ≤ most_parts
     → region form.Varn (ws ++ more) ≡ Ok (region_with form.Varn s c d m ps, more)

@@ -1,5 +1,6 @@
 -- What later statements add to what is known; a line of ranks or of a hint.
-use Rattle.script_spelling.proofs.Words.{◌≡◌, ◌∙◌, ℕ, ◌+◌, ◌<◌, List, ◌∷◌, ◌++◌, length, Bool, true, false, cond, ◌==◌, Option, Some, None, slice_set, Ok, sym, ap, subst, length-set, arith, bytes_eq, codes, eqb-true, equal_true, entry_below, entry_set, entry_set_other, position_below, Word, Plain, ◌>>=◌, hint_table, hint_in, hint_line, ranks_line, var_names, Known, went, same_ok, Statement, RanksAre, HintIs, Says, Stand, ranks_in, hint_values, fills_in, dims_in, vars_in, own_attrs, attrs_of, extras_in, at_most_one, nat_tests}
+use Rattle.script_spelling.proofs.Words.{◌≡◌, ◌∙◌, ℕ, ◌+◌, ◌<◌, List, ◌∷◌, ◌++◌, length, Bool, true, false, cond, ◌==◌, Option, Some, None, slice_set, Ok, sym, ap, subst, length-set, arith, bytes_eq, codes, eqb-true, equal_true, entry_below, entry_set, entry_set_other, position_below, Word, Plain, ◌>>=◌, hint_table, hint_in, hint_line, ranks_line, var_names, Known, Statement, RanksAre, HintIs, Says, Stand, ranks_in, hint_values, fills_in, dims_in, vars_in, own_attrs, attrs_of, extras_in, at_most_one, nat_tests}
+use Rattle.script_spelling.proofs.Steps.{went, same_ok}
 use Rattle.script_spelling.proofs.LinesRead.{ranks_said, hint_said}
 use Rattle.script_spelling.proofs.GrownVars.{are_apart, grown_vars}
 

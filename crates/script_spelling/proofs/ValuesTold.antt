@@ -1,5 +1,8 @@
 -- Words that spell values are read as these values.
-use Rattle.script_spelling.proofs.Words.{◌≡◌, ◌∙◌, ℕ, ◌+◌, ◌<◌, List, [], ◌∷◌, ◌++◌, fold, length, Bool, true, false, not, cond, nat_lt, nat_le, Option, Some, None, Ok, ℤ, refl, sym, ap, subst, append_assoc, append-nil, length-append, arith, bytes_eq, codes, and_parts, some_not_none, count_of, NcType, Values, Numbers, Text, Bits, Class, class_of, size_of, fits_in, Word, Plain, size_of_text, number_of_text, bits_of_text, refuse_if, reads_as, size, are_numbers, are_text, may_be, number_for, pattern_for, one_value, each_value, sequence_count, sequence, last_number, is_term, term, numbers_between, is_pattern_term, pattern_term, seq_values, pattern_values, text_values, number_values, bits_values, begins_x, listed_kind, listed_values, values, go_on, passed, faultless, word_read, carry_on, by_false, bytes_same, length-sequence, length-pattern_sequence, HasRoom, room_again, less_room, number_fit, pattern_fit, SpellsOne, Each, SpellsSequence, SpellsBitSequence, SpellsValues, OfNothing, OfText, OfNumbers, OfBits, OfSequence, OfBitSequence, nat_tests, ◌>>=◌}
+use Rattle.script_spelling.proofs.Words.{◌≡◌, ◌∙◌, ℕ, ◌+◌, ◌<◌, List, [], ◌∷◌, ◌++◌, length, Bool, true, false, not, cond, Option, Some, None, Ok, ℤ, refl, sym, ap, subst, append_assoc, append-nil, length-append, arith, bytes_eq, codes, some_not_none, count_of, NcType, Values, Numbers, Text, Bits, Class, class_of, size_of, fits_in, Word, Plain, size_of_text, number_of_text, refuse_if, reads_as, size, are_numbers, are_text, may_be, number_for, pattern_for, one_value, each_value, sequence_count, sequence, last_number, is_term, term, numbers_between, seq_values, pattern_values, text_values, number_values, bits_values, begins_x, listed_kind, listed_values, values, SpellsOne, Each, SpellsSequence, SpellsBitSequence, SpellsValues, OfNothing, OfText, OfNumbers, OfBits, OfSequence, OfBitSequence, nat_tests, ◌>>=◌, ◌-◌, ◌*◌, pos, ◌+ℤ◌, ◌*ℤ◌, length-map-range_with_len, pattern_sequence}
+use Rattle.script_spelling.proofs.Steps.{go_on, passed, faultless, word_read, carry_on, by_false}
+use Rattle.script_spelling.proofs.Places.{bytes_same}
+use Rattle.script_spelling.proofs.Rooms.{HasRoom, room_again, less_room, number_may, pattern_may}
 use Rattle.nc_base.specs.declared.errors.ScriptKind.TheVariants as kind
 use Rattle.nc_base.specs.declared.request.Value.TheVariants as value
 use Rattle.serial_spec.specs.ExternalForm as class
@@ -36,7 +39,7 @@ listed_numbers c n t before ws z h = grind (arith, nat_tests)
 
 as_numbers : (t : Option NcType) (before : ℕ) (w : List ℕ) (ws : List Word) (z : ℤ) → number_for t w ≡ Some z → listed_values (listed_kind t w) t before ws ≡ number_values t before ws
 as_numbers None before w ws z h = ap (λ (b : Bool). listed_values (cond b class.Pattern class.Signed) None before ws) (number_begins w z h)
-as_numbers (Some k) before w ws z h = listed_numbers (class_of k) (size_of k) (Some k) before ws z (and_parts _ _ (number_fit (Some k) w z h)).1
+as_numbers (Some k) before w ws z h = listed_numbers (class_of k) (size_of k) (Some k) before ws z (number_may (Some k) w z h)
 
 -- words of which the first is no `seq` and no `seqx`
 listed_told : (t : Option NcType) (before : ℕ) (w : List ℕ) (ws : List Word) → bytes_eq w (codes "seq") ≡ false → bytes_eq w (codes "seqx") ≡ false
@@ -70,7 +73,7 @@ listed_bits c size t before ws n h = grind (arith, nat_tests)
 
 as_bits : (t : Option NcType) (before : ℕ) (w : List ℕ) (ws : List Word) (n : ℕ) → pattern_for t w ≡ Some n → listed_values (listed_kind t w) t before ws ≡ bits_values t before ws
 as_bits None before w ws n h = ap (λ (b : Bool). listed_values (cond b class.Pattern class.Signed) None before ws) (pattern_begins w n h)
-as_bits (Some k) before w ws n h = listed_bits (class_of k) (size_of k) (Some k) before ws n (and_parts _ _ (pattern_fit (Some k) w n h)).1
+as_bits (Some k) before w ws n h = listed_bits (class_of k) (size_of k) (Some k) before ws n (pattern_may (Some k) w n h)
 
 bits_told : (t : Option NcType) (before : ℕ) (ws : List Word) (ns : List ℕ) → 0 < length ns → Each (pattern_for t) ws ns → HasRoom t before (length ns) → values t before ws ≡ Ok (Bits ns)
 bits_told t before [] [] some h room = absurd (omega arith)
@@ -79,6 +82,12 @@ bits_told t before (w ∷ ws) [] some h room = absurd h
 bits_told t before (w ∷ ws) (n ∷ ns) some h room = written_told (pattern_for t) Bits t before w ws n ns refl refl (λ v more e. as_bits t before v more n e) h room
 
 -- ---- sequences
+
+pub length-sequence : (a b : ℤ) (n : ℕ) → length (sequence a b n) ≡ n
+length-sequence a b n = length-map-range_with_len (λ k. a +ℤ (b *ℤ pos k)) 0 n
+
+pub length-pattern_sequence : (a b n : ℕ) → length (pattern_sequence a b n) ≡ n
+length-pattern_sequence a b n = length-map-range_with_len (λ k. a + b * k) 0 n
 
 count_told : (suits : Bool) (t : Option NcType) (before : ℕ) (count : List ℕ) (n : ℕ) (more : List Word) → size_of_text count ≡ Some n → (0 < n → suits ≡ true) → HasRoom t before n
     → sequence_count suits t before (Plain count ∷ more) ≡ Ok (n, more)

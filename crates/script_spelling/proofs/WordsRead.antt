@@ -1,5 +1,6 @@
 -- Words that are read stand as they are.
-use Rattle.script_spelling.proofs.Words.{◌≡◌, ◌∙◌, ℕ, List, [], ◌∷◌, true, Option, Some, None, Ok, refl, ap, subst, cond_some, faultless_some, ScriptKind, Word, Plain, is_name, size_of_text, list_of_text, ◌>>=◌, or_fault, bare, reads_as, size, list, name, name_of_text, went, same_ok, SpellsOne, arith, nat_tests, step_then, Result}
+use Rattle.script_spelling.proofs.Words.{◌≡◌, ◌∙◌, ℕ, List, [], ◌∷◌, true, Option, Some, None, Ok, refl, ap, subst, cond_some, faultless_some, ScriptKind, Word, Plain, is_name, size_of_text, list_of_text, ◌>>=◌, or_fault, bare, reads_as, size, list, name, name_of_text, SpellsOne, arith, nat_tests, Result, cond-true}
+use Rattle.script_spelling.proofs.Steps.{went, same_ok, step_then, word_read}
 use Rattle.nc_base.specs.declared.errors.ScriptKind.TheVariants as kind
 
 -- the word that is read, and what follows it
@@ -34,6 +35,9 @@ name_is ws r h =
 
 pub named_then : {B P : Type 0} (ws : List Word) (f : List ℕ × List Word → Result B ScriptKind) (y : B) → (name ws >>= f) ≡ Ok y → ((n : List ℕ × List Word) → NameRead ws n → f n ≡ Ok y → P) → P
 named_then ws f y h k = step_then (name ws) f y h (λ n is. k n (name_is ws n is))
+
+pub name_again : (n : List ℕ) (more : List Word) → is_name n ≡ true → name (Plain n ∷ more) ≡ Ok (n, more)
+name_again n more h = word_read name_of_text kind.BadName n n more (cond-true _ _ _ h)
 
 -- ---- sizes and lists
 

@@ -1,9 +1,7 @@
 -- Runs of lines of the definitions, and what is added to a dataset that is opened: each line, printed, is read in the state in which it was read before.
-use Rattle.script_text.proofs.Words.{◌≡◌, ◌⊎◌, ◌∙◌, ℕ, ◌+◌, ◌≤◌, List, [], ◌∷◌, ◌++◌, map, length, drop, true, false, nat_lt, Option, Some, None, Result, Ok, Err, refl, sym, ap, subst, inl, inr, arith, bytes_eq, codes, list_all, list_any, and_from, cond-true, cond-false, bytes_eq-Decides, ScriptErr, Attr, Extra, most_dims_of_var, most_values, type_word, line, bracketed, shown_extra, shown_attr, Word, Plain, Quoted, Broken, Line, is_name, reads_as, dim_line, var_head, name_list, owner_of_text, owner_name, attribute, Added, is_added_record, added_shape, dim_addition, var_addition, att_addition, addition, Known, known_after, definition_step, definitions, nat_tests, cond_some, same_Some, Dim}
+use Rattle.script_text.proofs.Words.{◌≡◌, ◌⊎◌, ◌∙◌, ℕ, ◌+◌, ◌≤◌, List, [], ◌∷◌, ◌++◌, map, length, drop, true, false, nat_lt, Some, None, Ok, refl, sym, ap, subst, inl, inr, arith, bytes_eq, codes, list_all, list_any, and_from, cond-true, cond-false, bytes_eq-Decides, Attr, Extra, most_dims_of_var, most_values, type_word, line, bracketed, shown_extra, shown_attr, Word, Plain, is_name, reads_as, dim_line, var_head, name_list, owner_of_text, owner_name, attribute, Added, is_added_record, added_shape, dim_addition, var_addition, att_addition, addition, Known, definitions, nat_tests, cond_some, same_Some, Dim}
 use Rattle.std.proofs.Common.{flat_map}
-use Rattle.nc_base.specs.declared.errors.ScriptKind.TheVariants as kind
-use Rattle.nc_base.specs.declared.script.Extra.TheVariants as extra
-use Rattle.script_text.proofs.Steps.{went, go_on, same_ok, passed, read_word, word_read, by_false, tested, decided, step_then, free_then, end_then}
+use Rattle.script_spelling.proofs.Steps.{went, go_on, same_ok, passed, read_word, word_read, tested, decided, step_then, free_then, end_then}
 use Rattle.script_text.proofs.Lexing.{is_plain, is_good}
 use Rattle.script_text.proofs.Lines.{is_line, spelled, numbered, Lead}
 use Rattle.script_text.proofs.Numerals.{name_plain}
@@ -11,24 +9,14 @@ use Rattle.script_text.proofs.PrintedValues.{is_read}
 use Rattle.script_text.proofs.PrintedRegions.{kept}
 use Rattle.script_text.proofs.PrintedAttributes.{type_plain, attr_tokens, attr_spelled, attr_read}
 use Rattle.script_text.proofs.PrintedDefinitions.{dim_tokens, dim_read, head_read, head_again, names_read, names_plain, names_again}
+use Rattle.nc_base.specs.declared.errors.ScriptKind.TheVariants as kind
+use Rattle.nc_base.specs.declared.script.Extra.TheVariants as extra
+use Rattle.script_spelling.proofs.Leading.{Leads}
 
 -- ---- runs of lines
 
--- the line leads from what is known to this
-abbrev pub Leads : ℕ → Known → List Word → Known → Type 0
-Leads version known [] after = ⊥
-Leads version known (Plain first ∷ ws) after = (bytes_eq first (codes "data") ≡ false) × (known_after version known first ws ≡ Ok after)
-Leads version known (Quoted text ∷ ws) after = ⊥
-Leads version known (Broken ∷ ws) after = ⊥
-
 abbrev pub Runs : ℕ → Known → List (List Word) → Known → Type 0
 Runs version known wss after = Lead (Leads version) known wss after
-
-abbrev pub defined_by : ℕ → ℕ → List Line → Result (Option ℕ × Known) ScriptErr → Result (ℕ × (Known × List Line)) ScriptErr
-defined_by past version lines r = elim r [ Err e ↦ Err e | Ok s ↦ elim s.0 [ Some ranks ↦ Ok (ranks, (s.1, lines)) | None ↦ definitions past version s.1 lines ] ]
-
-pub step_again : (version : ℕ) (k x : Known) (first : List ℕ) (ws : List Word) → bytes_eq first (codes "data") ≡ false → known_after version k first ws ≡ Ok x → definition_step version k (Plain first) ws ≡ Ok (None, x)
-step_again version k x first ws other h = by_false (bytes_eq first (codes "data")) _ _ other ∙ go_on (known_after version k first ws) (λ more. Ok (None, more)) x (None, x) h refl
 
 pub run_again : (past version n m : ℕ) (k x : Known) (wss more : List (List Word)) → n + length wss ≡ m → Runs version k wss x
     → definitions past version k (numbered n (wss ++ more)) ≡ definitions past version x (numbered m more)

@@ -1,109 +1,52 @@
 -- The calls of all ranks, printed rank by rank, are read as the same calls.
-use Rattle.script_text.proofs.Words.{all_joined, is_expressible_call, ◌≡◌, ◌∙◌, ℕ, zero, suc, ◌+◌, ◌≤◌, ◌<◌, List, [], ◌∷◌, ◌++◌, map, length, replicate, Bool, true, false, not, nat_lt, slice_set, Result, Ok, Err, refl, ap, subst, append_assoc, append-nil, length-append, arith, bytes_eq, codes, decimal, list_all, enumerate_from, and_parts, and_from, cond-true, ne_eqb, set_at, ScriptKind, ScriptErr, Call, most_values, values_in_call, call_word, shown_call, Word, Plain, Line, is_comment, is_digit, bare, next, Called, calls_of, rank_of_text, with_call, call_line, call_of, called_after, at_line, call_step, data_part, flat_map-append, nat_tests, length-replicate}
+use Rattle.script_text.proofs.Words.{Option, filter_map-append, all_joined, is_expressible_call, ◌≡◌, ◌∙◌, ℕ, zero, suc, ◌+◌, ◌≤◌, ◌<◌, List, [], ◌∷◌, ◌++◌, map, length, replicate, Bool, true, false, not, nat_lt, Ok, refl, ap, subst, append-nil, arith, codes, decimal, list_all, enumerate_from, and_parts, and_from, ne_eqb, Call, call_word, shown_call, Word, Plain, Line, is_comment, is_digit, Called, data_part, flat_map-append, nat_tests, length-replicate, AllZip, Known, None, Some, SpellsCall, SpellsCallLine, calls_in, cond, cons_option, eq-eqb, is_lawful_call, list_all-append, list_all-map, no_calls, range_with_len, sym, ◌==◌}
 use Rattle.std.proofs.Common.{flat_map}
-use borrow.Author.Tests.{ltb-true, lt-ltb}
-use Rattle.script_text.proofs.Steps.{went, go_on, same_ok, whole_value, tested, carried, step_then}
-use Rattle.script_text.proofs.Lines.{is_line, spelled, numbered, Lead, lead_on}
-use Rattle.script_text.proofs.Numerals.{decimal_numeral, decimal_plain, decimal_word}
-use Rattle.script_text.proofs.PrintedValues.{is_read, not_letters}
+use borrow.Author.Tests.{lt-ltb}
+use Rattle.script_text.proofs.Lines.{is_line, spelled, numbered}
+use Rattle.script_text.proofs.Numerals.{decimal_numeral, decimal_plain}
+use Rattle.script_text.proofs.PrintedValues.{is_read}
 use Rattle.script_text.proofs.CallTokens.{call_tokens, call_spelled, call_plain}
-use Rattle.script_text.proofs.PrintedCalls.{CallAgain, call_read}
+use Rattle.script_spelling.proofs.CallLinesTold.{DataTold, Going, LawfulCalls, data_told}
+use Rattle.script_text.proofs.PrintedCalls.{call_named, call_shown}
+use Rattle.script_spelling.proofs.CallLinesRead.{calls_read, from_none, words_of}
+use Rattle.script_spelling.proofs.CallCounts.{count_empty}
+use Rattle.script_text.proofs.Lexing.{is_good}
+use Rattle.script_spelling.proofs.Steps.{by_test}
 
 -- ---- calls that were read
-
--- each call of rank r, after the calls before it
-abbrev pub Chain : ℕ → ℕ → List Call → List Call → Type 0
-Chain ranks r own [] = Unit {0}
-Chain ranks r own (c ∷ cs) = CallAgain ranks r own c × Chain ranks r (own ++ c ∷ []) cs
-
--- the calls of the ranks from r on
-abbrev pub Chains : ℕ → ℕ → List (List Call) → Type 0
-Chains ranks r [] = Unit {0}
-Chains ranks r (own ∷ more) = Chain ranks r [] own × Chains ranks (r + 1) more
-
-abbrev pub count : List Call → ℕ
-count [] = 0
-count (c ∷ cs) = values_in_call c + count cs
-
-abbrev pub count_all : List (List Call) → ℕ
-count_all [] = 0
-count_all (own ∷ more) = count own + count_all more
-
-count-pushed : (cs : List Call) (c : Call) → count (cs ++ c ∷ []) ≡ count cs + values_in_call c
-count-pushed [] c = omega arith
-count-pushed (x ∷ cs) c = omega (arith, count-pushed cs c)
 
 abbrev pub are_named : List (List Call) → Bool
 are_named calls = list_all (list_all is_expressible_call) calls
 
-named_set : (calls : List (List Call)) (r : ℕ) (c : Call) → are_named calls ≡ true → is_expressible_call c ≡ true → are_named (slice_set calls r (calls_of r calls ++ c ∷ [])) ≡ true
-named_set [] r c h k = refl
-named_set (own ∷ more) zero c h k =
-    let both = and_parts (list_all is_expressible_call own) (are_named more) h in
-    and_from _ _ (all_joined is_expressible_call own (c ∷ []) both.0 (and_from _ _ k refl)) both.1
-named_set (own ∷ more) (suc r) c h k = let both = and_parts (list_all is_expressible_call own) (are_named more) h in and_from _ _ both.0 (named_set more r c both.1 k)
-
-pub count_set : (calls : List (List Call)) (r : ℕ) (c : Call) → r < length calls → count_all (slice_set calls r (calls_of r calls ++ c ∷ [])) ≡ count_all calls + values_in_call c
-count_set [] r c low = absurd (omega arith)
-count_set (own ∷ more) zero c low = omega (arith, count-pushed own c)
-count_set (own ∷ more) (suc r) c low = omega (arith, count_set more r c (omega arith))
-
--- what was called so far, v values having come before the first call
-pub record Holds (v : ℕ) (d : Called) : Type 0 where
-  pub named : are_named d.calls ≡ true
-  pub counted : d.values ≡ v + count_all d.calls
-  pub few : d.values ≤ most_values
-
-rank_bound : (ranks : ℕ) (w : List ℕ) (r : ℕ) → rank_of_text ranks w ≡ Ok r → r < ranks
-rank_bound ranks w r h = grind (arith, nat_tests, nat_lt, same_ok, ltb-true)
-
-next_read : (ws : List Word) (r : List ℕ × List Word) → next ws ≡ Ok r → list_all is_read ws ≡ true → list_all is_read r.1 ≡ true
-next_read ws r h all = grind (arith, nat_tests, went, same_ok, and_parts)
-
-pub holds_on : (v : ℕ) (d e : Called) (first : List ℕ) (ws : List Word) → Holds v d → list_all is_read ws ≡ true → called_after d first ws ≡ Ok e → Holds v e
-holds_on v d e first ws holds read h =
-    step_then (rank_of_text (length d.calls) first) _ e h (λ r ranked h. step_then (call_line d r ws) _ e h (λ c lined h. step_then (next ws) _ c lined (λ w worded k.
-    let low = rank_bound (length d.calls) first r ranked in
-    let again = call_read (length d.calls) r (calls_of r d.calls) d.values w.0 w.1 c holds.few (next_read ws w worded read) k in
-    subst (Holds v) (same_ok (with_call r c d) e h) (record {
-      named = named_set d.calls r c holds.named again.named;
-      counted = omega (arith, holds.counted, count_set d.calls r c low);
-      few = again.few;
-    }))))
-
--- ---- the lines of the calls
-
 -- what a line has as its words
 abbrev pub are_read : List Line → Bool
-are_read lines = list_all (λ (l : Line). list_all is_read l.rest) lines
+are_read lines = list_all (λ (l : Line). list_all is_read (words_of l)) lines
 
-pub record DataEnd (ranks v : ℕ) (calls : List (List Call)) : Type 0 where
-  pub long : length calls ≡ ranks
-  pub chains : Chains ranks 0 calls
-  pub few : v + count_all calls ≤ most_values
+all_said : (wss : List (List Word)) (called : List (ℕ × Call)) → AllZip SpellsCallLine wss called → list_all (list_all is_read) wss ≡ true → list_all (λ (c : ℕ × Call). is_expressible_call c.1) called ≡ true
+all_said [] [] h read = refl
+all_said [] (c ∷ called) h read = absurd h
+all_said (ws ∷ wss) [] h read = absurd h
+all_said (ws ∷ wss) ((r, c) ∷ called) ((w, more, are, digits, same, spells), h) read =
+    let both = and_parts (list_all is_read ws) _ read in
+    and_from _ _ (call_named c more spells (subst (λ (xs : List Word). list_all is_read xs ≡ true) are both.0)) (all_said wss called h both.1)
 
-pub line_ok : {A : Type 0} (n : ℕ) (r : Result A ScriptKind) (x : A) → at_line n r ≡ Ok x → r ≡ Ok x
-line_ok n (Ok y) x h = ap (λ z. Ok z) (same_ok y x h)
-line_ok n (Err e) x h = absurd (cc)
+in_rank_said : (r : ℕ) (called : List (ℕ × Call)) → list_all (λ (c : ℕ × Call). is_expressible_call c.1) called ≡ true → list_all is_expressible_call (calls_in r called) ≡ true
+in_rank_said r [] h = refl
+in_rank_said r (c ∷ called) h =
+    let both = and_parts (is_expressible_call c.1) _ h in
+    let more = in_rank_said r called both.1 in
+    by_test (λ (o : Option Call). list_all is_expressible_call (cons_option o (calls_in r called)) ≡ true) (c.0 == r) (Some c.1) None (λ e. and_from _ _ both.0 more) (λ e. more)
 
-abbrev pub data_by : ℕ → Line → List Line → Result (Bool × Called) ScriptErr → Result (ℕ × (Called × List Line)) ScriptErr
-data_by past l lines r = elim r [ Err e ↦ Err e | Ok s ↦ elim s.0 [ true ↦ Ok (l.number, (s.1, lines)) | false ↦ data_part past s.1 lines ] ]
+ranks_said : (a n : ℕ) (called : List (ℕ × Call)) → list_all (λ (c : ℕ × Call). is_expressible_call c.1) called ≡ true → are_named (map (λ r. calls_in r called) (range_with_len a n)) ≡ true
+ranks_said a zero called h = refl
+ranks_said a (suc n) called h = and_from _ _ (in_rank_said a called h) (ranks_said (a + 1) n called h)
 
-step_holds : (v : ℕ) (d : Called) (w : Word) (ws : List Word) (s : Bool × Called) → Holds v d → list_all is_read ws ≡ true → call_step d w ws ≡ Ok s → Holds v s.1
-step_holds v d w ws s holds read h =
-    step_then (bare w) _ s h (λ first is h. tested (bytes_eq first (codes "end")) _ _ _ h
-    (λ i k. subst (λ (x : Bool × Called). Holds v x.1) (whole_value ((true, d), ws) s k).0 holds)
-    (λ i k. step_then (called_after d first ws) _ s k (λ e told k.
-    subst (λ (x : Bool × Called). Holds v x.1) (same_ok (false, e) s k) (holds_on v d e first ws holds read told))))
-
-pub data_holds : (v past : ℕ) (lines : List Line) (d : Called) (r : ℕ × (Called × List Line)) → Holds v d → are_read lines ≡ true → data_part past d lines ≡ Ok r → Holds v r.1.0
-data_holds v past [] d r holds read h = absurd (cc)
-data_holds v past (l ∷ lines) d r holds read h =
-    let both = and_parts (list_all is_read l.rest) (are_read lines) read in
-    let a = carried (at_line l.number (call_step d l.first l.rest)) _ r h in
-    let next = step_holds v d l.first l.rest a.value holds both.0 (line_ok l.number _ a.value a.first) in
-    tested a.value.0 _ _ _ a.rest (λ i k. subst (λ (x : ℕ × (Called × List Line)). Holds v x.1.0) (same_ok (l.number, (a.value.1, lines)) r k) next)
-    (λ i. data_holds v past lines a.value.1 r next both.1)
+pub calls_named : (past n : ℕ) (k : Known) (lines : List Line) (r : ℕ × (Called × List Line)) → are_read lines ≡ true → data_part past (no_calls n k) lines ≡ Ok r → are_named r.1.0.calls ≡ true
+calls_named past n k lines r read h =
+    let c = calls_read past (no_calls n k) lines r h in
+    let all = subst (λ (wss : List (List Word)). list_all (list_all is_read) wss ≡ true) c.are (list_all-map (list_all is_read) words_of lines ∙ read) in
+    let own = (and_parts (list_all (list_all is_read) c.own) _ (sym (list_all-append (list_all is_read) c.own _) ∙ all)).0 in
+    ap are_named (c.calls ∙ from_none (λ j. calls_in j c.called) 0 n) ∙ ranks_said 0 n c.called (all_said c.own c.called c.spells own)
 
 -- ---- printed lines of calls
 
@@ -125,97 +68,110 @@ pub calls_spelled : (r : ℕ) (calls : List (List Call)) → flat_map spelled (c
 calls_spelled r [] = refl
 calls_spelled r (own ∷ more) = grind (arith, nat_tests, calls_spelled (r + 1) more, flat_map-append, flat_map, own_spelled)
 
+-- the calls with their ranks, those of rank r first
+abbrev pub called_from : ℕ → List (List Call) → List (ℕ × Call)
+called_from r [] = []
+called_from r (own ∷ more) = map (λ (c : Call). (r, c)) own ++ called_from (r + 1) more
+
 digits_no_comment : (ds : List ℕ) → 0 < length ds → list_all is_digit ds ≡ true → is_comment (Plain ds) ≡ false
 digits_no_comment ds some h = grind (arith, nat_tests, ne_eqb, and_parts)
 
-call_is_line : (ranks r : ℕ) (own : List Call) (c : Call) → r < 64 → CallAgain ranks r own c → is_line (call_tokens_of r c) ≡ true
-call_is_line ranks r own c low again = grind (arith, nat_tests, decimal_numeral, and_from, not, digits_no_comment, decimal, decimal_plain, call_plain)
+call_is_line : (r : ℕ) (c : Call) → r < 64 → list_all is_good (call_tokens c) ≡ true → is_line (call_tokens_of r c) ≡ true
+call_is_line r c low good = grind (arith, nat_tests, decimal_numeral, and_from, not, digits_no_comment, decimal, decimal_plain, call_plain)
+
+line_spells : (r : ℕ) (c : Call) → r < 64 → SpellsCall (call_tokens c) c → SpellsCallLine (call_tokens_of r c) (r, c)
+line_spells r c low spells = let d = decimal_numeral r (omega arith) in (decimal r, call_tokens c, refl, and_from _ _ (lt-ltb 0 (length (decimal r)) d.some) d.digits, d.value, spells)
+
+-- lines that are cut again, and spell these calls
+abbrev pub LinesShown : List (List Word) → List (ℕ × Call) → Type 0
+LinesShown wss called = (list_all is_line wss ≡ true) × AllZip SpellsCallLine wss called
+
+own_shown : (ranks r : ℕ) (cs : List Call) → r < 64 → list_all (is_lawful_call ranks r) cs ≡ true → list_all is_expressible_call cs ≡ true → LinesShown (own_lines r cs) (map (λ (c : Call). (r, c)) cs)
+own_shown ranks r [] low lawful h = (refl, tt)
+own_shown ranks r (c ∷ cs) low lawful h =
+    let a = and_parts (is_lawful_call ranks r c) (list_all (is_lawful_call ranks r) cs) lawful in
+    let b = and_parts (is_expressible_call c) (list_all is_expressible_call cs) h in
+    let k = call_shown ranks r c a.0 b.0 in
+    let more = own_shown ranks r cs low a.1 b.1 in
+    (and_from _ _ (call_is_line r c low k.good) more.0, (line_spells r c low k.spells, more.1))
+
+zip_joined : {A B : Type 0} (R : A → B → Type 0) (xs : List A) (ys : List B) (more : List A) (last : List B) → AllZip R xs ys → AllZip R more last → AllZip R (xs ++ more) (ys ++ last)
+zip_joined R [] [] more last h k = k
+zip_joined R [] (y ∷ ys) more last h k = absurd h
+zip_joined R (x ∷ xs) [] more last h k = absurd h
+zip_joined R (x ∷ xs) (y ∷ ys) more last h k = (h.0, zip_joined R xs ys more last h.1 k)
+
+pub calls_shown : (ranks r : ℕ) (calls : List (List Call)) → r + length calls ≤ 64 → list_all (λ own. list_all (is_lawful_call ranks own.0) own.1) (enumerate_from r calls) ≡ true → are_named calls ≡ true
+    → LinesShown (call_lines r calls) (called_from r calls)
+calls_shown ranks r [] low lawful h = (refl, tt)
+calls_shown ranks r (own ∷ more) low lawful h =
+    let a = and_parts (list_all (is_lawful_call ranks r) own) _ lawful in
+    let b = and_parts (list_all is_expressible_call own) (are_named more) h in
+    let first = own_shown ranks r own (omega arith) a.0 b.0 in
+    let rest = calls_shown ranks (r + 1) more (omega arith) a.1 b.1 in
+    (all_joined is_line (own_lines r own) (call_lines (r + 1) more) first.0 rest.0, zip_joined SpellsCallLine (own_lines r own) (map (λ (c : Call). (r, c)) own) _ _ first.1 rest.1)
 
 -- ---- and they are read again
 
-rank_again : (ranks r : ℕ) → r < ranks → r < 64 → rank_of_text ranks (decimal r) ≡ Ok r
-rank_again ranks r low small = grind (arith, nat_tests, decimal_numeral, decimal, and_from, lt-ltb, nat_lt, cond-true)
+own_below : (ranks r : ℕ) (cs : List Call) → r < ranks → list_all (λ (c : ℕ × Call). nat_lt c.0 ranks) (map (λ (c : Call). (r, c)) cs) ≡ true
+own_below ranks r [] low = refl
+own_below ranks r (c ∷ cs) low = and_from _ _ (lt-ltb r ranks low) (own_below ranks r cs low)
 
-abbrev at_rank : List (List Call) → List Call → List (List Call) → ℕ → Called
-at_rank front own back v = record { calls = front ++ own ∷ back; values = v }
+all_below : (ranks r : ℕ) (calls : List (List Call)) → r + length calls ≤ ranks → list_all (λ (c : ℕ × Call). nat_lt c.0 ranks) (called_from r calls) ≡ true
+all_below ranks r [] low = refl
+all_below ranks r (own ∷ more) low = all_joined (λ (c : ℕ × Call). nat_lt c.0 ranks) (map (λ (c : Call). (r, c)) own) (called_from (r + 1) more) (own_below ranks r own (omega arith)) (all_below ranks (r + 1) more (omega arith))
 
-own_at : (front : List (List Call)) (own : List Call) (back : List (List Call)) (r : ℕ) → length front ≡ r → calls_of r (front ++ own ∷ back) ≡ own
-own_at [] own back zero e = refl
-own_at [] own back (suc r) e = absurd (omega arith)
-own_at (x ∷ front) own back zero e = absurd (omega arith)
-own_at (x ∷ front) own back (suc r) e = own_at front own back r (omega arith)
+own_by : (b : Bool) (c : Call) (cs rest : List Call) → rest ≡ cond b cs [] → cons_option (cond b (Some c) None) rest ≡ cond b (c ∷ cs) []
+own_by true c cs rest h = ap (λ (xs : List Call). c ∷ xs) h
+own_by false c cs rest h = h
 
-with_call_at : (front : List (List Call)) (own : List Call) (back : List (List Call)) (v r : ℕ) (c : Call) → length front ≡ r → with_call r c (at_rank front own back v) ≡ at_rank front (own ++ c ∷ []) back (v + values_in_call c)
-with_call_at front own back v r c e = grind (arith, nat_tests, slice_set, own_at, set_at)
+own_in : (r k : ℕ) (cs : List Call) → calls_in k (map (λ (c : Call). (r, c)) cs) ≡ cond (r == k) cs []
+own_in r k [] = by_test (λ (cs : List Call). [] ≡ cs) (r == k) [] [] (λ e. refl) (λ e. refl)
+own_in r k (c ∷ cs) = own_by (r == k) c cs (calls_in k (map (λ (x : Call). (r, x)) cs)) (own_in r k cs)
 
-call_again_step : (ranks : ℕ) (front : List (List Call)) (own : List Call) (back : List (List Call)) (v r : ℕ) (c : Call) → length front ≡ r → r < 64 → length (front ++ own ∷ back) ≡ ranks
-    → CallAgain ranks r own c → v + values_in_call c ≤ most_values
-    → call_step (at_rank front own back v) (Plain (decimal r)) (Plain (call_word c) ∷ call_tokens c) ≡ Ok (false, at_rank front (own ++ c ∷ []) back (v + values_in_call c))
-call_again_step ranks front own back v r c e small long again few =
-    let d = at_rank front own back v in
-    let ws = Plain (call_word c) ∷ call_tokens c in
-    let low : r < length d.calls = omega (arith, length-append front (own ∷ back)) in
-    let read : call_line d r ws ≡ Ok c =
-    ap (λ (n : ℕ). call_of n r (calls_of r d.calls) v (call_word c) (call_tokens c)) long
-    ∙ (ap (λ (x : List Call). call_of ranks r x v (call_word c) (call_tokens c)) (own_at front own back r e) ∙ again.again v few) in
-    let no_end = not_letters (decimal r) 101 (110 ∷ 100 ∷ []) (decimal_word r (omega arith)) (omega arith) in
-    grind (arith, nat_tests, no_end, rank_again (length d.calls) r low small, read, with_call_at front own back v r c e, go_on)
+rank_in : (r k : ℕ) (own : List Call) (more : List (List Call)) → calls_in k (called_from r (own ∷ more)) ≡ cond (r == k) own [] ++ calls_in k (called_from (r + 1) more)
+rank_in r k own more =
+    filter_map-append (λ (c : ℕ × Call). cond (c.0 == k) (Some c.1) None) (map (λ (c : Call). (r, c)) own) (called_from (r + 1) more)
+    ∙ ap (λ (cs : List Call). cs ++ calls_in k (called_from (r + 1) more)) (own_in r k own)
 
-data_on : (past n : ℕ) (d e : Called) (w : Word) (ws : List Word) (lines : List Line) → call_step d w ws ≡ Ok (false, e)
-    → data_part past d (record { number = n; first = w; rest = ws } ∷ lines) ≡ data_part past e lines
-data_on past n d e w ws lines h = ap (λ (r : Result (Bool × Called) ScriptKind). data_by past (record { number = n; first = w; rest = ws }) lines (at_line n r)) h
+none_in : (r k : ℕ) (calls : List (List Call)) → k < r → calls_in k (called_from r calls) ≡ []
+none_in r k [] low = refl
+none_in r k (own ∷ more) low =
+    rank_in r k own more ∙ (ap (λ (b : Bool). cond b own [] ++ calls_in k (called_from (r + 1) more)) (ne_eqb r k (omega arith)) ∙ none_in (r + 1) k more (omega arith))
 
--- a line of a call leads on
-abbrev pub Calls : Called → List Word → Called → Type 0
-Calls d [] e = ⊥
-Calls d (w ∷ ws) e = call_step d w ws ≡ Ok (false, e)
+-- each rank has its calls among them
+ranks_in : (f : ℕ → List Call) (r : ℕ) (calls : List (List Call)) → ((k : ℕ) → r ≤ k → f k ≡ calls_in k (called_from r calls)) → map f (range_with_len r (length calls)) ≡ calls
+ranks_in f r [] h = refl
+ranks_in f r (own ∷ more) h =
+    let behind = λ (k : ℕ). calls_in k (called_from (r + 1) more) in
+    let first : f r ≡ own =
+    h r (omega arith) ∙ (rank_in r r own more ∙ (ap (λ (b : Bool). cond b own [] ++ behind r) (eq-eqb r r refl) ∙ (ap (λ (cs : List Call). own ++ cs) (none_in (r + 1) r more (omega arith)) ∙ append-nil own))) in
+    let rest = ranks_in f (r + 1) more (λ k le. h k (omega arith) ∙ (rank_in r k own more ∙ ap (λ (b : Bool). cond b own [] ++ behind k) (ne_eqb r k (omega arith)))) in
+    ap (λ (cs : List Call). cs ∷ map f (range_with_len (r + 1) (length more))) first ∙ ap (λ (css : List (List Call)). own ∷ css) rest
 
-calls_run_again : (past n m : ℕ) (d e : Called) (wss more : List (List Word)) → n + length wss ≡ m → Lead Calls d wss e → data_part past d (numbered n (wss ++ more)) ≡ data_part past e (numbered m more)
-calls_run_again past n m d e [] more num h = grind (arith, nat_tests, numbered)
-calls_run_again past n m d e ([] ∷ wss) more num h = absurd h.2
-calls_run_again past n m d e ((w ∷ ws) ∷ wss) more num h =
-    data_on past n d h.0 w ws (numbered (n + 1) (wss ++ more)) h.2 ∙ calls_run_again past (n + 1) m h.0 e wss more (omega arith) h.3
+words_numbered : (n : ℕ) (wss : List (List Word)) → list_all is_line wss ≡ true → map words_of (numbered n wss) ≡ wss
+words_numbered n [] h = refl
+words_numbered n ([] ∷ wss) h = absurd (cc)
+words_numbered n ((w ∷ ws) ∷ wss) h = ap (λ (xs : List (List Word)). (w ∷ ws) ∷ xs) (words_numbered (n + 1) wss (and_parts (is_line (w ∷ ws)) (list_all is_line wss) h).1)
 
-own_run : (ranks : ℕ) (cs : List Call) (front : List (List Call)) (own : List Call) (back : List (List Call)) (v r : ℕ)
-    → length front ≡ r → r < 64 → length (front ++ own ∷ back) ≡ ranks → Chain ranks r own cs → v + count cs ≤ most_values
-    → Lead Calls (at_rank front own back v) (own_lines r cs) (at_rank front (own ++ cs) back (v + count cs))
-own_run ranks [] front own back v r e small long h few = grind (arith, nat_tests, append-nil)
-own_run ranks (c ∷ cs) front own back v r e small long h few =
-    let next_own = own ++ c ∷ [] in
-    let next_long : length (front ++ next_own ∷ back) ≡ ranks = omega (arith, long, length-append front (own ∷ back), length-append front (next_own ∷ back)) in
-    let rest = own_run ranks cs front next_own back (v + values_in_call c) r e small next_long h.1 (omega arith) in
-    let total : (v + values_in_call c) + count cs ≡ v + (values_in_call c + count cs) = omega arith in (
-      at_rank front next_own back (v + values_in_call c),
-      call_is_line ranks r own c small h.0,
-      call_again_step ranks front own back v r c e small long h.0 (omega arith),
-      (rw (append_assoc own (c ∷ []) cs, total) at rest),
-    )
+-- the calls of all ranks, v values having come before them
+pub record DataEnd (ranks v : ℕ) (calls : List (List Call)) : Type 0 where
+  pub long : length calls ≡ ranks
+  pub lawful : LawfulCalls ranks v calls
+  pub shown : LinesShown (call_lines 0 calls) (called_from 0 calls)
 
-abbrev from_rank : List (List Call) → List (List Call) → ℕ → Called
-from_rank front rest v = record { calls = front ++ rest; values = v }
-
-calls_run : (ranks : ℕ) (calls front : List (List Call)) (v r : ℕ) → length front ≡ r → r + length calls ≡ ranks → ranks ≤ 64 → Chains ranks r calls → v + count_all calls ≤ most_values
-    → Lead Calls (from_rank front (replicate (length calls) []) v) (call_lines r calls) (from_rank front calls (v + count_all calls))
-calls_run ranks [] front v r e long small h few = grind (arith, nat_tests)
-calls_run ranks (own ∷ calls) front v r e long small h few =
-    let back : List (List Call) = replicate (length calls) [] in
-    let as_long : length back ≡ length calls = length-replicate (length calls) [] in
-    let whole_long : length (front ++ [] ∷ back) ≡ ranks = omega (arith, length-append front ([] ∷ back), as_long) in
-    let first = own_run ranks own front [] back v r e (omega arith) whole_long h.0 (omega arith) in
-    let rest = calls_run ranks calls (front ++ own ∷ []) (v + count own) (r + 1) (omega (arith, e, length-append front (own ∷ []))) (omega arith) small h.1 (omega arith) in
-    let total : (v + count own) + count_all calls ≡ v + (count own + count_all calls) = omega arith in
-    lead_on Calls _ (at_rank front own back (v + count own)) _ (own_lines r own) (call_lines (r + 1) calls) first (rw (append_assoc front (own ∷ []) back, append_assoc front (own ∷ []) calls, total) at rest)
-
--- the printed calls lead from none to all
-pub all_calls_run : (ranks v : ℕ) (calls : List (List Call)) → ranks ≤ 64 → DataEnd ranks v calls
-    → Lead Calls (from_rank [] (replicate ranks []) v) (call_lines 0 calls) (from_rank [] calls (v + count_all calls))
-all_calls_run ranks v calls small e =
-    subst (λ n. Lead Calls (from_rank [] (replicate n []) v) (call_lines 0 calls) (from_rank [] calls (v + count_all calls))) e.long
-    (calls_run ranks calls [] v 0 refl (omega (arith, e.long)) small e.chains e.few)
+pub end_from : (ranks v : ℕ) (calls : List (List Call)) → length calls ≡ ranks → ranks ≤ 64 → LawfulCalls ranks v calls → are_named calls ≡ true → DataEnd ranks v calls
+end_from ranks v calls long small lawful named = record { long = long; lawful = lawful; shown = calls_shown ranks 0 calls (omega arith) lawful.each named }
 
 -- the printed calls up to `end`
-pub data_again : (ranks past n v : ℕ) (calls : List (List Call)) → ranks ≤ 64 → DataEnd ranks v calls
-    → (m : ℕ) × (data_part past (record { calls = replicate ranks []; values = v }) (numbered n (call_lines 0 calls ++ (Plain (codes "end") ∷ []) ∷ [])) ≡ Ok (m, (record { calls = calls; values = v + count_all calls }, [])))
-data_again ranks past n v calls small e =
-    let m = n + length (call_lines 0 calls) in
-    (m, calls_run_again past n m (from_rank [] (replicate ranks []) v) (from_rank [] calls (v + count_all calls)) (call_lines 0 calls) ((Plain (codes "end") ∷ []) ∷ []) refl (all_calls_run ranks v calls small e))
+pub data_again : (past n ranks v : ℕ) (calls : List (List Call)) → DataEnd ranks v calls
+    → DataTold past (record { calls = replicate ranks []; values = v }) (numbered n (call_lines 0 calls ++ (Plain (codes "end") ∷ []) ∷ [])) calls
+data_again past n ranks v calls e =
+    let d : Called = record { calls = replicate ranks []; values = v } in
+    let wss = call_lines 0 calls ++ (Plain (codes "end") ∷ []) ∷ [] in
+    let called = called_from 0 calls in
+    let each : map (λ k. calls_in k called) (range_with_len 0 ranks) ≡ calls =
+    subst (λ (m : ℕ). map (λ k. calls_in k called) (range_with_len 0 m) ≡ calls) e.long (ranks_in (λ k. calls_in k called) 0 calls (λ k le. refl)) in
+    let going : Going ranks v calls called d = record { calls = from_none (λ k. calls_in k called) 0 ranks ∙ each; long = length-replicate ranks []; counted = omega (arith, count_empty ranks) } in
+    let words = words_numbered n wss (all_joined is_line (call_lines 0 calls) ((Plain (codes "end") ∷ []) ∷ []) e.shown.0 refl) in
+    data_told past ranks v calls (call_lines 0 calls) called (numbered n wss) d e.lawful words e.shown.1 (all_below ranks 0 calls (let long = e.long in omega arith)) going

@@ -1,10 +1,10 @@
 -- The words of a call that is printed.
-use Rattle.script_text.proofs.Words.{◌≡◌, ◌∙◌, ℕ, List, [], ◌∷◌, ◌++◌, map, Bool, true, Option, Some, None, refl, ap, codes, decimal, Values, Form, Given, PostKind, Call, call_word, form_word, kind_word, with_all, call_words, region_words, shown_values, words_behind, Word, Plain, posted, put_call, get_call, post_call, call_of, Family, Requests, Size, Name, Record, Nothing, Behind, CallRow, in_row, of_behind, HasNoRegion, IsRow, made_behind, arith, nat_tests}
-use Rattle.nc_base.specs.declared.request.Call.TheVariants as call
+use Rattle.script_text.proofs.Words.{◌≡◌, ◌∙◌, ℕ, List, [], ◌∷◌, ◌++◌, map, true, Option, Some, None, refl, ap, decimal, Values, Given, Call, call_word, call_words, region_words, shown_values, words_behind, Word, Plain, Family, Requests, Size, Name, Record, Nothing, Behind, CallRow, in_row, of_behind, HasNoRegion, IsRow, made_behind, arith, nat_tests}
 use Rattle.script_spec.specs.CallTable.{row_of}
 use Rattle.script_text.proofs.Lexing.{spelling, is_plain}
 use Rattle.script_text.proofs.PrintedValues.{value_tokens, values_spelled}
 use Rattle.script_text.proofs.PrintedRegions.{region_tokens, region_spelled, choice_tokens, choice_spelled}
+use Rattle.nc_base.specs.declared.request.Call.TheVariants as call
 
 -- ---- calls as they are printed
 
@@ -65,17 +65,5 @@ call_spelled (call.Get all n g) = ap (λ (ws : List (List ℕ)). n ∷ ws) (regi
 call_spelled (call.Post id k n g vs) = ap (λ (ws : List (List ℕ)). decimal id ∷ n ∷ ws) (both_spelled g vs)
 call_spelled c = plain_spelled c
 
--- ---- the words of calls
-
 pub call_plain : (c : Call) → is_plain (call_word c) ≡ true
 call_plain c = grind (arith, nat_tests)
-
-module _ (ranks r : ℕ) (own : List Call) (before : ℕ) (ws : List Word) where
-  pub put_word : (all : Bool) (f : Form) → call_of ranks r own before (with_all all (codes "put_" ++ form_word f)) ws ≡ put_call all f before ws
-  put_word all f = grind (arith, nat_tests)
-
-  pub get_word : (all : Bool) (f : Form) → call_of ranks r own before (with_all all (codes "get_" ++ form_word f)) ws ≡ get_call all f ws
-  get_word all f = grind (arith, nat_tests)
-
-  pub post_word : (k : PostKind) (f : Form) → call_of ranks r own before (kind_word k ++ form_word f) ws ≡ post_call k (posted own) f before ws
-  post_word k f = grind (arith, nat_tests)

@@ -1,13 +1,13 @@
 -- What is known of the definitions of a new dataset once they are read: each dimension, variable and attribute, printed after those before it, is read again.
-use Rattle.script_text.proofs.Words.{◌≡◌, cases_Bool, ◌∙◌, ℕ, zero, suc, ◌+◌, ◌≤◌, List, [], ◌∷◌, ◌++◌, map, position, length, drop, Bool, true, false, nat_lt, Option, Some, None, slice_get, slice_set, Ok, refl, sym, ap, subst, ⊎_elim, append_assoc, append-nil, arith, bytes_eq, codes, list_all, list_any, and_parts, and_from, or_left, or_right, list_any-append, faultless_some, NcType, Dim, Attr, Var, most_dims_of_var, most_values, Word, is_name, or_fault, reads_as, is_among, dim_line, var_head, name_list, dim_ids, is_record_dim, var_names, shape, var_line, owner_of_text, owner_place, Title, same_title, attribute, Defined, with_dim, with_var, with_attr_at, with_title, with_attr_of_owner, att_line, dim_definition, var_definition, fill_line, definition, all_joined, nat_tests}
-use Rattle.nc_base.specs.declared.errors.ScriptKind.TheVariants as kind
-use Rattle.script_text.proofs.Steps.{went, same_ok, tested, step_then, free_then, end_then}
-use Rattle.script_text.proofs.Lines.{all_more}
+use Rattle.script_text.proofs.Words.{◌≡◌, cases_Bool, ◌∙◌, ℕ, zero, suc, ◌+◌, ◌≤◌, List, [], ◌∷◌, ◌++◌, map, position, length, drop, Bool, true, false, nat_lt, Option, Some, None, Ok, refl, sym, ap, subst, append_assoc, append-nil, arith, bytes_eq, codes, list_all, list_any, and_parts, and_from, or_left, or_right, list_any-append, faultless_some, NcType, Dim, Attr, Var, most_dims_of_var, most_values, Word, is_name, or_fault, reads_as, is_among, dim_line, var_head, name_list, dim_ids, is_record_dim, var_names, shape, var_line, owner_of_text, owner_place, Title, same_title, attribute, Defined, with_dim, with_var, with_title, with_attr_of_owner, att_line, dim_definition, var_definition, fill_line, definition, all_joined, nat_tests}
+use Rattle.script_spelling.proofs.Steps.{went, same_ok, tested, step_then, free_then, end_then, all_more}
 use Rattle.script_text.proofs.PrintedValues.{is_read}
 use Rattle.script_text.proofs.PrintedRegions.{kept}
 use Rattle.script_text.proofs.PrintedAttributes.{AttrAgain, AttrRead, attr_read}
 use Rattle.script_text.proofs.PrintedDefinitions.{DimAgain, dim_read, HeadAgain, head_read, names_read}
-use Rattle.script_text.proofs.Places.{more_ids, more_records, bytes_same, bytes_own, Later, place_cases}
+use Rattle.script_spelling.proofs.Places.{more_ids, more_records, bytes_same, bytes_own}
+use Rattle.nc_base.specs.declared.errors.ScriptKind.TheVariants as kind
+use Rattle.script_spelling.proofs.PushedAttrs.{NameAt, count-attr, count-var, count_attrs, count_own, found_name, push_attr, pushes, count-pushed}
 
 -- ---- dimensions
 
@@ -100,32 +100,6 @@ own_pushed : (version : ℕ) (titles : List Title) (vs : List Var) (v : Var) →
 own_pushed version titles [] v none h = (subst (AttrChain version []) (sym none) tt, ap (titled titles v.name) none, tt)
 own_pushed version titles (x ∷ vs) v none h = (h.0, h.1, own_pushed version titles vs v none h.2)
 
--- one attribute more of the variable at this place
-abbrev pub with_own : Attr → Var → Var
-with_own a v = record v { attrs = v.attrs ++ a ∷ [] }
-
-abbrev pub push_attr : ℕ → Attr → List Var → List Var
-push_attr k a [] = []
-push_attr zero a (v ∷ vs) = with_own a v ∷ vs
-push_attr (suc k) a (v ∷ vs) = v ∷ push_attr k a vs
-
-pub pushes : (k : ℕ) (a : Attr) (vs : List Var) → with_attr_at k a vs ≡ push_attr k a vs
-pushes k a [] = refl
-pushes zero a (v ∷ vs) = refl
-pushes (suc k) a (v ∷ vs) = grind (arith, nat_tests, pushes k a vs, slice_get, slice_set)
-
-abbrev pub NameAt : List Var → ℕ → List ℕ → Type 0
-NameAt [] k n = ⊥
-NameAt (v ∷ vs) zero n = n ≡ v.name
-NameAt (v ∷ vs) (suc k) n = NameAt vs k n
-
-pub found_name : (n : List ℕ) (vs : List Var) (k : ℕ) → position (bytes_eq n) (var_names vs) ≡ Some k → NameAt vs k n
-found_name n [] k h = absurd (cc)
-found_name n (v ∷ vs) k h = ⊎_elim
-    (λ (a : (bytes_eq n v.name ≡ true) × (k ≡ 0)). subst (λ j. NameAt (v ∷ vs) j n) (sym a.1) (bytes_same n v.name a.0))
-    (λ (b : (bytes_eq n v.name ≡ false) × Later (bytes_eq n) (var_names vs) k). subst (λ j. NameAt (v ∷ vs) j n) (sym b.1.next) (found_name n vs b.1.before b.1.found))
-    (place_cases (bytes_eq n) v.name (var_names vs) k h)
-
 vars_attr : (version : ℕ) (dims : List Dim) (names : List (List ℕ)) (k : ℕ) (a : Attr) (vs : List Var) → VarChain version dims names vs → VarChain version dims names (push_attr k a vs)
 vars_attr version dims names k a [] h = tt
 vars_attr version dims names zero a (v ∷ vs) h = (h.0, h.1)
@@ -138,27 +112,6 @@ own_attr version titles zero owner a (v ∷ vs) h at again fresh = grind (arith,
 own_attr version titles (suc k) owner a (v ∷ vs) h at again fresh = grind (arith, nat_tests, own_attr version titles k owner a vs h.2 at again fresh, titled_more)
 
 -- ---- how many values
-
-abbrev pub count_attrs : List Attr → ℕ
-count_attrs [] = 0
-count_attrs (a ∷ list) = a.count + count_attrs list
-
-abbrev pub count_own : List Var → ℕ
-count_own [] = 0
-count_own (v ∷ vs) = count_attrs v.attrs + count_own vs
-
-pub count-attr : (list : List Attr) (a : Attr) → count_attrs (list ++ a ∷ []) ≡ count_attrs list + a.count
-count-attr [] a = omega arith
-count-attr (x ∷ list) a = omega (arith, count-attr list a)
-
-pub count-var : (vs : List Var) (v : Var) → v.attrs ≡ [] → count_own (vs ++ v ∷ []) ≡ count_own vs
-count-var [] v none = omega (arith, ap count_attrs none)
-count-var (x ∷ vs) v none = omega (arith, count-var vs v none)
-
-pub count-pushed : (k : ℕ) (n : List ℕ) (a : Attr) (vs : List Var) → NameAt vs k n → count_own (push_attr k a vs) ≡ count_own vs + a.count
-count-pushed k n a [] at = absurd at
-count-pushed zero n a (v ∷ vs) at = omega (arith, count-attr v.attrs a)
-count-pushed (suc k) n a (v ∷ vs) at = omega (arith, count-pushed k n a vs at)
 
 -- ---- the definitions
 

@@ -1,24 +1,23 @@
 -- The definitions of a new dataset, printed in their canonical order, are read as the same definitions.
-use Rattle.script_text.proofs.Words.{◌≡◌, ℕ, suc, ◌+◌, ◌≤◌, List, [], ◌∷◌, ◌++◌, map, position, length, Bool, true, false, nat_lt, ◌==◌, Some, None, Ok, refl, sym, ap, append_assoc, append-nil, arith, bytes_eq, codes, list_any, and_parts, and_from, and_left, and_right, or_from, or_parts, ne_eqb, list_any-append, Dim, Attr, Var, most_values, type_word, bracketed, Word, Plain, is_name, is_among, var_names, dim_line, var_line, owner_place, Title, same_title, Defined, with_var, with_title, with_attr_of_owner, att_line, definition, Known, nat_tests}
-use Rattle.script_text.proofs.Steps.{go_on, passed, faultless, word_read, by_false}
+use Rattle.script_text.proofs.Words.{◌≡◌, ℕ, suc, ◌+◌, ◌≤◌, List, [], ◌∷◌, ◌++◌, map, position, length, Bool, true, false, nat_lt, ◌==◌, Some, None, Ok, refl, sym, ap, append_assoc, append-nil, arith, bytes_eq, codes, list_any, and_from, and_left, and_right, or_from, or_parts, list_any-append, Dim, Attr, Var, most_values, type_word, bracketed, Word, Plain, is_name, is_among, var_names, dim_line, var_line, owner_place, Title, same_title, Defined, with_var, with_title, with_attr_of_owner, att_line, definition, Known, nat_tests}
+use Rattle.script_spelling.proofs.Steps.{go_on, passed, faultless, word_read, by_false}
 use Rattle.script_text.proofs.Lexing.{is_plain}
 use Rattle.script_text.proofs.Lines.{is_line, lead_on}
 use Rattle.script_text.proofs.Numerals.{name_plain}
 use Rattle.script_text.proofs.PrintedAttributes.{type_plain, attr_tokens, AttrAgain}
 use Rattle.script_text.proofs.PrintedDefinitions.{dim_tokens, head_again, names_plain, names_again}
-use Rattle.script_text.proofs.AddedLines.{Leads, Runs, owner_again}
-use Rattle.script_text.proofs.Places.{name_at, names_shown, place_of_new}
-use Rattle.script_text.proofs.DefinedChains.{DimChain, VarOk, VarChain, AttrChain, OwnChains, with_own, push_attr, pushes, count_attrs, count_own}
+use Rattle.script_spelling.proofs.Leading.{Leads, leads_by}
+use Rattle.script_text.proofs.AddedLines.{Runs, owner_again}
+use Rattle.script_spelling.proofs.Places.{name_at, names_shown, place_of_new}
+use Rattle.script_text.proofs.DefinedChains.{DimChain, VarOk, VarChain, AttrChain, OwnChains}
+use Rattle.script_spelling.proofs.PushedAttrs.{with_own, push_attr, pushes, count_attrs, count_own}
+use Rattle.script_spelling.proofs.LinesRead.{no_colon}
 
 -- ---- lines of the definitions
 
 -- what is known, with these definitions
 abbrev pub at_state : Known → Defined → ℕ → Known
 at_state k d v = record k { defined = d; values = v }
-
-pub leads_by : (version : ℕ) (k : Known) (first : List ℕ) (ws : List Word) (r : ℕ × Defined) → (version == 0) ≡ false → bytes_eq first (codes "ranks") ≡ false → bytes_eq first (codes "hint") ≡ false → bytes_eq first (codes "data") ≡ false
-    → definition version k.values k.defined first ws ≡ Ok r → Leads version k (Plain first ∷ ws) (record k { defined = r.1; values = k.values + r.0 })
-leads_by version k first ws r new a b c h = grind (arith, nat_tests, by_false, bytes_eq, codes, go_on)
 
 -- such a line, and those that follow
 pub define_on : (version : ℕ) (k : Known) (d : Defined) (v : ℕ) (first : List ℕ) (ws : List Word) (r : ℕ × Defined) (wss : List (List Word)) (after : Known) → (version == 0) ≡ false → is_line (Plain first ∷ ws) ≡ true
@@ -111,9 +110,6 @@ att_dataset_again : (version : ℕ) (d : Defined) (v : ℕ) (a : Attr) → AttrA
 att_dataset_again version d v a again fresh few = grind (arith, nat_tests, codes, go_on, word_read)
 
 -- ---- attributes of the variables
-
-pub no_colon : (n : List ℕ) → is_name n ≡ true → bytes_eq n (codes ":") ≡ false
-no_colon n h = grind (arith, nat_tests, and_parts, and_left, ne_eqb)
 
 length_var_names : (vs : List Var) → length (var_names vs) ≡ length vs
 length_var_names [] = refl

@@ -1,56 +1,16 @@
 -- A lawful script that words can express is read from what is printed of it.
-use Rattle.script_text.proofs.Words.{◌≡◌, ◌∙◌, ℕ, zero, suc, ◌+◌, ◌≤◌, List, [], ◌∷◌, ◌++◌, find, map, sum, length, length-append, codes, Bool, true, false, not, cond, nat_le, ◌==◌, ◌&&◌, Option, Some, None, is_some, option_map, refl, ap, subst, arith, bytes_eq, list_all, range_with_len, and_parts, and_from, cond-false, cond-true, eqb-true, eq-eqb, leb-true, ne_eqb, length-map, sum_by-cons, bytes_eq-Decides, ScriptKind, Header, Extra, Hints, Script, Call, MeetKind, most_dims, most_vars, is_version, kinds, kind_number, agree, is_lawful, is_lawful_dim, is_lawful_header, is_lawful_var, kind_numbers, shown, Plain, kind_at, differs_at, is_difference, mismatch, Reads, most_bytes, most_lines, is_expressible, is_expressible_call, is_expressible_header, printed_lines, nat_tests}
+use Rattle.script_text.proofs.Words.{◌≡◌, ◌∙◌, ℕ, zero, suc, ◌+◌, ◌≤◌, List, [], ◌∷◌, ◌++◌, map, sum, length, length-append, codes, Bool, true, false, not, cond, nat_le, ◌==◌, ◌&&◌, refl, ap, subst, arith, list_all, and_parts, cond-true, eqb-true, leb-true, ne_eqb, length-map, sum_by-cons, Header, Extra, Hints, Script, Call, most_dims, most_vars, is_version, agree, is_lawful, is_lawful_dim, is_lawful_header, is_lawful_var, shown, Plain, Reads, most_bytes, most_lines, is_expressible, is_expressible_call, is_expressible_header, printed_lines, nat_tests}
 use Rattle.serial_spec.proofs.Common.{lawful_parts}
-use Rattle.nc_base.specs.declared.errors.ScriptKind.TheVariants as kind
-use Rattle.script_text.proofs.Places.{position_cons}
-use Rattle.script_text.proofs.CallLines.{call_tokens_of, own_lines, call_lines, DataEnd}
+use Rattle.script_spelling.proofs.Steps.{empty_list}
+use Rattle.script_text.proofs.CallLines.{call_tokens_of, own_lines, call_lines, end_from}
 use Rattle.script_text.proofs.DefinedLines.{lines_of_own, definition_lines}
 use Rattle.script_text.proofs.KnownLines.{hint_tokens, ranks_told, hints_told}
 use Rattle.script_text.proofs.ExpressedDefinitions.{defined_of, header_told, no_attributes}
-use Rattle.script_text.proofs.ExpressedCalls.{chains_told, all_counted}
+use Rattle.script_spelling.proofs.CallCounts.{all_counted}
 use Rattle.script_text.proofs.ScriptLines.{all_lines, before_data, fill_lines, from_data, script_with}
 use Rattle.script_text.proofs.Whole.{Whole, create_again, from_drafted, version_head, whole_from, whole_again, whole_long}
-use Rattle.serial_spec.proofs.MemberLaws.{empty_list}
-
--- ---- ranks that agree don't differ
-
-abbrev numbers : List MeetKind → List ℕ
-numbers own = map (λ k. kind_number (Some k)) own
-
-same_at : (own first : List MeetKind) (k : ℕ) → numbers own ≡ numbers first → kind_at k own ≡ kind_at k first
-same_at [] [] k h = refl
-same_at [] (y ∷ ys) k h = absurd (cc)
-same_at (x ∷ xs) [] k h = absurd (cc)
-same_at (x ∷ xs) (y ∷ ys) zero h = cc
-same_at (x ∷ xs) (y ∷ ys) (suc k) h = let rest : numbers xs ≡ numbers ys = cc in same_at xs ys k rest
-
-abbrev have_kinds : List (List Call) → List ℕ → Bool
-have_kinds calls ns = list_all (λ own. bytes_eq (kind_numbers own) ns) calls
-
-none_differs : (calls : List (List Call)) (first : List MeetKind) (k : ℕ) → have_kinds calls (numbers first) ≡ true → differs_at (map (λ own. kinds own) calls) first k ≡ None
-none_differs [] first k h = refl
-none_differs (own ∷ calls) first k h =
-    let both = and_parts (bytes_eq (kind_numbers own) (numbers first)) (have_kinds calls (numbers first)) h in
-    let same = same_at (kinds own) first k ((bytes_eq-Decides (kind_numbers own) (numbers first)).0 both.0) in
-    let test = λ (ks : List MeetKind). not (kind_at k ks == kind_at k first) in
-    position_cons test (kinds own) (map (λ cs. kinds cs) calls)
-    ∙ (cond-false _ _ _ (ap not (eq-eqb (kind_at k (kinds own)) (kind_at k first) same)) ∙ ap (option_map suc) (none_differs calls first k both.1))
-
-nothing_found : (p : ℕ → Bool) (from n : ℕ) → ((k : ℕ) → p k ≡ false) → find p (range_with_len from n) ≡ None
-nothing_found p from zero h = refl
-nothing_found p from (suc n) h = cond-false _ _ _ (h from) ∙ nothing_found p (from + 1) n h
-
-abbrev difference_by : List (List MeetKind) → List MeetKind → Option ℕ → Option ScriptKind
-difference_by ranks first o = option_map (λ d. kind.Mismatch d.0 0 d.1) (elim o as (λ x. Option (ℕ × ℕ)) [ None ↦ None | Some k ↦ option_map (λ r. (k, r)) (differs_at ranks first k) ])
-
-pub agreement : (calls : List (List Call)) → agree calls ≡ true → mismatch (map (λ own. kinds own) calls) ≡ None
-agreement [] h = refl
-agreement (own ∷ others) h =
-    let first = kinds own in
-    let all = own ∷ others in
-    let ranks = map (λ cs. kinds cs) all in
-    let same : have_kinds all (numbers first) ≡ true = and_from _ _ ((bytes_eq-Decides (numbers first) (numbers first)).1 refl) h in
-    ap (difference_by ranks first) (nothing_found (is_difference ranks first) 0 (length first + 1) (λ k. ap is_some (none_differs all first k same)))
+use Rattle.script_spelling.proofs.CallLinesTold.{LawfulCalls}
+use Rattle.script_spelling.proofs.Agreement.{agreement}
 
 -- ---- a script for a new dataset, by its parts
 
@@ -125,17 +85,14 @@ expressed_whole s lawful h =
     let d = defined_of s.header s.filled in
     let known = create_again version s.ranks 0 s.hints d (new_version version new.version) (ranks_told s.ranks parts.some_rank parts.few_ranks) (hints_told s.hints parts.hints)
     (header_told s.header s.filled e1.1 new.dims new.few_dims new.vars new.few_vars) (omega arith) in
-    let end : DataEnd s.ranks 0 s.calls = record {
-      long = parts.one_list_each;
-      chains = chains_told s.ranks 0 s.calls parts.each_call e2.1 parts.ids_once;
-      few = omega (arith, parts.few_values, all_counted s.calls);
-    } in
+    let all : LawfulCalls s.ranks 0 s.calls = record { each = parts.each_call; ids = parts.ids_once; few = omega (arith, parts.few_values, all_counted s.calls) } in
+    let end = end_from s.ranks 0 s.calls parts.one_list_each parts.few_ranks all e2.1 in
     let first = version_head version new.version in
     let agree = agreement s.calls parts.agreed in
     let plain = no_attributes s.header e1.1 in
     subst Counted (same_script version s.ranks s.hints s.filled s.calls s.fresh s.header.records s.extra (new_version version new.version) e1.0 new.records new.nothing_added s.header) (record {
-      whole = whole_from version s.ranks 0 s.hints [] d s.calls first parts.few_ranks known end agree;
-      long = ap length (from_drafted version s.ranks 0 s.hints [] d s.calls first parts.few_ranks known end agree) ∙ all_long first.existing version s.ranks s.hints s.header s.filled s.calls plain.0 plain.1;
+      whole = whole_from version s.ranks 0 s.hints [] d s.calls first known end agree;
+      long = ap length (from_drafted version s.ranks 0 s.hints [] d s.calls first known end agree) ∙ all_long first.existing version s.ranks s.hints s.header s.filled s.calls plain.0 plain.1;
     })
 
 pub expressed_again : (s : Script) → is_lawful s ≡ true → is_expressible s ≡ true → length (shown s) ≤ most_bytes → printed_lines s ≤ most_lines → Reads (shown s) s

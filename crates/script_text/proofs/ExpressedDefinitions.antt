@@ -1,11 +1,12 @@
 -- Definitions that words can express, printed after those before them, are read again.
 use Rattle.script_text.proofs.Words.{◌≡◌, ◌∙◌, ◌⊎◌, ℕ, zero, suc, ◌+◌, ◌^◌, ◌≤◌, ◌<◌, List, [], ◌∷◌, ◌++◌, map, position, drop, length, Bool, true, false, not, cond, nat_lt, nat_le, ◌==◌, ◌&&◌, Some, refl, sym, ap, subst, inl, inr, append_assoc, length-append, arith, bytes_eq, codes, list_all, list_any, and_parts, and_from, not-true, lt-leb, ne_eqb, ltb-true, leb-true, le-ltb, eqb-true, Dim, Attr, Var, Header, most_dims, most_vars, most_dims_of_var, record_limit, number_of, last_type, is_lawful_dim, is_lawful_var, is_empty, is_name, is_among, dim_names, is_record_dim, is_unlimited, same_title, Defined, is_new_name, are_expressible_dims, is_expressible_var, are_expressible_vars, is_expressible_header, nat_tests}
+use Rattle.script_spelling.proofs.Steps.{empty_list}
 use Rattle.script_text.proofs.PrintedAttributes.{type_told}
 use Rattle.script_text.proofs.PrintedDefinitions.{length_told, dim_told}
-use Rattle.script_text.proofs.Places.{name_at, place_of_new, joined_names, length_names, ids_found}
+use Rattle.script_spelling.proofs.Places.{name_at, place_of_new, joined_names, length_names, ids_found}
 use Rattle.script_text.proofs.DefinedLines.{line_of_att, lines_of_own}
-use Rattle.script_text.proofs.DefinedChains.{DimChain, VarOk, VarChain, AttrChain, OwnChains, DefinedOk, count_attrs, count_own}
-use Rattle.serial_spec.proofs.MemberLaws.{empty_list}
+use Rattle.script_text.proofs.DefinedChains.{DimChain, VarOk, VarChain, AttrChain, OwnChains, DefinedOk}
+use Rattle.script_spelling.proofs.PushedAttrs.{count_attrs, count_own}
 
 -- a name that is one, and that none has
 new_name : (names : List (List ℕ)) (n : List ℕ) → is_new_name names n ≡ true → (is_name n ≡ true) × (is_among n names ≡ false)

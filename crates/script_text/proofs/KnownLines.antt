@@ -1,15 +1,18 @@
 -- The number of ranks and the hints, and what is known before `data` as a whole.
 use Rattle.script_text.proofs.Words.{◌%◌, eq-eqb, le-leb, eqb-true, is_within, is_alignment, are_lawful_hints, ◌≡◌, ◌∙◌, ℕ, ◌+◌, ◌^◌, ◌≤◌, ◌<◌, List, [], ◌∷◌, ◌++◌, map, Bool, true, false, ◌==◌, Option, Some, None, is_some, slice_set, Result, Ok, refl, ap, subst, arith, bytes_eq, codes, decimal, list_all, and_parts, and_from, ScriptKind, Hints, OverlapRule, Refuse, Serial, most_values, shown_hint, shown_hints, Word, Plain, Line, ◌>>=◌, bare, Within, HintForm, HintRow, flag, rule_number, rule_of, off_or_on, refuse_or_serial, hint_table, hint_of_text, hint_form, shown_value, none_given, hint_in, hints_of, number_within, hint_value, hint_line, ranks_line, Defined, no_definition, definition, Added, nothing_added, addition, Known, nothing_known, known_after, at_line, data_line, definition_step, definitions, nat_tests, take, drop}
 use Rattle.std.proofs.Common.{flat_map}
-use Rattle.nc_base.specs.declared.errors.ScriptKind.TheVariants as kind
-use Rattle.script_text.proofs.Steps.{same_ok, word_read, tested, looked, carried, step_then}
+use Rattle.script_spelling.proofs.Steps.{same_ok, word_read, tested, looked, carried, step_then}
 use Rattle.script_text.proofs.Lexing.{is_plain}
 use Rattle.script_text.proofs.Lines.{spelled}
 use Rattle.script_text.proofs.PrintedValues.{is_read}
 use Rattle.script_text.proofs.PrintedDefinitions.{is_value_of, within_again, within_plain}
-use Rattle.script_text.proofs.CallLines.{are_read, line_ok}
-use Rattle.script_text.proofs.AddedLines.{Leads, Runs, Replay, replay_on, addition_read}
+use Rattle.script_text.proofs.CallLines.{are_read}
+use Rattle.script_spelling.proofs.CallCounts.{line_ok}
+use Rattle.script_text.proofs.AddedLines.{Runs, Replay, replay_on, addition_read}
 use Rattle.script_text.proofs.DefinedChains.{DefinedOk, definition_read}
+use Rattle.nc_base.specs.declared.errors.ScriptKind.TheVariants as kind
+use Rattle.script_spelling.proofs.Leading.{hint_leads}
+use Rattle.script_spelling.proofs.CallLinesRead.{words_of}
 
 -- ---- the hints as they are printed
 
@@ -87,10 +90,6 @@ hints_told h lawful =
     }
 
 -- ---- the lines of the hints
-
-pub hint_leads : (version : ℕ) (k : Known) (word shown : List ℕ) (i v : ℕ) → hint_of_text word ≡ Some i → is_some (hint_in i k.hints) ≡ false → hint_value (hint_form i) (Plain shown ∷ []) ≡ Ok (v, [])
-    → Leads version k (Plain (codes "hint") ∷ Plain word ∷ Plain shown ∷ []) (record k { hints = slice_set k.hints i (Some v) })
-hint_leads version k word shown i v at free read = grind (arith, nat_tests)
 
 -- the value of a hint of this form, printed, is read again
 record HintAgain (f : HintForm) (n : ℕ) : Type 0 where
@@ -201,8 +200,8 @@ step_ok version k w ws s read ok h =
 pub definitions_read : (past version : ℕ) (lines : List Line) (k : Known) (r : ℕ × (Known × List Line)) → are_read lines ≡ true → KnownOk version k → definitions past version k lines ≡ Ok r → AtData version r
 definitions_read past version [] k r read ok h = absurd (cc)
 definitions_read past version (l ∷ lines) k r read ok h =
-    let both = and_parts (list_all is_read l.rest) (are_read lines) read in
+    let both = and_parts (list_all is_read (words_of l)) (are_read lines) read in
     let a = carried (at_line l.number (definition_step version k l.first l.rest)) _ r h in
-    let next = step_ok version k l.first l.rest a.value both.0 ok (line_ok l.number _ a.value a.first) in
+    let next = step_ok version k l.first l.rest a.value (and_parts (is_read l.first) (list_all is_read l.rest) both.0).1 ok (line_ok l.number _ a.value a.first) in
     looked a.value.0 _ _ _ a.rest (λ i. definitions_read past version lines a.value.1 r both.1 next)
     (λ n i j. subst (AtData version) (same_ok (n, (a.value.1, lines)) r j) (record { known = next; read = both.1 }))

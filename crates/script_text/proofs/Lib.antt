@@ -1,9 +1,7 @@
 mod Words
-pub mod Steps
 mod Lexing
 pub mod Lines
 pub mod Numerals
-pub mod Sequences
 pub mod PrintedValues
 pub mod PrintedRegions
 pub mod CallTokens
@@ -12,7 +10,6 @@ pub mod CallLines
 mod PrintedAttributes
 mod PrintedDefinitions
 pub mod AddedLines
-pub mod Places
 pub mod DefinedChains
 pub mod DefinedLines
 mod ReadWords
@@ -20,7 +17,6 @@ pub mod KnownLines
 mod ScriptLines
 pub mod Whole
 mod ExpressedDefinitions
-pub mod ExpressedCalls
 pub mod Expressed
 mod PrintingLaws
 mod LineLengths

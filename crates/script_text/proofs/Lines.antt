@@ -1,17 +1,11 @@
 -- Lines that are printed are the significant lines of their text, which is ASCII.
-use Rattle.script_text.proofs.Words.{◌≡◌, ◌∙◌, ℕ, zero, suc, ◌+◌, ◌/◌, ◌%◌, ◌≤◌, ◌<◌, List, [], ◌∷◌, ◌++◌, map, length, take, get_or, Bool, true, false, not, nat_lt, nat_le, ◌==◌, ◌&&◌, refl, sym, ap, subst, ⊎_elim, append_assoc, take_all, arith, IsUtf8, IsAscii, and_parts, and_from, ne_eqb, eq-eqb, eqb-true, cases_Bool, cond-false, agree_below_at, lt-ltb, not-true, common_steps, slice_split_at, length-slice_split, AllPass-from_list_all, IsUtf8-from_ascii, IsUtf8-from_is_utf8, utf8_valid_len-IsUtf8, IsAscii-from_all, All, list_all, enumerate_from, is_utf8, valid_len_up_to, utf8_valid_len, is_empty, first_line_kept, text_char, hex_digit, joined, line, Word, Line, words, is_comment, is_newline, line_of, significant, significant_of, text_lines, all_joined, nat_tests, ltb-true}
+use Rattle.script_text.proofs.Words.{◌≡◌, ◌∙◌, ℕ, zero, suc, ◌+◌, ◌/◌, ◌%◌, ◌≤◌, ◌<◌, List, [], ◌∷◌, ◌++◌, map, length, take, get_or, Bool, true, false, not, nat_lt, nat_le, ◌==◌, ◌&&◌, refl, sym, ap, subst, ⊎_elim, append_assoc, take_all, arith, IsUtf8, IsAscii, and_parts, and_from, ne_eqb, eq-eqb, eqb-true, cases_Bool, cond-false, agree_below_at, lt-ltb, not-true, common_steps, slice_split_at, length-slice_split, AllPass-from_list_all, IsUtf8-from_ascii, IsUtf8-from_is_utf8, utf8_valid_len-IsUtf8, IsAscii-from_all, All, list_all, enumerate_from, is_utf8, valid_len_up_to, utf8_valid_len, first_line_kept, text_char, hex_digit, joined, line, Word, Line, words, is_comment, is_newline, line_of, significant, significant_of, text_lines, all_joined, nat_tests, ltb-true}
 use Rattle.std.proofs.Common.{flat_map}
 use lib.Utf8.{scalar, scalars, encode, encodes, scalar_cases, next}
 use Rattle.script_text.proofs.Lexing.{spelling, is_byte, is_good, byte_bound, tail_of, joined_words, words_again, below_16}
-use Rattle.list_laws.proofs.Truth.{either}
+use Rattle.script_spelling.proofs.Steps.{by_test, all_more}
 
 -- ---- what holds of each byte
-
-pub all_more : {A : Type 0} (p q : A → Bool) → ((x : A) → p x ≡ true → q x ≡ true) → (xs : List A) → list_all p xs ≡ true → list_all q xs ≡ true
-all_more p q more [] h = refl
-all_more p q more (x ∷ xs) h =
-    let both = and_parts _ _ h in
-    and_from _ _ (more x both.0) (all_more p q more xs both.1)
 
 -- ---- bytes that are printed
 
@@ -153,7 +147,7 @@ valid_lines wss h =
 
 longest_front : (bs : List ℕ) (m : ℕ) → IsUtf8 (take (valid_len_up_to bs m) bs)
 longest_front bs zero = ([], (refl, refl))
-longest_front bs (suc m) = either (λ n. IsUtf8 (take n bs)) (is_utf8 (take (suc m) bs)) (suc m) (valid_len_up_to bs m) (λ yes. IsUtf8-from_is_utf8 _ yes) (λ no. longest_front bs m)
+longest_front bs (suc m) = by_test (λ n. IsUtf8 (take n bs)) (is_utf8 (take (suc m) bs)) (suc m) (valid_len_up_to bs m) (λ yes. IsUtf8-from_is_utf8 _ yes) (λ no. longest_front bs m)
 
 whole_front : (bs : List ℕ) → (utf8_valid_len bs == length bs) ≡ true → IsUtf8 bs
 unfolding utf8_valid_len
@@ -176,7 +170,7 @@ last_byte c h = ⊎_elim (λ a. omega arith) (λ a. let high = a.1 in omega arit
 
 encode_bytes : (c : ℕ) → scalar c ≡ true → list_all is_byte (encode c) ≡ true
 unfolding encode
-encode_bytes c h = grind (arith, nat_tests, is_byte, either, nat_lt, ltb-true, and_from, byte, two, three, last_byte)
+encode_bytes c h = grind (arith, nat_tests, is_byte, by_test, nat_lt, ltb-true, and_from, byte, two, three, last_byte)
 
 encodes_bytes : (cs : List ℕ) → scalars cs ≡ true → list_all is_byte (encodes cs) ≡ true
 encodes_bytes [] h = refl

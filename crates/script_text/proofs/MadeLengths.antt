@@ -1,9 +1,9 @@
 -- How long the text of a made script is, and that words can express it.
-use Rattle.script_text.proofs.Words.{◌≡◌, ◌∙◌, ℕ, zero, suc, ◌+◌, ◌-◌, ◌*◌, ◌^◌, ◌≤◌, ◌<◌, List, [], ◌∷◌, ◌++◌, map, length, Bool, true, not, nat_lt, refl, ap, subst, length-append, arith, codes, decimal, neg_ℤ, ◌<ℤ◌, signed_decimal, enumerate_from, flat_map, list_all, range_with_len, and_from, lt-ltb, ltb-true, length-decimal-le_wide, ints, flat_map-append, list_all-append, length-map-range_with_len, pieces_long, Call, Every, Given, Bput, Bits, Numbers, is_empty, first_row, precip_at, temp_at, call_word, hex, line, call_words, region_words, shown_call, shown_values, is_expressible_call, calls_of_rank, calls_of_record, columns_of, precip_band, region_of_band, temp_band, rank_is, record_is, pieces_pass, range_passes}
+use Rattle.script_text.proofs.Words.{◌≡◌, ◌∙◌, ℕ, zero, suc, ◌+◌, ◌-◌, ◌*◌, ◌^◌, ◌≤◌, ◌<◌, List, [], ◌∷◌, ◌++◌, map, length, Bool, true, not, nat_lt, refl, subst, arith, codes, decimal, neg_ℤ, ◌<ℤ◌, signed_decimal, enumerate_from, flat_map, list_all, range_with_len, and_from, lt-ltb, ltb-true, length-decimal-le_wide, ints, flat_map-append, list_all-append, length-map-range_with_len, pieces_long, Call, Every, Given, Bput, Bits, Numbers, is_empty, first_row, precip_at, temp_at, call_word, hex, line, call_words, region_words, shown_call, shown_values, is_expressible_call, calls_of_rank, calls_of_record, columns_of, precip_band, region_of_band, temp_band, rank_is, record_is, pieces_pass, range_passes}
 use Rattle.script_text.proofs.Numerals.{length-hex}
 use Rattle.std.specs.Prelude.{ℤ, pos, negsuc, unsigned_abs}
-use Rattle.nc_base.specs.declared.request.Call.TheVariants as call
 use Rattle.script_text.proofs.LineLengths.{Between, both_long, line_long, number_long, sizes_long, small_long, words_between, words_joined, words_size}
+use Rattle.nc_base.specs.declared.request.Call.TheVariants as call
 
 -- ---- the values of a rank's rows
 

@@ -1,8 +1,8 @@
 -- What is printed of a made script is read as that script.
 use Rattle.script_text.proofs.Words.{◌≡◌, ℕ, ◌+◌, ◌≤◌, ◌<◌, List, [], ◌∷◌, ◌++◌, map, length, true, false, nat_le, refl, subst, length-append, arith, codes, decimal, digits, enumerate_from, list_all, range_with_len, leb-true, Call, has_whole_attrs, default_hints, made_header, made_script, Reads, most_bytes, most_lines, shown, shown_definitions, shown_hints, line, is_expressible, is_expressible_call, printed_lines, calls_of_rank, made_lawful, script_is, rank_long, range_passes, sum_within}
 use Rattle.script_text.proofs.Expressed.{expressed_again}
-use Rattle.nc_base.specs.declared.script.Script as script_type
 use Rattle.script_text.proofs.MadeLengths.{rank_expressible, ranks_long, ranks_text}
+use Rattle.nc_base.specs.declared.script.Script as script_type
 
 abbrev all_calls : ℕ → ℕ → List (List Call)
 all_calls seed size = map (λ r. calls_of_rank seed size r) (range_with_len 0 8)

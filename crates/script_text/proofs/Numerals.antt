@@ -1,9 +1,8 @@
 -- Numbers, bits, lists and names that are printed are read as themselves, and what is read of them is within its range.
-use Rattle.script_text.proofs.Words.{◌≡◌, ◌∙◌, ℕ, zero, suc, ◌+◌, ◌-◌, ◌*◌, ◌/◌, ◌%◌, ◌^◌, ◌≤◌, ◌<◌, List, [], ◌∷◌, ◌++◌, map, length, get_or, fold, Bool, true, false, not, nat_lt, nat_le, ◌==◌, ◌&&◌, ◌||◌, Option, Some, None, option_map, option_and_then, ℤ, pos, negsuc, neg_ℤ, unsigned_abs, refl, ap, subst, length-append, arith, decimal, signed_decimal, list_all, slice_split, All, and_parts, and_from, ne_eqb, eq-eqb, cond-true, cond-false, le-leb, lt-ltb, not-true, decimal_by_steps_wide, length-decimal-le_wide, common_steps, take_at, get_or_at, fold_push, AllPass-from_list_all, slice_split_at, slice_split_none, digit_bounds, natural_small, no_sum, sixteens-le, sixteens, hex, hex_digit, joined, bracketed, size_list, is_digit, digits_value, natural_of, below, size_of_text, number_of_text, hex_sum, hex_value, bits_of_text, starts_name, in_name, is_name, between_brackets, is_comma, parts, all_some, list_of_text, all_joined, nat_tests}
+use Rattle.script_text.proofs.Words.{◌≡◌, ◌∙◌, ℕ, zero, suc, ◌+◌, ◌-◌, ◌*◌, ◌/◌, ◌%◌, ◌^◌, ◌≤◌, ◌<◌, List, [], ◌∷◌, ◌++◌, map, length, get_or, fold, Bool, true, false, not, nat_lt, nat_le, ◌==◌, ◌&&◌, ◌||◌, Option, Some, None, option_map, option_and_then, ℤ, pos, neg_ℤ, unsigned_abs, refl, ap, length-append, arith, decimal, signed_decimal, list_all, slice_split, All, and_parts, and_from, ne_eqb, eq-eqb, cond-true, cond-false, le-leb, lt-ltb, not-true, decimal_by_steps_wide, length-decimal-le_wide, common_steps, take_at, get_or_at, fold_push, AllPass-from_list_all, slice_split_at, slice_split_none, digit_bounds, no_sum, sixteens-le, sixteens, hex, hex_digit, joined, bracketed, size_list, is_digit, digits_value, natural_of, below, size_of_text, number_of_text, hex_sum, hex_value, bits_of_text, starts_name, in_name, is_name, between_brackets, is_comma, parts, all_some, list_of_text, all_joined, nat_tests}
 use native.Mathlib.Nat.{mul-le-mul_right}
 use Rattle.script_text.proofs.Lexing.{is_graphic, is_plain, hex_again}
-use Rattle.script_text.proofs.Lines.{all_more}
-use Rattle.script_text.proofs.Steps.{decided}
+use Rattle.script_spelling.proofs.Steps.{all_more, decided}
 
 -- ---- digits
 
@@ -57,17 +56,6 @@ pub size_plain : (n : ℕ) → n < 2 ^ 63 → is_plain (decimal n) ≡ true
 size_plain n h = decimal_plain n (omega arith)
 
 -- ---- numbers with a sign
-
-negative_bound : (o : Option ℕ) (z : ℤ) → ((n : ℕ) → o ≡ Some n → n < 10 ^ 20) → option_map (λ n. neg_ℤ (pos n)) o ≡ Some z → unsigned_abs z < 10 ^ 20
-negative_bound o z h e = grind (arith, nat_tests, pos, unsigned_abs, negsuc)
-
-positive_bound : (o : Option ℕ) (z : ℤ) → ((n : ℕ) → o ≡ Some n → n < 10 ^ 20) → option_map (λ n. pos n) o ≡ Some z → unsigned_abs z < 10 ^ 20
-positive_bound None z h e = absurd (cc)
-positive_bound (Some n) z h e = let same : pos n ≡ z = cc in subst (λ (y : ℤ). unsigned_abs y < 10 ^ 20) same (h n refl)
-
-pub number_bound : (w : List ℕ) (z : ℤ) → number_of_text w ≡ Some z → unsigned_abs z < 10 ^ 20
-number_bound [] z h = absurd (cc)
-number_bound (c ∷ cs) z h = decided (c == 45) _ _ _ h (λ i. negative_bound (natural_of cs) z (natural_small cs)) (λ i. positive_bound (natural_of (c ∷ cs)) z (natural_small (c ∷ cs)))
 
 unsigned_number : (ds : List ℕ) → 0 < length ds → list_all is_digit ds ≡ true → number_of_text ds ≡ option_map (λ n. pos n) (natural_of ds)
 unsigned_number ds some h = grind (arith, nat_tests, digit_bounds, and_parts, cond-false, ne_eqb)

@@ -1,15 +1,19 @@
 -- Types and attributes that are printed are read again.
-use Rattle.script_text.proofs.Words.{◌≡◌, ◌∙◌, ℕ, ◌+◌, ◌≤◌, ◌<◌, List, [], ◌∷◌, map, find, length, Bool, true, false, cond, nat_le, Option, Some, None, Ok, ℤ, refl, ap, subst, arith, bytes_eq, list_all, list_any, and_parts, and_from, cond-true, take_at, drop_at, NcType, Attr, Value, Values, Numbers, Text, Bits, Class, class_of, size_of, ext, val, fits, types, number_of, last_type, most_values, count_of, number_in, code_in, gathered, val-ext, ext_long, type_word, pieces, attr_values, shown_values, Word, Plain, is_name, reads_as, name, name_of_text, are_numbers, are_patterns, are_text, values, type_of, Title, same_title, external_bytes, attr_of, attribute_name, attribute, nat_tests}
+use Rattle.script_text.proofs.Words.{◌≡◌, ◌∙◌, ℕ, ◌+◌, ◌≤◌, List, [], ◌∷◌, map, find, length, Bool, true, false, cond, nat_le, Option, Some, None, Ok, ℤ, refl, ap, subst, arith, bytes_eq, list_all, list_any, and_parts, and_from, cond-true, take_at, drop_at, NcType, Attr, Value, Values, Numbers, Text, Bits, Class, class_of, size_of, ext, val, fits, types, number_of, last_type, most_values, count_of, number_in, code_in, gathered, val-ext, ext_long, type_word, pieces, attr_values, shown_values, Word, Plain, is_name, reads_as, name, are_numbers, are_patterns, are_text, values, type_of, Title, same_title, external_bytes, attr_of, attribute, nat_tests, fits_in, sym}
 use Rattle.std.proofs.Common.{flat_map}
+use Rattle.script_spelling.proofs.Steps.{go_on, passed, word_read}
+use Rattle.script_text.proofs.Lexing.{spelling, is_plain, is_good, is_byte}
+use Rattle.script_text.proofs.Numerals.{name_plain}
+use Rattle.script_laws.proofs.Sequences.{is_fit_number, is_fit_pattern}
+use Rattle.script_text.proofs.PrintedValues.{value_tokens, values_spelled, is_read, Fitting, values_again, values_good, are_fit}
+use Rattle.script_spelling.proofs.WordsRead.{name_again}
 use Rattle.nc_base.specs.declared.errors.ScriptKind.TheVariants as kind
 use Rattle.nc_base.specs.declared.request.Value.TheVariants as value
 use Rattle.serial_spec.specs.ExternalForm as class
-use Rattle.script_text.proofs.Steps.{go_on, same_ok, passed, read_word, word_read, step_then, free_then}
-use Rattle.script_text.proofs.Lexing.{spelling, is_plain, is_good, is_byte}
-use Rattle.script_text.proofs.Numerals.{name_plain}
-use Rattle.script_text.proofs.Sequences.{is_fit_number, is_fit_pattern}
-use Rattle.script_text.proofs.PrintedValues.{value_tokens, values_spelled, is_read, Fitting, values_fit, values_again, values_good}
-use Rattle.script_text.proofs.PrintedRegions.{kept, name_read, name_again}
+use Rattle.script_spelling.proofs.Rooms.{HasRoom}
+use Rattle.script_spelling.proofs.LinesRead.{attr_said}
+use Rattle.script_laws.proofs.StepLaws.{if_read}
+use Rattle.script_laws.proofs.DimLaws.{NewAttr, attribute_read}
 
 -- ---- types
 
@@ -30,9 +34,6 @@ type_told version t h = ap (type_by version) (find_type t) ∙ cond-true _ _ _ h
 
 pub type_again : (version : ℕ) (w : List ℕ) (t : NcType) → type_of version w ≡ Some t → type_of version (type_word t) ≡ Some t
 type_again version w t h = type_told version t (type_known version (find (λ s. bytes_eq w (type_word s)) types) t h)
-
-pub type_read : (version : ℕ) (ws : List Word) (r : NcType × List Word) → reads_as (type_of version) kind.UnknownWord ws ≡ Ok r → type_of version (type_word r.0) ≡ Some r.0
-type_read version ws r h = let w = read_word (type_of version) kind.UnknownWord ws r h in type_again version w.0 r.0 w.1
 
 pub type_word_again : (version : ℕ) (t : NcType) (more : List Word) → type_of version (type_word t) ≡ Some t → reads_as (type_of version) kind.UnknownWord (Plain (type_word t) ∷ more) ≡ Ok (t, more)
 type_word_again version t more h = word_read (type_of version) kind.UnknownWord (type_word t) t more h
@@ -92,22 +93,29 @@ nothing_shown n t class.Text e = record {
   );
 }
 
-some_numbers : (z : ℤ) (zs : List ℤ) → 0 < length (z ∷ zs)
-some_numbers z zs = omega arith
+class_numbers : (c : Class) (size : ℕ) (z : ℤ) → fits_in c size (value.Number z) ≡ true → are_numbers c ≡ true
+class_numbers c size z h = grind (arith, nat_tests)
+
+class_patterns : (c : Class) (size n : ℕ) → fits_in c size (value.Bits n) ≡ true → are_patterns c ≡ true
+class_patterns c size n h = grind (arith, nat_tests)
 
 numbers_shown : (n : List ℕ) (t : NcType) (before : ℕ) (zs : List ℤ) → Fitting (Some t) before (Numbers zs) → AttrShown n t (Numbers zs)
 numbers_shown n t before [] fit = nothing_shown n t (class_of t) refl
 numbers_shown n t before (z ∷ zs) fit =
     let os = seen t (length (z ∷ zs)) (external_bytes t (Numbers (z ∷ zs))) in
-    let same : os ≡ map (λ y. Some (value.Number y)) (z ∷ zs) = seen_again t (λ y. value.Number y) (is_fit_number (Some t)) (λ y h. (and_parts _ _ h).1) (z ∷ zs) fit.are.0 in
+    let same : os ≡ map (λ y. Some (value.Number y)) (z ∷ zs) = seen_again t (λ y. value.Number y) (is_fit_number (Some t)) (λ y h. (and_parts _ _ h).1) (z ∷ zs) fit.are in
+    let numbers = class_numbers (class_of t) (size_of t) z (and_parts _ _ (and_parts (is_fit_number (Some t) z) _ fit.are).0).1 in
     as_they_are n t before (Numbers (z ∷ zs))
-    (gathered_numbers (class_of t) os (fit.are.1 (some_numbers z zs)) ∙ ap (λ (ys : List ℤ). Numbers ys) (ap (map number_in) same ∙ each_back number_in (λ y. Some (value.Number y)) (λ y. refl) (z ∷ zs))) fit
+    (gathered_numbers (class_of t) os numbers ∙ ap (λ (ys : List ℤ). Numbers ys) (ap (map number_in) same ∙ each_back number_in (λ y. Some (value.Number y)) (λ y. refl) (z ∷ zs))) fit
 
 bits_shown : (n : List ℕ) (t : NcType) (before : ℕ) (ns : List ℕ) → Fitting (Some t) before (Bits ns) → AttrShown n t (Bits ns)
-bits_shown n t before ns fit =
+bits_shown n t before [] fit = absurd (omega (arith, fit.are.1))
+bits_shown n t before (x ∷ xs) fit =
+    let ns = x ∷ xs in
     let os = seen t (length ns) (external_bytes t (Bits ns)) in
     let same : os ≡ map (λ y. Some (value.Bits y)) ns = seen_again t (λ y. value.Bits y) (is_fit_pattern (Some t)) (λ y h. (and_parts _ _ h).1) ns fit.are.0 in
-    as_they_are n t before (Bits ns) (gathered_bits (class_of t) os fit.are.2 ∙ ap (λ (ys : List ℕ). Bits ys) (ap (map code_in) same ∙ each_back code_in (λ y. Some (value.Bits y)) (λ y. refl) ns)) fit
+    let patterns = class_patterns (class_of t) (size_of t) x (and_parts _ _ (and_parts (is_fit_pattern (Some t) x) _ fit.are.0).0).1 in
+    as_they_are n t before (Bits ns) (gathered_bits (class_of t) os patterns ∙ ap (λ (ys : List ℕ). Bits ys) (ap (map code_in) same ∙ each_back code_in (λ y. Some (value.Bits y)) (λ y. refl) ns)) fit
 
 char_fits : (t : NcType) → are_text (class_of t) ≡ true → (c : ℕ) → is_byte c ≡ true → fits t (value.Char c) ≡ true
 char_fits t h c b = grind (arith, nat_tests)
@@ -155,18 +163,14 @@ attr_same version n t vs hn ht hv =
           grind (arith, nat_tests, go_on, name_again n (Plain (type_word t) ∷ rest) hn, passed, fresh, typed, r.1, r.2);
     }
 
-attribute_name_read : (titles : List Title) (owner : List ℕ) (ws : List Word) (n : List ℕ × List Word) → list_all is_read ws ≡ true → attribute_name titles owner ws ≡ Ok n
-    → (is_name n.0 ≡ true) × (list_any (same_title (owner, n.0)) titles ≡ false) × (list_all is_read n.1 ≡ true)
-attribute_name_read titles owner ws n read h =
-    step_then (name ws) _ n h (λ m is h. free_then _ _ _ n h (λ fresh h.
-    subst (λ (x : List ℕ × List Word). (is_name x.0 ≡ true) × (list_any (same_title (owner, x.0)) titles ≡ false) × (list_all is_read x.1 ≡ true)) (same_ok m n h)
-    (name_read ws m is, fresh, kept name_of_text kind.BadName ws m is read)))
-
 pub attr_read : (version : ℕ) (titles : List Title) (before : ℕ) (owner : List ℕ) (ws : List Word) (a : Attr)
     → before ≤ most_values → list_all is_read ws ≡ true → attribute version titles before owner ws ≡ Ok a → AttrRead version titles before owner a
 attr_read version titles before owner ws a low read h =
-    step_then (attribute_name titles owner ws) _ a h (λ n new h. step_then (reads_as (type_of version) kind.UnknownWord n.1) _ a h (λ t typed h. step_then (values (Some t.0) before t.1) _ a h (λ vs spelt h.
-    let m = attribute_name_read titles owner ws n read new in
-    let fit = values_fit (Some t.0) before t.1 vs low (kept (type_of version) kind.UnknownWord n.1 t typed m.2) spelt in
-    subst (AttrRead version titles before owner) (same_ok (attr_of n.0 t.0 vs) a h)
-    (record { same = attr_same version n.0 t.0 vs m.0 (type_read version n.1 t typed) (values_shown n.0 t.0 before vs fit); fresh = m.1; few = fit.room.all }))))
+    let said = attr_said version titles before owner ws a h in
+    let new = if_read (attribute version titles before owner ws) (NewAttr version before) a h (attribute_read version titles before owner ws low) in
+    let x = said.says None tt in
+    let given : list_all is_read x.1 ≡ true = subst (λ (xs : List Word). list_all is_read xs ≡ true) x.3 read in
+    let count : a.count ≡ count_of x.2 = ap (λ (y : Attr). y.count) x.8 in
+    let room : HasRoom (Some a.kind) before (count_of x.2) = record { all = omega (arith, new.few, count); own = λ none. absurd (cc) } in
+    let shown = values_shown a.name a.kind before x.2 (record { are = are_fit (Some a.kind) x.1 x.2 x.7 given; room = room }) in
+    record { same = subst (AttrAgain version) (sym x.8) (attr_same version a.name a.kind x.2 x.5 (type_again version x.0 a.kind x.6) shown); fresh = said.fresh; few = new.few }

@@ -1,14 +1,13 @@
 -- Hints, dimensions and variables that are printed are read again.
-use Rattle.script_text.proofs.Words.{◌≡◌, ◌⊎◌, ◌∙◌, ℕ, ◌%◌, ◌^◌, ◌<◌, List, [], ◌∷◌, length, Bool, true, false, not, cond, nat_le, ◌==◌, ◌&&◌, ◌||◌, Option, Some, None, Ok, refl, sym, ap, subst, inl, inr, arith, bytes_eq, codes, decimal, list_all, list_any, and_parts, and_from, cond-true, cond-false, NcType, Dim, most_dims, most_vars, record_limit, type_word, bracketed, Word, Plain, is_name, size_of_text, between_brackets, parts, reads_as, HintForm, Within, Either, number_within, ranks_line, type_of, is_among, length_of_text, is_unlimited, dim_names, dim_line, var_head, name_list, size_read, nat_tests}
-use borrow.Author.Tests.{leb-true, not-false}
-use Rattle.nc_base.specs.declared.errors.ScriptKind.TheVariants as kind
-use Rattle.script_text.proofs.Steps.{go_on, same_ok, passed, word_read, step_then, free_then, word_then, end_then}
+use Rattle.script_text.proofs.Words.{◌≡◌, ◌⊎◌, ◌∙◌, ℕ, ◌%◌, ◌^◌, ◌<◌, List, [], ◌∷◌, length, Bool, true, false, not, cond, nat_le, ◌==◌, ◌&&◌, ◌||◌, Option, Some, None, Ok, refl, sym, ap, subst, inl, inr, arith, bytes_eq, codes, decimal, list_all, list_any, and_parts, and_from, cond-true, cond-false, NcType, Dim, most_dims, most_vars, record_limit, type_word, bracketed, Word, Plain, is_name, size_of_text, HintForm, Within, Either, number_within, ranks_line, type_of, is_among, length_of_text, is_unlimited, dim_names, dim_line, var_head, name_list, size_read, nat_tests, lt-leb}
+use borrow.Author.Tests.{leb-true}
+use Rattle.script_spelling.proofs.Steps.{go_on, passed, word_read, all_more}
 use Rattle.script_text.proofs.Lexing.{is_plain, is_good}
-use Rattle.script_text.proofs.Lines.{all_more}
 use Rattle.script_text.proofs.Numerals.{below_bound, below_again, size_again, size_plain, decimal_word, brackets_again, parts_again, bracketed_plain, is_item, name_item, name_plain}
 use Rattle.script_text.proofs.PrintedValues.{not_letters}
-use Rattle.script_text.proofs.PrintedRegions.{name_again, name_then}
-use Rattle.script_text.proofs.PrintedAttributes.{type_read}
+use Rattle.script_spelling.proofs.WordsRead.{name_again}
+use Rattle.script_spelling.proofs.LinesRead.{dim_said, head_said, names_said}
+use Rattle.script_text.proofs.PrintedAttributes.{type_again}
 
 -- ---- hints
 
@@ -70,9 +69,8 @@ dim_told version dims n len named fresh room hl one = grind (arith, nat_tests, a
 
 pub dim_read : (version : ℕ) (dims : List Dim) (ws : List Word) (d : Dim) → dim_line version dims ws ≡ Ok d → DimAgain version dims d
 dim_read version dims ws d h =
-    name_then ws _ d h (λ n named _ h. free_then _ _ _ d h (λ fresh h. free_then _ _ _ d h (λ room h.
-    word_then (length_of_text version) _ n.1 _ d h (λ len w told h. free_then _ _ _ d h (λ one h. end_then len.1 _ d h (λ none h.
-    subst (DimAgain version dims) (same_ok (record { name = n.0; len = len.0 }) d h) (dim_told version dims n.0 len.0 named fresh room (length_again version w len.0 told) one)))))))
+    let said = dim_said version dims ws d h in
+    dim_told version dims d.name d.len said.0.2 said.1.0 (lt-leb most_dims (length dims) said.1.1) (length_again version said.0.0 d.len said.0.3) said.1.2
 
 -- ---- what begins a variable
 
@@ -84,18 +82,15 @@ pub record HeadAgain (version : ℕ) (names : List (List ℕ)) (t : NcType) (n :
 
 pub head_read : (version : ℕ) (names : List (List ℕ)) (ws : List Word) (r : (NcType × List ℕ) × List Word) → var_head version names ws ≡ Ok r → HeadAgain version names r.0.0 r.0.1
 head_read version names ws r h =
-    step_then (reads_as (type_of version) kind.UnknownWord ws) _ r h (λ t typed h. name_then t.1 _ r h (λ n named _ h. free_then _ _ _ r h (λ fresh h. free_then _ _ _ r h (λ room h.
-    subst (λ (x : (NcType × List ℕ) × List Word). HeadAgain version names x.0.0 x.0.1) (same_ok ((t.0, n.0), n.1) r h)
-    (record { known = type_read version ws t typed; named = named; fresh = fresh; room = room })))))
+    let said = head_said version names ws r h in
+    record { known = type_again version said.word r.0.0 said.kind; named = said.named; fresh = said.fresh; room = lt-leb most_vars (length names) said.room }
 
 pub head_again : (version : ℕ) (names : List (List ℕ)) (t : NcType) (n : List ℕ) (more : List Word) → HeadAgain version names t n
     → var_head version names (Plain (type_word t) ∷ Plain n ∷ more) ≡ Ok ((t, n), more)
 head_again version names t n more h = grind (arith, nat_tests)
 
 pub names_read : (ws : List Word) (r : List (List ℕ) × List Word) → name_list ws ≡ Ok r → list_all is_name r.0 ≡ true
-names_read ws r h =
-    word_then between_brackets _ ws _ r h (λ b w told h. free_then _ _ _ r h (λ all h.
-    subst (λ (x : List (List ℕ) × List Word). list_all is_name x.0 ≡ true) (same_ok (parts b.0, b.1) r h) (not-false _ all)))
+names_read ws r h = (names_said ws r h).named
 
 pub names_plain : (ns : List (List ℕ)) → list_all is_name ns ≡ true → is_plain (bracketed ns) ≡ true
 names_plain ns h = bracketed_plain ns (all_more is_name is_item name_item ns h)

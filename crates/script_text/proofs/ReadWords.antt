@@ -5,7 +5,7 @@ use Rattle.script_text.proofs.Lexing.{is_byte}
 use Rattle.script_text.proofs.Numerals.{hex_value_bound}
 use Rattle.script_text.proofs.PrintedValues.{is_read}
 use Rattle.script_text.proofs.CallLines.{are_read}
-use Rattle.script_text.proofs.Steps.{either, maybe}
+use Rattle.script_spelling.proofs.Steps.{either, maybe}
 
 abbrev are_bytes : List ℕ → Bool
 are_bytes cs = list_all is_byte cs

@@ -1,21 +1,23 @@
 -- A whole script: what is printed of what was read is read as the same script.
-use Rattle.script_text.proofs.Words.{◌≡◌, ◌∙◌, ℕ, zero, suc, ◌+◌, ◌^◌, ◌≤◌, ◌<◌, List, [], ◌∷◌, ◌++◌, map, replicate, length, Bool, true, false, cond, nat_lt, ◌==◌, Option, Some, None, Result, Ok, Err, refl, sym, ap, subst, arith, codes, decimal, list_all, utf8_valid_len, and_parts, and_from, or_cases, cond-true, ne_eqb, eqb-true, finished, ScriptKind, ScriptErr, Hints, Extra, Script, Call, is_version, kinds, most_values, shown, Word, Plain, Line, text_lines, significant, ◌>>=◌, Within, hints_of, Defined, no_definition, Added, nothing_added, Known, nothing_known, ranks_line, mismatch, at_line, version_of_text, head, definitions, data_part, finish, script_of, no_calls, script_of_lines, most_bytes, most_lines, Reads, length-map, all_joined, nat_tests}
+use Rattle.script_text.proofs.Words.{◌≡◌, ◌∙◌, ℕ, zero, suc, ◌+◌, ◌^◌, ◌≤◌, ◌<◌, List, [], ◌∷◌, ◌++◌, map, replicate, length, Bool, true, false, cond, ◌==◌, Option, Some, None, Result, Ok, refl, sym, ap, subst, arith, codes, decimal, list_all, and_parts, and_from, or_cases, cond-true, ne_eqb, eqb-true, finished, ScriptErr, Hints, Extra, Script, Call, is_version, kinds, most_values, shown, Word, Plain, Line, text_lines, significant, ◌>>=◌, Within, hints_of, Defined, no_definition, Added, nothing_added, Known, nothing_known, ranks_line, mismatch, at_line, version_of_text, head, definitions, data_part, finish, script_of, no_calls, script_of_lines, most_bytes, most_lines, Reads, length-map, all_joined, nat_tests}
 use Rattle.std.proofs.Common.{flat_map}
 use Rattle.serial_spec.proofs.Common.{IsLawful, lawful_parts}
 use Rattle.script_laws.proofs.LawfulLaws.{read_lawful}
-use borrow.Author.Tests.{le-ltb, ltb-false}
-use Rattle.script_text.proofs.Steps.{go_on, same_ok, word_read, step_then}
+use Rattle.script_spelling.proofs.Steps.{go_on, same_ok, word_read, step_then}
 use Rattle.script_text.proofs.Lines.{is_line, spelled, body, numbered, lead_on, lead_lines, lines_again, significant_lines, valid_lines, valid_bytes}
 use Rattle.script_text.proofs.Numerals.{size_again, size_plain}
 use Rattle.script_text.proofs.PrintedDefinitions.{is_value_of, ranks_again, within_plain}
-use Rattle.script_text.proofs.CallLines.{are_named, count_all, Holds, DataEnd, are_read, data_holds, call_lines, Calls, all_calls_run, data_again, line_ok}
-use Rattle.script_text.proofs.AddedLines.{Leads, Runs, run_again, Replay, replay_runs, extra_line}
+use Rattle.script_text.proofs.CallLines.{DataEnd, are_read, call_lines, data_again, calls_named, end_from}
+use Rattle.script_spelling.proofs.CallCounts.{line_ok, all_counted, is_text, text_again}
+use Rattle.script_spelling.proofs.Leading.{Leads}
+use Rattle.script_text.proofs.AddedLines.{Runs, run_again, Replay, replay_runs, extra_line}
 use Rattle.script_text.proofs.DefinedChains.{DefinedOk}
 use Rattle.script_text.proofs.DefinedLines.{at_state, define_on, told_again, nothing_but, definitions_run}
-use Rattle.script_text.proofs.ExpressedCalls.{chains_told}
 use Rattle.script_text.proofs.ReadWords.{significant_read}
 use Rattle.script_text.proofs.KnownLines.{hint_tokens, all_given, hints_again, HintsFit, ranks_told, hints_told, with_hints, hints_run, What, nothing_ok, definitions_read}
 use Rattle.script_text.proofs.ScriptLines.{ranks_words, fill_lines, before_data, from_data, head_words, all_lines, script_with, all_spelled}
+use Rattle.script_spelling.proofs.CallLinesTold.{LawfulCalls}
+use Rattle.script_laws.proofs.CalledLaws.{values_held}
 
 -- ---- what is known at `data` is known again
 
@@ -108,20 +110,6 @@ head_again b past version wss script e h = grind (arith, nat_tests, numbered, de
 
 -- ---- the script again
 
-none_named : (n : ℕ) → are_named (replicate n []) ≡ true
-none_named zero = refl
-none_named (suc n) = none_named n
-
-pub count_empty : (n : ℕ) → count_all (replicate n []) ≡ 0
-count_empty zero = refl
-count_empty (suc n) = omega (arith, count_empty n)
-
-none_called : (n : ℕ) (k : Known) → k.values ≤ most_values → Holds k.values (no_calls n k)
-none_called n k few = record { named = none_named n; counted = omega (arith, count_empty n); few = few }
-
-abbrev pub finish_by : ℕ → Option ScriptKind → Result (Unit {0}) ScriptErr
-finish_by n o = elim o [ None ↦ Ok tt | Some e ↦ Err (record { line = n; kind = e }) ]
-
 abbrev ranked : ℕ → ℕ → ℕ → Known → List Line → Option ℕ → Result (ℕ × (Known × List Line)) ScriptErr
 ranked past version m k lines o =
     definitions past version (record k { ranks = o }) (record { number = m; first = Plain (codes "data"); rest = [] } ∷ lines)
@@ -136,39 +124,38 @@ pub record Whole (script : Script) : Type 0 where
   pub text : flat_map spelled drafted ≡ shown script
   pub again : (past : ℕ) → script_of_lines past (numbered 1 drafted) ≡ Ok script
 
-told_again_after : (past version n values : ℕ) (h : Hints) (es : List Extra) (d : Defined) (calls : List (List Call)) → n ≤ 64 → KnownAgain version n h es d values → DataEnd n values calls
+told_again_after : (past version n values : ℕ) (h : Hints) (es : List Extra) (d : Defined) (calls : List (List Call)) → KnownAgain version n h es d values → DataEnd n values calls
     → mismatch (map (λ own. kinds own) calls) ≡ None → told_after past version (numbered 2 (before_data n h es d ++ from_data calls)) ≡ Ok (script_with version n h d es calls)
-told_again_after past version n values h es d calls small again end agree =
+told_again_after past version n values h es d calls again end agree =
     let m = 2 + length (before_data n h es d) in
     let k = again.last in
     let k2 : Known = record k { ranks = Some n } in
     let lines = numbered (m + 1) (call_lines 0 calls ++ (Plain (codes "end") ∷ []) ∷ []) in
     let defined : definitions past version nothing_known (numbered 2 (before_data n h es d ++ from_data calls)) ≡ Ok (n, (k2, lines)) =
     run_again past version 2 m nothing_known k (before_data n h es d) (from_data calls) refl again.run ∙ at_data past version m n k lines again.ranks in
-    let final = data_again n past (m + 1) values calls small end in
-    let called : data_part past (no_calls n k2) lines ≡ Ok (final.0, (record { calls = calls; values = values + count_all calls }, [])) =
-    ap (λ (v : ℕ). data_part past (record { calls = replicate n []; values = v }) lines) again.counted ∙ final.1 in
+    let final = data_again past (m + 1) n values calls end in
+    let called : data_part past (no_calls n k2) lines ≡ Ok (final.last, (record { calls = calls; values = final.values }, [])) =
+    ap (λ (v : ℕ). data_part past (record { calls = replicate n []; values = v }) lines) again.counted ∙ final.read in
     let same : script_of version n k2 calls ≡ script_with version n h d es calls = again.same calls in
     grind (arith, nat_tests, defined, called, agree, same, go_on)
 
-pub whole_from : (version n values : ℕ) (h : Hints) (es : List Extra) (d : Defined) (calls : List (List Call)) → HeadIs version → n ≤ 64 → KnownAgain version n h es d values → DataEnd n values calls
+pub whole_from : (version n values : ℕ) (h : Hints) (es : List Extra) (d : Defined) (calls : List (List Call)) → HeadIs version → KnownAgain version n h es d values → DataEnd n values calls
     → mismatch (map (λ own. kinds own) calls) ≡ None → Whole (script_with version n h d es calls)
-whole_from version n values h es d calls first small again end agree =
+whole_from version n values h es d calls first again end agree =
     let before = lead_lines (Leads version) nothing_known again.last (before_data n h es d) again.run in
-    let call_text = lead_lines Calls _ _ (call_lines 0 calls) (all_calls_run n values calls small end) in
     record {
       drafted = all_lines first.existing version n h es d calls;
       lines = and_from _ _ (head_is_line first.existing version first.told)
-          (all_joined is_line (before_data n h es d) (from_data calls) before (all_joined is_line (call_lines 0 calls) ((Plain (codes "end") ∷ []) ∷ []) call_text refl));
+          (all_joined is_line (before_data n h es d) (from_data calls) before (all_joined is_line (call_lines 0 calls) ((Plain (codes "end") ∷ []) ∷ []) end.shown.0 refl));
       text = all_spelled first.existing version n h es d calls first.test;
       again = λ past. head_again first.existing past version (before_data n h es d ++ from_data calls) (script_with version n h d es calls) first.told
-          (told_again_after past version n values h es d calls small again end agree);
+          (told_again_after past version n values h es d calls again end agree);
     }
 
-pub from_drafted : (version n values : ℕ) (h : Hints) (es : List Extra) (d : Defined) (calls : List (List Call)) (first : HeadIs version) (small : n ≤ 64) (again : KnownAgain version n h es d values) (end : DataEnd n values calls)
-    (agree : mismatch (map (λ own. kinds own) calls) ≡ None) → (whole_from version n values h es d calls first small again end agree).drafted ≡ all_lines first.existing version n h es d calls
+pub from_drafted : (version n values : ℕ) (h : Hints) (es : List Extra) (d : Defined) (calls : List (List Call)) (first : HeadIs version) (again : KnownAgain version n h es d values) (end : DataEnd n values calls)
+    (agree : mismatch (map (λ own. kinds own) calls) ≡ None) → (whole_from version n values h es d calls first again end agree).drafted ≡ all_lines first.existing version n h es d calls
 unfolding whole_from
-from_drafted version n values h es d calls first small again end agree = refl
+from_drafted version n values h es d calls first again end agree = refl
 
 -- the mode of the script decides what its definitions are
 known_again : (b : Bool) (version n : ℕ) (h : Hints) (k : Known) → (version == 0) ≡ b → is_value_of (Within 1 64 1) n ≡ true → HintsFit h → k.values ≤ most_values → What b version k.defined k.added k.values → KnownAgain version n h k.added.extras k.defined k.values
@@ -187,27 +174,15 @@ whole_read past (l ∷ lines) script lawful read h =
     let law = subst IsLawful (sym same) lawful in
     let first = head_read l.first l.rest version (line_ok l.number (head l.first l.rest) version heads) in
     let known = definitions_read past version lines nothing_known d (and_parts _ _ read).1 (nothing_ok version) told in
-    let holds = data_holds k.values past d.1.1 (no_calls n k) c (none_called n k known.known.few) known.read called in
-    let end : DataEnd n k.values calls = record { long = law.one_list_each; chains = chains_told n 0 calls law.each_call holds.named law.ids_once; few = omega (arith, holds.counted, holds.few) } in
+    let named = calls_named past n k d.1.1 c known.read called in
+    let held = values_held past n k d.1.1 c known.known.few called in
+    let all : LawfulCalls n k.values calls = record { each = law.each_call; ids = law.ids_once; few = omega (arith, held, all_counted calls) } in
+    let end = end_from n k.values calls law.one_list_each law.few_ranks all named in
     let again = known_again (version == 0) version n (hints_of n k.hints) k refl (ranks_told n law.some_rank law.few_ranks) (hints_told (hints_of n k.hints) law.hints) known.known.few known.known.what in
     subst Whole same
-    (whole_from version n k.values (hints_of n k.hints) k.added.extras k.defined calls first law.few_ranks again end (finished c.0 calls c.1.1 f ends))))))
+    (whole_from version n k.values (hints_of n k.hints) k.added.extras k.defined calls first again end (finished c.0 calls c.1.1 f ends))))))
 
 -- ---- a whole text
-
--- a text that is read
-pub record IsText (text : List ℕ) (script : Script) : Type 0 where
-  pub short : length text ≤ most_bytes
-  pub few : length (text_lines text) ≤ most_lines
-  pub valid : (utf8_valid_len text == length text) ≡ true
-  pub told : script_of_lines (length (text_lines text) + 1) (significant text) ≡ Ok script
-
-pub is_text : (text : List ℕ) (script : Script) → Reads text script → IsText text script
-is_text text script h = grind (arith, nat_tests, nat_lt, ltb-false)
-
-pub text_again : (text : List ℕ) (script : Script) → length text ≤ most_bytes → (utf8_valid_len text == length text) ≡ true → length (text_lines text) ≤ most_lines
-    → script_of_lines (length (text_lines text) + 1) (significant text) ≡ Ok script → Reads text script
-text_again text script short valid few told = grind (arith, nat_tests, le-ltb)
 
 -- the text of a script that is read from its lines is read as it
 pub whole_again : (script : Script) → Whole script → length (shown script) ≤ most_bytes → length (text_lines (shown script)) ≤ most_lines → Reads (shown script) script

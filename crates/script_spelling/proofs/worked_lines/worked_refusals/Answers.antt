@@ -1,6 +1,6 @@
 use Rattle.script_spelling.proofs.Words.{refl}
-use Rattle.nc_base.specs.declared.errors.ScriptKind.TheVariants as kind
 use Rattle.script_spelling.proofs.Told.{unread}
+use Rattle.nc_base.specs.declared.errors.ScriptKind.TheVariants as kind
 use Rattle.script_spelling.proofs.worked_lines.worked_refusals.Goals as goal
 
 pub returns-clause-rank : goal.returns-clause-rank

@@ -1,4 +1,5 @@
-use Rattle.script_spelling.proofs.Words.{refl, eq-eqb, leb-true, text_again}
+use Rattle.script_spelling.proofs.Words.{refl, eq-eqb, leb-true}
+use Rattle.script_spelling.proofs.CallCounts.{text_again}
 use Rattle.script_spelling.proofs.Spelled.{read_spelled}
 use Rattle.script_spelling.proofs.worked_lines.worked_text.Goals as goal
 

@@ -1,7 +1,7 @@
 -- The text that is printed of a made script.
 use Rattle.script_text.proofs.Words.{◌≡◌, ◌≤◌, ℕ, List, IfOk, Result, Ok, Err, subst, sym, made_script, Reads, shown}
-use Rattle.nc_base.specs.declared.script.Script as script_type
 use Rattle.script_text.proofs.MadeText.{made_read}
+use Rattle.nc_base.specs.declared.script.Script as script_type
 use Rattle.script_text.proofs.made.made_text.Goals as goal
 
 read_again : {E : Type 0} (seed size : ℕ) (r : Result (List ℕ) E) → IfOk r (λ text. text ≡ shown (made_script seed size)) → IfOk r (λ text. size ≤ 40 → Reads text (made_script seed size))

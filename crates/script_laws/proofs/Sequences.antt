@@ -1,5 +1,7 @@
 -- The terms of a sequence lie between its first and its last, so that what holds of these two holds of them.
-use Rattle.script_text.proofs.Words.{◌≡◌, ◌∙◌, ℕ, zero, suc, ◌+◌, ◌-◌, ◌*◌, ◌^◌, ◌≤◌, ◌<◌, length, Bool, true, nat_lt, ◌==◌, ◌&&◌, Option, ℤ, pos, negsuc, neg_ℤ, ◌+ℤ◌, ◌*ℤ◌, unsigned_abs, refl, ⊎_elim, arith, list_all, range_with_len, and_from, or_cases, common_steps, ints, list_all-map, length-map-range_with_len, NcType, may_have, sequence, last_number, is_term, pattern_sequence, last_pattern, is_pattern_term, nat_tests}
+use Rattle.script_laws.proofs.Words.{◌≡◌, ◌∙◌, ℕ, zero, suc, ◌+◌, ◌*◌, ◌^◌, ◌≤◌, ◌<◌, Bool, true, nat_lt, ◌==◌, ◌&&◌, Option, ℤ, pos, negsuc, neg_ℤ, ◌+ℤ◌, ◌*ℤ◌, unsigned_abs, refl, arith, list_all, range_with_len, and_from, ints, NcType, sequence, last_number, is_term, last_pattern, is_pattern_term, nat_tests}
+use Rattle.list_laws.proofs.Std.{◌-◌, ⊎_elim, or_cases, common_steps, list_all-map}
+use Rattle.script_spec.proofs.Common.{may_have, pattern_sequence}
 use lib.Signed.{◌≤ℤ◌}
 use native.Mathlib.Nat.{mul-le-mul_left}
 use Rattle.nc_base.specs.declared.request.Value.TheVariants as value
@@ -50,9 +52,6 @@ numbers_fit t a b (suc n) first last = list_all-map (is_fit_number t) (λ k. a +
     fit_term : (t : Option NcType) (n : ℕ) (z : ℤ) → is_term t (suc n) z ≡ true → is_fit_number t z ≡ true
     fit_term t n z h = ⊎_elim (λ (e : (suc n == 0) ≡ true). absurd (grind (arith, common_steps))) (λ (f : is_fit_number t z ≡ true). f) (or_cases (suc n == 0) (is_fit_number t z) h)
 
-pub length-sequence : (a b : ℤ) (n : ℕ) → length (sequence a b n) ≡ n
-length-sequence a b n = length-map-range_with_len (λ k. a +ℤ (b *ℤ pos k)) 0 n
-
 -- ---- terms of a sequence of bits
 
 bits_fit : (t : Option NcType) (m n : ℕ) → m ≤ n → is_fit_pattern t n ≡ true → is_fit_pattern t m ≡ true
@@ -66,6 +65,3 @@ patterns_fit t a b (suc n) last = list_all-map (is_fit_pattern t) (λ k. a + b *
   where
     fit_term : (x : ℕ) → is_pattern_term t (suc n) x ≡ true → is_fit_pattern t x ≡ true
     fit_term x h = ⊎_elim (λ (e : (suc n == 0) ≡ true). absurd (grind (arith, common_steps))) (λ (f : is_fit_pattern t x ≡ true). f) (or_cases (suc n == 0) (is_fit_pattern t x) h)
-
-pub length-pattern_sequence : (a b n : ℕ) → length (pattern_sequence a b n) ≡ n
-length-pattern_sequence a b n = length-map-range_with_len (λ k. a + b * k) 0 n

@@ -1,5 +1,15 @@
 -- Steps from word to word, forwards and backwards.
-use Rattle.script_text.proofs.Words.{◌≡◌, ◌∙◌, ℕ, List, [], ◌∷◌, Bool, true, false, Option, Some, None, Result, Ok, Err, refl, ap, faultless_some, ScriptKind, Word, Plain, ◌>>=◌, refuse_if, or_fault, reads_as, ended, whole, arith, nat_tests, cond}
+use Rattle.script_spelling.proofs.Words.{◌≡◌, ◌∙◌, ℕ, List, [], ◌∷◌, Bool, true, false, Option, Some, None, Result, Ok, Err, refl, ap, faultless_some, ScriptKind, Word, Plain, ◌>>=◌, refuse_if, or_fault, reads_as, ended, whole, arith, nat_tests, cond, not, and_parts, and_from, list_all, is_empty, words}
+
+pub all_more : {A : Type 0} (p q : A → Bool) → ((x : A) → p x ≡ true → q x ≡ true) → (xs : List A) → list_all p xs ≡ true → list_all q xs ≡ true
+all_more p q more [] h = refl
+all_more p q more (x ∷ xs) h =
+    let both = and_parts _ _ h in
+    and_from _ _ (more x both.0) (all_more p q more xs both.1)
+
+pub empty_list : {A : Type 0} (xs : List A) → is_empty xs ≡ true → xs ≡ []
+empty_list [] h = refl
+empty_list (x ∷ xs) h = absurd (cc)
 
 -- ---- what a step that gave something says of its parts
 
@@ -21,10 +31,6 @@ ok_or d (Err e) = d
 
 pub same_ok : {A E : Type 0} (x y : A) → ◌≡◌ {A = Result A E} (Ok x) (Ok y) → x ≡ y
 same_ok x y h = ap (ok_or x) h
-
-pub not_refused : (b : Bool) (e : ScriptKind) (u : Unit {0}) → refuse_if b e ≡ Ok u → b ≡ false
-not_refused false e u h = refl
-not_refused true e u h = absurd (cc)
 
 pub passed : (b : Bool) (e : ScriptKind) → b ≡ false → refuse_if b e ≡ Ok tt
 passed false e h = refl
@@ -69,10 +75,6 @@ free_then true e f y h k = absurd (cc)
 pub end_then : {B P : Type 0} (ws : List Word) (f : Unit {0} → Result B ScriptKind) (y : B) → (ended ws >>= f) ≡ Ok y → (ws ≡ [] → f tt ≡ Ok y → P) → P
 end_then ws f y h k = step_then (ended ws) f y h (λ u is. k (is_end ws u is))
 
-pub word_then : {A B P : Type 0} (g : List ℕ → Option A) (e : ScriptKind) (ws : List Word) (f : A × List Word → Result B ScriptKind) (y : B) → (reads_as g e ws >>= f) ≡ Ok y
-    → ((r : A × List Word) (w : List ℕ) → g w ≡ Some r.0 → f r ≡ Ok y → P) → P
-word_then g e ws f y h k = step_then (reads_as g e ws) f y h (λ r is. let w = read_word g e ws r is in k r w.0 w.1)
-
 -- ---- a step by cases, as a step that goes on
 
 abbrev pub carry : {A B E : Type 0} → Result A E → (A → Result B E) → Result B E
@@ -107,6 +109,10 @@ either P false x y h k = k
 pub maybe : {A B : Type 0} (P : B → Type 0) (o : Option A) (x : B) (f : A → B) → P x → ((a : A) → o ≡ Some a → P (f a)) → P (elim o as (λ t. B) [ None ↦ x | Some a ↦ f a ])
 maybe P None x f h k = h
 maybe P (Some a) x f h k = k a refl
+
+pub by_test : {A : Type 0} (P : A → Type 0) (b : Bool) (x y : A) → (b ≡ true → P x) → (b ≡ false → P y) → P (cond b x y)
+by_test P true x y h k = h refl
+by_test P false x y h k = k refl
 
 -- ---- what comes of two tests, one after the other
 

@@ -1,0 +1,76 @@
+-- The calls of ranks: how many values they have, and ids that differ; a text by its lines.
+use Rattle.script_spelling.proofs.Words.{◌≡◌, ◌∙◌, ℕ, zero, suc, ◌+◌, ◌≤◌, ◌<◌, List, [], ◌∷◌, ◌++◌, map, length, replicate, Bool, true, false, not, nat_lt, slice_set, Result, Ok, Err, refl, ap, arith, and_parts, ScriptKind, ScriptErr, Call, values_in_call, Line, Called, calls_of, at_line, data_part, nat_tests, sum, ◌==◌, ◌||◌, None, sym, list_any, or_parts, or_from, not-true, filter_map-append, list_any-append, sum_by-cons, are_different, posted_ids, posted, is_posted, Option, Some, utf8_valid_len, Script, text_lines, significant, script_of_lines, most_bytes, most_lines, Reads}
+use borrow.Author.Tests.{le-ltb, ltb-false}
+use Rattle.script_spelling.proofs.Steps.{same_ok}
+use Rattle.nc_base.specs.declared.request.Call.TheVariants as call
+
+abbrev pub count : List Call → ℕ
+count [] = 0
+count (c ∷ cs) = values_in_call c + count cs
+
+abbrev pub count_all : List (List Call) → ℕ
+count_all [] = 0
+count_all (own ∷ more) = count own + count_all more
+
+count-call : (cs : List Call) (c : Call) → count (cs ++ c ∷ []) ≡ count cs + values_in_call c
+count-call [] c = omega arith
+count-call (x ∷ cs) c = omega (arith, count-call cs c)
+
+pub count_set : (calls : List (List Call)) (r : ℕ) (c : Call) → r < length calls → count_all (slice_set calls r (calls_of r calls ++ c ∷ [])) ≡ count_all calls + values_in_call c
+count_set [] r c low = absurd (omega arith)
+count_set (own ∷ more) zero c low = omega (arith, count-call own c)
+count_set (own ∷ more) (suc r) c low = omega (arith, count_set more r c (omega arith))
+
+pub line_ok : {A : Type 0} (n : ℕ) (r : Result A ScriptKind) (x : A) → at_line n r ≡ Ok x → r ≡ Ok x
+line_ok n (Ok y) x h = ap (λ z. Ok z) (same_ok y x h)
+line_ok n (Err e) x h = absurd (cc)
+
+abbrev pub data_by : ℕ → Line → List Line → Result (Bool × Called) ScriptErr → Result (ℕ × (Called × List Line)) ScriptErr
+data_by past l lines r = elim r [ Err e ↦ Err e | Ok s ↦ elim s.0 [ true ↦ Ok (l.number, (s.1, lines)) | false ↦ data_part past s.1 lines ] ]
+
+-- the id of a post is none that its rank has posted
+abbrev pub NewId : List Call → Call → Type 0
+NewId own (call.Post id k n g vs) = is_posted id (posted own) ≡ false
+NewId own _ = Unit {0}
+
+pub apart : (ids more : List ℕ) (id : ℕ) → are_different (ids ++ id ∷ more) ≡ true → is_posted id ids ≡ false
+apart [] more id h = refl
+apart (n ∷ ids) more id h =
+    let both = and_parts (not (list_any (λ m. m == n) (ids ++ id ∷ more))) (are_different (ids ++ id ∷ more)) h in
+    let none = sym (list_any-append (λ m. m == n) ids (id ∷ more)) ∙ not-true _ both.0 in
+    let behind = (or_parts (list_any (λ m. m == n) ids) ((id == n) || list_any (λ m. m == n) more) none).1 in
+    or_from _ _ (or_parts (id == n) (list_any (λ m. m == n) more) behind).0 (apart ids more id both.1)
+
+pub new_id : (own cs : List Call) (c : Call) → are_different (posted_ids (own ++ c ∷ cs)) ≡ true → NewId own c
+new_id own cs c h = grind (arith, nat_tests, apart, filter_map-append)
+
+pub counted : (cs : List Call) → count cs ≡ sum (map values_in_call cs)
+counted [] = refl
+counted (c ∷ cs) = let first = sum_by-cons (λ n. n) (values_in_call c) (map values_in_call cs) in omega (arith, first, counted cs)
+
+pub all_counted : (calls : List (List Call)) → count_all calls ≡ sum (map (λ own. sum (map values_in_call own)) calls)
+all_counted [] = refl
+all_counted (own ∷ more) =
+    let first = sum_by-cons (λ n. n) (sum (map values_in_call own)) (map (λ cs. sum (map values_in_call cs)) more) in
+    omega (arith, first, counted own, all_counted more)
+
+pub count_empty : (n : ℕ) → count_all (replicate n []) ≡ 0
+count_empty zero = refl
+count_empty (suc n) = omega (arith, count_empty n)
+
+abbrev pub finish_by : ℕ → Option ScriptKind → Result (Unit {0}) ScriptErr
+finish_by n o = elim o [ None ↦ Ok tt | Some e ↦ Err (record { line = n; kind = e }) ]
+
+-- a text that is read
+pub record IsText (text : List ℕ) (script : Script) : Type 0 where
+  pub short : length text ≤ most_bytes
+  pub few : length (text_lines text) ≤ most_lines
+  pub valid : (utf8_valid_len text == length text) ≡ true
+  pub told : script_of_lines (length (text_lines text) + 1) (significant text) ≡ Ok script
+
+pub is_text : (text : List ℕ) (script : Script) → Reads text script → IsText text script
+is_text text script h = grind (arith, nat_tests, nat_lt, ltb-false)
+
+pub text_again : (text : List ℕ) (script : Script) → length text ≤ most_bytes → (utf8_valid_len text == length text) ≡ true → length (text_lines text) ≤ most_lines
+    → script_of_lines (length (text_lines text) + 1) (significant text) ≡ Ok script → Reads text script
+text_again text script short valid few told = grind (arith, nat_tests, le-ltb)

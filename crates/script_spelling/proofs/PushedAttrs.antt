@@ -1,0 +1,50 @@
+-- One attribute more of a variable, and how many values attributes have.
+use Rattle.script_spelling.proofs.Words.{◌≡◌, ℕ, zero, suc, ◌+◌, List, [], ◌∷◌, ◌++◌, position, true, false, Some, slice_get, slice_set, refl, sym, ap, subst, ⊎_elim, arith, bytes_eq, Attr, Var, var_names, attribute, with_attr_at, nat_tests}
+use Rattle.script_spelling.proofs.Places.{bytes_same, Later, place_cases}
+
+-- one attribute more of the variable at this place
+abbrev pub with_own : Attr → Var → Var
+with_own a v = record v { attrs = v.attrs ++ a ∷ [] }
+
+abbrev pub push_attr : ℕ → Attr → List Var → List Var
+push_attr k a [] = []
+push_attr zero a (v ∷ vs) = with_own a v ∷ vs
+push_attr (suc k) a (v ∷ vs) = v ∷ push_attr k a vs
+
+pub pushes : (k : ℕ) (a : Attr) (vs : List Var) → with_attr_at k a vs ≡ push_attr k a vs
+pushes k a [] = refl
+pushes zero a (v ∷ vs) = refl
+pushes (suc k) a (v ∷ vs) = grind (arith, nat_tests, pushes k a vs, slice_get, slice_set)
+
+abbrev pub NameAt : List Var → ℕ → List ℕ → Type 0
+NameAt [] k n = ⊥
+NameAt (v ∷ vs) zero n = n ≡ v.name
+NameAt (v ∷ vs) (suc k) n = NameAt vs k n
+
+pub found_name : (n : List ℕ) (vs : List Var) (k : ℕ) → position (bytes_eq n) (var_names vs) ≡ Some k → NameAt vs k n
+found_name n [] k h = absurd (cc)
+found_name n (v ∷ vs) k h = ⊎_elim
+    (λ (a : (bytes_eq n v.name ≡ true) × (k ≡ 0)). subst (λ j. NameAt (v ∷ vs) j n) (sym a.1) (bytes_same n v.name a.0))
+    (λ (b : (bytes_eq n v.name ≡ false) × Later (bytes_eq n) (var_names vs) k). subst (λ j. NameAt (v ∷ vs) j n) (sym b.1.next) (found_name n vs b.1.before b.1.found))
+    (place_cases (bytes_eq n) v.name (var_names vs) k h)
+
+abbrev pub count_attrs : List Attr → ℕ
+count_attrs [] = 0
+count_attrs (a ∷ list) = a.count + count_attrs list
+
+abbrev pub count_own : List Var → ℕ
+count_own [] = 0
+count_own (v ∷ vs) = count_attrs v.attrs + count_own vs
+
+pub count-attr : (list : List Attr) (a : Attr) → count_attrs (list ++ a ∷ []) ≡ count_attrs list + a.count
+count-attr [] a = omega arith
+count-attr (x ∷ list) a = omega (arith, count-attr list a)
+
+pub count-var : (vs : List Var) (v : Var) → v.attrs ≡ [] → count_own (vs ++ v ∷ []) ≡ count_own vs
+count-var [] v none = omega (arith, ap count_attrs none)
+count-var (x ∷ vs) v none = omega (arith, count-var vs v none)
+
+pub count-pushed : (k : ℕ) (n : List ℕ) (a : Attr) (vs : List Var) → NameAt vs k n → count_own (push_attr k a vs) ≡ count_own vs + a.count
+count-pushed k n a [] at = absurd at
+count-pushed zero n a (v ∷ vs) at = omega (arith, count-attr v.attrs a)
+count-pushed (suc k) n a (v ∷ vs) at = omega (arith, count-pushed k n a vs at)
