@@ -59,15 +59,15 @@ pub collected_read : (held : Option (List ℕ)) (base : ℕ) (buf : List ℕ) (l
 collected_read held base buf lo n list old now h e g = grind (arith, nat_tests, buffer_cells)
 
 -- blobs that were filled up to a window, and from it
-pub got_more : (held here : Option (List ℕ)) (base there n : ℕ) (list left : List Owned) (place size : ℕ) (w : Window) (served : List Owned) (stop : ℕ)
-    (old mid now : List (List ℕ)) → here ≡ held → there ≡ base → LieOn base n list → HaveOnePlace list → FitBlobs old list → IsPast place list left
-    → IsNext left place size w served stop → IfSome held (λ file. HasGotPart (0, place) base file list old mid)
-    → IfSome here (λ file. HasGotPart (w.hull.at, w.hull.at + w.hull.len) there file served mid now) → IfSome held (λ file. HasGotPart (0, stop) base file list old now)
-got_more None here base there n list left place size w served stop old mid now same begin on once fit p k got read = tt
-got_more (Some file) here base there n list left place size w served stop old mid now same begin on once fit p k got read =
-    got_step base file list left place size w served stop old mid now (λ o m. (on o m).0) once fit p k got
-    (subst (λ (b : ℕ). HasGotPart (w.hull.at, w.hull.at + w.hull.len) b file served mid now) begin
-    (subst (λ (m : Option (List ℕ)). IfSome m (λ file. HasGotPart (w.hull.at, w.hull.at + w.hull.len) there file served mid now)) same read))
+module _ {left : List Owned} {place size : ℕ} {w : Window} {served : List Owned} {stop : ℕ} (k : IsNext left place size w served stop) where
+  pub got_more : (held here : Option (List ℕ)) (base there n : ℕ) (list : List Owned) (old mid now : List (List ℕ)) → here ≡ held → there ≡ base → LieOn base n list → HaveOnePlace list
+      → FitBlobs old list → IsPast place list left → IfSome held (λ file. HasGotPart (0, place) base file list old mid)
+      → IfSome here (λ file. HasGotPart (w.hull.at, w.hull.at + w.hull.len) there file served mid now) → IfSome held (λ file. HasGotPart (0, stop) base file list old now)
+  got_more None here base there n list old mid now same begin on once fit p got read = tt
+  got_more (Some file) here base there n list old mid now same begin on once fit p got read =
+      got_step base file list (λ o m. (on o m).0) p k old mid now once fit got
+      (subst (λ (b : ℕ). HasGotPart (w.hull.at, w.hull.at + w.hull.len) b file served mid now) begin
+      (subst (λ (m : Option (List ℕ)). IfSome m (λ file. HasGotPart (w.hull.at, w.hull.at + w.hull.len) there file served mid now)) same read))
 
 pub got_all : (held : Option (List ℕ)) (base : ℕ) (list left : List Owned) (place : ℕ) (old now : List (List ℕ)) → left ≡ [] → IsPast place list left
     → IfSome held (λ file. HasGotPart (0, place) base file list old now) → IfSome held (λ file. HasGot base file list old now)

@@ -1,5 +1,5 @@
 -- Entries that are read window by window, each into its blob: before the first window, one window more, after the last.
-use Rattle.data_sieving.proofs.Words.{◌≡◌, ℕ, ◌+◌, ◌<◌, ◌≤◌, inl, inr, sym, ◌∙◌, ap, subst, List, [], ◌++◌, length, None, arith, fold-append, cases_lt, some_or_none, ◌⊎◌, ◌==◌, in_filter, filter_in, equal_true, Owned, Window, written, said_at, said_by, Says, IsOneValued, write_cells, In, same_said, said_is, said_in_any_order, append_within, said_by_joined, says_left, says_right, says_cases, in_either, of_slot, HasGot, FitBlobs, HaveOnePlace, got_cells, blob_at, places_of, IsCovered, IsPast, IsNext, HasGotPart, past_covered, past_all, past_kept, parts_got, IsRead, got_says, says_got, read_as, read_once, parts_within, whole_parts, nat_tests}
+use Rattle.data_sieving.proofs.Words.{◌≡◌, ℕ, ◌+◌, ◌<◌, ◌≤◌, inl, inr, sym, ◌∙◌, ap, subst, List, [], ◌++◌, length, None, arith, fold-append, cases_lt, some_or_none, ◌⊎◌, ◌==◌, in_filter, filter_in, equal_true, Owned, Window, written, said_at, said_by, Says, IsOneValued, Cell, write_cells, In, same_said, said_is, said_in_any_order, append_within, said_by_joined, says_left, says_right, says_cases, in_either, of_slot, HasGot, FitBlobs, HaveOnePlace, got_cells, blob_at, places_of, IsCovered, IsPast, IsNext, HasGotPart, past_covered, past_all, past_kept, parts_got, IsRead, got_says, says_got, read_as, read_once, parts_within, whole_parts, nat_tests}
 use borrow.Author.Tests.{eqb-true}
 use Rattle.data_sieving.proofs.ReachSteps.{served_in}
 
@@ -11,101 +11,78 @@ in_slot k list o m = let r = filter_in (λ (q : Owned). q.slot == k) list o m in
 pub slot_in : (k : ℕ) (list : List Owned) (o : Owned) → In list o → o.slot ≡ k → In (of_slot k list) o
 slot_in k list o m e = in_filter (λ (q : Owned). q.slot == k) list o m (equal_true o.slot k e)
 
--- ---- one window more
-
-slot_said : (base : ℕ) (file : List ℕ) (k : ℕ) (list left : List Owned) (place size : ℕ) (w : Window) (served : List Owned) (stop y : ℕ)
-    → ((o : Owned) → In list o → base ≤ o.extent.at) → IsOneValued (places_of (of_slot k list)) → IsPast place list left → IsNext left place size w served stop
-    → said_at (said_by (parts_got base file 0 stop (of_slot k list))) y
-    ≡ said_at (said_by (parts_got base file 0 place (of_slot k list) ++ parts_got base file w.hull.at (w.hull.at + w.hull.len) (of_slot k served))) y
-slot_said base file k list left place size w served stop y on once p n =
-    said_in_any_order (said_by (parts_got base file 0 stop (of_slot k list)))
-    (said_by (parts_got base file 0 place (of_slot k list) ++ parts_got base file w.hull.at (w.hull.at + w.hull.len) (of_slot k served)))
-    (read_once base file 0 stop (of_slot k list) slot_on once) there back y
-  where
-    slot_on : (o : Owned) → In (of_slot k list) o → base ≤ o.extent.at
-    slot_on o m = on o (in_slot k list o m).0
-
-    served_on : (o : Owned) → In (of_slot k served) o → base ≤ o.extent.at
-    served_on o m = on o (served_in place stop list left served o p n.front (in_slot k served o m).0)
-
-    joined : said_by (parts_got base file 0 place (of_slot k list) ++ parts_got base file w.hull.at (w.hull.at + w.hull.len) (of_slot k served))
-        ≡ said_by (parts_got base file 0 place (of_slot k list)) ++ said_by (parts_got base file w.hull.at (w.hull.at + w.hull.len) (of_slot k served))
-    joined = said_by_joined (parts_got base file 0 place (of_slot k list)) (parts_got base file w.hull.at (w.hull.at + w.hull.len) (of_slot k served))
-
-    is_served : (r : Owned) (x : ℕ) → In list r → place ≤ x → x < stop → r.extent.at ≤ x → x < r.extent.at + r.extent.len → In served r
-    is_served r x m l h b e =
-        grind (arith, nat_tests, in_either served n.front.rest r, n.front.joined, past_kept place list left r p m, n.front.later r)
-
-    in_window : (x v : ℕ) (r : IsRead base file 0 stop (of_slot k list) x v) → place ≤ r.place → IsRead base file w.hull.at (w.hull.at + w.hull.len) (of_slot k served) x v
-    in_window x v r l =
-        let m = in_slot k list r.by r.inside in
-        let b = is_served r.by r.place m.0 l r.high r.begin r.end in
-        let c : IsCovered list r.place = record { by = r.by; inside = m.0; low = r.begin; high = r.end } in
-        let d : IsCovered served r.place = record { by = r.by; inside = b; low = r.begin; high = r.end } in
-        read_as base file 0 stop w.hull.at (w.hull.at + w.hull.len) (of_slot k list) (of_slot k served) x v r
-        (n.least r.place (past_covered place list left r.place p l c) l) (n.hull.each r.place d r.high) (slot_in k served r.by b m.1)
-
-    earlier : (x v : ℕ) (r : IsRead base file 0 stop (of_slot k list) x v) → r.place < place → IsRead base file 0 place (of_slot k list) x v
-    earlier x v r l = read_as base file 0 stop 0 place (of_slot k list) (of_slot k list) x v r (omega arith) l r.inside
-
-    there_by : (x v : ℕ) (r : IsRead base file 0 stop (of_slot k list) x v) → (r.place < place) ⊎ (place ≤ r.place)
-        → Says (said_by (parts_got base file 0 place (of_slot k list)) ++ said_by (parts_got base file w.hull.at (w.hull.at + w.hull.len) (of_slot k served))) x v
-    there_by x v r (inl e) =
-        says_left (said_by (parts_got base file 0 place (of_slot k list))) (said_by (parts_got base file w.hull.at (w.hull.at + w.hull.len) (of_slot k served))) x v
-        (says_got base file 0 place (of_slot k list) x v slot_on (earlier x v r e))
-    there_by x v r (inr e) =
-        says_right (said_by (parts_got base file 0 place (of_slot k list))) (said_by (parts_got base file w.hull.at (w.hull.at + w.hull.len) (of_slot k served))) x v
-        (says_got base file w.hull.at (w.hull.at + w.hull.len) (of_slot k served) x v served_on (in_window x v r e))
-
-    there : (x v : ℕ) → Says (said_by (parts_got base file 0 stop (of_slot k list))) x v
-        → Says (said_by (parts_got base file 0 place (of_slot k list) ++ parts_got base file w.hull.at (w.hull.at + w.hull.len) (of_slot k served))) x v
-    there x v h =
-        let r = got_says base file 0 stop (of_slot k list) x v slot_on h in
-        subst (λ ps. Says ps x v) (sym joined) (there_by x v r (cases_lt r.place place))
-
-    back : (x v : ℕ) → Says (said_by (parts_got base file 0 place (of_slot k list) ++ parts_got base file w.hull.at (w.hull.at + w.hull.len) (of_slot k served))) x v
-        → Says (said_by (parts_got base file 0 stop (of_slot k list))) x v
-    back x v h =
-        elim (says_cases (said_by (parts_got base file 0 place (of_slot k list))) (said_by (parts_got base file w.hull.at (w.hull.at + w.hull.len) (of_slot k served))) x v
-        (subst (λ ps. Says ps x v) joined h)) [
-          | inl g ↦ says_got base file 0 stop (of_slot k list) x v slot_on (grown (got_says base file 0 place (of_slot k list) x v slot_on g))
-          | inr g ↦ says_got base file 0 stop (of_slot k list) x v slot_on
-              (widened (got_says base file w.hull.at (w.hull.at + w.hull.len) (of_slot k served) x v served_on g))
-        ]
-      where
-        low : place ≤ w.hull.at
-        low = n.from
-
-        grown : IsRead base file 0 place (of_slot k list) x v → IsRead base file 0 stop (of_slot k list) x v
-        grown r = let l = r.high in read_as base file 0 place 0 stop (of_slot k list) (of_slot k list) x v r (omega arith) (omega arith) r.inside
-
-        widened : IsRead base file w.hull.at (w.hull.at + w.hull.len) (of_slot k served) x v → IsRead base file 0 stop (of_slot k list) x v
-        widened r =
-            let l = r.high in
-            let m = in_slot k served r.by r.inside in
-            read_as base file w.hull.at (w.hull.at + w.hull.len) 0 stop (of_slot k served) (of_slot k list) x v r (omega arith) (omega arith)
-            (slot_in k list r.by (served_in place stop list left served r.by p n.front m.0) m.1)
-
 fit_slot : (k : ℕ) (blobs : List (List ℕ)) (list : List Owned) → FitBlobs blobs list → (o : Owned) → In (of_slot k list) o → o.from + o.extent.len ≤ length (blob_at blobs k)
 fit_slot k blobs list fit o m = grind (arith, nat_tests, in_slot)
 
--- blobs with what lies below a place
-pub got_step : (base : ℕ) (file : List ℕ) (list left : List Owned) (place size : ℕ) (w : Window) (served : List Owned) (stop : ℕ) (old mid now : List (List ℕ))
-    → ((o : Owned) → In list o → base ≤ o.extent.at) → HaveOnePlace list → FitBlobs old list → IsPast place list left → IsNext left place size w served stop
-    → HasGotPart (0, place) base file list old mid → HasGotPart (w.hull.at, w.hull.at + w.hull.len) base file served mid now → HasGotPart (0, stop) base file list old now
-got_step base file list left place size w served stop old mid now on once fit p n g h k =
-    h k
-    ∙ ap (λ (b : List ℕ). write_cells b (parts_got base file w.hull.at (w.hull.at + w.hull.len) (of_slot k served))) (g k)
-    ∙ sym (fold-append (λ f cell. written f cell.0 cell.1) (blob_at old k) (parts_got base file 0 place (of_slot k list))
-    (parts_got base file w.hull.at (w.hull.at + w.hull.len) (of_slot k served)))
-    ∙ same_said (parts_got base file 0 place (of_slot k list) ++ parts_got base file w.hull.at (w.hull.at + w.hull.len) (of_slot k served))
-    (parts_got base file 0 stop (of_slot k list)) (blob_at old k)
-    (append_within (parts_got base file 0 place (of_slot k list)) (parts_got base file w.hull.at (w.hull.at + w.hull.len) (of_slot k served)) (length (blob_at old k))
-    (parts_within base file 0 place (length (blob_at old k)) (of_slot k list) (fit_slot k old list fit))
-    (parts_within base file w.hull.at (w.hull.at + w.hull.len) (length (blob_at old k)) (of_slot k served)
-    (λ o m. let r = in_slot k served o m in fit_slot k old list fit o (slot_in k list o (served_in place stop list left served o p n.front r.0) r.1))))
-    (parts_within base file 0 stop (length (blob_at old k)) (of_slot k list) (fit_slot k old list fit))
-    (λ y. sym (slot_said base file k list left place size w served stop y on (once k) p n))
+-- ---- one window more
+
+module _ (base : ℕ) (file : List ℕ) (list : List Owned) {left : List Owned} {place size : ℕ} {w : Window} {served : List Owned} {stop : ℕ} (on : (o : Owned) → In list o → base ≤ o.extent.at)
+    (p : IsPast place list left) (n : IsNext left place size w served stop) where
+  -- what is read of the entries of a slot up to a place, and in the window
+  abbrev upto : ℕ → ℕ → List Cell
+  upto to k = parts_got base file 0 to (of_slot k list)
+
+  abbrev here : ℕ → List Cell
+  here k = parts_got base file w.hull.at (w.hull.at + w.hull.len) (of_slot k served)
+
+  slot_on : (k : ℕ) (o : Owned) → In (of_slot k list) o → base ≤ o.extent.at
+  slot_on k o m = on o (in_slot k list o m).0
+
+  served_slot : (k : ℕ) (o : Owned) → In (of_slot k served) o → In (of_slot k list) o
+  served_slot k o m = let r = in_slot k served o m in slot_in k list o (served_in place stop list left served o p n.front r.0) r.1
+
+  is_served : (r : Owned) (x : ℕ) → In list r → place ≤ x → x < stop → r.extent.at ≤ x → x < r.extent.at + r.extent.len → In served r
+  is_served r x m l h b e = grind (arith, nat_tests, in_either served n.front.rest r, n.front.joined, past_kept place list left r p m, n.front.later r)
+
+  in_window : (k x v : ℕ) (r : IsRead base file 0 stop (of_slot k list) x v) → place ≤ r.place → IsRead base file w.hull.at (w.hull.at + w.hull.len) (of_slot k served) x v
+  in_window k x v r l =
+      let m = in_slot k list r.by r.inside in
+      let b = is_served r.by r.place m.0 l r.high r.begin r.end in
+      let c : IsCovered list r.place = record { by = r.by; inside = m.0; low = r.begin; high = r.end } in
+      let d : IsCovered served r.place = record { by = r.by; inside = b; low = r.begin; high = r.end } in
+      read_as base file 0 stop w.hull.at (w.hull.at + w.hull.len) (of_slot k list) (of_slot k served) x v r
+      (n.least r.place (past_covered place list left r.place p l c) l) (n.hull.each r.place d r.high) (slot_in k served r.by b m.1)
+
+  slot_said : (k y : ℕ) → IsOneValued (places_of (of_slot k list)) → said_at (said_by (upto stop k)) y ≡ said_at (said_by (upto place k ++ here k)) y
+  slot_said k y once = said_in_any_order (said_by (upto stop k)) (said_by (upto place k ++ here k)) (read_once base file 0 stop (of_slot k list) (slot_on k) once) there back y
+    where
+      joined : said_by (upto place k ++ here k) ≡ said_by (upto place k) ++ said_by (here k)
+      joined = said_by_joined (upto place k) (here k)
+
+      there : (x v : ℕ) → Says (said_by (upto stop k)) x v → Says (said_by (upto place k ++ here k)) x v
+      there x v h =
+          let r = got_says base file 0 stop (of_slot k list) x v (slot_on k) h in
+          subst (λ ps. Says ps x v) (sym joined) (elim (cases_lt r.place place) [
+            | inl e ↦ says_left (said_by (upto place k)) (said_by (here k)) x v (says_got base file 0 place (of_slot k list) x v (slot_on k)
+                (read_as base file 0 stop 0 place (of_slot k list) (of_slot k list) x v r (omega arith) e r.inside))
+            | inr e ↦ says_right (said_by (upto place k)) (said_by (here k)) x v
+                (says_got base file w.hull.at (w.hull.at + w.hull.len) (of_slot k served) x v (λ o m. slot_on k o (served_slot k o m)) (in_window k x v r e))
+          ])
+
+      back : (x v : ℕ) → Says (said_by (upto place k ++ here k)) x v → Says (said_by (upto stop k)) x v
+      back x v h =
+          let low = n.from in
+          let some = n.hull.some in
+          let short = n.hull.short in
+          says_got base file 0 stop (of_slot k list) x v (slot_on k) (elim (says_cases (said_by (upto place k)) (said_by (here k)) x v (subst (λ ps. Says ps x v) joined h)) [
+            | inl g ↦ (let r = got_says base file 0 place (of_slot k list) x v (slot_on k) g in let l = r.high in
+                read_as base file 0 place 0 stop (of_slot k list) (of_slot k list) x v r (omega arith) (omega arith) r.inside)
+            | inr g ↦ (let r = got_says base file w.hull.at (w.hull.at + w.hull.len) (of_slot k served) x v (λ o m. slot_on k o (served_slot k o m)) g in let l = r.high in
+                read_as base file w.hull.at (w.hull.at + w.hull.len) 0 stop (of_slot k served) (of_slot k list) x v r (omega arith) (omega arith) (served_slot k r.by r.inside))
+          ])
+
+  -- blobs with what lies below a place
+  pub got_step : (old mid now : List (List ℕ)) → HaveOnePlace list → FitBlobs old list → HasGotPart (0, place) base file list old mid
+      → HasGotPart (w.hull.at, w.hull.at + w.hull.len) base file served mid now → HasGotPart (0, stop) base file list old now
+  got_step old mid now once fit g h k =
+      h k
+      ∙ ap (λ (b : List ℕ). write_cells b (here k)) (g k)
+      ∙ sym (fold-append (λ f cell. written f cell.0 cell.1) (blob_at old k) (upto place k) (here k))
+      ∙ same_said (upto place k ++ here k) (upto stop k) (blob_at old k)
+      (append_within (upto place k) (here k) (length (blob_at old k)) (parts_within base file 0 place (length (blob_at old k)) (of_slot k list) (fit_slot k old list fit))
+      (parts_within base file w.hull.at (w.hull.at + w.hull.len) (length (blob_at old k)) (of_slot k served) (λ o m. fit_slot k old list fit o (served_slot k o m))))
+      (parts_within base file 0 stop (length (blob_at old k)) (of_slot k list) (fit_slot k old list fit))
+      (λ y. sym (slot_said k y (once k)))
 
 -- ---- before the first window, and after the last
 

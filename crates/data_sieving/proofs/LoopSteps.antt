@@ -22,19 +22,18 @@ pub calls_begin : (f : List ℕ → List DiskCall) (size : ℕ) (list : List Own
 calls_begin f size list old =
     none_done (flat_map f (entry_windows size list)) (flat_map f (windows_from size 0 list)) old (ap (λ (ws : List (List ℕ)). flat_map f ws) (all_windows size list))
 
-pub calls_more : (calls : ℕ × ℕ × Bool → List DiskCall) (list left : List Owned) (place size : ℕ) (w : Window) (served : List Owned) (stop : ℕ) (plan : List DiskCall) (old mid now : Option (List DiskCall))
-    → IsPast place list left → AreLeft left place size → IsNext left place size w served stop → now ≡ with_end mid (calls (told_window w))
-    → HasDone plan (flat_map (λ ws. calls (told_of ws)) (windows_from size place list)) old mid → HasDone plan (flat_map (λ ws. calls (told_of ws)) (windows_from size stop list)) old now
-calls_more calls list left place size w served stop plan old mid now p l n e h =
-    grind (arith, nat_tests, window_bytes left place size w, windows_next list left place size w served stop p l n, next_told left place size w served stop l n, done_more)
+module _ {left : List Owned} {place size : ℕ} {w : Window} {served : List Owned} {stop : ℕ} (list : List Owned) (p : IsPast place list left) (l : AreLeft left place size)
+    (n : IsNext left place size w served stop) where
+  pub calls_more : (calls : ℕ × ℕ × Bool → List DiskCall) (plan : List DiskCall) (old mid now : Option (List DiskCall)) → now ≡ with_end mid (calls (told_window w))
+      → HasDone plan (flat_map (λ ws. calls (told_of ws)) (windows_from size place list)) old mid → HasDone plan (flat_map (λ ws. calls (told_of ws)) (windows_from size stop list)) old now
+  calls_more calls plan old mid now e h = grind (arith, nat_tests, window_bytes left place size w, windows_next list l n p, next_told l n, done_more)
 
-pub stores_begun : (list left : List Owned) (place size : ℕ) (w : Window) (served : List Owned) (stop : ℕ) (plan : List DiskCall) (old mid now : Option (List DiskCall))
-    → IsPast place list left → AreLeft left place size → IsNext left place size w served stop → IsBegun (store_calls (told_window w)) mid now
-    → HasDone plan (flat_map overlays (windows_from size place list)) old mid → IsBegun plan old now
-stores_begun list left place size w served stop plan old mid now p l n b h =
-    done_begun plan (store_calls (told_window w)) (flat_map overlays (windows_from size stop list)) old mid now
-    (subst (λ (c : List DiskCall). HasDone plan (c ++ flat_map overlays (windows_from size stop list)) old mid) (ap store_calls (next_told left place size w served stop l n))
-    (subst (λ (ws : List (List ℕ)). HasDone plan (flat_map overlays ws) old mid) (windows_next list left place size w served stop p l n) h)) b
+  pub stores_begun : (plan : List DiskCall) (old mid now : Option (List DiskCall)) → IsBegun (store_calls (told_window w)) mid now
+      → HasDone plan (flat_map overlays (windows_from size place list)) old mid → IsBegun plan old now
+  stores_begun plan old mid now b h =
+      done_begun plan (store_calls (told_window w)) (flat_map overlays (windows_from size stop list)) old mid now
+      (subst (λ (c : List DiskCall). HasDone plan (c ++ flat_map overlays (windows_from size stop list)) old mid) (ap store_calls (next_told l n))
+      (subst (λ (ws : List (List ℕ)). HasDone plan (flat_map overlays ws) old mid) (windows_next list l n p) h)) b
 
 pub calls_end : (f : List ℕ → List DiskCall) (size place : ℕ) (list left : List Owned) (plan : List DiskCall) (old now : Option (List DiskCall)) → left ≡ []
     → IsPast place list left → HasDone plan (flat_map f (windows_from size place list)) old now → now ≡ with_end old plan
@@ -54,33 +53,29 @@ pub put_begin : (held : Option (List ℕ)) (posts : List Post) (list : List Owne
 put_begin None posts list base n told on = refl
 put_begin (Some file) posts list base n told on = ap Some (to_begin base n (put_cells posts list) file (are_cells posts list base n on) told)
 
-pub put_more : (held mid now : Option (List ℕ)) (posts : List Post) (list left : List Owned) (place size : ℕ) (w : Window) (served : List Owned) (stop base here n : ℕ)
-    → IfSome held (λ b. length b ≡ n) → LieOn base n list → here ≡ base → IsPast place list left → IsNext left place size w served stop
-    → mid ≡ after (λ file. file_to base place (put_cells posts list) file) held
-    → now ≡ after (λ file. write_cells file (moved_down here (clips w.hull.at (w.hull.at + w.hull.len) (put_cells posts served)))) mid
-    → now ≡ after (λ file. file_to base stop (put_cells posts list) file) held
-put_more None mid now posts list left place size w served stop base here n told on same p k e f =
-    f ∙ ap (λ (m : Option (List ℕ)). after (λ file. write_cells file (moved_down here (clips w.hull.at (w.hull.at + w.hull.len) (put_cells posts served)))) m) e
-put_more (Some old) mid now posts list left place size w served stop base here n told on same p k e f =
-    f ∙ (λ i. after (λ file. write_cells file (moved_down (same i) (clips w.hull.at (w.hull.at + w.hull.len) (put_cells posts served)))) (e i))
-    ∙ ap Some (file_step (source_of posts) list left place size w served stop base n old p k (are_cells posts list base n on)
-    (hull_low list left place size w served stop base n on p k) (hull_high list left place size w served stop base n on p k) told)
+module _ (posts : List Post) (list : List Owned) {left : List Owned} {place size : ℕ} {w : Window} {served : List Owned} {stop : ℕ} (base here n : ℕ) (on : LieOn base n list) (same : here ≡ base)
+    (p : IsPast place list left) (k : IsNext left place size w served stop) where
+  abbrev pub over : ℕ → List ℕ → List ℕ
+  over from file = write_cells file (moved_down from (clips w.hull.at (w.hull.at + w.hull.len) (put_cells posts served)))
 
-pub put_refused : (held mid now : Option (List ℕ)) (posts : List Post) (list left : List Owned) (place size : ℕ) (w : Window) (served : List Owned) (stop base here n : ℕ)
-    → IfSome held (λ b. length b ≡ n) → LieOn base n list → here ≡ base → IsPast place list left → IsNext left place size w served stop
-    → mid ≡ after (λ file. file_to base place (put_cells posts list) file) held
-    → BothTold (λ old left. IsBetween old (write_cells old (moved_down here (clips w.hull.at (w.hull.at + w.hull.len) (put_cells posts served)))) left) mid now
-    → BothTold (λ old left. IsBetween old (write_cells old (moved_down base (put_cells posts list))) left) held now
-put_refused held mid now posts list left place size w served stop base here n told on same p k e f =
-    held_refused held mid now n (λ file. file_to base place (put_cells posts list) file)
-    (λ file. write_cells file (moved_down base (clips w.hull.at (w.hull.at + w.hull.len) (put_cells posts served))))
-    (λ file. file_to base stop (put_cells posts list) file) (λ file. write_cells file (moved_down base (put_cells posts list))) told
-    (λ file long. file_step (source_of posts) list left place size w served stop base n file p k (are_cells posts list base n on)
-    (hull_low list left place size w served stop base n on p k) (hull_high list left place size w served stop base n on p k) long)
-    (λ file long. mixed_to base place n (put_cells posts list) file (are_cells posts list base n on) long)
-    (λ file long. mixed_to base stop n (put_cells posts list) file (are_cells posts list base n on) long)
-    e
-    (subst (λ (b : ℕ). BothTold (λ old left. IsBetween old (write_cells old (moved_down b (clips w.hull.at (w.hull.at + w.hull.len) (put_cells posts served)))) left) mid now) same f)
+  abbrev upto : ℕ → List ℕ → List ℕ
+  upto to file = file_to base to (put_cells posts list) file
+
+  step : (file : List ℕ) → length file ≡ n → over base (upto place file) ≡ upto stop file
+  step file long = file_step (source_of posts) list p k base n file (are_cells posts list base n on) (hull_low k list base n on p) (hull_high k list base n on p) long
+
+  pub put_more : (held mid now : Option (List ℕ)) → IfSome held (λ b. length b ≡ n) → mid ≡ after (λ file. file_to base place (put_cells posts list) file) held → now ≡ after (over here) mid
+      → now ≡ after (λ file. file_to base stop (put_cells posts list) file) held
+  put_more None mid now told e f = f ∙ ap (λ (m : Option (List ℕ)). after (over here) m) e
+  put_more (Some old) mid now told e f = f ∙ (λ i. after (over (same i)) (e i)) ∙ ap Some (step old told)
+
+  pub put_refused : (held mid now : Option (List ℕ)) → IfSome held (λ b. length b ≡ n) → mid ≡ after (λ file. file_to base place (put_cells posts list) file) held
+      → BothTold (λ old left. IsBetween old (over here old) left) mid now → BothTold (λ old left. IsBetween old (write_cells old (moved_down base (put_cells posts list))) left) held now
+  put_refused held mid now told e f =
+      held_refused held mid now n (upto place) (over base) (upto stop) (λ file. write_cells file (moved_down base (put_cells posts list))) told step
+      (λ file long. mixed_to base place n (put_cells posts list) file (are_cells posts list base n on) long)
+      (λ file long. mixed_to base stop n (put_cells posts list) file (are_cells posts list base n on) long)
+      e (subst (λ (b : ℕ). BothTold (λ old left. IsBetween old (over b old) left) mid now) same f)
 
 pub put_end : (held now : Option (List ℕ)) (posts : List Post) (list left : List Owned) (place base n : ℕ) → IfSome held (λ b. length b ≡ n) → LieOn base n list
     → left ≡ [] → IsPast place list left → now ≡ after (λ file. file_to base place (put_cells posts list) file) held

@@ -1,21 +1,20 @@
 -- The next window of what is left.
 use Rattle.data_sieving.proofs.Words.{◌≡◌, ℕ, ◌+◌, ◌-◌, ◌^◌, ◌<◌, ◌≤◌, ◌⊎◌, inl, refl, sym, ◌∙◌, ap, subst, List, [], ◌∷◌, ◌++◌, length, max, min, Some, slice_get, arith, same_Some, at_in, Owned, In, Window, IsPast, BeginBefore, AreLeft, LieAcross, IsHull, IsNext, past_in, past_extents, past_sorted, front_all, first_begins, first_joined, in_extents, nat_tests}
 
--- the first byte that is not served lies in the first entry
-pub at_below : (left : List Owned) (place size at : ℕ) (first : Owned) → AreLeft left place size → slice_get left 0 ≡ Some first → at ≡ max first.extent.at place
-    → at < first.extent.at + first.extent.len
-at_below left place size at first l e is = grind (arith, nat_tests, at_in left 0 first e)
+module _ {left : List Owned} {place size : ℕ} (l : AreLeft left place size) (at : ℕ) (first : Owned) (e : slice_get left 0 ≡ Some first) (is : at ≡ max first.extent.at place) where
+  -- the first byte that is not served lies in the first entry
+  at_below : at < first.extent.at + first.extent.len
+  at_below = grind (arith, nat_tests, l.next first e, l.filled first (at_in left 0 first e))
 
--- what begins a window begins what is left
-pub first_below : (left served : List Owned) (place size at stop : ℕ) (first o : Owned) → AreLeft left place size → BeginBefore stop left served → slice_get left 0 ≡ Some first
-    → at ≡ max first.extent.at place → slice_get served 0 ≡ Some o → at < o.extent.at + o.extent.len
-first_below left served place size at stop first o l b e is g =
-    grind (arith, nat_tests, first_joined served b.rest o g, at_below left place size at first l e is, same_Some, slice_get)
+  -- what begins a window begins what is left
+  pub first_below : (served : List Owned) (stop : ℕ) (o : Owned) → BeginBefore stop left served → slice_get served 0 ≡ Some o → at < o.extent.at + o.extent.len
+  first_below served stop o b g = grind (arith, nat_tests, first_joined served b.rest o g, at_below, same_Some, slice_get)
 
-pub stop_past : (left : List Owned) (place size at stop : ℕ) (first : Owned) → AreLeft left place size → slice_get left 0 ≡ Some first → at ≡ max first.extent.at place
-    → stop ≡ min (at + size) (2 ^ 64 - 1) → at < stop
-stop_past left place size at stop first l e is ends =
-    grind (arith, nat_tests, at_below left place size at first l e is, in_extents left first (at_in left 0 first e), at_in)
+  stop_past : (stop : ℕ) → stop ≡ min (at + size) (2 ^ 64 - 1) → at < stop
+  stop_past stop ends = grind (arith, nat_tests, l.some, l.ends first.extent (in_extents left first (at_in left 0 first e)), at_below)
+
+  pub is_next : (served : List Owned) (stop : ℕ) (w : Window) → stop ≡ min (at + size) (2 ^ 64 - 1) → BeginBefore stop left served → IsHull at stop served w → IsNext left place size w served stop
+  is_next served stop w ends begins hull = grind (arith, nat_tests, l.sorted, at_below, at_in left 0 first e, first_begins)
 
 -- the first entry begins before the stop, so there is one
 pub some_served : (left served : List Owned) (at stop : ℕ) (first : Owned) → slice_get left 0 ≡ Some first → first.extent.at ≤ at → at < stop → BeginBefore stop left served
@@ -44,22 +43,11 @@ pub record Ready (carried ahead fresh : List Owned) (place size at stop : ℕ) (
   pub room : at < stop
   pub front : BeginBefore stop (carried ++ ahead) (carried ++ fresh)
 
-ready_now : (carried ahead fresh : List Owned) (place size at stop : ℕ) (first : Owned) → AreLeft (carried ++ ahead) place size → LieAcross place carried
-    → slice_get (carried ++ ahead) 0 ≡ Some first → at ≡ max first.extent.at place → stop ≡ min (at + size) (2 ^ 64 - 1) → BeginBefore stop ahead fresh
-    → Ready carried ahead fresh place size at stop first
-ready_now carried ahead fresh place size at stop first l h e is ends b = grind (arith, nat_tests, stop_past, front_all)
-
 pub is_ready : (items carried ahead fresh : List Owned) (place size at stop : ℕ) (first : Owned) → carried ≡ items → AreLeft (items ++ ahead) place size → LieAcross place items
     → Some first ≡ slice_get (items ++ ahead) 0 → at ≡ max first.extent.at place → stop ≡ min (at + size) (2 ^ 64 - 1) → BeginBefore stop ahead fresh
     → Ready carried ahead fresh place size at stop first
 is_ready items carried ahead fresh place size at stop first same l h e is ends b =
-    subst (λ (list : List Owned). Ready list ahead fresh place size at stop first) (sym same) (ready_now items ahead fresh place size at stop first l h (sym e) is ends b)
-
-pub is_next : (left served : List Owned) (place size at stop : ℕ) (first : Owned) (w : Window) → AreLeft left place size → slice_get left 0 ≡ Some first
-    → at ≡ max first.extent.at place → stop ≡ min (at + size) (2 ^ 64 - 1) → BeginBefore stop left served → IsHull at stop served w
-    → IsNext left place size w served stop
-is_next left served place size at stop first w l e is ends begins hull =
-    grind (arith, nat_tests, at_below left place size at first l e is, at_in left 0 first e, first_begins)
+    subst (λ (list : List Owned). Ready list ahead fresh place size at stop first) (sym same) (grind (arith, nat_tests, stop_past l at first (sym e) is stop ends, front_all))
 
 -- ---- what is left behind it
 

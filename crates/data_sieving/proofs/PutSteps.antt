@@ -54,12 +54,6 @@ past_said source place (o ∷ whole) left x l (inl h) =
 past_said source place (o ∷ whole) left x l (inr h) =
     grind (arith, nat_tests, past_said source place whole h.0 x l h.2, entries_two source (o ∷ []) whole x, entries_two source (o ∷ []) h.0 x)
 
-between : (source : Source) (list left : List Owned) (place size : ℕ) (w : Window) (served : List Owned) (stop x : ℕ) → IsPast place list left
-    → IsNext left place size w served stop → place ≤ x → x < stop
-    → said_at (said_by (entry_cells source list)) x ≡ said_at (said_by (entry_cells source served)) x
-between source list left place size w served stop x p n l h =
-    grind (arith, nat_tests, past_said source place list left x l p, entries_two source served n.front.rest x, second_counts, unsaid)
-
 -- what cells say between two places
 clips_say : (lo hi : ℕ) (cells : List Cell) (x : ℕ) → lo ≤ hi → said_at (said_by (clips lo hi cells)) x ≡ cond (nat_le lo x && nat_lt x hi) (said_at (said_by cells) x) None
 clips_say lo hi cells x l =
@@ -70,23 +64,6 @@ parts_say : (s t : Option ℕ) (x base place low high stop : ℕ) → base ≤ x
     → (place ≤ x → x < low → s ≡ None) → (high ≤ x → x < stop → s ≡ None)
     → option_or (cond (nat_le low x && nat_lt x high) t None) (cond (nat_le base x && nat_lt x (max base place)) s None) ≡ cond (nat_le base x && nat_lt x (max base stop)) s None
 parts_say s t x base place low high stop h b l m u both least each = grind (arith, nat_tests, or_none, first_counts)
-
--- the parts of the entries up to a window, and in it, say what their parts up to its end say
-step_said : (source : Source) (list left : List Owned) (place size : ℕ) (w : Window) (served : List Owned) (stop base x : ℕ) → IsPast place list left
-    → IsNext left place size w served stop → base ≤ w.hull.at → base ≤ x
-    → said_at (said_by (clips base (max base place) (entry_cells source list) ++ clips w.hull.at (w.hull.at + w.hull.len) (entry_cells source served))) x
-    ≡ said_at (said_by (clips base (max base stop) (entry_cells source list))) x
-step_said source list left place size w served stop base x p n low here =
-    let some = n.hull.some in
-    let short = n.hull.short in
-    let from = n.from in
-    said_joined (clips base (max base place) (entry_cells source list)) (clips w.hull.at (w.hull.at + w.hull.len) (entry_cells source served)) x
-    ∙ (λ i. option_or (clips_say w.hull.at (w.hull.at + w.hull.len) (entry_cells source served) x (omega arith) i) (clips_say base (max base place) (entry_cells source list) x (omega arith) i))
-    ∙ parts_say (said_at (said_by (entry_cells source list)) x) (said_at (said_by (entry_cells source served)) x) x base place w.hull.at (w.hull.at + w.hull.len) stop here low from
-    (omega arith) (omega arith) (between source list left place size w served stop x p n)
-    (λ l h. unsaid source list x (λ c. let past = n.least x (past_covered place list left x p l c) l in absurd (omega arith)))
-    (λ l h. unsaid source list x (λ c. let past = n.hull.each x (front_covered stop left served x n.front h (past_covered place list left x p (omega arith) c)) h in absurd (omega arith)))
-    ∙ sym (clips_say base (max base stop) (entry_cells source list) x (omega arith))
 
 -- ---- the file
 
@@ -105,27 +82,47 @@ to_within base place n cells a = grind (arith, nat_tests, within_lowered, clips_
 pub to_long : (base place n : ℕ) (cells : List Cell) (file : List ℕ) → AreCells base n cells → length file ≡ n → length (file_to base place cells file) ≡ length file
 to_long base place n cells file a e = grind (arith, nat_tests, cells_long, to_within)
 
-pub file_step : (source : Source) (list left : List Owned) (place size : ℕ) (w : Window) (served : List Owned) (stop base n : ℕ) (file : List ℕ)
-    → IsPast place list left → IsNext left place size w served stop → AreCells base n (entry_cells source list)
-    → base ≤ w.hull.at → w.hull.at + w.hull.len ≤ base + n → length file ≡ n
-    → write_cells (file_to base place (entry_cells source list) file) (moved_down base (clips w.hull.at (w.hull.at + w.hull.len) (entry_cells source served)))
-    ≡ file_to base stop (entry_cells source list) file
-file_step source list left place size w served stop base n file p k a low high e =
-    let before = clips base (max base place) (entry_cells source list) in
-    let here = clips w.hull.at (w.hull.at + w.hull.len) (entry_cells source served) in
-    let whole = clips base (max base stop) (entry_cells source list) in
-    let lows = append_from base before here (clips_from base (max base place) (entry_cells source list) (omega arith))
-    (from_less base w.hull.at here low (clips_from w.hull.at (w.hull.at + w.hull.len) (entry_cells source served) (omega arith))) in
-    let fits = append_within before here (base + n) (clips_fit base (max base place) (base + n) (entry_cells source list) (omega arith) a.from a.within)
-    (within_more here (w.hull.at + w.hull.len) (base + n) high (clips_within w.hull.at (w.hull.at + w.hull.len) (entry_cells source served) (omega arith))) in
-    sym (fold-append (λ f cell. written f cell.0 cell.1) file (moved_down base before) (moved_down base here))
-    ∙ ap (λ (cells : List Cell). write_cells file cells) (sym (map-append (λ (cell : Cell). let lowered : Cell = (cell.0 - base, cell.1) in lowered) before here))
-    ∙ same_said (moved_down base (before ++ here)) (moved_down base whole) file
-    (subst (λ (m : ℕ). IsWithin (moved_down base (before ++ here)) m) (sym e) (within_lowered base n (before ++ here) lows fits))
-    (subst (λ (m : ℕ). IsWithin (moved_down base whole) m) (sym e) (to_within base stop n (entry_cells source list) a))
-    (λ i. moved_at base (before ++ here) i lows
-    ∙ step_said source list left place size w served stop base (i + base) p k low (omega arith)
-    ∙ sym (moved_at base whole i (clips_from base (max base stop) (entry_cells source list) (omega arith))))
+-- one window more
+module _ (source : Source) (list : List Owned) {left : List Owned} {place size : ℕ} {w : Window} {served : List Owned} {stop : ℕ} (p : IsPast place list left)
+    (k : IsNext left place size w served stop) where
+  abbrev pub cells : List Cell
+  cells = entry_cells source list
+
+  abbrev pub here : List Cell
+  here = clips w.hull.at (w.hull.at + w.hull.len) (entry_cells source served)
+
+  between : (x : ℕ) → place ≤ x → x < stop → said_at (said_by cells) x ≡ said_at (said_by (entry_cells source served)) x
+  between x l h = grind (arith, nat_tests, k.front, past_said source place list left x l p, entries_two source served k.front.rest x, second_counts, unsaid)
+
+  -- the parts of the entries up to a window, and in it, say what their parts up to its end say
+  step_said : (base x : ℕ) → base ≤ w.hull.at → base ≤ x → said_at (said_by (clips base (max base place) cells ++ here)) x ≡ said_at (said_by (clips base (max base stop) cells)) x
+  step_said base x low least =
+      let some = k.hull.some in
+      let short = k.hull.short in
+      let from = k.from in
+      said_joined (clips base (max base place) cells) here x
+      ∙ (λ i. option_or (clips_say w.hull.at (w.hull.at + w.hull.len) (entry_cells source served) x (omega arith) i) (clips_say base (max base place) cells x (omega arith) i))
+      ∙ parts_say (said_at (said_by cells) x) (said_at (said_by (entry_cells source served)) x) x base place w.hull.at (w.hull.at + w.hull.len) stop least low from
+      (omega arith) (omega arith) (between x)
+      (λ l h. unsaid source list x (λ c. let past = k.least x (past_covered place list left x p l c) l in absurd (omega arith)))
+      (λ l h. unsaid source list x (λ c. let past = k.hull.each x (front_covered stop left served x k.front h (past_covered place list left x p (omega arith) c)) h in absurd (omega arith)))
+      ∙ sym (clips_say base (max base stop) cells x (omega arith))
+
+  pub file_step : (base n : ℕ) (file : List ℕ) → AreCells base n cells → base ≤ w.hull.at → w.hull.at + w.hull.len ≤ base + n → length file ≡ n
+      → write_cells (file_to base place cells file) (moved_down base here) ≡ file_to base stop cells file
+  file_step base n file a low high e =
+      let before = clips base (max base place) cells in
+      let whole = clips base (max base stop) cells in
+      let lows = append_from base before here (clips_from base (max base place) cells (omega arith))
+      (from_less base w.hull.at here low (clips_from w.hull.at (w.hull.at + w.hull.len) (entry_cells source served) (omega arith))) in
+      let fits = append_within before here (base + n) (clips_fit base (max base place) (base + n) cells (omega arith) a.from a.within)
+      (within_more here (w.hull.at + w.hull.len) (base + n) high (clips_within w.hull.at (w.hull.at + w.hull.len) (entry_cells source served) (omega arith))) in
+      sym (fold-append (λ f cell. written f cell.0 cell.1) file (moved_down base before) (moved_down base here))
+      ∙ ap (λ (cells : List Cell). write_cells file cells) (sym (map-append (λ (cell : Cell). let lowered : Cell = (cell.0 - base, cell.1) in lowered) before here))
+      ∙ same_said (moved_down base (before ++ here)) (moved_down base whole) file
+      (subst (λ (m : ℕ). IsWithin (moved_down base (before ++ here)) m) (sym e) (within_lowered base n (before ++ here) lows fits))
+      (subst (λ (m : ℕ). IsWithin (moved_down base whole) m) (sym e) (to_within base stop n cells a))
+      (λ i. moved_at base (before ++ here) i lows ∙ step_said base (i + base) low (omega arith) ∙ sym (moved_at base whole i (clips_from base (max base stop) cells (omega arith))))
 
 -- each byte is old, or that of the whole
 pub to_either : (base place n : ℕ) (cells : List Cell) (file : List ℕ) (i : ℕ) → AreCells base n cells
@@ -151,12 +148,14 @@ to_begin base n cells file a e =
 pub to_end : (source : Source) (list left : List Owned) (base place n : ℕ) (file : List ℕ) → AreCells base n (entry_cells source list) → length file ≡ n
     → left ≡ [] → IsPast place list left → file_to base place (entry_cells source list) file ≡ write_cells file (moved_down base (entry_cells source list))
 to_end source list left base place n file a e none p =
-    same_said (moved_down base (clips base (max base place) (entry_cells source list))) (moved_down base (entry_cells source list)) file
-    (subst (λ (m : ℕ). IsWithin (moved_down base (clips base (max base place) (entry_cells source list))) m) (sym e) (to_within base place n (entry_cells source list) a))
-    (subst (λ (m : ℕ). IsWithin (moved_down base (entry_cells source list)) m) (sym e) (within_lowered base n (entry_cells source list) a.from a.within))
-    (λ i. moved_at base (clips base (max base place) (entry_cells source list)) i (clips_from base (max base place) (entry_cells source list) (omega arith))
+    let cells = entry_cells source list in
+    let clipped = clips base (max base place) cells in
+    same_said (moved_down base clipped) (moved_down base cells) file
+    (subst (λ (m : ℕ). IsWithin (moved_down base clipped) m) (sym e) (to_within base place n cells a))
+    (subst (λ (m : ℕ). IsWithin (moved_down base cells) m) (sym e) (within_lowered base n cells a.from a.within))
+    (λ i. moved_at base clipped i (clips_from base (max base place) cells (omega arith))
     ∙ grind (arith, nat_tests, clips_say base (max base place) (entry_cells source list) (i + base) (omega arith), nothing (i + base))
-    ∙ sym (moved_at base (entry_cells source list) i a.from))
+    ∙ sym (moved_at base cells i a.from))
   where
     nothing : (x : ℕ) → place ≤ x → said_at (said_by (entry_cells source list)) x ≡ None
     nothing x l = unsaid source list x (λ c. let d = past_covered place list left x p l c in subst (λ (l : List Owned). In l d.by → ⊥) (sym none) (λ m. m) d.inside)

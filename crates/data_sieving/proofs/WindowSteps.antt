@@ -8,86 +8,92 @@ use Rattle.data_sieving.proofs.LeftBytes.{byte_from, from_byte, bytes_ascend, sa
 abbrev pub window_bytes : List Owned → ℕ → ℕ → Window → List ℕ
 window_bytes left place size w = filter (λ (y : ℕ). nat_lt y (w.hull.at + size)) (bytes_from place left)
 
-pub before_stop : (left : List Owned) (place size : ℕ) (w : Window) (served : List Owned) (stop x : ℕ) → AreLeft left place size
-    → IsNext left place size w served stop → IsCovered left x → x < w.hull.at + size → x < stop
-before_stop left place size w served stop x l n c h = grind (arith, nat_tests, covered_below (2 ^ 62) left x l.ends c)
+module _ {left : List Owned} {place size : ℕ} {w : Window} {served : List Owned} {stop : ℕ} (l : AreLeft left place size) (n : IsNext left place size w served stop) where
+  abbrev pub bytes : List ℕ
+  bytes = window_bytes left place size w
 
-pub in_window : (left : List Owned) (place size : ℕ) (w : Window) (served : List Owned) (stop x : ℕ) → AreLeft left place size
-    → IsNext left place size w served stop → In (window_bytes left place size w) x
-    → (w.hull.at ≤ x) × (x < w.hull.at + w.hull.len) × IsCovered served x
-in_window left place size w served stop x l n m =
-    let r = filter_in (λ (y : ℕ). nat_lt y (w.hull.at + size)) (bytes_from place left) x m in
-    let room : x < w.hull.at + size = ltb-true _ _ r.1 in
-    let b = from_byte place left x r.0 in
-    let before = before_stop left place size w served stop x l n b.1 room in
-    let c = front_covered stop left served x n.front before b.1 in
-    (n.least x b.1 b.0, n.hull.each x c before, c)
+  before_stop : (x : ℕ) → IsCovered left x → x < w.hull.at + size → x < stop
+  before_stop x c h = grind (arith, nat_tests, n.ends, covered_below (2 ^ 62) left x l.ends c)
 
-pub window_in : (left : List Owned) (place size : ℕ) (w : Window) (served : List Owned) (stop x : ℕ) → IsNext left place size w served stop
-    → w.hull.at ≤ x → x < w.hull.at + w.hull.len → IsCovered served x → In (window_bytes left place size w) x
-window_in left place size w served stop x n h k c =
-    let short = n.hull.short in
-    let is = n.ends in
-    let low = n.from in
-    in_filter (λ (y : ℕ). nat_lt y (w.hull.at + size)) (bytes_from place left) x
-    (byte_from place left x (omega arith) (covered_front stop left served x n.front c)) (lt-ltb x (w.hull.at + size) (omega arith))
+  in_window : (x : ℕ) → In bytes x → (w.hull.at ≤ x) × (x < w.hull.at + w.hull.len) × IsCovered served x
+  in_window x m =
+      let r = filter_in (λ (y : ℕ). nat_lt y (w.hull.at + size)) (bytes_from place left) x m in
+      let b = from_byte place left x r.0 in
+      let before = before_stop x b.1 (ltb-true _ _ r.1) in
+      let c = front_covered stop left served x n.front before b.1 in
+      (n.least x b.1 b.0, n.hull.each x c before, c)
 
-begin_window : (left : List Owned) (place size : ℕ) (w : Window) (served : List Owned) (stop : ℕ) → AreLeft left place size
-    → IsNext left place size w served stop → (ys : List ℕ) × (bytes_from place left ≡ w.hull.at ∷ ys)
-begin_window left place size w served stop l n = grind (arith, nat_tests, begins, bytes_ascend, byte_from, from_byte)
+  window_in : (x : ℕ) → w.hull.at ≤ x → x < w.hull.at + w.hull.len → IsCovered served x → In bytes x
+  window_in x h k c =
+      let short = n.hull.short in
+      let is = n.ends in
+      let low = n.from in
+      in_filter (λ (y : ℕ). nat_lt y (w.hull.at + size)) (bytes_from place left) x
+      (byte_from place left x (omega arith) (covered_front stop left served x n.front c)) (lt-ltb x (w.hull.at + size) (omega arith))
 
--- what is told of the bytes of the window is its hull, and whether it has a hole
-pub next_told : (left : List Owned) (place size : ℕ) (w : Window) (served : List Owned) (stop : ℕ) → AreLeft left place size
-    → IsNext left place size w served stop → told_of (window_bytes left place size w) ≡ told_window w
-next_told left place size w served stop l n =
-    triple_same (first_of (window_bytes left place size w)) (hull_len (window_bytes left place size w)) w.hull.at w.hull.len
-    (length (window_bytes left place size w) == hull_len (window_bytes left place size w)) w.full first long (by_full w.full refl)
-  where
-    asc : IsAscending (window_bytes left place size w)
-    asc = filter_ascends (λ (y : ℕ). nat_lt y (w.hull.at + size)) (bytes_from place left) (bytes_ascend place left)
+  begin_window : (ys : List ℕ) × (bytes_from place left ≡ w.hull.at ∷ ys)
+  begin_window = grind (arith, nat_tests, n.from, n.first, n.least, begins, bytes_ascend, byte_from, from_byte)
 
-    some : 1 ≤ w.hull.len
-    some = n.hull.some
+  -- what is told of the bytes of the window is its hull, and whether it has a hole
+  pub next_told : told_of bytes ≡ told_window w
+  next_told = triple_same (first_of bytes) (hull_len bytes) w.hull.at w.hull.len (length bytes == hull_len bytes) w.full first long (by_full w.full refl)
+    where
+      asc : IsAscending bytes
+      asc = filter_ascends (λ (y : ℕ). nat_lt y (w.hull.at + size)) (bytes_from place left) (bytes_ascend place left)
 
-    room : w.hull.at < stop
-    room = let short = n.hull.short in let s = n.hull.some in omega arith
+      first : first_of bytes ≡ w.hull.at
+      first =
+          let s = n.hull.some in
+          let short = n.hull.short in
+          let b = begins bytes w.hull.at asc
+          (window_in w.hull.at (omega arith) (omega arith) (front_covered stop left served w.hull.at n.front (omega arith) n.first)) (λ x m. (in_window x m).0) in
+          ap (λ (xs : List ℕ). first_of xs) b.1
 
-    first : first_of (window_bytes left place size w) ≡ w.hull.at
-    first =
-        let s = n.hull.some in
-        let b = begins (window_bytes left place size w) w.hull.at asc
-        (window_in left place size w served stop w.hull.at n (omega arith) (omega arith) (front_covered stop left served w.hull.at n.front room n.first))
-        (λ x m. (in_window left place size w served stop x l n m).0) in
-        ap (λ (xs : List ℕ). first_of xs) b.1
+      long : hull_len bytes ≡ w.hull.len
+      long =
+          let s = n.hull.some in
+          let f = first in
+          let most = last_most bytes (w.hull.at + w.hull.len - 1) (window_in (w.hull.at + w.hull.len - 1) (omega arith) (omega arith) n.hull.last) in
+          let least = last_below bytes (w.hull.at + w.hull.len) (omega arith) (λ x m. (in_window x m).1) in
+          omega arith
 
-    long : hull_len (window_bytes left place size w) ≡ w.hull.len
-    long =
-        let s = n.hull.some in
-        let f = first in
-        let most = last_most (window_bytes left place size w) (w.hull.at + w.hull.len - 1)
-        (window_in left place size w served stop (w.hull.at + w.hull.len - 1) n (omega arith) (omega arith) n.hull.last) in
-        let least = last_below (window_bytes left place size w) (w.hull.at + w.hull.len) (omega arith)
-        (λ x m. (in_window left place size w served stop x l n m).1) in
-        omega arith
+      solid : w.full ≡ true → bytes ≡ range_with_len w.hull.at w.hull.len
+      solid t =
+          same_ascending bytes (range_with_len w.hull.at w.hull.len) asc (range_ascends w.hull.at w.hull.len)
+          (λ x m. let r = in_window x m in in_range w.hull.at w.hull.len x r.0 r.1)
+          (λ x m. let low = range_low w.hull.at w.hull.len x m in let high = range_high w.hull.at w.hull.len x m in
+          window_in x low high (n.hull.full t x low high))
 
-    solid : w.full ≡ true → window_bytes left place size w ≡ range_with_len w.hull.at w.hull.len
-    solid t =
-        same_ascending (window_bytes left place size w) (range_with_len w.hull.at w.hull.len) asc (range_ascends w.hull.at w.hull.len)
-        (λ x m. let r = in_window left place size w served stop x l n m in in_range w.hull.at w.hull.len x r.0 r.1)
-        (λ x m. let low = range_low w.hull.at w.hull.len x m in let high = range_high w.hull.at w.hull.len x m in
-        window_in left place size w served stop x n low high (n.hull.full t x low high))
+      by_full : (t : Bool) → w.full ≡ t → (length bytes == hull_len bytes) ≡ t
+      by_full true f =
+          let all : length bytes ≡ w.hull.len = ap (λ (xs : List ℕ). length xs) (solid f) ∙ length-range_with_len w.hull.at w.hull.len in
+          equal_true (length bytes) (hull_len bytes) (all ∙ sym long)
+      by_full false f =
+          let r = n.hull.hole f in
+          let short = hole_short bytes w.hull.at (w.hull.at + w.hull.len) r.0 asc (λ x m. let g = in_window x m in (g.0, g.1)) r.1 r.2 (λ m. r.3 (in_window r.0 m).2) in
+          let is = long in
+          equal_below (length bytes) (hull_len bytes) (omega arith)
 
-    by_full : (t : Bool) → w.full ≡ t → (length (window_bytes left place size w) == hull_len (window_bytes left place size w)) ≡ t
-    by_full true f =
-        let all : length (window_bytes left place size w) ≡ w.hull.len = ap (λ (xs : List ℕ). length xs) (solid f) ∙ length-range_with_len w.hull.at w.hull.len in
-        equal_true (length (window_bytes left place size w)) (hull_len (window_bytes left place size w)) (all ∙ sym long)
-    by_full false f =
-        let r = n.hull.hole f in
-        let short = hole_short (window_bytes left place size w) w.hull.at (w.hull.at + w.hull.len) r.0 asc
-        (λ x m. let g = in_window left place size w served stop x l n m in (g.0, g.1)) r.1 r.2
-        (λ m. r.3 (in_window left place size w served stop r.0 l n m).2) in
-        let is = long in
-        equal_below (length (window_bytes left place size w)) (hull_len (window_bytes left place size w)) (omega arith)
+  rest_bytes : filter (λ (y : ℕ). nat_le (w.hull.at + size) y) (bytes_from place left) ≡ bytes_from stop left
+  rest_bytes =
+      same_ascending (filter (λ (y : ℕ). nat_le (w.hull.at + size) y) (bytes_from place left)) (bytes_from stop left)
+      (filter_ascends (λ (y : ℕ). nat_le (w.hull.at + size) y) (bytes_from place left) (bytes_ascend place left)) (bytes_ascend stop left)
+      (λ x m.
+      let r = filter_in (λ (y : ℕ). nat_le (w.hull.at + size) y) (bytes_from place left) x m in
+      let past = leb-true (w.hull.at + size) x r.1 in
+      let is = n.ends in
+      byte_from stop left x (omega arith) (from_byte place left x r.0).1)
+      (λ x m.
+      let b = from_byte stop left x m in
+      let past = b.0 in
+      let below = covered_below (2 ^ 62) left x l.ends b.1 in
+      let is = n.ends in
+      let low = n.from in
+      in_filter (λ (y : ℕ). nat_le (w.hull.at + size) y) (bytes_from place left) x (byte_from place left x (omega arith) b.1) (le-leb (w.hull.at + size) x (omega arith)))
+
+  -- a window ends past what was served before it
+  pub goes_on : place < stop
+  goes_on = grind (arith, nat_tests, n.from, n.hull)
 
 -- ---- the windows that are left
 
@@ -99,46 +105,19 @@ sieve_first : (size a : ℕ) (ys xs : List ℕ) → 1 ≤ size → xs ≡ a ∷ 
     → sieving_windows size xs ≡ filter (λ (y : ℕ). nat_lt y (a + size)) xs ∷ sieving_windows size (filter (λ (y : ℕ). nat_le (a + size) y) xs)
 sieve_first size a ys xs h e = grind (arith, nat_tests, enough, filter_at_most, drop_first, lt-leb)
 
-pub rest_bytes : (left : List Owned) (place size : ℕ) (w : Window) (served : List Owned) (stop : ℕ) → AreLeft left place size
-    → IsNext left place size w served stop
-    → filter (λ (y : ℕ). nat_le (w.hull.at + size) y) (bytes_from place left) ≡ bytes_from stop left
-rest_bytes left place size w served stop l n =
-    same_ascending (filter (λ (y : ℕ). nat_le (w.hull.at + size) y) (bytes_from place left)) (bytes_from stop left)
-    (filter_ascends (λ (y : ℕ). nat_le (w.hull.at + size) y) (bytes_from place left) (bytes_ascend place left)) (bytes_ascend stop left)
-    (λ x m.
-    let r = filter_in (λ (y : ℕ). nat_le (w.hull.at + size) y) (bytes_from place left) x m in
-    let past = leb-true (w.hull.at + size) x r.1 in
-    let b = from_byte place left x r.0 in
-    let is = n.ends in
-    byte_from stop left x (omega arith) b.1)
-    (λ x m.
-    let b = from_byte stop left x m in
-    let past = b.0 in
-    let below = covered_below (2 ^ 62) left x l.ends b.1 in
-    let is = n.ends in
-    let low = n.from in
-    in_filter (λ (y : ℕ). nat_le (w.hull.at + size) y) (bytes_from place left) x (byte_from place left x (omega arith) b.1)
-    (le-leb (w.hull.at + size) x (omega arith)))
-
--- a window ends past what was served before it
-pub goes_on : (left : List Owned) (place size : ℕ) (w : Window) (served : List Owned) (stop : ℕ) → IsNext left place size w served stop → place < stop
-goes_on left place size w served stop n = grind (arith, nat_tests)
-
-pub past_bytes : (place : ℕ) (list left : List Owned) (stop : ℕ) → place ≤ stop → IsPast place list left → bytes_from stop list ≡ bytes_from stop left
+past_bytes : (place : ℕ) (list left : List Owned) (stop : ℕ) → place ≤ stop → IsPast place list left → bytes_from stop list ≡ bytes_from stop left
 past_bytes place list left stop h p =
     same_bytes stop list left (λ x l c. past_covered place list left x p (omega arith) c) (λ x l c. covered_past place list left x p c)
 
 -- the first of the windows that are left, and the others
-pub windows_next : (list left : List Owned) (place size : ℕ) (w : Window) (served : List Owned) (stop : ℕ) → IsPast place list left
-    → AreLeft left place size → IsNext left place size w served stop
-    → windows_from size place list ≡ window_bytes left place size w ∷ windows_from size stop list
-windows_next list left place size w served stop p l n =
-    let b = begin_window left place size w served stop l n in
-    let further = goes_on left place size w served stop n in
+pub windows_next : {left : List Owned} {place size : ℕ} {w : Window} {served : List Owned} {stop : ℕ} (list : List Owned) → AreLeft left place size → IsNext left place size w served stop
+    → IsPast place list left → windows_from size place list ≡ window_bytes left place size w ∷ windows_from size stop list
+windows_next {left} {place} {size} {w} {served} {stop} list l n p =
+    let b = begin_window l n in
+    let further = goes_on l n in
     ap (λ (xs : List ℕ). sieving_windows size xs) (past_bytes place list left place (omega arith) p)
     ∙ sieve_first size w.hull.at b.0 (bytes_from place left) l.some b.1
-    ∙ ap (λ (xs : List ℕ). window_bytes left place size w ∷ sieving_windows size xs)
-    (rest_bytes left place size w served stop l n ∙ sym (past_bytes place list left stop (omega arith) p))
+    ∙ ap (λ (xs : List ℕ). window_bytes left place size w ∷ sieving_windows size xs) (rest_bytes l n ∙ sym (past_bytes place list left stop (omega arith) p))
 
 pub all_windows : (size : ℕ) (list : List Owned) → entry_windows size list ≡ windows_from size 0 list
 all_windows size list = grind (arith, nat_tests, filter_all, le-leb)

@@ -72,8 +72,8 @@ pub sieved_next : (list : List Owned) (size place stop : ℕ) (whole : List Told
 sieved_next list size place stop whole left later served plans w plan h ready next past is = record {
   past = past;
   told = told_more plans plan (told_window w) (map told_of (windows_from size place list)) (map told_of (windows_from size stop list)) whole (ap told_plan is)
-      (ap (λ (ws : List (List ℕ)). map told_of ws) (windows_next list left place size w served stop h.past ready next)
-      ∙ ap (λ (t : Told). t ∷ map told_of (windows_from size stop list)) (next_told left place size w served stop ready next)) h.told;
+      (ap (λ (ws : List (List ℕ)). map told_of ws) (windows_next list ready next h.past)
+      ∙ ap (λ (t : Told). t ∷ map told_of (windows_from size stop list)) (next_told ready next)) h.told;
   shared = shared_more list plans plan h.shared
       (plan_shared list served w plan is
       (let low = next.from in let short = next.hull.short in let begin = next.hull.begin in

@@ -33,28 +33,21 @@ windows-init g c = let lent = c.as_mut_slice-blobs.ensures.seen in record {
 
 pub read_window-requires-clause-low : goal.read_window-requires-clause-low
 read_window-requires-clause-low g c κs within =
-    let low = hull_low c.args.list.now (entries_left c.windows.walk.entries) c.windows.walk.from c.windows.walk.size c.in-Some.next.window (entries_in c.in-Some.next) c.in-Some.next.stop (g.D.Disk.from c.args.disk.now) (g.D.Disk.len c.args.disk.now) c.requires.on_disk c.windows.invariant.past c.in-Some.ensures.next in
-    let same = c.windows.invariant.from in
-    omega arith
+    omega (arith, hull_low c.in-Some.ensures.next c.args.list.now (g.D.Disk.from c.args.disk.now) (g.D.Disk.len c.args.disk.now) c.requires.on_disk c.windows.invariant.past, c.windows.invariant.from)
 
 pub read_window-requires-clause-high : goal.read_window-requires-clause-high
 read_window-requires-clause-high g c κs within =
-    let high = hull_high c.args.list.now (entries_left c.windows.walk.entries) c.windows.walk.from c.windows.walk.size c.in-Some.next.window (entries_in c.in-Some.next) c.in-Some.next.stop (g.D.Disk.from c.args.disk.now) (g.D.Disk.len c.args.disk.now) c.requires.on_disk c.windows.invariant.past c.in-Some.ensures.next in
-    let same = c.windows.invariant.from in
-    let long = c.windows.invariant.len in
-    omega arith
+    let high = hull_high c.in-Some.ensures.next c.args.list.now (g.D.Disk.from c.args.disk.now) (g.D.Disk.len c.args.disk.now) c.requires.on_disk c.windows.invariant.past in
+    omega (arith, high, c.windows.invariant.from, c.windows.invariant.len)
 
 pub read_window-requires-clause-hull : goal.read_window-requires-clause-hull
-read_window-requires-clause-hull g c κs within =
-    hull_end (entries_left c.windows.walk.entries) c.windows.walk.from c.windows.walk.size c.in-Some.next.window (entries_in c.in-Some.next) c.in-Some.next.stop c.windows.invariant.left c.in-Some.ensures.next
+read_window-requires-clause-hull g c κs within = hull_end c.in-Some.ensures.next c.windows.invariant.left
 
 pub read_window-requires-clause-ends : goal.read_window-requires-clause-ends
-read_window-requires-clause-ends g c κs within =
-    served_ends (entries_left c.windows.walk.entries) c.windows.walk.from c.windows.walk.size c.in-Some.next.stop (entries_in c.in-Some.next) c.windows.invariant.left c.in-Some.ensures.next.front
+read_window-requires-clause-ends g c κs within = served_ends c.windows.invariant.left c.in-Some.ensures.next.front
 
 pub read_window-requires-clause-filled : goal.read_window-requires-clause-filled
-read_window-requires-clause-filled g c κs within =
-    served_filled (entries_left c.windows.walk.entries) c.windows.walk.from c.windows.walk.size c.in-Some.next.stop (entries_in c.in-Some.next) c.windows.invariant.left c.in-Some.ensures.next.front
+read_window-requires-clause-filled g c κs within = served_filled c.windows.invariant.left c.in-Some.ensures.next.front
 
 pub read_window-requires-clause-fit : goal.read_window-requires-clause-fit
 read_window-requires-clause-fit g c κs within = λ o m.
@@ -65,7 +58,7 @@ pub windows-preserved : goal.windows-preserved
 windows-preserved g c =
     let next = subst (λ (n : ℕ). IsNext (entries_left c.windows.walk.entries) c.windows.walk.from c.windows.walk.size c.in-Some.next.window (entries_in c.in-Some.next) n)
     (sym c.pass.ensures.from) c.in-Some.ensures.next in
-    let further = goes_on (entries_left c.windows.walk.entries) c.windows.walk.from c.windows.walk.size c.in-Some.next.window (entries_in c.in-Some.next) c.pass.new.self.from next in
+    let further = goes_on c.windows.invariant.left next in
     let later = c.in_ok-read_window.ensures.cause.later in
     let faults = c.windows.invariant.faults in
     record {
@@ -77,16 +70,14 @@ windows-preserved g c =
       from = c.in_ok-read_window.ensures.from ∙ c.windows.invariant.from;
       len = c.in_ok-read_window.ensures.len ∙ c.windows.invariant.len;
       bytes = c.in_ok-read_window.ensures.bytes ∙ c.windows.invariant.bytes;
-      got = got_more (g.D.Disk.held c.args.disk.now) (g.D.Disk.held c.windows.disk) (g.D.Disk.from c.args.disk.now) (g.D.Disk.from c.windows.disk) (g.D.Disk.len c.args.disk.now)
-          c.args.list.now (entries_left c.windows.walk.entries) c.windows.walk.from c.windows.walk.size c.in-Some.next.window (entries_in c.in-Some.next)
-          c.pass.new.self.from c.args.into.now c.windows.blobs c.read_window.new.blobs c.windows.invariant.bytes c.windows.invariant.from c.requires.on_disk
-          c.requires.one_place c.requires.fit c.windows.invariant.past next c.windows.invariant.got c.in_ok-read_window.ensures.read;
+      got = got_more next (g.D.Disk.held c.args.disk.now) (g.D.Disk.held c.windows.disk) (g.D.Disk.from c.args.disk.now) (g.D.Disk.from c.windows.disk) (g.D.Disk.len c.args.disk.now)
+          c.args.list.now c.args.into.now c.windows.blobs c.read_window.new.blobs c.windows.invariant.bytes c.windows.invariant.from c.requires.on_disk
+          c.requires.one_place c.requires.fit c.windows.invariant.past c.windows.invariant.got c.in_ok-read_window.ensures.read;
       long = as_long_twice c.args.into.now c.windows.blobs c.read_window.new.blobs c.windows.invariant.long c.in_ok-read_window.ensures.blobs;
       calls = subst (λ (n : ℕ). HasDone (flat_map loads (entry_windows n c.args.list.now)) (flat_map loads (windows_from n c.pass.new.self.from c.args.list.now))
           (g.D.Disk.calls c.args.disk.now) (g.D.Disk.calls c.read_window.new.disk)) (sym c.pass.ensures.size)
-          (calls_more load_calls c.args.list.now (entries_left c.windows.walk.entries) c.windows.walk.from c.windows.walk.size c.in-Some.next.window (entries_in c.in-Some.next) c.pass.new.self.from (flat_map loads (entry_windows c.windows.walk.size c.args.list.now))
-          (g.D.Disk.calls c.args.disk.now) (g.D.Disk.calls c.windows.disk) (g.D.Disk.calls c.read_window.new.disk)
-          c.windows.invariant.past c.windows.invariant.left next c.in_ok-read_window.ensures.calls c.windows.invariant.calls);
+          (calls_more c.args.list.now c.windows.invariant.past c.windows.invariant.left next load_calls (flat_map loads (entry_windows c.windows.walk.size c.args.list.now))
+          (g.D.Disk.calls c.args.disk.now) (g.D.Disk.calls c.windows.disk) (g.D.Disk.calls c.read_window.new.disk) c.in_ok-read_window.ensures.calls c.windows.invariant.calls);
       sure = λ s. c.in_ok-read_window.ensures.sure (c.windows.invariant.sure s);
       faults = omega arith;
     }

@@ -4,31 +4,23 @@ use Rattle.data_sieving.proofs.put.put_window.Goals as goal
 
 pub returns-clause-bytes : goal.returns-clause-bytes
 returns-clause-bytes g c =
-    let room : length c.open_window.new.buf ≡ c.args.next.now.window.hull.len = first_of (search rules, grind (arith, common_steps)) in
-    window_told_by
-    (g.D.Disk.held c.args.disk.now) (g.D.Disk.held c.open_window.new.disk) (g.D.Disk.held c.close_window.new.disk) c.args.next.now.window.full
-    c.open_window.new.buf c.lay_window.new.buf (g.D.Disk.from c.args.disk.now) (g.D.Disk.from c.open_window.new.disk) c.args.next.now.window.hull.at c.args.next.now.window.hull.len
-    (g.D.Disk.len c.args.disk.now)
-    (clips c.args.next.now.window.hull.at (c.args.next.now.window.hull.at + c.args.next.now.window.hull.len) (put_cells c.args.puts.now (entries_in c.args.next.now)))
-    c.in_ok-open_window.ensures.from c.in_ok-open_window.ensures.bytes c.lay_window.ensures
-    c.size-size.ensures.told room c.requires.low c.requires.high
-    (clips_from c.args.next.now.window.hull.at (c.args.next.now.window.hull.at + c.args.next.now.window.hull.len) (put_cells c.args.puts.now (entries_in c.args.next.now)) (omega arith))
-    (clips_within c.args.next.now.window.hull.at (c.args.next.now.window.hull.at + c.args.next.now.window.hull.len) (put_cells c.args.puts.now (entries_in c.args.next.now)) (omega arith))
+    let w = c.args.next.now.window in
+    let cells = put_cells c.args.puts.now (entries_in c.args.next.now) in
+    let room : length c.open_window.new.buf ≡ w.hull.len = first_of (search rules, grind (arith, common_steps)) in
+    window_told_by _ _ (g.D.Disk.held c.close_window.new.disk) w.full c.open_window.new.buf _ _ _ w.hull.at _ (g.D.Disk.len c.args.disk.now) _
+    c.in_ok-open_window.ensures.from c.in_ok-open_window.ensures.bytes c.lay_window.ensures c.size-size.ensures.told room c.requires.low c.requires.high
+    (clips_from w.hull.at (w.hull.at + w.hull.len) cells (omega arith)) (clips_within w.hull.at (w.hull.at + w.hull.len) cells (omega arith))
     c.requires.whole c.in_ok-open_window.ensures.read c.in_ok-close_window.ensures.bytes
 
 pub returns-in_err-close_window-clause-refused : goal.returns-in_err-close_window-clause-refused
 returns-in_err-close_window-clause-refused g c =
-    let room : length c.open_window.new.buf ≡ c.args.next.now.window.hull.len = first_of (search rules, grind (arith, common_steps)) in
+    let w = c.args.next.now.window in
+    let cells = put_cells c.args.puts.now (entries_in c.args.next.now) in
+    let room : length c.open_window.new.buf ≡ w.hull.len = first_of (search rules, grind (arith, common_steps)) in
     on_err c.from_residual-in_err-close_window.result
-    (window_refused_by
-    (g.D.Disk.held c.args.disk.now) (g.D.Disk.held c.open_window.new.disk) (g.D.Disk.held c.close_window.new.disk) c.args.next.now.window.full
-    c.open_window.new.buf c.lay_window.new.buf (g.D.Disk.from c.args.disk.now) (g.D.Disk.from c.open_window.new.disk) c.args.next.now.window.hull.at c.args.next.now.window.hull.len
-    (g.D.Disk.len c.args.disk.now)
-    (clips c.args.next.now.window.hull.at (c.args.next.now.window.hull.at + c.args.next.now.window.hull.len) (put_cells c.args.puts.now (entries_in c.args.next.now)))
-    c.in_ok-open_window.ensures.from c.in_ok-open_window.ensures.bytes c.lay_window.ensures
-    c.size-size.ensures.told room c.requires.low c.requires.high
-    (clips_from c.args.next.now.window.hull.at (c.args.next.now.window.hull.at + c.args.next.now.window.hull.len) (put_cells c.args.puts.now (entries_in c.args.next.now)) (omega arith))
-    (clips_within c.args.next.now.window.hull.at (c.args.next.now.window.hull.at + c.args.next.now.window.hull.len) (put_cells c.args.puts.now (entries_in c.args.next.now)) (omega arith))
+    (window_refused_by _ _ _ w.full c.open_window.new.buf _ _ _ w.hull.at _ (g.D.Disk.len c.args.disk.now) _
+    c.in_ok-open_window.ensures.from c.in_ok-open_window.ensures.bytes c.lay_window.ensures c.size-size.ensures.told room c.requires.low c.requires.high
+    (clips_from w.hull.at (w.hull.at + w.hull.len) cells (omega arith)) (clips_within w.hull.at (w.hull.at + w.hull.len) cells (omega arith))
     c.requires.whole c.in_ok-open_window.ensures.read c.in_err-close_window.ensures.refused)
 
 pub returns-in_err-close_window-clause-begun : goal.returns-in_err-close_window-clause-begun

@@ -21,14 +21,10 @@ windows-init c =
     }
 
 pub plan_window-requires-clause-hull : goal.plan_window-requires-clause-hull
-plan_window-requires-clause-hull c =
-    hull_end (entries_left c.windows.walk.entries) c.windows.walk.from c.windows.walk.size c.in-Some.next.window (entries_in c.in-Some.next) c.in-Some.next.stop
-    c.windows.invariant.left c.in-Some.ensures.next
+plan_window-requires-clause-hull c = hull_end c.in-Some.ensures.next c.windows.invariant.left
 
 pub plan_window-requires-clause-ends : goal.plan_window-requires-clause-ends
-plan_window-requires-clause-ends c =
-    served_ends (entries_left c.windows.walk.entries) c.windows.walk.from c.windows.walk.size c.in-Some.next.stop (entries_in c.in-Some.next) c.windows.invariant.left
-    c.in-Some.ensures.next.front
+plan_window-requires-clause-ends c = served_ends c.windows.invariant.left c.in-Some.ensures.next.front
 
 pub windows-preserved : goal.windows-preserved
 windows-preserved c =
@@ -37,7 +33,7 @@ windows-preserved c =
     let later = entries_left c.pass.new.self.entries in
     let whole = map told_of (entry_windows c.args.size list) in
     let next = subst (λ (n : ℕ). IsNext left c.windows.walk.from c.windows.walk.size c.in-Some.next.window (entries_in c.in-Some.next) n) (sym c.pass.ensures.from) c.in-Some.ensures.next in
-    let further = goes_on left c.windows.walk.from c.windows.walk.size c.in-Some.next.window (entries_in c.in-Some.next) c.pass.new.self.from next in
+    let further = goes_on c.windows.invariant.left next in
     let h = c.windows.invariant in
     let past = past_twice c.windows.walk.from c.pass.new.self.from list left later (omega arith) h.sieving.past c.pass.ensures.past in
     let before = subst (λ (n : ℕ). IsSieving list n c.windows.walk.from whole left c.windows.plans.items) (sym h.size) h.sieving in

@@ -16,53 +16,33 @@ ready c =
     c.args.self.now.size c.max-at.result c.saturating_add-stop.result c.in-Some.first c.as_slice-carried.ensures.value c.requires.left c.requires.across c.in-Some.ensures
     c.max-at.ensures c.saturating_add-stop.ensures c.ahead_before-fresh.ensures
 
-pub window_of-window-requires-clause-sorted : goal.window_of-window-requires-clause-sorted
-window_of-window-requires-clause-sorted c =
-    front_sorted c.saturating_add-stop.result c.args.self.now.entries.ahead.now c.ahead_before-fresh.result.now
-    (sorted_right c.args.self.now.entries.carried.items c.args.self.now.entries.ahead.now c.requires.left.sorted) c.ahead_before-fresh.ensures
-
-pub window_of-window-requires-clause-order : goal.window_of-window-requires-clause-order
-window_of-window-requires-clause-order c = (ready c).room
-
-pub window_of-window-requires-clause-ends : goal.window_of-window-requires-clause-ends
-window_of-window-requires-clause-ends c =
-    served_ends (c.as_slice-carried.result.now ++ c.args.self.now.entries.ahead.now) c.args.self.now.from c.args.self.now.size c.saturating_add-stop.result
-    (c.as_slice-carried.result.now ++ c.ahead_before-fresh.result.now) (ready c).left (ready c).front
-
-pub window_of-window-requires-clause-filled : goal.window_of-window-requires-clause-filled
-window_of-window-requires-clause-filled c = λ o m.
-    served_filled (c.as_slice-carried.result.now ++ c.args.self.now.entries.ahead.now) c.args.self.now.from c.args.self.now.size c.saturating_add-stop.result
-    (c.as_slice-carried.result.now ++ c.ahead_before-fresh.result.now) (ready c).left (ready c).front o (in_right c.as_slice-carried.result.now c.ahead_before-fresh.result.now o m)
-
-pub window_of-window-requires-clause-across : goal.window_of-window-requires-clause-across
-window_of-window-requires-clause-across c = λ o m.
-    carried_at c.as_slice-carried.result.now c.args.self.now.entries.ahead.now c.args.self.now.from c.max-at.result c.in-Some.first o (ready c).before (ready c).at_first
-    c.max-at.ensures m
-
-pub window_of-window-requires-clause-before : goal.window_of-window-requires-clause-before
-window_of-window-requires-clause-before c = c.ahead_before-fresh.ensures.before
-
-pub window_of-window-requires-clause-first : goal.window_of-window-requires-clause-first
-window_of-window-requires-clause-first c = λ o g.
-    first_below (c.as_slice-carried.result.now ++ c.args.self.now.entries.ahead.now) (c.as_slice-carried.result.now ++ c.ahead_before-fresh.result.now) c.args.self.now.from
-    c.args.self.now.size c.max-at.result c.saturating_add-stop.result c.in-Some.first o (ready c).left (ready c).front (ready c).at_first c.max-at.ensures g
-
-pub window_of-window-requires-clause-some : goal.window_of-window-requires-clause-some
-window_of-window-requires-clause-some c =
+pub window_of-window-requires : goal.window_of-window-requires
+window_of-window-requires c =
+    let r = ready c in
+    let left = c.as_slice-carried.result.now ++ c.args.self.now.entries.ahead.now in
+    let served = c.as_slice-carried.result.now ++ c.ahead_before-fresh.result.now in
     let is = c.max-at.ensures in
-    some_served (c.as_slice-carried.result.now ++ c.args.self.now.entries.ahead.now) (c.as_slice-carried.result.now ++ c.ahead_before-fresh.result.now) c.max-at.result
-    c.saturating_add-stop.result c.in-Some.first (ready c).at_first (omega arith) (ready c).room (ready c).front
+    record {
+      sorted = front_sorted c.saturating_add-stop.result c.args.self.now.entries.ahead.now c.ahead_before-fresh.result.now
+          (sorted_right c.args.self.now.entries.carried.items c.args.self.now.entries.ahead.now c.requires.left.sorted) c.ahead_before-fresh.ensures;
+      ends = served_ends r.left r.front;
+      filled = λ o m. served_filled r.left r.front o (in_right c.as_slice-carried.result.now c.ahead_before-fresh.result.now o m);
+      across = λ o m. carried_at c.as_slice-carried.result.now c.args.self.now.entries.ahead.now c.args.self.now.from c.max-at.result c.in-Some.first o r.before r.at_first is m;
+      before = c.ahead_before-fresh.ensures.before;
+      first = λ o g. first_below r.left c.max-at.result c.in-Some.first r.at_first is served c.saturating_add-stop.result o r.front g;
+      some = some_served left served c.max-at.result c.saturating_add-stop.result c.in-Some.first r.at_first (omega arith) r.room r.front;
+      order = r.room;
+    }
 
 pub returns-clause-next : goal.returns-clause-next
 returns-clause-next c =
-    let ready = is_ready c.args.self.now.entries.carried.items c.as_slice-carried.result.now c.args.self.now.entries.ahead.now c.ahead_before-fresh.result.now c.args.self.now.from
+    let r = is_ready c.args.self.now.entries.carried.items c.as_slice-carried.result.now c.args.self.now.entries.ahead.now c.ahead_before-fresh.result.now c.args.self.now.from
     c.args.self.now.size c.max-at.result c.saturating_add-stop.result c.in-Some.first c.as_slice-carried.ensures.value c.requires.left c.requires.across c.in-Some.ensures
     c.max-at.ensures c.saturating_add-stop.ensures c.ahead_before-fresh.ensures in
     subst (λ (l : List Owned). IsNext (l ++ c.args.self.now.entries.ahead.now) c.args.self.now.from c.args.self.now.size c.window_of-window.result
     (c.as_slice-carried.result.now ++ c.ahead_before-fresh.result.now) c.saturating_add-stop.result) c.as_slice-carried.ensures.value
-    (is_next (c.as_slice-carried.result.now ++ c.args.self.now.entries.ahead.now) (c.as_slice-carried.result.now ++ c.ahead_before-fresh.result.now) c.args.self.now.from
-    c.args.self.now.size c.max-at.result c.saturating_add-stop.result c.in-Some.first c.window_of-window.result ready.left ready.at_first c.max-at.ensures
-    c.saturating_add-stop.ensures ready.front c.window_of-window.ensures)
+    (is_next r.left c.max-at.result c.in-Some.first r.at_first c.max-at.ensures (c.as_slice-carried.result.now ++ c.ahead_before-fresh.result.now) c.saturating_add-stop.result
+    c.window_of-window.result c.saturating_add-stop.ensures r.front c.window_of-window.ensures)
 
 pub returns-in_default-clause-none : goal.returns-in_default-clause-none
 returns-in_default-clause-none c = none_got (entries_left c.args.self.now.entries) (sym c.in_default.ensures)
