@@ -139,8 +139,3 @@ first_ahead stop ahead rest entry e h o g =
 pub none_ahead : (stop : ℕ) (ahead : List Owned) → length ahead ≡ 0 → (o : Owned) → slice_get ahead 0 ≡ Some o → stop < o.extent.at + o.extent.len
 none_ahead stop [] e o g = no_none_some o g
 none_ahead stop (p ∷ ahead) e o g = absurd (omega arith)
-
-pub past_short : (place : ℕ) (whole left : List Owned) → IsPast place whole left → length left ≤ length whole
-past_short place [] left h = let none = ap (λ (l : List Owned). length l) h in omega arith
-past_short place (o ∷ whole) left (inl h) = let short = past_short place whole left h.1 in omega arith
-past_short place (o ∷ whole) left (inr h) = grind (arith, nat_tests, past_short place whole h.0 h.2)

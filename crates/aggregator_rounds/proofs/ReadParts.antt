@@ -52,66 +52,58 @@ says_read file p a (suc m) (suc j) y v h e f =
     let g : a + 1 + j ≡ a + suc j = omega arith in
     inr (says_read file (p + 1) (a + 1) m j y v (omega arith) (omega arith) (ap (λ (k : ℕ). at file k) g ∙ f))
 
-one_read : (base : ℕ) (file : List ℕ) (lo hi : ℕ) (o : Owned) (y v : ℕ) → base ≤ o.extent.at
-    → Says (enumerate_from (part_in lo hi o).from (read file ((part_in lo hi o).extent.at - base) (part_in lo hi o).extent.len)) y v
-    → IsRead base file lo hi (o ∷ []) y v
-one_read base file lo hi o y v on h =
-    let r = read_says file (part_in lo hi o).from ((part_in lo hi o).extent.at - base) (part_in lo hi o).extent.len y v h in
-    let l = r.within in
-    let f = r.place in
-    let e : part_at lo hi o + r.index - base ≡ part_at lo hi o - base + r.index = omega arith in
-    record {
-      by = o;
-      inside = inl refl;
-      place = part_at lo hi o + r.index;
-      low = omega arith;
-      high = omega arith;
-      begin = omega arith;
-      end = omega arith;
-      from = omega arith;
-      byte = ap (λ (k : ℕ). at file k) e ∙ r.byte;
-    }
+module _ (base : ℕ) (file : List ℕ) (lo hi : ℕ) where
+  -- what is read of an entry
+  abbrev bytes_of : Owned → List (ℕ × ℕ)
+  bytes_of o = enumerate_from (part_in lo hi o).from (read file ((part_in lo hi o).extent.at - base) (part_in lo hi o).extent.len)
 
--- the same between other places, of other entries, where they have the byte
-pub read_as : (base : ℕ) (file : List ℕ) (lo hi from to : ℕ) (os more : List Owned) (y v : ℕ) (r : IsRead base file lo hi os y v) → from ≤ r.place → r.place < to
-    → In more r.by → IsRead base file from to more y v
-read_as base file lo hi from to os more y v r l h m = grind (arith, nat_tests)
+  one_read : (o : Owned) (y v : ℕ) → base ≤ o.extent.at → Says (bytes_of o) y v → IsRead base file lo hi (o ∷ []) y v
+  one_read o y v on h =
+      let r = read_says file (part_in lo hi o).from ((part_in lo hi o).extent.at - base) (part_in lo hi o).extent.len y v h in
+      let l = r.within in
+      let f = r.place in
+      let e : part_at lo hi o + r.index - base ≡ part_at lo hi o - base + r.index = omega arith in
+      record {
+        by = o;
+        inside = inl refl;
+        place = part_at lo hi o + r.index;
+        low = omega arith;
+        high = omega arith;
+        begin = omega arith;
+        end = omega arith;
+        from = omega arith;
+        byte = ap (λ (k : ℕ). at file k) e ∙ r.byte;
+      }
 
-read_more : (base : ℕ) (file : List ℕ) (lo hi : ℕ) (os more : List Owned) (y v : ℕ) → ((o : Owned) → In os o → In more o) → IsRead base file lo hi os y v
-    → IsRead base file lo hi more y v
-read_more base file lo hi os more y v s r = read_as base file lo hi lo hi os more y v r r.low r.high (s r.by r.inside)
+  -- the same between other places, of other entries, where they have the byte
+  pub read_as : (from to : ℕ) (os more : List Owned) (y v : ℕ) (r : IsRead base file lo hi os y v) → from ≤ r.place → r.place < to → In more r.by → IsRead base file from to more y v
+  read_as from to os more y v r l h m = grind (arith, nat_tests)
 
-pub got_says : (base : ℕ) (file : List ℕ) (lo hi : ℕ) (os : List Owned) (y v : ℕ) → ((o : Owned) → In os o → base ≤ o.extent.at)
-    → Says (said_by (parts_got base file lo hi os)) y v → IsRead base file lo hi os y v
-got_says base file lo hi [] y v on h = absurd h
-got_says base file lo hi (o ∷ os) y v on h =
-    elim (says_cases (enumerate_from (part_in lo hi o).from (read file ((part_in lo hi o).extent.at - base) (part_in lo hi o).extent.len))
-    (said_by (parts_got base file lo hi os)) y v h) [
-      | inl g ↦ read_more base file lo hi (o ∷ []) (o ∷ os) y v (λ q m. elim m [ inl e ↦ inl e | inr n ↦ absurd n ]) (one_read base file lo hi o y v (on o (inl refl)) g)
-      | inr g ↦ read_more base file lo hi os (o ∷ os) y v (λ q m. inr m) (got_says base file lo hi os y v (λ q m. on q (inr m)) g)
-    ]
+  read_more : (os more : List Owned) (y v : ℕ) → ((o : Owned) → In os o → In more o) → IsRead base file lo hi os y v → IsRead base file lo hi more y v
+  read_more os more y v s r = read_as lo hi os more y v r r.low r.high (s r.by r.inside)
 
-says_got_of : (base : ℕ) (file : List ℕ) (lo hi : ℕ) (os : List Owned) (o : Owned) (x y v : ℕ) → In os o → base ≤ o.extent.at → lo ≤ x → x < hi
-    → o.extent.at ≤ x → x < o.extent.at + o.extent.len → o.from + (x - o.extent.at) ≡ y → at file (x - base) ≡ v → Says (said_by (parts_got base file lo hi os)) y v
-says_got_of base file lo hi [] o x y v m on l h b e f g = absurd m
-says_got_of base file lo hi (p ∷ os) o x y v (inr m) on l h b e f g =
-    says_right (enumerate_from (part_in lo hi p).from (read file ((part_in lo hi p).extent.at - base) (part_in lo hi p).extent.len))
-    (said_by (parts_got base file lo hi os)) y v (says_got_of base file lo hi os o x y v m on l h b e f g)
-says_got_of base file lo hi (p ∷ os) o x y v (inl m) on l h b e f g =
-    says_left (enumerate_from (part_in lo hi p).from (read file ((part_in lo hi p).extent.at - base) (part_in lo hi p).extent.len))
-    (said_by (parts_got base file lo hi os)) y v
-    (subst (λ (q : Owned). Says (enumerate_from (part_in lo hi q).from (read file ((part_in lo hi q).extent.at - base) (part_in lo hi q).extent.len)) y v) (sym m) here)
-  where
-    here : Says (enumerate_from (part_in lo hi o).from (read file ((part_in lo hi o).extent.at - base) (part_in lo hi o).extent.len)) y v
-    here =
-        let k : part_at lo hi o - base + (x - part_at lo hi o) ≡ x - base = omega arith in
-        says_read file (part_in lo hi o).from ((part_in lo hi o).extent.at - base) (part_in lo hi o).extent.len (x - part_at lo hi o) y v
-        (omega arith) (omega arith) (ap (λ (j : ℕ). at file j) k ∙ g)
+  pub got_says : (os : List Owned) (y v : ℕ) → ((o : Owned) → In os o → base ≤ o.extent.at) → Says (said_by (parts_got base file lo hi os)) y v → IsRead base file lo hi os y v
+  got_says [] y v on h = absurd h
+  got_says (o ∷ os) y v on h =
+      elim (says_cases (bytes_of o) (said_by (parts_got base file lo hi os)) y v h) [
+        | inl g ↦ read_more (o ∷ []) (o ∷ os) y v (λ q m. elim m [ inl e ↦ inl e | inr n ↦ absurd n ]) (one_read o y v (on o (inl refl)) g)
+        | inr g ↦ read_more os (o ∷ os) y v (λ q m. inr m) (got_says os y v (λ q m. on q (inr m)) g)
+      ]
 
-pub says_got : (base : ℕ) (file : List ℕ) (lo hi : ℕ) (os : List Owned) (y v : ℕ) → ((o : Owned) → In os o → base ≤ o.extent.at)
-    → IsRead base file lo hi os y v → Says (said_by (parts_got base file lo hi os)) y v
-says_got base file lo hi os y v on r =
-    says_got_of base file lo hi os r.by r.place y v r.inside (on r.by r.inside) r.low r.high r.begin r.end r.from r.byte
+  says_got_of : (os : List Owned) (o : Owned) (x y v : ℕ) → In os o → base ≤ o.extent.at → lo ≤ x → x < hi → o.extent.at ≤ x → x < o.extent.at + o.extent.len
+      → o.from + (x - o.extent.at) ≡ y → at file (x - base) ≡ v → Says (said_by (parts_got base file lo hi os)) y v
+  says_got_of [] o x y v m on l h b e f g = absurd m
+  says_got_of (p ∷ os) o x y v (inr m) on l h b e f g =
+      says_right (bytes_of p) (said_by (parts_got base file lo hi os)) y v (says_got_of os o x y v m on l h b e f g)
+  says_got_of (p ∷ os) o x y v (inl m) on l h b e f g =
+      let k : part_at lo hi o - base + (x - part_at lo hi o) ≡ x - base = omega arith in
+      let here : Says (bytes_of o) y v =
+      says_read file (part_in lo hi o).from ((part_in lo hi o).extent.at - base) (part_in lo hi o).extent.len (x - part_at lo hi o) y v
+      (omega arith) (omega arith) (ap (λ (j : ℕ). at file j) k ∙ g) in
+      says_left (bytes_of p) (said_by (parts_got base file lo hi os)) y v (subst (λ (q : Owned). Says (bytes_of q) y v) (sym m) here)
+
+  pub says_got : (os : List Owned) (y v : ℕ) → ((o : Owned) → In os o → base ≤ o.extent.at) → IsRead base file lo hi os y v → Says (said_by (parts_got base file lo hi os)) y v
+  says_got os y v on r = says_got_of os r.by r.place y v r.inside (on r.by r.inside) r.low r.high r.begin r.end r.from r.byte
 
 -- ---- no byte of a blob has two places
 

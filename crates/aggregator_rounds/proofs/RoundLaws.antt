@@ -50,36 +50,10 @@ window_over full file buf from lo n cells long low room least most whole was_rea
         (sym none ∙ ap (λ (y : ℕ). said_at (said_by (moved_down from cells)) y) (sym place)
         ∙ moved_said from cells (x + from) (from_less from lo cells low least) (omega arith) ∙ has.1)
 
--- the same of a disk that may tell its bytes
-pub window_told : (held : Option (List ℕ)) (full : Bool) (buf : List ℕ) (from lo n size : ℕ) (cells : List Cell) → IfSome held (λ b. length b ≡ size)
-    → length buf ≡ n → from ≤ lo → lo + n ≤ from + size → IsFrom lo cells → IsWithin cells (lo + n)
-    → (full ≡ true → (x : ℕ) → lo ≤ x → x < lo + n → HasPlace cells x)
-    → (full ≡ false → IfSome held (λ file. buf ≡ read file (lo - from) n))
-    → after (λ file. written file (lo - from) (write_cells buf (moved_down lo cells))) held ≡ after (λ file. write_cells file (moved_down from cells)) held
-window_told None full buf from lo n size cells told long low room least most whole was_read = refl
-window_told (Some file) full buf from lo n size cells told long low room least most whole was_read =
-    ap Some (window_over full file buf from lo n cells long low (omega arith) least most whole was_read)
-
 -- a write that was refused leaves each byte old or as the whole would have it
 between : (old left inner : List ℕ) (x : ℕ) (whole : List ℕ) → x + length inner ≤ length old → written old x inner ≡ whole → PartlyWritten x inner old left
     → IsBetween old whole left
 between old left inner x whole room e h = grind (arith, nat_tests, length-written_inside)
-
-pub window_refused : (held left : Option (List ℕ)) (full : Bool) (buf : List ℕ) (from lo n size : ℕ) (cells : List Cell) → IfSome held (λ b. length b ≡ size)
-    → length buf ≡ n → from ≤ lo → lo + n ≤ from + size → IsFrom lo cells → IsWithin cells (lo + n)
-    → (full ≡ true → (x : ℕ) → lo ≤ x → x < lo + n → HasPlace cells x)
-    → (full ≡ false → IfSome held (λ file. buf ≡ read file (lo - from) n))
-    → BothTold (PartlyWritten (lo - from) (write_cells buf (moved_down lo cells))) held left
-    → BothTold (λ old now. IsBetween old (write_cells old (moved_down from cells)) now) held left
-window_refused None left full buf from lo n size cells told long low room least most whole was_read h = h
-window_refused (Some file) left full buf from lo n size cells told long low room least most whole was_read h =
-    let inner : length (write_cells buf (moved_down lo cells)) ≡ length buf
-    = cells_long (moved_down lo cells) buf (within_lowered lo (length buf) cells least (subst (λ (k : ℕ). IsWithin cells (lo + k)) (sym long) most)) in (
-      h.0,
-      h.1,
-      between file h.0 (write_cells buf (moved_down lo cells)) (lo - from) (write_cells file (moved_down from cells)) (omega arith)
-          (window_over full file buf from lo n cells long low (omega arith) least most whole was_read) h.2,
-    )
 
 -- the calls of a window of which the write was refused
 pub window_begun : (full : Bool) (x n : ℕ) (old mid now : Option (List DiskCall)) → mid ≡ with_end old (if full then [] else load_calls (x, n, full)) → now ≡ mid
@@ -87,20 +61,7 @@ pub window_begun : (full : Bool) (x n : ℕ) (old mid now : Option (List DiskCal
 window_begun true x n old mid now e f = (0, f ∙ e)
 window_begun false x n old mid now e f = (1, f ∙ e)
 
--- the same, of a write that is told of the disk as it was opened
-pub window_refused_by : (held mid left : Option (List ℕ)) (full : Bool) (buf inner : List ℕ) (from begin lo n size : ℕ) (cells : List Cell)
-    → begin ≡ from → mid ≡ held → inner ≡ write_cells buf (moved_down lo cells) → IfSome held (λ b. length b ≡ size)
-    → length buf ≡ n → from ≤ lo → lo + n ≤ from + size → IsFrom lo cells → IsWithin cells (lo + n)
-    → (full ≡ true → (x : ℕ) → lo ≤ x → x < lo + n → HasPlace cells x)
-    → (full ≡ false → IfSome held (λ file. buf ≡ read file (lo - from) n))
-    → BothTold (PartlyWritten (lo - begin) inner) mid left
-    → BothTold (λ old now. IsBetween old (write_cells old (moved_down from cells)) now) held left
-window_refused_by held mid left full buf inner from begin lo n size cells e f i told long low room least most whole was_read h =
-    window_refused held left full buf from lo n size cells told long low room least most whole was_read
-    (subst (λ (b : List ℕ). BothTold (PartlyWritten (lo - from) b) held left) i
-    (subst (λ (m : Option (List ℕ)). BothTold (PartlyWritten (lo - from) inner) m left) f
-    (subst (λ (k : ℕ). BothTold (PartlyWritten (lo - k) inner) mid left) e h)))
-
+-- the same of a disk that may tell its bytes, by a write that is told of the disk as it was opened
 pub window_told_by : (held mid now : Option (List ℕ)) (full : Bool) (buf inner : List ℕ) (from begin lo n size : ℕ) (cells : List Cell)
     → begin ≡ from → mid ≡ held → inner ≡ write_cells buf (moved_down lo cells) → IfSome held (λ b. length b ≡ size)
     → length buf ≡ n → from ≤ lo → lo + n ≤ from + size → IsFrom lo cells → IsWithin cells (lo + n)
@@ -108,6 +69,27 @@ pub window_told_by : (held mid now : Option (List ℕ)) (full : Bool) (buf inner
     → (full ≡ false → IfSome held (λ file. buf ≡ read file (lo - from) n))
     → now ≡ after (λ file. written file (lo - begin) inner) mid
     → now ≡ after (λ file. write_cells file (moved_down from cells)) held
-window_told_by held mid now full buf inner from begin lo n size cells e f i told long low room least most whole was_read h =
-    h ∙ (λ t. after (λ file. written file (lo - e t) (i t)) (f t))
-    ∙ window_told held full buf from lo n size cells told long low room least most whole was_read
+window_told_by None mid now full buf inner from begin lo n size cells e f i told long low room least most whole was_read h =
+    h ∙ ap (λ (m : Option (List ℕ)). after (λ file. written file (lo - begin) inner) m) f
+window_told_by (Some file) mid now full buf inner from begin lo n size cells e f i told long low room least most whole was_read h =
+    h ∙ (λ t. after (λ file. written file (lo - e t) (i t)) (f t)) ∙ ap Some (window_over full file buf from lo n cells long low (omega arith) least most whole was_read)
+
+pub window_refused_by : (held mid left : Option (List ℕ)) (full : Bool) (buf inner : List ℕ) (from begin lo n size : ℕ) (cells : List Cell)
+    → begin ≡ from → mid ≡ held → inner ≡ write_cells buf (moved_down lo cells) → IfSome held (λ b. length b ≡ size)
+    → length buf ≡ n → from ≤ lo → lo + n ≤ from + size → IsFrom lo cells → IsWithin cells (lo + n)
+    → (full ≡ true → (x : ℕ) → lo ≤ x → x < lo + n → HasPlace cells x)
+    → (full ≡ false → IfSome held (λ file. buf ≡ read file (lo - from) n))
+    → BothTold (PartlyWritten (lo - begin) inner) mid left
+    → BothTold (λ old now. IsBetween old (write_cells old (moved_down from cells)) now) held left
+window_refused_by None mid left full buf inner from begin lo n size cells e f i told long low room least most whole was_read h =
+    subst (λ (m : Option (List ℕ)). BothTold (PartlyWritten (lo - begin) inner) m left) f h
+window_refused_by (Some file) mid left full buf inner from begin lo n size cells e f i told long low room least most whole was_read h =
+    let laid = write_cells buf (moved_down lo cells) in
+    let as_long : length laid ≡ length buf = cells_long (moved_down lo cells) buf (within_lowered lo (length buf) cells least (subst (λ (k : ℕ). IsWithin cells (lo + k)) (sym long) most)) in
+    let w = subst (λ (b : List ℕ). BothTold (PartlyWritten (lo - from) b) (Some file) left) i
+    (subst (λ (m : Option (List ℕ)). BothTold (PartlyWritten (lo - from) inner) m left) f (subst (λ (k : ℕ). BothTold (PartlyWritten (lo - k) inner) mid left) e h)) in (
+      w.0,
+      w.1,
+      between file w.0 laid (lo - from) (write_cells file (moved_down from cells)) (omega arith)
+          (window_over full file buf from lo n cells long low (omega arith) least most whole was_read) w.2,
+    )
