@@ -47,6 +47,10 @@ later_bytes re end from xs h =
 
 -- ---- the first window of a cover that has bytes left
 
+-- the bytes of a cover from a place on, before another
+abbrev pub between : ℕ → ℕ → List Extent → List ℕ
+between from end cover = filter (λ y. nat_lt y end) (filter (λ y. nat_le from y) (spans cover))
+
 -- the first extent, from a place on
 abbrev pub head_from : ℕ → Extent → Extent
 head_from from e = record { at = max e.at from; len = e.at + e.len - max e.at from }
@@ -60,7 +64,7 @@ head_cover from e cover h k = let long = h.0 in (omega arith, (λ d m. let gap =
 -- what is told of it
 pub first_told : (from stop k : ℕ) (e last : Extent) (cover : List Extent) → IsCover (e ∷ cover) → from < e.at + e.len → max e.at from < stop
     → slice_get (e ∷ cover) k ≡ Some last → last.at < stop → ((d : Extent) → slice_get cover k ≡ Some d → stop ≤ d.at)
-    → told_of (filter (λ y. nat_lt y stop) (filter (λ y. nat_le from y) (spans (e ∷ cover)))) ≡ (max e.at from, min (last.at + last.len) stop - max e.at from, k == 0)
+    → told_of (between from stop (e ∷ cover)) ≡ (max e.at from, min (last.at + last.len) stop - max e.at from, k == 0)
 first_told from stop k e last cover h l room at_last low after =
     let head = head_cover from e cover h l in
     let counted = by_count k at_last low after in
@@ -77,8 +81,7 @@ first_told from stop k e last cover h l room at_last low after =
     by_count (suc k) g low a = counted_below stop (suc k) (head_from from e) last cover (head_cover from e cover h l) room g low a
 
 -- the bytes of the cover begin with the first one left
-pub first_byte : (from end : ℕ) (e : Extent) (cover : List Extent) → IsCover (e ∷ cover) → from < e.at + e.len → max e.at from < end
-    → (ys : List ℕ) × (filter (λ y. nat_lt y end) (filter (λ y. nat_le from y) (spans (e ∷ cover))) ≡ max e.at from ∷ ys)
+pub first_byte : (from end : ℕ) (e : Extent) (cover : List Extent) → IsCover (e ∷ cover) → from < e.at + e.len → max e.at from < end → (ys : List ℕ) × (between from end (e ∷ cover) ≡ max e.at from ∷ ys)
 first_byte from end e cover h l room =
     let some = range_first (max e.at from) (e.at + e.len - max e.at from) (spans cover) (omega arith) in (
       filter (λ y. nat_lt y end) some.0,
@@ -96,20 +99,18 @@ first_window : (first size from end stop k : ℕ) (e last : Extent) (cover left 
     → IsCover (e ∷ cover) → from < e.at + e.len → max e.at from < end → stop ≡ min (round_end first size (max e.at from)) end
     → slice_get (e ∷ cover) k ≡ Some last → last.at < stop → ((d : Extent) → slice_get cover k ≡ Some d → stop ≤ d.at)
     → filter (λ y. nat_le stop y) (spans left) ≡ filter (λ y. nat_le stop y) (spans (e ∷ cover))
-    → told_windows first size (filter (λ y. nat_lt y end) (filter (λ y. nat_le from y) (spans (e ∷ cover))))
-    ≡ window_told first size (max e.at from, min (last.at + last.len) stop - max e.at from, k == 0)
-    ∷ told_windows first size (filter (λ y. nat_lt y end) (filter (λ y. nat_le stop y) (spans left)))
+    → told_windows first size (between from end (e ∷ cover)) ≡ window_told first size (max e.at from, min (last.at + last.len) stop - max e.at from, k == 0) ∷ told_windows first size (between stop end left)
 first_window first size from end stop k e last cover left big begin h l room is_stop at_last low after same =
     let x : ℕ = max e.at from in
     let re : ℕ = round_end first size x in
     let past : x < re = past_round first size x big in
-    let bytes : List ℕ = filter (λ y. nat_lt y end) (filter (λ y. nat_le from y) (spans (e ∷ cover))) in
+    let bytes : List ℕ = between from end (e ∷ cover) in
     let begins = first_byte from end e cover h l room in
     let told = first_told from stop k e last cover h l (omega arith) at_last low after in
-    let here : filter (λ y. nat_lt y re) bytes ≡ filter (λ y. nat_lt y stop) (filter (λ y. nat_le from y) (spans (e ∷ cover)))
+    let here : filter (λ y. nat_lt y re) bytes ≡ between from stop (e ∷ cover)
     = window_bytes re end (filter (λ y. nat_le from y) (spans (e ∷ cover)))
     ∙ ap (λ (n : ℕ). filter (λ y. nat_lt y n) (filter (λ y. nat_le from y) (spans (e ∷ cover)))) (sym is_stop) in
-    let later : filter (λ y. nat_le re y) bytes ≡ filter (λ y. nat_lt y end) (filter (λ y. nat_le stop y) (spans left))
+    let later : filter (λ y. nat_le re y) bytes ≡ between stop end left
     = later_bytes re end from (spans (e ∷ cover)) (omega arith)
     ∙ ap (λ (n : ℕ). filter (λ y. nat_lt y end) (filter (λ y. nat_le n y) (spans (e ∷ cover)))) (sym is_stop)
     ∙ ap (λ (b : List ℕ). filter (λ y. nat_lt y end) b) (sym same) in
@@ -117,8 +118,7 @@ first_window first size from end stop k e last cover left big begin h l room is_
     ∙ (λ i. window_told first size ((ap told_of here ∙ told) i) ∷ told_windows first size (later i))
 
 -- nothing is left past the end
-no_bytes : (from end : ℕ) (e : Extent) (cover : List Extent) → IsCover (e ∷ cover) → from < e.at + e.len → end ≤ max e.at from
-    → filter (λ y. nat_lt y end) (filter (λ y. nat_le from y) (spans (e ∷ cover))) ≡ []
+no_bytes : (from end : ℕ) (e : Extent) (cover : List Extent) → IsCover (e ∷ cover) → from < e.at + e.len → end ≤ max e.at from → between from end (e ∷ cover) ≡ []
 no_bytes from end e cover h l past =
     ap (λ (b : List ℕ). filter (λ y. nat_lt y end) b) (spans_above from (e ∷ cover) h ∙ ap spans (above_first from e cover l))
     ∙ spans_below_none end (head_from from e ∷ cover) all_past
@@ -174,8 +174,7 @@ spans_low e cover y h k =
 -- the walk that begins at the first covered byte
 pub begin_windows : (size low from end top : ℕ) (cover : List Extent) → 1 ≤ size → IsCover cover → EndBelow (2 ^ 62) cover → 2 ^ 62 ≤ top
     → ((c : Extent) → In cover c → low < c.at + c.len) → ((e : Extent) → slice_get cover 0 ≡ Some e → from ≡ max e.at low)
-    → told_windows from size (filter (λ y. nat_lt y (min end top)) (filter (λ y. nat_le from y) (spans cover)))
-    ≡ round_windows size (filter (λ y. nat_lt y end) (filter (λ y. nat_le low y) (spans cover)))
+    → told_windows from size (between from (min end top) cover) ≡ round_windows size (between low end cover)
 begin_windows size low from end top [] big h ends cap past begins = sym (no_windows size big)
 begin_windows size low from end top (e ∷ cover) big h ends cap past begins =
     let is : from ≡ max e.at low = begins e refl in
@@ -183,7 +182,7 @@ begin_windows size low from end top (e ∷ cover) big h ends cap past begins =
     let len : 1 ≤ e.len = h.0 in
     let from_low : filter (λ y. nat_le from y) (spans (e ∷ cover)) ≡ filter (λ y. nat_le low y) (spans (e ∷ cover))
     = filter_same (λ y. nat_le from y) (λ y. nat_le low y) (spans (e ∷ cover)) (λ y m. same_begin y low from e.at is (spans_low e cover y h m)) in
-    let same : filter (λ y. nat_lt y (min end top)) (filter (λ y. nat_le from y) (spans (e ∷ cover))) ≡ filter (λ y. nat_lt y end) (filter (λ y. nat_le from y) (spans (e ∷ cover)))
+    let same : between from (min end top) (e ∷ cover) ≡ between from end (e ∷ cover)
     = filter_same (λ y. nat_lt y (min end top)) (λ y. nat_lt y end) (filter (λ y. nat_le from y) (spans (e ∷ cover)))
     (λ y m. let high = spans_high (e ∷ cover) (2 ^ 62) y ends (filter_in (λ z. nat_le from z) (spans (e ∷ cover)) y m).0 in same_end y end top (omega arith)) in
     ap (told_windows from size) same
@@ -191,26 +190,23 @@ begin_windows size low from end top (e ∷ cover) big h ends cap past begins =
     ∙ ap (λ (b : List ℕ). round_windows size (filter (λ y. nat_lt y end) b)) from_low
   where
     by_end : from ≡ max e.at low → from < e.at + e.len → (from < end) ⊎ (end ≤ from)
-        → told_windows from size (filter (λ y. nat_lt y end) (filter (λ y. nat_le from y) (spans (e ∷ cover))))
-        ≡ round_windows size (filter (λ y. nat_lt y end) (filter (λ y. nat_le from y) (spans (e ∷ cover))))
+        → told_windows from size (between from end (e ∷ cover)) ≡ round_windows size (between from end (e ∷ cover))
     by_end is l (inl room) =
         let begin : max e.at from ≡ from = omega arith in
         let some = first_byte from end e cover h l (omega arith) in
-        same_windows from size from some.0 (filter (λ y. nat_lt y end) (filter (λ y. nat_le from y) (spans (e ∷ cover)))) big
+        same_windows from size from some.0 (between from end (e ∷ cover)) big
         (filter_ascends (λ y. nat_lt y end) (filter (λ y. nat_le from y) (spans (e ∷ cover))) (filter_ascends (λ y. nat_le from y) (spans (e ∷ cover)) (spans_ascend (e ∷ cover) h)))
         (some.1 ∙ ap (λ (n : ℕ). n ∷ some.0) begin)
     by_end is l (inr past_end) =
         let nothing = no_bytes from end e cover h l (omega arith) in
         ap (told_windows from size) nothing ∙ sym (ap (round_windows size) nothing ∙ no_windows size big)
 
-pub empty_left : (first size from end : ℕ) (cover : List Extent) → None ≡ slice_get cover 0
-    → told_windows first size (filter (λ y. nat_lt y end) (filter (λ y. nat_le from y) (spans cover))) ≡ []
+pub empty_left : (first size from end : ℕ) (cover : List Extent) → None ≡ slice_get cover 0 → told_windows first size (between from end cover) ≡ []
 empty_left first size from end [] h = refl
 empty_left first size from end (e ∷ cover) h = no_none_some e h
 
 pub none_left_at : (first size from end : ℕ) (e : Extent) (cover : List Extent) → IsCover cover → ((c : Extent) → In cover c → from < c.at + c.len)
-    → slice_get cover 0 ≡ Some e → end ≤ max e.at from
-    → told_windows first size (filter (λ y. nat_lt y end) (filter (λ y. nat_le from y) (spans cover))) ≡ []
+    → slice_get cover 0 ≡ Some e → end ≤ max e.at from → told_windows first size (between from end cover) ≡ []
 none_left_at first size from end e [] h past g room = refl
 none_left_at first size from end e (c ∷ cover) h past g room =
     ap (told_windows first size) (no_bytes from end c cover h (past c (inl refl)) (subst (λ (z : Extent). end ≤ max z.at from) (sym (same_Some c e g)) room))
@@ -226,9 +222,7 @@ pub next_window_at : (first size from end sat stop top count last at : ℕ) (e d
     → ((c : Extent) → slice_get cover count ≡ Some c → stop ≤ c.at)
     → last ≡ min ((get_or cover (count - 1) d).at + (get_or cover (count - 1) d).len) stop
     → filter (λ y. nat_le stop y) (spans left) ≡ filter (λ y. nat_le stop y) (spans cover)
-    → told_windows first size (filter (λ y. nat_lt y end) (filter (λ y. nat_le from y) (spans cover)))
-    ≡ record { round = (at - first) / size; hull = record { at = at; len = last - at }; full = count == 1 }
-    ∷ told_windows first size (filter (λ y. nat_lt y end) (filter (λ y. nat_le stop y) (spans left)))
+    → told_windows first size (between from end cover) ≡ record { round = (at - first) / size; hull = record { at = at; len = last - at }; full = count == 1 } ∷ told_windows first size (between stop end left)
 next_window_at first size from end sat stop top count last at e d [] left is big low h past g room cap is_sat is_stop bound before after is_last same = no_none_some e g
 next_window_at first size from end sat stop top count last at e d (c ∷ cover) left is big low h past g room cap is_sat is_stop bound before after is_last same =
     let begin : max c.at from ≡ at = ap (λ (z : Extent). max z.at from) (same_Some c e g) ∙ sym is in
@@ -240,7 +234,7 @@ next_window_at first size from end sat stop top count last at e d (c ∷ cover) 
     first_window first size from end stop (count - 1) c (get_or (c ∷ cover) (count - 1) d) cover left big (omega arith) h (past c (inl refl)) (omega arith)
     (stops ∙ ap (λ (n : ℕ). min (round_end first size n) end) (sym begin)) at_last (before (count - 1) _ (omega arith) at_last)
     (λ z q. after z (ap (λ (n : ℕ). slice_get (c ∷ cover) n) (sym index) ∙ q)) same
-    ∙ (λ i. window_told first size (begin i, sym is_last i - begin i, one_more count some i) ∷ told_windows first size (filter (λ y. nat_lt y end) (filter (λ y. nat_le stop y) (spans left))))
+    ∙ (λ i. window_told first size (begin i, sym is_last i - begin i, one_more count some i) ∷ told_windows first size (between stop end left))
 
 -- every extent of a walk that begins has bytes left
 pub left_from : (low from : ℕ) (cover : List Extent) → IsCover cover → ((c : Extent) → In cover c → low < c.at + c.len)
