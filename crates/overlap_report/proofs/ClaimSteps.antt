@@ -1,14 +1,15 @@
 -- The claims of a heap, as entries.
-use Rattle.overlap_report.proofs.Words.{◌≡◌, ℕ, zero, suc, ◌+◌, ◌-◌, ◌<◌, ◌≤◌, refl, sym, ◌∙◌, ap, subst, inl, inr, List, [], ◌∷◌, ◌++◌, take, drop, get_or, length, true, false, Option, Some, None, slice_get, nat_cmp, is_lt, Bor, ◌^◌, arith, nat_lt, IsHeap, IsUpperBound, PopsGreatest, IsItemAt, option_copied, IfSome, IfNone, MatchOption, IsPermutation, ordering_then, Ordering, nat_tests, Owned, In, same_permuted, in_map, map_in, ◌⊎◌, in_extents, Claim, IsPartOfOne, owned_of, entries_of, part_of, claim_cmp, AreFit, StandsBy, Swept, IsTop, take_all, lt-ltb, Extent, extents, IsInLine, IsByPlace, EndBelow, origins, IsOnceEach, IsResolved, same_Some}
+use Rattle.overlap_report.proofs.Words.{◌≡◌, ℕ, zero, suc, ◌+◌, ◌-◌, ◌<◌, ◌≤◌, refl, sym, ◌∙◌, ap, subst, inl, inr, List, [], ◌∷◌, ◌++◌, take, drop, get_or, length, true, false, Option, Some, None, slice_get, nat_cmp, is_lt, Bor, ◌^◌, arith, nat_lt, IsHeap, IsUpperBound, PopsGreatest, IsItemAt, option_copied, IfSome, IfNone, MatchOption, IsPermutation, ordering_then, Ordering, nat_tests, Owned, In, HaveSame, same_permuted, in_map, map_in, ◌⊎◌, in_extents, Claim, IsPartOfOne, owned_of, entries_of, part_of, claim_cmp, AreFit, StandsBy, Swept, IsTop, take_all, lt-ltb, Extent, extents, IsInLine, IsByPlace, EndBelow, origins, IsOnceEach, IsResolved, same_Some}
 use Rattle.overlap_report.proofs.SweepSteps.{swept_empty, swept_without, swept_part, swept_more}
 use Rattle.overlap_report.proofs.OriginSteps.{resolved_by}
 use Rattle.overlap_report.proofs.KeySteps.{IsNext}
 
-moved : (cs ds : List Claim) → IsPermutation cs ds → (o : Owned) → In (entries_of cs) o → In (entries_of ds) o
-moved cs ds p o m = let r = map_in owned_of cs o m in subst (λ (z : Owned). In (entries_of ds) z) r.2 (in_map owned_of ds r.0 ((same_permuted cs ds p).0 r.0 r.1))
-
-moved_back : (cs ds : List Claim) → IsPermutation cs ds → (o : Owned) → In (entries_of ds) o → In (entries_of cs) o
-moved_back cs ds p o m = let r = map_in owned_of ds o m in subst (λ (z : Owned). In (entries_of cs) z) r.2 (in_map owned_of cs r.0 ((same_permuted cs ds p).1 r.0 r.1))
+same_entries : (cs ds : List Claim) → IsPermutation cs ds → HaveSame (entries_of cs) (entries_of ds)
+same_entries cs ds p =
+    let same = same_permuted cs ds p in (
+      (λ o m. let r = map_in owned_of cs o m in subst (λ (z : Owned). In (entries_of ds) z) r.2 (in_map owned_of ds r.0 (same.0 r.0 r.1))),
+      (λ o m. let r = map_in owned_of ds o m in subst (λ (z : Owned). In (entries_of cs) z) r.2 (in_map owned_of cs r.0 (same.1 r.0 r.1))),
+    )
 
 -- ---- the top
 
@@ -39,12 +40,12 @@ top_told (c ∷ cs) None heap item greatest = let yes : nat_lt 0 (suc (length cs
 top_told (c ∷ cs) (Some x) heap item greatest = (ap Some (sym item.1), last_of_all x.now (c ∷ cs) (greatest heap))
 
 pub ended_fit : (cs ds : List Claim) (t : Claim) (p : ℕ) → IsPermutation cs (t ∷ ds) → AreFit p (entries_of cs) → AreFit p (entries_of ds)
-ended_fit cs ds t p perm fit o m = fit o (moved_back cs (t ∷ ds) perm o (inr m))
+ended_fit cs ds t p perm fit o m = fit o ((same_entries cs (t ∷ ds) perm).1 o (inr m))
 
 pub ended_swept : (seen out : List Owned) (cs ds : List Claim) (t : Claim) (p : ℕ) → IsPermutation cs (t ∷ ds) → t.at + t.len ≤ p
     → Swept seen out (entries_of cs) p → Swept seen out (entries_of ds) p
 ended_swept seen out cs ds t p perm ended s =
-    swept_without seen out (entries_of cs) (entries_of ds) (owned_of t) p ended (moved cs (t ∷ ds) perm) (moved_back cs (t ∷ ds) perm) s
+    swept_without seen out (entries_of cs) (entries_of ds) (owned_of t) p ended (same_entries cs (t ∷ ds) perm) s
 
 pub later_fit : (cs : List Claim) (p q : ℕ) → p ≤ q → AreFit p (entries_of cs) → AreFit q (entries_of cs)
 later_fit cs p q h fit o m = let f = fit o m in let l = f.0 in (omega arith, f.1, f.2)
@@ -78,7 +79,7 @@ popped_rest (c ∷ cs) ds (Some x) n top perm none long t e =
 
 pub pushed_fit : (cs ds : List Claim) (t : Claim) (o : Owned) (p : ℕ) → owned_of t ≡ o → IsPermutation (t ∷ cs) ds → o.extent.at ≤ p → o.extent.at + o.extent.len < 2 ^ 62
     → o.from + o.extent.len < 2 ^ 62 → AreFit p (entries_of cs) → AreFit p (entries_of ds)
-pushed_fit cs ds t o p is perm low ends found fit q m = by_one (moved_back (t ∷ cs) ds perm q m)
+pushed_fit cs ds t o p is perm low ends found fit q m = by_one ((same_entries (t ∷ cs) ds perm).1 q m)
   where
     by_one : In (entries_of (t ∷ cs)) q → (q.extent.at ≤ p) × (q.extent.at + q.extent.len < 2 ^ 62) × (q.from + q.extent.len < 2 ^ 62)
     by_one (inl e) = subst (λ (z : Owned). (z.extent.at ≤ p) × (z.extent.at + z.extent.len < 2 ^ 62) × (z.from + z.extent.len < 2 ^ 62)) (sym is ∙ e) (low, ends, found)
@@ -88,8 +89,7 @@ pub pushed_swept : (seen more out : List Owned) (cs ds : List Claim) (t : Claim)
     → Swept seen out (entries_of cs) o.extent.at → Swept more out (entries_of ds) o.extent.at
 pushed_swept seen more out cs ds t o next is perm s =
     swept_more seen more out (entries_of cs) (entries_of ds) o next
-    (λ q m. subst (λ (z : Owned). In (z ∷ entries_of cs) q) is (moved_back (t ∷ cs) ds perm q m))
-    (λ q m. moved (t ∷ cs) ds perm q (subst (λ (z : Owned). In (z ∷ entries_of cs) q) (sym is) m)) s
+    (subst (λ (z : Owned). HaveSame (z ∷ entries_of cs) (entries_of ds)) is (same_entries (t ∷ cs) ds perm)) s
 
 -- ---- the list
 

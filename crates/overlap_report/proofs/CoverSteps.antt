@@ -1,5 +1,6 @@
 -- Extents in the order of their places, joined where they touch.
-use Rattle.overlap_report.proofs.Words.{◌≡◌, ℕ, zero, suc, ◌+◌, ◌-◌, ◌<◌, ◌≤◌, ◌⊎◌, refl, sym, ◌∙◌, ap, subst, inl, inr, List, [], ◌∷◌, ◌++◌, length, drop, get_or, Bool, true, false, cond, max, arith, nat_lt, ◌==◌, flat_map-append, append-nil, flat_in, lt-ltb, nat_tests, drop_of_length-le, range_with_len, Extent, Owned, In, HaveSame, ranges, extents, IsByPlace, EndBelow, IsCover, spans, in_either, in_left, in_right, in_range, range_low, range_high, run}
+use Rattle.overlap_report.proofs.Words.{◌≡◌, ℕ, zero, suc, ◌+◌, ◌-◌, ◌<◌, ◌≤◌, ◌⊎◌, refl, sym, ◌∙◌, ap, subst, inl, inr, List, [], ◌∷◌, ◌++◌, length, drop, get_or, Bool, true, false, cond, max, arith, nat_lt, ◌==◌, flat_map-append, append-nil, flat_in, lt-ltb, nat_tests, drop_of_length-le, range_with_len, Extent, Owned, In, HaveSame, ranges, extents, IsByPlace, EndBelow, IsCover, spans, in_either, in_extents, entry_in, in_left, in_right, in_range, range_low, range_high, run}
+use Rattle.list_laws.proofs.Truth.{either}
 use borrow.Author.Tests.{ltb-true, ltb-false, eqb-true}
 
 -- the runs of the extents, where one from a place to an end has begun
@@ -15,47 +16,30 @@ in_run at end d m = grind (arith, nat_tests, nat_lt at end)
 begins_by : (at end : ℕ) (es : List Extent) → IsByPlace es → ((d : Extent) → In es d → at ≤ d.at) → (d : Extent) → In (joined_from at end es) d → at ≤ d.at
 begins_by at end [] sorted low d m = let r = (in_run at end d m).0 in omega arith
 begins_by at end (e ∷ es) sorted low d m =
-    by_len (λ b n g. begins_by b n es sorted.1 (λ c k. g c (inr k)) d) (e.len == 0) (nat_lt end e.at) m
-  where
-    by_len : ((b n : ℕ) → ((c : Extent) → In (e ∷ es) c → b ≤ c.at) → In (joined_from b n es) d → b ≤ d.at)
-        → (s t : Bool) → In (cond s (joined_from at end es) (cond t (run at end ++ joined_from e.at (max end (e.at + e.len)) es) (joined_from at (max end (e.at + e.len)) es))) d → at ≤ d.at
-    by_len ih true t k = ih at end low k
-    by_len ih false false k = ih at (max end (e.at + e.len)) low k
-    by_len ih false true k =
-        elim (in_either (run at end) (joined_from e.at (max end (e.at + e.len)) es) d k) [
-          | inl g ↦ (let r = (in_run at end d g).0 in omega arith)
-          | inr g ↦ (let first = low e (inl refl) in
-              let r = ih e.at (max end (e.at + e.len)) from_first g in omega arith)
-        ]
-      where
-        from_first : (c : Extent) → In (e ∷ es) c → e.at ≤ c.at
-        from_first c (inl g) = subst (λ (z : Extent). e.at ≤ z.at) g (omega arith)
-        from_first c (inr g) = sorted.0 c g
+    grind (
+      arith,
+      nat_tests,
+      begins_by at end es sorted.1 (λ c k. low c (inr k)) d,
+      begins_by at (max end (e.at + e.len)) es sorted.1 (λ c k. low c (inr k)) d,
+      begins_by e.at (max end (e.at + e.len)) es sorted.1 sorted.0 d,
+      low e (inl refl),
+      in_either,
+      in_run,
+    )
 
 run_cover : (at end : ℕ) (es : List Extent) → IsCover es → ((d : Extent) → In es d → end < d.at) → IsCover (run at end ++ es)
-run_cover at end es h past = by_test (nat_lt at end) refl
-  where
-    by_test : (t : Bool) → nat_lt at end ≡ t → IsCover (cond t (record { at = at; len = end - at } ∷ []) [] ++ es)
-    by_test false f = h
-    by_test true f =
-        let room : at < end = ltb-true _ _ f in
-        (omega arith, (λ d m. let l = past d m in omega arith), h)
+run_cover at end es h past =
+    either (λ ds. IsCover (ds ++ es)) (nat_lt at end) _ _
+    (λ f. let room : at < end = ltb-true _ _ f in (omega arith, (λ d m. let l = past d m in omega arith), h)) (λ f. h)
 
 pub joined_cover : (at end : ℕ) (es : List Extent) → IsByPlace es → ((d : Extent) → In es d → at ≤ d.at) → IsCover (joined_from at end es)
 joined_cover at end [] sorted low = subst (λ (es : List Extent). IsCover es) (append-nil (run at end)) (run_cover at end [] tt (λ d m. absurd m))
 joined_cover at end (e ∷ es) sorted low =
-    by_len (joined_cover at end es sorted.1 (λ c k. low c (inr k))) (joined_cover e.at (max end (e.at + e.len)) es sorted.1 sorted.0)
-    (joined_cover at (max end (e.at + e.len)) es sorted.1 (λ c k. low c (inr k))) (e.len == 0) (nat_lt end e.at) refl
-  where
-    by_len : IsCover (joined_from at end es) → IsCover (joined_from e.at (max end (e.at + e.len)) es) → IsCover (joined_from at (max end (e.at + e.len)) es)
-        → (s t : Bool) → nat_lt end e.at ≡ t
-        → IsCover (cond s (joined_from at end es) (cond t (run at end ++ joined_from e.at (max end (e.at + e.len)) es) (joined_from at (max end (e.at + e.len)) es)))
-    by_len a b c true t f = a
-    by_len a b c false false f = c
-    by_len a b c false true f =
-        let gap : end < e.at = ltb-true _ _ f in
-        run_cover at end (joined_from e.at (max end (e.at + e.len)) es) b
-        (λ d m. let l = begins_by e.at (max end (e.at + e.len)) es sorted.1 sorted.0 d m in omega arith)
+    either (λ ds. IsCover ds) (e.len == 0) _ _ (λ f. joined_cover at end es sorted.1 (λ c k. low c (inr k)))
+    (λ f. either (λ ds. IsCover ds) (nat_lt end e.at) _ _
+    (λ g. run_cover at end (joined_from e.at (max end (e.at + e.len)) es) (joined_cover e.at (max end (e.at + e.len)) es sorted.1 sorted.0)
+    (λ d m. let gap : end < e.at = ltb-true _ _ g in let l = begins_by e.at (max end (e.at + e.len)) es sorted.1 sorted.0 d m in omega arith))
+    (λ g. joined_cover at (max end (e.at + e.len)) es sorted.1 (λ c k. low c (inr k))))
 
 -- ---- the bytes
 
@@ -76,38 +60,19 @@ spans_joined ds es = flat_map-append (λ e. range_with_len e.at e.len) ds es
 pub joined_only : (at end x : ℕ) (es : List Extent) → In (spans (joined_from at end es)) x → ((at ≤ x) × (x < end)) ⊎ In (spans es) x
 joined_only at end x [] m = inl (run_bytes at end x m)
 joined_only at end x (e ∷ es) m =
-    by_len (λ b n. joined_only b n x es) (e.len == 0) (nat_lt end e.at) refl refl m
-  where
-    more : In (spans es) x → In (spans (e ∷ es)) x
-    more g = in_right (range_with_len e.at e.len) (spans es) x g
-
-    here : e.at ≤ x → x < e.at + e.len → In (spans (e ∷ es)) x
-    here l h = in_left (range_with_len e.at e.len) (spans es) x (in_range e.at e.len x l h)
-
-    by_end : (b : ℕ) → ((b ≤ x) × (x < max end (e.at + e.len))) ⊎ In (spans es) x → (b ≤ x → x < end → ((at ≤ x) × (x < end)) ⊎ In (spans (e ∷ es)) x) → (b ≤ x → end ≤ x → e.at ≤ x)
-        → ((at ≤ x) × (x < end)) ⊎ In (spans (e ∷ es)) x
-    by_end b (inr g) low high = inr (more g)
-    by_end b (inl g) low high = by_test (nat_lt x end) refl
-      where
-        by_test : (t : Bool) → nat_lt x end ≡ t → ((at ≤ x) × (x < end)) ⊎ In (spans (e ∷ es)) x
-        by_test true f = low g.0 (ltb-true _ _ f)
-        by_test false f = let past : end ≤ x = ltb-false _ _ f in let before = g.1 in inr (here (high g.0 past) (omega arith))
-
-    by_len : ((b n : ℕ) → In (spans (joined_from b n es)) x → ((b ≤ x) × (x < n)) ⊎ In (spans es) x)
-        → (s t : Bool) → (e.len == 0) ≡ s → nat_lt end e.at ≡ t
-        → In (spans (cond s (joined_from at end es) (cond t (run at end ++ joined_from e.at (max end (e.at + e.len)) es) (joined_from at (max end (e.at + e.len)) es)))) x
-        → ((at ≤ x) × (x < end)) ⊎ In (spans (e ∷ es)) x
-    by_len ih true t f g k = elim (ih at end k) [ inl a ↦ inl a | inr a ↦ inr (more a) ]
-    by_len ih false false f g k =
-        let touch : e.at ≤ end = ltb-false _ _ g in
-        by_end at (ih at (max end (e.at + e.len)) k) (λ l h. inl (l, h)) (λ l h. omega arith)
-    by_len ih false true f g k =
-        let gap : end < e.at = ltb-true _ _ g in
-        elim (in_either (spans (run at end)) (spans (joined_from e.at (max end (e.at + e.len)) es)) x
-        (subst (λ (ys : List ℕ). In ys x) (spans_joined (run at end) (joined_from e.at (max end (e.at + e.len)) es)) k)) [
-          | inl a ↦ inl (run_bytes at end x a)
-          | inr a ↦ by_end e.at (ih e.at (max end (e.at + e.len)) a) (λ l h. absurd (omega arith)) (λ l h. l)
-        ]
+    grind (
+      arith,
+      nat_tests,
+      joined_only at end x es,
+      joined_only at (max end (e.at + e.len)) x es,
+      joined_only e.at (max end (e.at + e.len)) x es,
+      spans_joined (run at end) (joined_from e.at (max end (e.at + e.len)) es),
+      in_either,
+      run_bytes,
+      in_right (range_with_len e.at e.len) (spans es) x,
+      in_left (range_with_len e.at e.len) (spans es) x,
+      in_range e.at e.len x,
+    )
 
 pub joined_all : (at end x : ℕ) (es : List Extent) → IsByPlace es → ((d : Extent) → In es d → at ≤ d.at) → ((at ≤ x) × (x < end)) ⊎ In (spans es) x
     → In (spans (joined_from at end es)) x
@@ -172,6 +137,4 @@ all_bytes_joined list sorted = (
 )
 
 pub entry_ends : (list : List Owned) (n i : ℕ) (d : Owned) → EndBelow n (extents list) → i < length list → (get_or list i d).extent.at + (get_or list i d).extent.len < n
-entry_ends [] n i d h l = absurd (omega arith)
-entry_ends (o ∷ list) n zero d h l = h o.extent (inl refl)
-entry_ends (o ∷ list) n (suc i) d h l = entry_ends list n i d (λ e m. h e (inr m)) (omega arith)
+entry_ends list n i d h l = h (get_or list i d).extent (in_extents list (get_or list i d) (entry_in list i d l))

@@ -1,6 +1,5 @@
 -- What entries say of a byte, as origins.
-use Rattle.overlap_report.proofs.Words.{◌≡◌, ℕ, zero, suc, ◌+◌, ◌-◌, ◌<◌, ◌≤◌, refl, sym, ◌∙◌, ap, subst, inl, inr, List, [], ◌∷◌, map, Bool, true, false, arith, nat_tests, ◌==◌, range_with_len, enumerate_from, Owned, Says, In, Origin, origins_of, origins, AtMost, IsGreatest, IsResolved, IsOnceEach, says_left, says_right, says_cases, greatest_once, Covers, Winner}
-use borrow.Author.Tests.{eqb-true}
+use Rattle.overlap_report.proofs.Words.{cases_lt, ◌≡◌, ℕ, zero, suc, ◌+◌, ◌-◌, ◌<◌, ◌≤◌, refl, sym, ◌∙◌, ap, subst, inl, inr, List, [], ◌∷◌, map, Bool, true, false, arith, nat_tests, ◌==◌, range_with_len, enumerate_from, Owned, Says, In, Origin, origins_of, origins, AtMost, IsGreatest, IsResolved, IsOnceEach, says_left, says_right, says_cases, greatest_once, Covers, Winner}
 
 abbrev pub origin_at : Owned → ℕ → Origin
 origin_at o x = (o.rank, o.slot, o.from + (x - o.extent.at))
@@ -10,18 +9,16 @@ origin rank slot i = (rank, slot, i)
 
 origin_said : (rank slot p from n x : ℕ) → p ≤ x → x < p + n → Says (enumerate_from p (map (origin rank slot) (range_with_len from n))) x (origin rank slot (from + (x - p)))
 origin_said rank slot p from zero x h l = absurd (omega arith)
-origin_said rank slot p from (suc n) x h l = by_first (λ k. origin_said rank slot (p + 1) (from + 1) n x k (omega arith)) (p == x) refl
-  where
-    by_first : (p + 1 ≤ x → Says (enumerate_from (p + 1) (map (origin rank slot) (range_with_len (from + 1) n))) x (origin rank slot (from + 1 + (x - (p + 1)))))
-        → (t : Bool) → (p == x) ≡ t → Says (enumerate_from p (map (origin rank slot) (range_with_len from (suc n)))) x (origin rank slot (from + (x - p)))
-    by_first ih true e =
-        let same : p ≡ x = eqb-true _ _ e in
-        let place : from ≡ from + (x - p) = omega arith in
-        inl (same, ap (origin rank slot) place)
-    by_first ih false e =
-        let past : p + 1 ≤ x = grind (arith, nat_tests) in
-        let place : from + 1 + (x - (p + 1)) ≡ from + (x - p) = omega arith in
-        inr (subst (λ (i : ℕ). Says (enumerate_from (p + 1) (map (origin rank slot) (range_with_len (from + 1) n))) x (origin rank slot i)) place (ih past))
+origin_said rank slot p from (suc n) x h l = elim (cases_lt p x) [
+  | inl past ↦
+      let place : from + 1 + (x - (p + 1)) ≡ from + (x - p) = omega arith in
+      inr (subst (λ (i : ℕ). Says (enumerate_from (p + 1) (map (origin rank slot) (range_with_len (from + 1) n))) x (origin rank slot i)) place
+      (origin_said rank slot (p + 1) (from + 1) n x (omega arith) (omega arith)))
+  | inr low ↦
+      let same : p ≡ x = omega arith in
+      let place : from ≡ from + (x - p) = omega arith in
+      inl (same, ap (origin rank slot) place)
+]
 
 said_origin : (rank slot p from n x : ℕ) (a : Origin) → Says (enumerate_from p (map (origin rank slot) (range_with_len from n))) x a
     → (p ≤ x) × (x < p + n) × (a ≡ origin rank slot (from + (x - p)))

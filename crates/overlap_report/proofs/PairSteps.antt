@@ -74,12 +74,3 @@ least_next seen more o x (Two a b) r next c e h =
     }
     by_test false false false true f g k q = both (λ d. inr (inl (sym e ∙ key_equal (key r) (key b) q)))
     by_test false false false false f g k q = both (λ d. inr (inr (subst (λ (y : Key). key_below (key b) y ≡ true) e (below_or_above (key r) (key b) q k))))
-
-pub all_least : (list : List Owned) (i x : ℕ) (l : Least) → length list ≤ i → AreLeast (take i list) x l → AreLeast list x l
-all_least list i x l h k = subst (λ (os : List Owned). AreLeast os x l) (take_all i list h) k
-
-pub one_clear : (list : List Owned) (x : ℕ) (a : Request) → AreLeast list x (One a) → IsClearAt list x
-one_clear list x a h o p m n c d = equal_key (key_of o) (key_of p) (h.1 o m c ∙ sym (h.1 p n d))
-
-pub nobody_clear : (list : List Owned) (x : ℕ) → AreLeast list x Nobody → IsClearAt list x
-nobody_clear list x h o p m n c d = absurd (h o m c)

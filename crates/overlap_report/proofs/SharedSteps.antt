@@ -1,6 +1,7 @@
 -- How far the entries so far reach, and the first byte that two requests hold.
-use Rattle.overlap_report.proofs.Words.{◌≡◌, ℕ, ◌+◌, ◌<◌, ◌≤◌, ◌⊎◌, refl, sym, ◌∙◌, ap, subst, inl, inr, List, length, take, get_or, Bool, true, false, cond, max, Option, Some, None, arith, nat_lt, MatchOption, range_with_len, take_all, entry_in, in_taken, Owned, Pair, Key, same_key, key_below, Holds, holdings_of_entries, shared_pair_of, first_end, second_end, key_itself, key_equal, pair_found, pair_only, In, extents, IsByPlace, in_range, range_low, range_high, holds_by, holder_of, Reach, key_of, Covers, IsClearAt, AreTwo, IsFirst, HasHolder, ArePairAt, same_as, with_entry, no_both}
-use borrow.Author.Tests.{ltb-true, ltb-false}
+use Rattle.overlap_report.proofs.Words.{cases_lt, ◌≡◌, ℕ, ◌+◌, ◌<◌, ◌≤◌, ◌⊎◌, refl, sym, ◌∙◌, ap, subst, inl, inr, List, length, take, get_or, Bool, true, false, cond, max, Option, Some, None, arith, nat_lt, MatchOption, range_with_len, take_all, entry_in, in_taken, Owned, Pair, Key, same_key, key_below, Holds, holdings_of_entries, shared_pair_of, first_end, second_end, key_itself, key_equal, pair_found, pair_only, In, extents, IsByPlace, in_range, range_low, range_high, holds_by, holder_of, Reach, key_of, Covers, IsClearAt, AreTwo, IsFirst, HasHolder, ArePairAt, same_as, with_entry, no_both}
+use Rattle.list_laws.proofs.Optional.{some_or_none}
+use Rattle.list_laws.proofs.Truth.{holds_or_not}
 use Rattle.overlap_report.proofs.KeySteps.{key_back, key_meet, key_apart, key_apart_back, not_below_itself, IsNext, for_next, before_next, at_or_before}
 
 -- an entry that ends there, of the request or not
@@ -39,15 +40,17 @@ pub reach_next : (seen more : List Owned) (r : Reach) (o : Owned) → IsNext see
     → cond (same_as r o) r.other r.end ≤ o.extent.at → Reaches r seen → Reaches (with_entry r o) more
 reach_next seen more r o next long free h = by_same (same_as r o) refl free
   where
-    meet_same : same_as r o ≡ true → r.other ≤ o.extent.at → (x : ℕ) (p : Owned) → In seen p → Covers p x → Covers o x → (t : Bool) → same_as r p ≡ t → same_key (key_of p) (key_of o) ≡ true
-    meet_same e low x p m c d true f = key_meet (key_of p) (key_of o) (r.rank, r.request) f e
-    meet_same e low x p m c d false f = absurd (omega (arith, h.others p m (omega (arith, c.0, c.1)) f, c.1, d.0))
+    meet_same : same_as r o ≡ true → r.other ≤ o.extent.at → (x : ℕ) (p : Owned) → In seen p → Covers p x → Covers o x → same_key (key_of p) (key_of o) ≡ true
+    meet_same e low x p m c d = elim (holds_or_not (same_as r p)) [
+      | inl f ↦ key_meet (key_of p) (key_of o) (r.rank, r.request) f e
+      | inr f ↦ absurd (omega (arith, h.others p m (omega (arith, c.0, c.1)) f, c.1, d.0))
+    ]
 
-    by_end : same_as r o ≡ true → (t : Bool) → nat_lt r.end (o.extent.at + o.extent.len) ≡ t
-        → EndsAt more (record r { end = max r.end (o.extent.at + o.extent.len) }) (max r.end (o.extent.at + o.extent.len)) true
-    by_end e true f = let k : r.end < o.extent.at + o.extent.len = ltb-true _ _ f in record { entry = o; is_one = next.has; ends = omega arith; of_it = e }
-    by_end e false f = let k : o.extent.at + o.extent.len ≤ r.end = ltb-false _ _ f in
-        moved seen more r (record r { end = max r.end (o.extent.at + o.extent.len) }) o r.end (max r.end (o.extent.at + o.extent.len)) true next refl refl (omega arith) (h.end_of (omega arith))
+    by_end : same_as r o ≡ true → EndsAt more (record r { end = max r.end (o.extent.at + o.extent.len) }) (max r.end (o.extent.at + o.extent.len)) true
+    by_end e = elim (cases_lt r.end (o.extent.at + o.extent.len)) [
+      | inl k ↦ record { entry = o; is_one = next.has; ends = omega arith; of_it = e }
+      | inr k ↦ moved seen more r (record r { end = max r.end (o.extent.at + o.extent.len) }) o r.end (max r.end (o.extent.at + o.extent.len)) true next refl refl (omega arith) (h.end_of (omega arith))
+    ]
 
     by_same : (t : Bool) → same_as r o ≡ t → cond t r.other r.end ≤ o.extent.at
         → Reaches (cond t (record r { end = max r.end (o.extent.at + o.extent.len) })
@@ -55,9 +58,9 @@ reach_next seen more r o next long free h = by_same (same_as r o) refl free
     by_same true e low = record {
       most = for_next (λ p. 1 ≤ p.extent.len → p.extent.at + p.extent.len ≤ max r.end (o.extent.at + o.extent.len)) next (λ p a l. omega (arith, h.most p a l)) (λ l. omega arith);
       others = for_next (λ p. 1 ≤ p.extent.len → same_as r p ≡ false → p.extent.at + p.extent.len ≤ r.other) next h.others (λ l f. no_both (same_as r o) e f);
-      end_of = λ l. by_end e (nat_lt r.end (o.extent.at + o.extent.len)) refl;
+      end_of = λ l. by_end e;
       other_of = λ l. moved seen more r (record r { end = max r.end (o.extent.at + o.extent.len) }) o r.other r.other false next refl refl refl (h.other_of l);
-      clear = λ x. clear_next seen more o x next (h.clear x) (λ p m c d. meet_same e low x p m c d (same_as r p) refl);
+      clear = λ x. clear_next seen more o x next (h.clear x) (λ p m c d. meet_same e low x p m c d);
     }
     by_same false e low = record {
       most = for_next (λ p. 1 ≤ p.extent.len → p.extent.at + p.extent.len ≤ o.extent.at + o.extent.len) next (λ p a l. omega (arith, h.most p a l)) (λ l. omega arith);
@@ -140,15 +143,13 @@ unshared list x clear a b h k =
     sym h.key ∙ key_equal (key_of h.holder) (key_of k.holder) (clear h.holder k.holder h.is_one k.is_one h.covers k.covers) ∙ k.key
 
 pub no_pair : (list : List Owned) → ((x : ℕ) → IsClearAt list x) → None ≡ shared_pair_of (holdings_of_entries list)
-no_pair list clear = by_pair (shared_pair_of (holdings_of_entries list)) refl
-  where
-    by_pair : (o : Option Pair) → shared_pair_of (holdings_of_entries list) ≡ o → None ≡ shared_pair_of (holdings_of_entries list)
-    by_pair None e = sym e
-    by_pair (Some p) e =
-        let found = pair_found (holdings_of_entries list) p e in
-        let same = unshared list p.at (clear p.at) (first_end p) (second_end p) (of_holds list (first_end p) p.at found.first) (of_holds list (second_end p) p.at found.second) in
-        no_both (key_below (second_end p) (second_end p))
-        (subst (λ (k : Key). key_below k (second_end p) ≡ true) same found.in_order) (not_below_itself (second_end p))
+no_pair list clear = elim (some_or_none (shared_pair_of (holdings_of_entries list))) [
+  | inl e ↦ sym e
+  | inr (p, e) ↦
+      let found = pair_found (holdings_of_entries list) p e in
+      let same = unshared list p.at (clear p.at) (first_end p) (second_end p) (of_holds list (first_end p) p.at found.first) (of_holds list (second_end p) p.at found.second) in
+      no_both (key_below (second_end p) (second_end p)) (subst (λ (k : Key). key_below k (second_end p) ≡ true) same found.in_order) (not_below_itself (second_end p))
+]
 
 pub one_pair : (list : List Owned) (p : Pair) (x : ℕ) → p.at ≡ x → ((y : ℕ) → y < x → IsClearAt list y) → ArePairAt list (first_end p) (second_end p) x
     → Some p ≡ shared_pair_of (holdings_of_entries list)

@@ -1,5 +1,5 @@
 -- One step of the sweep.
-use Rattle.overlap_report.proofs.Words.{ℕ, ◌+◌, ◌<◌, ◌≤◌, refl, sym, ap, subst, inl, inr, List, [], ◌∷◌, ◌++◌, arith, Extent, Owned, In, extents, IsInLine, in_either, cases_lt, map_push, IsPartOfOne, Covers, part_of, StandsBy, Winner, Swept}
+use Rattle.overlap_report.proofs.Words.{ℕ, ◌+◌, ◌<◌, ◌≤◌, refl, sym, ap, subst, inl, inr, List, [], ◌∷◌, ◌++◌, arith, Extent, Owned, In, HaveSame, extents, IsInLine, in_either, cases_lt, map_push, IsPartOfOne, Covers, part_of, StandsBy, Winner, Swept}
 use Rattle.overlap_report.proofs.KeySteps.{IsNext, for_next, next_pushed}
 
 -- ---- nothing goes on
@@ -18,13 +18,12 @@ swept_empty seen out p stop h s = record {
 
 -- ---- an entry that ended
 
-pub swept_without : (seen out pool rest : List Owned) (top : Owned) (p : ℕ) → top.extent.at + top.extent.len ≤ p
-    → ((o : Owned) → In pool o → In (top ∷ rest) o) → ((o : Owned) → In (top ∷ rest) o → In pool o) → Swept seen out pool p → Swept seen out rest p
-swept_without seen out pool rest top p ended there back s = record {
+pub swept_without : (seen out pool rest : List Owned) (top : Owned) (p : ℕ) → top.extent.at + top.extent.len ≤ p → HaveSame pool (top ∷ rest) → Swept seen out pool p → Swept seen out rest p
+swept_without seen out pool rest top p ended same s = record {
   won = s.won;
   served = s.served;
-  alive = λ o m l. elim (there o (s.alive o m l)) [ inl e ↦ absurd (omega (arith, ap (λ (z : Owned). z.extent.at + z.extent.len) e)) | inr n ↦ n ];
-  pooled = λ o m. s.pooled o (back o (inr m));
+  alive = λ o m l. elim (same.0 o (s.alive o m l)) [ inl e ↦ absurd (omega (arith, ap (λ (z : Owned). z.extent.at + z.extent.len) e)) | inr n ↦ n ];
+  pooled = λ o m. s.pooled o (same.1 o (inr m));
   low = s.low;
   line = s.line;
   parts = s.parts;
@@ -76,10 +75,8 @@ swept_part seen out pool top p end inside greatest room high s =
 
 -- ---- one more entry
 
-pub swept_more : (seen more out pool next : List Owned) (o : Owned) → IsNext seen more o
-    → ((q : Owned) → In next q → In (o ∷ pool) q) → ((q : Owned) → In (o ∷ pool) q → In next q)
-    → Swept seen out pool o.extent.at → Swept more out next o.extent.at
-swept_more seen more out pool next o is_next there back s = record {
+pub swept_more : (seen more out pool next : List Owned) (o : Owned) → IsNext seen more o → HaveSame (o ∷ pool) next → Swept seen out pool o.extent.at → Swept more out next o.extent.at
+swept_more seen more out pool next o is_next same s = record {
   won = λ z y m c. (let w = s.won z y m c in record {
     holder = w.holder;
     is_one = is_next.keeps w.holder w.is_one;
@@ -90,8 +87,8 @@ swept_more seen more out pool next o is_next there back s = record {
     greatest = for_next (λ q. Covers q y → StandsBy q w.holder) is_next w.greatest (λ d. absurd (omega (arith, d.0, (s.low z m).0, c.1)));
   });
   served = λ q y m l c. for_next (λ z. Covers z y → (u : Owned) × In out u × Covers u y) is_next (λ z g d. s.served z y g l d) (λ d. absurd (omega (arith, d.0))) q m c;
-  alive = for_next (λ q. o.extent.at < q.extent.at + q.extent.len → In next q) is_next (λ q g l. back q (inr (s.alive q g l))) (λ l. back o (inl refl));
-  pooled = λ q m. elim (there q m) [ inl e ↦ subst (λ (z : Owned). In more z) e is_next.has | inr n ↦ is_next.keeps q (s.pooled q n) ];
+  alive = for_next (λ q. o.extent.at < q.extent.at + q.extent.len → In next q) is_next (λ q g l. same.0 q (inr (s.alive q g l))) (λ l. same.0 o (inl refl));
+  pooled = λ q m. elim (same.1 q m) [ inl e ↦ subst (λ (z : Owned). In more z) e is_next.has | inr n ↦ is_next.keeps q (s.pooled q n) ];
   low = s.low;
   line = s.line;
   parts = λ z m. (let r = s.parts z m in (r.0, is_next.keeps r.0 r.1, r.2));
