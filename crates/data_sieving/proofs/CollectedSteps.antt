@@ -2,7 +2,7 @@
 use Rattle.data_sieving.proofs.Words.{◌≡◌, ℕ, ◌+◌, ◌-◌, ◌<◌, ◌≤◌, sym, ◌∙◌, subst, List, [], ◌∷◌, ◌++◌, length, take, drop, get_or, set, Option, Some, None, arith, fold-append, map-append, length-take, length-set, take_more, get_or-set_same, get_or-set_other, IfSome, length-written_inside, Owned, Window, read, written, write_cells, of_slot, HasGot, FitBlobs, HaveOnePlace, AreAsLong, LieOn, blob_at, part_in, buffer_cell, IsPast, IsNext, HasGotPart, filter-append, buffer_cells, nat_tests}
 use Rattle.std.specs.Prelude.{map}
 use borrow.Author.Tests.{eqb-true, eqb-false}
-use Rattle.data_sieving.proofs.GetSteps.{got_step, got_begin, got_end}
+use Rattle.data_sieving.proofs.GetSteps.{got_step}
 
 -- ---- one entry more
 
@@ -68,13 +68,3 @@ module _ {left : List Owned} {place size : ℕ} {w : Window} {served : List Owne
       got_step base file list (λ o m. (on o m).0) p k old mid now once fit got
       (subst (λ (b : ℕ). HasGotPart (w.hull.at, w.hull.at + w.hull.len) b file served mid now) begin
       (subst (λ (m : Option (List ℕ)). IfSome m (λ file. HasGotPart (w.hull.at, w.hull.at + w.hull.len) there file served mid now)) same read))
-
-pub got_all : (held : Option (List ℕ)) (base : ℕ) (list left : List Owned) (place : ℕ) (old now : List (List ℕ)) → left ≡ [] → IsPast place list left
-    → IfSome held (λ file. HasGotPart (0, place) base file list old now) → IfSome held (λ file. HasGot base file list old now)
-got_all None base list left place old now none p got = tt
-got_all (Some file) base list left place old now none p got = got_end base file list left place old now none p got
-
-pub got_none : (held : Option (List ℕ)) (base n : ℕ) (list : List Owned) (blobs : List (List ℕ)) → LieOn base n list → FitBlobs blobs list
-    → IfSome held (λ file. HasGotPart (0, 0) base file list blobs blobs)
-got_none None base n list blobs on fit = tt
-got_none (Some file) base n list blobs on fit = got_begin base file list blobs (λ o m. (on o m).0) fit

@@ -1,5 +1,5 @@
 -- Entries that are read window by window, each into its blob: before the first window, one window more, after the last.
-use Rattle.data_sieving.proofs.Words.{◌≡◌, ℕ, ◌+◌, ◌<◌, ◌≤◌, inl, inr, sym, ◌∙◌, ap, subst, List, [], ◌++◌, length, None, arith, fold-append, cases_lt, some_or_none, ◌⊎◌, ◌==◌, in_filter, filter_in, equal_true, Owned, Window, written, said_at, said_by, Says, IsOneValued, Cell, write_cells, In, same_said, said_is, said_in_any_order, append_within, said_by_joined, says_left, says_right, says_cases, in_either, of_slot, HasGot, FitBlobs, HaveOnePlace, got_cells, blob_at, places_of, IsCovered, IsPast, IsNext, HasGotPart, past_covered, past_all, past_kept, parts_got, IsRead, got_says, says_got, read_as, read_once, parts_within, whole_parts, nat_tests}
+use Rattle.data_sieving.proofs.Words.{◌≡◌, ℕ, ◌+◌, ◌<◌, ◌≤◌, inl, inr, sym, ◌∙◌, ap, subst, List, [], ◌++◌, length, Option, Some, None, IfSome, LieOn, arith, fold-append, cases_lt, some_or_none, ◌⊎◌, ◌==◌, in_filter, filter_in, equal_true, Owned, Window, written, said_at, said_by, Says, IsOneValued, Cell, write_cells, In, same_said, said_is, said_in_any_order, append_within, said_by_joined, says_left, says_right, says_cases, in_either, of_slot, HasGot, FitBlobs, HaveOnePlace, got_cells, blob_at, places_of, IsCovered, IsPast, IsNext, HasGotPart, past_covered, past_all, past_kept, parts_got, IsRead, got_says, says_got, read_as, read_once, parts_within, whole_parts, nat_tests}
 use borrow.Author.Tests.{eqb-true}
 use Rattle.data_sieving.proofs.ReachSteps.{served_in}
 
@@ -89,18 +89,18 @@ module _ (base : ℕ) (file : List ℕ) (list : List Owned) {left : List Owned} 
 said_none : (ps : List (ℕ × ℕ)) (x : ℕ) → ((v : ℕ) → Says ps x v → ⊥) → said_at ps x ≡ None
 said_none ps x h = elim (some_or_none (said_at ps x)) [ inl e ↦ e | inr (v, e) ↦ absurd (h v (said_is ps x v e)) ]
 
-pub got_begin : (base : ℕ) (file : List ℕ) (list : List Owned) (blobs : List (List ℕ)) → ((o : Owned) → In list o → base ≤ o.extent.at) → FitBlobs blobs list
-    → HasGotPart (0, 0) base file list blobs blobs
-got_begin base file list blobs on fit k =
+pub got_none : (held : Option (List ℕ)) (base n : ℕ) (list : List Owned) (blobs : List (List ℕ)) → LieOn base n list → FitBlobs blobs list
+    → IfSome held (λ file. HasGotPart (0, 0) base file list blobs blobs)
+got_none None base n list blobs on fit = tt
+got_none (Some file) base n list blobs on fit = λ k.
     same_said [] (parts_got base file 0 0 (of_slot k list)) (blob_at blobs k) tt
     (parts_within base file 0 0 (length (blob_at blobs k)) (of_slot k list) (fit_slot k blobs list fit))
     (λ y. sym (said_none (said_by (parts_got base file 0 0 (of_slot k list))) y
-    (λ v h. let r = got_says base file 0 0 (of_slot k list) y v (λ o m. on o (in_slot k list o m).0) h in let l = r.high in absurd (omega arith))))
+    (λ v h. let r = got_says base file 0 0 (of_slot k list) y v (λ o m. (on o (in_slot k list o m).0).0) h in let l = r.high in absurd (omega arith))))
 
-pub got_end : (base : ℕ) (file : List ℕ) (list left : List Owned) (place : ℕ) (old now : List (List ℕ)) → left ≡ [] → IsPast place list left
-    → HasGotPart (0, place) base file list old now → HasGot base file list old now
-got_end base file list left place old now none p g k =
-    g k ∙ ap (λ (os : List Owned). write_cells (blob_at old k) (got_cells base file os)) (whole_parts place (of_slot k list) ends)
-  where
-    ends : (o : Owned) → In (of_slot k list) o → o.extent.at + o.extent.len ≤ place
-    ends o m = past_all place list left o none p (in_slot k list o m).0
+pub got_all : (held : Option (List ℕ)) (base : ℕ) (list left : List Owned) (place : ℕ) (old now : List (List ℕ)) → left ≡ [] → IsPast place list left
+    → IfSome held (λ file. HasGotPart (0, place) base file list old now) → IfSome held (λ file. HasGot base file list old now)
+got_all None base list left place old now none p got = tt
+got_all (Some file) base list left place old now none p got = λ k.
+    got k ∙ ap (λ (os : List Owned). write_cells (blob_at old k) (got_cells base file os))
+    (whole_parts place (of_slot k list) (λ o m. past_all place list left o none p (in_slot k list o m).0))

@@ -3,7 +3,8 @@ use Rattle.data_sieving.proofs.Words.{◌≡◌, ◌++◌, ◌∙◌, refl, sym,
 use Rattle.data_sieving.proofs.WindowSteps.{goes_on}
 use Rattle.data_sieving.proofs.CallSteps.{none_begun}
 use Rattle.data_sieving.proofs.ReachSteps.{served_in, hull_low, hull_high, hull_end, served_ends, served_filled}
-use Rattle.data_sieving.proofs.CollectedSteps.{as_long_twice, fit_as_long, got_none, got_more, got_all}
+use Rattle.data_sieving.proofs.GetSteps.{got_none, got_all}
+use Rattle.data_sieving.proofs.CollectedSteps.{as_long_twice, fit_as_long, got_more}
 use Rattle.data_sieving.proofs.LoopSteps.{none_carried, walk_ready, calls_begin, calls_more, calls_end}
 use Rattle.data_sieving.proofs.get.sieve_get.Goals as goal
 
