@@ -29,22 +29,13 @@ pub record HasGotWhole {T E : Type 0} (ts : List Told) (old new : PartState) (en
   pub held : new.held ≡ old.held
   pub device : OnOk end (new.calls ≡ with_end old.calls (flat_map load_calls ts))
 
-got_place : {T E : Type 0} (ts : List Told) (old new : PartState) (end : Result T E) → HasGot ts old new end → IsInPlace old new
-got_place ts old new end h = record { from = h.from; len = h.len }
-
--- the parts follow the front, as taking them back requires
-pub gets_follow : {D T E : Type 0} (state : D → PartState) (turns : Extent → List Told) (disk front : PartState) (domains : List Extent) (parts news : List D) (end : Result T E)
-    → AreSplit state disk front domains parts → AllZip (λ p new. HasGot (turns p.1) (state p.0) (state new) end) (zip parts domains) news → Follow (front.from + front.len) (map state news)
-gets_follow state turns disk front domains parts news end s got =
-    all_follow state disk front domains parts s (λ d p now. HasGot (turns d) p now end) news got (λ d p now h. got_place (turns d) p now end h)
-
 pub parts_got : {D T E : Type 0} (state : D → PartState) (turns : Extent → List Told) (disk front new : PartState) (domains : List Extent) (parts news : List D) (end : Result T E)
     → AreSplit state disk front domains parts → IfSome disk.held (λ file. length file ≡ disk.len)
     → AllZip (λ p new. HasGot (turns p.1) (state p.0) (state new) end) (zip parts domains) news → new ≡ with_parts front (map state news)
     → HasGotWhole (flat_map turns domains) disk new end
 parts_got {D} {T} {E} state turns disk front new domains parts news end s long got back =
     subst (λ (n : PartState). HasGotWhole (flat_map turns domains) disk n end) (sym back) (record {
-      place = all_place state disk front domains parts s Got news got (λ d p now h. got_place (turns d) p now end h);
+      place = all_place state disk front domains parts s Got news got (λ d p now h. record { from = h.from; len = h.len });
       held = kept_told disk.held (with_parts front (map state news)).held
           (all_told state disk front domains parts s Got news got fine IsOld long (λ x v l. refl) (λ d p now h. told_kept p.from p.held now.held h.held));
       device = on_ok_weaker end (λ e. e ∙ ap (λ (c : List DiskCall). with_end disk.calls c) (sym (flat_flat load_calls turns domains)))

@@ -1,7 +1,6 @@
 -- A disk in parts: which bytes each has, and what is said of the parts and of their states.
-use Rattle.collective_round.proofs.Words.{◌≡◌, ℕ, zero, suc, ◌+◌, ◌-◌, ◌<◌, ◌≤◌, inl, inr, refl, sym, ◌∙◌, ap, subst, List, [], ◌∷◌, length, take, drop, map, Bool, true, false, Some, arith, length-map, same_Some, nat_lt, range_with_len, zip, AllZip, entry_map, no_none_some, Extent, Owned, LieOn, IsFrom, cell_of, ranges, In, HaveSame, Source, end_after, first_at, IsCover, spans, flat_in, in_flat, in_left, in_range, in_right, range_high, in_map, map_in, IsCovered, IsDomainOf, PartState, SomeZip, begin_or, part_between, parts_of, Adjoin, AreDomains, nat_tests}
+use Rattle.collective_round.proofs.Words.{entries_from, in_ranges, cases_lt, ◌≡◌, ℕ, zero, suc, ◌+◌, ◌-◌, ◌<◌, ◌≤◌, inl, inr, refl, sym, ◌∙◌, ap, subst, List, [], ◌∷◌, length, take, drop, map, Bool, true, false, Some, arith, length-map, same_Some, nat_lt, range_with_len, zip, AllZip, entry_map, no_none_some, Extent, Owned, LieOn, IsFrom, cell_of, ranges, In, HaveSame, Source, end_after, first_at, IsCover, spans, flat_in, in_flat, in_left, in_range, in_right, range_high, in_map, map_in, IsCovered, IsDomainOf, PartState, SomeZip, begin_or, part_between, parts_of, Adjoin, AreDomains, nat_tests}
 use Rattle.std.proofs.Common.{slice_get}
-use borrow.Author.Tests.{ltb-true, ltb-false}
 use Rattle.collective_round.proofs.DomainCuts.{within_reach}
 use Rattle.collective_round.proofs.PartSplits.{end_dropped, next_begin}
 
@@ -54,11 +53,10 @@ pub record IsOnSome (parts : List PartState) (x : ℕ) : Type 0 where
 
 place_on : (disk : PartState) (domains : List Extent) (m x : ℕ) → Adjoin domains → end_after m domains ≤ disk.len → begin_or disk.len domains ≤ x → x < disk.len → IsOnSome (parts_of disk domains) x
 place_on disk [] m x line room low high = absurd (omega arith)
-place_on disk (d ∷ rest) m x line room low high = by_next (λ l. place_on disk rest (d.at + d.len) x line.2 room l high) (nat_lt x (begin_or disk.len rest)) refl
-  where
-    by_next : (begin_or disk.len rest ≤ x → IsOnSome (parts_of disk rest) x) → (t : Bool) → nat_lt x (begin_or disk.len rest) ≡ t → IsOnSome (parts_of disk (d ∷ rest)) x
-    by_next found true e = let l = ltb-true _ _ e in record { part = part_between disk d.at (begin_or disk.len rest); inside = inl refl; low = low; high = omega arith }
-    by_next found false e = let h = found (ltb-false _ _ e) in record { part = h.part; inside = inr h.inside; low = h.low; high = h.high }
+place_on disk (d ∷ rest) m x line room low high = elim (cases_lt x (begin_or disk.len rest)) [
+  | inl l ↦ record { part = part_between disk d.at (begin_or disk.len rest); inside = inl refl; low = low; high = omega arith }
+  | inr l ↦ (let h = place_on disk rest (d.at + d.len) x line.2 room l high in record { part = h.part; inside = inr h.inside; low = h.low; high = h.high })
+]
 
 -- ---- entries that lie on a disk, their cover, and the domains
 
@@ -78,7 +76,7 @@ cover_room (e ∷ cover) list len h same on = grind (arith, nat_tests, cover_las
 
 module _ (list : List Owned) (cover domains : List Extent) (len : ℕ) (a : AreOn list cover domains len) where
   covered_in : (x : ℕ) → IsCovered list x → In (spans cover) x
-  covered_in x h = a.bytes.1 x (in_flat (λ (o : Owned). range_with_len o.extent.at o.extent.len) list h.by x h.inside (in_range h.by.extent.at h.by.extent.len x h.low h.high))
+  covered_in x h = a.bytes.1 x (in_ranges list x h)
 
   -- they end within the disk
   ends_there : end_after 0 cover ≤ len
@@ -93,15 +91,9 @@ module _ (list : List Owned) (cover domains : List Extent) (len : ℕ) (a : AreO
 
   -- the cells of entries lie from the begin of the first domain on
   pub cells_behind : (source : Source) (n : ℕ) → ((o : Owned) → In list o → 1 ≤ o.extent.len) → IsFrom (begin_or n domains) (map (λ o. cell_of source o) list)
-  cells_behind source n filled = each list (λ o m. m)
-    where
-      each : (os : List Owned) → ((o : Owned) → In os o → In list o) → IsFrom (begin_or n domains) (map (λ o. cell_of source o) os)
-      each [] f = tt
-      each (o ∷ os) f =
-          let some = filled o (f o (inl refl)) in (
-            begins_first n o.extent.at (covered_in o.extent.at (record { by = o; inside = f o (inl refl); low = omega arith; high = omega arith })),
-            each os (λ p m. f p (inr m)),
-          )
+  cells_behind source n filled =
+      entries_from source list (begin_or n domains)
+      (λ o m. let some = filled o m in begins_first n o.extent.at (covered_in o.extent.at (record { by = o; inside = m; low = omega arith; high = omega arith })))
 
   -- each domain has all covered bytes of its part
   pub domain_of_part : {D : Type 0} (state : D → PartState) (disk : PartState) (parts : List D) → disk.len ≡ len → map state parts ≡ parts_of disk domains

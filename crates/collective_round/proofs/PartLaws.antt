@@ -1,6 +1,5 @@
 -- Parts that are one disk again: what holds of each part holds of the whole.
-use Rattle.collective_round.proofs.Words.{◌≡◌, ℕ, ◌+◌, ◌-◌, ◌^◌, ◌<◌, ◌≤◌, min, inl, inr, refl, sym, ◌∙◌, ap, subst, List, [], ◌∷◌, ◌++◌, length, take, drop, map, Bool, true, false, Option, Some, None, Result, Ok, Err, IsErrOf, append_assoc, arith, append-nil, length-append, length-take, get_or_append_left, get_or-append_right, take_all, flat_map-append, flat_map, nat_lt, zip, zip_weaker, IfSome, OnOk, AllZip, Extent, Owned, DiskCall, StepErr, Disk, HasDiskCause, Rose, after, joined, with_end, with_end-nil, BothTold, at, same_file, get_or_past, end_after, PartState, SomeZip, begin_or, parts_of, with_part, with_parts, Adjoin, Follow, IsFront, nat_tests}
-use borrow.Author.Tests.{ltb-true, ltb-false}
+use Rattle.collective_round.proofs.Words.{cases_lt, ◌≡◌, ℕ, ◌+◌, ◌-◌, ◌^◌, ◌<◌, ◌≤◌, min, inl, inr, refl, sym, ◌∙◌, ap, subst, List, [], ◌∷◌, ◌++◌, length, take, drop, map, Bool, true, false, Option, Some, None, Result, Ok, Err, IsErrOf, append_assoc, arith, append-nil, length-append, length-take, get_or_append_left, get_or-append_right, take_all, flat_map-append, flat_map, nat_lt, zip, zip_weaker, IfSome, OnOk, AllZip, Extent, Owned, DiskCall, StepErr, Disk, HasDiskCause, Rose, after, joined, with_end, with_end-nil, BothTold, at, same_file, get_or_past, end_after, PartState, SomeZip, begin_or, parts_of, with_part, with_parts, Adjoin, Follow, IsFront, nat_tests}
 use Rattle.collective_round.proofs.PartSplits.{joined_at_least, next_begin, take_both}
 use Rattle.collective_round.proofs.PartDomains.{AreOn, as_many_parts, domains_room, on_states, some_states}
 
@@ -14,22 +13,19 @@ pub record AreBytes (S : ℕ → ℕ → ℕ → Type 0) (base : ℕ) (old left 
 bytes_joined : (S : ℕ → ℕ → ℕ → Type 0) (a x b y : List ℕ) (n : ℕ) → length a ≡ n → AreBytes S 0 a x → AreBytes S n b y → AreBytes S 0 (a ++ b) (x ++ y)
 bytes_joined S a x b y n e h k = record {
   len = omega (arith, length-append x y, length-append a b, h.len, k.len);
-  each = λ z p q l.
-      (let same : z ≡ p = omega arith in
-      subst (λ (r : ℕ). S r (at (a ++ b) z) (at (x ++ y) z)) same (by_side z (omega (arith, length-append a b)) (nat_lt z (length a)) refl));
-}
-  where
-    by_side : (z : ℕ) → z < length a + length b → (t : Bool) → nat_lt z (length a) ≡ t → S z (at (a ++ b) z) (at (x ++ y) z)
-    by_side z l true t =
-        let old : at a z ≡ at (a ++ b) z = sym (get_or_append_left a b 0 z (ltb-true _ _ t)) in
-        let new : at x z ≡ at (x ++ y) z = sym (get_or_append_left x y 0 z (omega (arith, ltb-true _ _ t, h.len))) in
-        subst (λ (p : ℕ × ℕ). S z p.0 p.1) (λ i. (old i, new i)) (h.each z z (omega arith) (ltb-true _ _ t))
-    by_side z l false t =
-        let past = ltb-false _ _ t in
+  each = λ z p q l. (let same : z ≡ p = omega arith in subst (λ (r : ℕ). S r (at (a ++ b) z) (at (x ++ y) z)) same (elim (cases_lt z (length a)) [
+    | inl t ↦
+        let old : at a z ≡ at (a ++ b) z = sym (get_or_append_left a b 0 z t) in
+        let new : at x z ≡ at (x ++ y) z = sym (get_or_append_left x y 0 z (omega (arith, t, h.len))) in
+        subst (λ (p : ℕ × ℕ). S z p.0 p.1) (λ i. (old i, new i)) (h.each z z (omega arith) t)
+    | inr past ↦
         let low : n ≤ z = omega arith in
+        let room : z - n < length b = omega (arith, length-append a b) in
         let old : at b (z - n) ≡ at (a ++ b) z = sym (get_or-append_right a b n z 0 e low) in
         let new : at y (z - n) ≡ at (x ++ y) z = sym (get_or-append_right x y n z 0 (h.len ∙ e) low) in
-        subst (λ (p : ℕ × ℕ). S z p.0 p.1) (λ i. (old i, new i)) (k.each (z - n) z (omega arith) (omega arith))
+        subst (λ (p : ℕ × ℕ). S z p.0 p.1) (λ i. (old i, new i)) (k.each (z - n) z (omega arith) room)
+  ]));
+}
 
 -- the same of what a disk may tell: its front is unchanged
 told_front : (S : ℕ → ℕ → ℕ → Type 0) (n : ℕ) (held now : Option (List ℕ)) → ((x v : ℕ) → x < n → S x v v) → now ≡ after (take n) held
@@ -67,11 +63,10 @@ told_kept base (Some file) now e = (file, e, record { len = refl; each = λ y x 
 
 pub kept_told : (held now : Option (List ℕ)) → BothTold (AreBytes IsOld 0) held now → now ≡ held
 kept_told None now h = h
-kept_told (Some file) now h = h.1 ∙ ap Some (same_file h.0 file h.2.len (λ x. by_end x (nat_lt x (length file)) refl))
-  where
-    by_end : (x : ℕ) (t : Bool) → nat_lt x (length file) ≡ t → at h.0 x ≡ at file x
-    by_end x true t = h.2.each x x (omega arith) (ltb-true _ _ t)
-    by_end x false t = let past = ltb-false _ _ t in get_or_past h.0 x 0 (omega (arith, h.2.len)) ∙ sym (get_or_past file x 0 past)
+kept_told (Some file) now h = h.1 ∙ ap Some (same_file h.0 file h.2.len (λ x. elim (cases_lt x (length file)) [
+  | inl l ↦ h.2.each x x (omega arith) l
+  | inr l ↦ get_or_past h.0 x 0 (omega (arith, h.2.len)) ∙ sym (get_or_past file x 0 l)
+]))
 
 -- ---- the parts of a disk, one after another
 

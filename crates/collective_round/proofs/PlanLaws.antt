@@ -25,24 +25,21 @@ rank_below batches rank slot n some there = by_batch (slice_get batches rank) re
 
 pub laid_plan : (header : Header) (puts : Puts) (batches : List Batch) (list : List Owned) (cover : List Extent) (size : ℕ) → length batches ≤ 64
     → AreLaid header (source_of 0 batches) puts list → IsCover cover → HaveSame (spans cover) (ranges list) → 1 ≤ size → IsPlan batches list cover size
-laid_plan header puts batches list cover size few laid covers bytes some = record {
-  few = few;
-  sorted = laid.sorted.by_place;
-  ends = laid.sorted.ends;
-  pieces = pieces;
-  below = λ o m. (let p = pieces o m in let n = p.some in rank_below batches o.rank o.slot (o.from + o.extent.len) (omega arith) p.found);
-  one = exchanged.one;
-  covers = covers;
-  cover_ends = cover_ends cover list covers bytes laid.sorted.ends;
-  cover_bytes = bytes;
-  some = some;
-}
-  where
-    exchanged : AreLaid header (turns.source_of batches) puts list
-    exchanged = subst (λ (s : Source). AreLaid header s puts list) (same_source batches) laid
-
-    pieces : ArePieces (turns.source_of batches) list
-    pieces = are_pieces (turns.source_of batches) list exchanged.found laid.sorted
+laid_plan header puts batches list cover size few laid covers bytes some =
+    let exchanged = subst (λ (s : Source). AreLaid header s puts list) (same_source batches) laid in
+    let pieces = are_pieces (turns.source_of batches) list exchanged.found laid.sorted in
+    record {
+      few = few;
+      sorted = laid.sorted.by_place;
+      ends = laid.sorted.ends;
+      pieces = pieces;
+      below = λ o m. (let p = pieces o m in let n = p.some in rank_below batches o.rank o.slot (o.from + o.extent.len) (omega arith) p.found);
+      one = exchanged.one;
+      covers = covers;
+      cover_ends = cover_ends cover list covers bytes laid.sorted.ends;
+      cover_bytes = bytes;
+      some = some;
+    }
 
 pub got_plan : (header : Header) (batches : List Batch) (list : List Owned) (cover : List Extent) (size : ℕ) → AreGot header 0 batches list
     → IsCover cover → HaveSame (spans cover) (ranges list) → 1 ≤ size → IsGetPlan list cover size

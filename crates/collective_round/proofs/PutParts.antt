@@ -1,6 +1,5 @@
 -- Puts on the parts of a disk, which are joined again.
-use Rattle.collective_round.proofs.Words.{◌≡◌, ℕ, ◌+◌, ◌-◌, ◌<◌, ◌≤◌, inl, inr, refl, sym, ◌∙◌, ap, subst, ◌⊎◌, List, length, map, Bool, true, false, Option, Some, None, Result, arith, get_or_past, nat_lt, flat_map, zip, IfSome, OnOk, AllZip, on_ok_weaker, Extent, Owned, DiskCall, AreFilled, entries_within, In, after, with_end, BothTold, told_as, at, byte_or, cells_said, said_at, said_by, Cell, write_cells, moved_down, IsFrom, IsWithin, store_calls, IsBetween, cell_of, Source, same_file, moved_said, none_below, clips, clips_in, cells_long, within_lowered, clips_within, clips_from, put_part, HasPut, PartState, Told, begin_or, with_parts, Follow, nat_tests}
-use borrow.Author.Tests.{ltb-true, ltb-false}
+use Rattle.collective_round.proofs.Words.{cases_lt, ◌≡◌, ℕ, ◌+◌, ◌-◌, ◌<◌, ◌≤◌, inl, inr, refl, sym, ◌∙◌, ap, subst, ◌⊎◌, List, length, map, Bool, true, false, Option, Some, None, Result, arith, get_or_past, nat_lt, flat_map, zip, IfSome, OnOk, AllZip, on_ok_weaker, Extent, Owned, DiskCall, AreFilled, entries_within, In, after, with_end, BothTold, told_as, at, byte_or, cells_said, said_at, said_by, Cell, write_cells, moved_down, IsFrom, IsWithin, store_calls, IsBetween, cell_of, Source, same_file, moved_said, none_below, clips, clips_in, cells_long, within_lowered, clips_within, clips_from, put_part, HasPut, PartState, Told, begin_or, with_parts, Follow, nat_tests}
 use Rattle.collective_round.proofs.PartDomains.{AreOn, cells_behind}
 use Rattle.collective_round.proofs.PartLaws.{IsInPlace, AreBytes, AreSplit, all_calls, all_follow, all_place, all_told, fine, flat_flat}
 
@@ -51,23 +50,22 @@ module _ (cells : List Cell) where
   put_whole n None now within long h = h
   put_whole n (Some file) now within long h =
       let many = cells_long cells file (subst (λ (k : ℕ). IsWithin cells k) (sym long) within) in
-      h.1 ∙ ap Some (same_file h.0 (write_cells file cells) (h.2.len ∙ sym many) (λ x. by_end many x (nat_lt x (length file)) refl))
-    where
-      by_end : length (write_cells file cells) ≡ length file → (x : ℕ) (t : Bool) → nat_lt x (length file) ≡ t → at h.0 x ≡ at (write_cells file cells) x
-      by_end many x true t = h.2.each x x (omega arith) (ltb-true _ _ t) ∙ sym (cells_said cells file x)
-      by_end many x false t =
-          let past = ltb-false _ _ t in
-          get_or_past h.0 x 0 (omega (arith, h.2.len)) ∙ sym (get_or_past (write_cells file cells) x 0 (omega arith))
+      h.1 ∙ ap Some (same_file h.0 (write_cells file cells) (h.2.len ∙ sym many) (λ x. elim (cases_lt x (length file)) [
+        | inl l ↦ h.2.each x x (omega arith) l ∙ sym (cells_said cells file x)
+        | inr l ↦ get_or_past h.0 x 0 (omega (arith, h.2.len)) ∙ sym (get_or_past (write_cells file cells) x 0 (omega arith))
+      ]))
 
   between_whole : (held now : Option (List ℕ)) → BothTold (AreBytes IsEither 0) held now → BothTold (λ file left. IsBetween file (write_cells file cells) left) held now
   between_whole held now b =
       told_as (AreBytes IsEither 0) (λ file left. IsBetween file (write_cells file cells) left) held now
-      (λ file left h. record { len = h.len; each = λ x. by_end file left h x (nat_lt x (length file)) refl })
+      (λ file left h. record {
+        len = h.len;
+        each = λ x. elim (cases_lt x (length file)) [
+          | inl l ↦ elim (h.each x x (omega arith) l) [ inl k ↦ inl k | inr k ↦ inr (k ∙ sym (cells_said cells file x)) ]
+          | inr l ↦ inl (get_or_past left x 0 (omega (arith, h.len)) ∙ sym (get_or_past file x 0 l))
+        ];
+      })
       b
-    where
-      by_end : (file left : List ℕ) → AreBytes IsEither 0 file left → (x : ℕ) (t : Bool) → nat_lt x (length file) ≡ t → (at left x ≡ at file x) ⊎ (at left x ≡ at (write_cells file cells) x)
-      by_end file left h x true t = elim (h.each x x (omega arith) (ltb-true _ _ t)) [ inl k ↦ inl k | inr k ↦ inr (k ∙ sym (cells_said cells file x)) ]
-      by_end file left h x false t = let past = ltb-false _ _ t in inl (get_or_past left x 0 (omega (arith, h.len)) ∙ sym (get_or_past file x 0 past))
 
 -- ---- puts
 
@@ -78,23 +76,13 @@ pub record HasPutWhole {T E : Type 0} (source : Source) (list : List Owned) (ts 
   pub between : BothTold (λ file left. IsBetween file (write_cells file (map (λ o. cell_of source o) list)) left) old.held new.held
   pub device : OnOk end (new.calls ≡ with_end old.calls (flat_map store_calls ts))
 
-put_place : {T E : Type 0} (source : Source) (list : List Owned) (ts : List Told) (old new : PartState) (end : Result T E) → HasPut source list ts old new end → IsInPlace old new
-put_place source list ts old new end h = record { from = h.from; len = h.len }
-
--- the parts follow the front, as taking them back requires
-pub puts_follow : {D T E : Type 0} (state : D → PartState) (source : Source) (list : List Owned) (turns : Extent → List Told) (disk front : PartState) (domains : List Extent) (parts news : List D)
-    (end : Result T E) → AreSplit state disk front domains parts → AllZip (λ p new. HasPut source list (turns p.1) (state p.0) (state new) end) (zip parts domains) news
-    → Follow (front.from + front.len) (map state news)
-puts_follow state source list turns disk front domains parts news end s put =
-    all_follow state disk front domains parts s (λ d p now. HasPut source list (turns d) p now end) news put (λ d p now h. put_place source list (turns d) p now end h)
-
 pub parts_put : {D T E : Type 0} (state : D → PartState) (source : Source) (list : List Owned) (turns : Extent → List Told) (cover : List Extent) (disk front new : PartState) (domains : List Extent)
     (parts news : List D) (end : Result T E) → AreFilled list → AreOn list cover domains disk.len → AreSplit state disk front domains parts → IfSome disk.held (λ file. length file ≡ disk.len)
     → AllZip (λ p new. HasPut source list (turns p.1) (state p.0) (state new) end) (zip parts domains) news → new ≡ with_parts front (map state news)
     → HasPutWhole source list (flat_map turns domains) disk new end
 parts_put {D} {T} {E} state source list turns cover disk front new domains parts news end filled a s long put back =
     subst (λ (n : PartState). HasPutWhole source list (flat_map turns domains) disk n end) (sym back) (record {
-      place = all_place state disk front domains parts s Put news put (λ d p now h. put_place source list (turns d) p now end h);
+      place = all_place state disk front domains parts s Put news put (λ d p now h. record { from = h.from; len = h.len });
       bytes = on_ok_weaker end (λ h. put_whole cells disk.len disk.held _ within long h)
           (all_told state disk front domains parts s Put news put end (IsNew cells) long (λ x v l. unput cells _ x v behind l)
           (λ d p now h. on_ok_weaker end (λ e. told_put cells p.from p.held now.held e) h.bytes));

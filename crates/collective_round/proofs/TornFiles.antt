@@ -56,24 +56,12 @@ torn_grown bytes field m old new h = grind (arith, nat_tests, longer_long old m,
 pub torn_laid : (s : Setting) (puts : Puts) (n : ℕ) (old left : List ℕ) → n ≡ needed_by s.header puts
     → IsBetween (longer old (end_for s n)) (after_puts s puts None old) left → IsTorn (covered s.header puts) 0 old (after_puts s puts None old) left
 torn_laid s puts n old left is b =
-    torn_by (covered s.header puts) 0 old (after_puts s puts None old) left (let m = made in omega arith) (let m = made in let w = whole in omega arith)
-    (λ x e. by_old x (b.each x)) (λ x e l h. absurd (omega arith))
-    (λ x e h. by_kept x e (b.each x))
-  where
-    made : length left ≡ max (length old) (end_for s n)
-    made = b.len ∙ longer_long old (end_for s n)
-
-    whole : max (length old) (end_for s n) ≤ length (after_puts s puts None old)
-    whole = let l = after_long s puts old in subst (λ (k : ℕ). max (length old) (end_for s k) ≤ length (after_puts s puts None old)) (sym is) l
-
-    by_old : (x : ℕ) → (at left x ≡ at (longer old (end_for s n)) x) ⊎ (at left x ≡ at (after_puts s puts None old) x) → (at left x ≡ at old x) ⊎ (at left x ≡ at (after_puts s puts None old) x)
-    by_old x (inl e) = inl (e ∙ at-longer old (end_for s n) x)
-    by_old x (inr e) = inr e
-
-    by_kept : (x : ℕ) → list_any (λ y. y == x) (covered s.header puts) ≡ false
-        → (at left x ≡ at (longer old (end_for s n)) x) ⊎ (at left x ≡ at (after_puts s puts None old) x) → at left x ≡ at old x
-    by_kept x f (inl e) = e ∙ at-longer old (end_for s n) x
-    by_kept x f (inr e) = e ∙ after_keeps s puts None old x f
+    let made : length left ≡ max (length old) (end_for s n) = b.len ∙ longer_long old (end_for s n) in
+    let whole : max (length old) (end_for s n) ≤ length (after_puts s puts None old) =
+    subst (λ (k : ℕ). max (length old) (end_for s k) ≤ length (after_puts s puts None old)) (sym is) (after_long s puts old) in
+    torn_by (covered s.header puts) 0 old (after_puts s puts None old) left (omega arith) (omega arith)
+    (λ x e. elim (b.each x) [ inl k ↦ inl (k ∙ at-longer old (end_for s n) x) | inr k ↦ inr k ]) (λ x e l h. absurd (omega arith))
+    (λ x e h. elim (b.each x) [ inl k ↦ k ∙ at-longer old (end_for s n) x | inr k ↦ k ∙ after_keeps s puts None old x e ])
 
 -- a torn file, byte by byte, past its end too
 pub record AreSides (bytes : List ℕ) (field : ℕ) (old new left : List ℕ) : Type 0 where
@@ -109,12 +97,8 @@ torn_counted version n bytes old whole left past t =
     let u = torn_sides bytes 0 old whole left t in
     torn_by bytes (byte_len (count_width version)) old (with_records version whole n) left t.long
     (let l = t.short in let g = written_grows whole 4 (count version n) in omega arith)
-    (λ x e. by_new x (past x (any_in bytes x e)) (s.inside x e)) (λ x e l h. inl (u.outside x e (inr (omega arith)))) s.outside
-  where
-    by_new : (x : ℕ) → 4 + byte_len (count_width version) ≤ x → (at left x ≡ at old x) ⊎ (at left x ≡ at whole x)
-        → (at left x ≡ at old x) ⊎ (at left x ≡ at (with_records version whole n) x)
-    by_new x l (inl e) = inl e
-    by_new x l (inr e) = inr (e ∙ sym (counted_past version n whole x l))
+    (λ x e. elim (s.inside x e) [ inl k ↦ inl k | inr k ↦ inr (k ∙ sym (counted_past version n whole x (past x (any_in bytes x e)))) ])
+    (λ x e l h. inl (u.outside x e (inr (omega arith)))) s.outside
 
 -- the count was cut off, after the puts were written
 pub torn_after : (bytes : List ℕ) (field : ℕ) (old whole new left : List ℕ) → length old ≤ length whole
@@ -124,24 +108,15 @@ torn_after bytes field old whole new left grows keeps past agree t =
     let s = torn_sides [] field whole new left t in
     torn_by bytes field old new left (let l = t.long in omega arith) t.short
     (λ x e. inr (s.outside x refl (inr (past x (any_in bytes x e))) ∙ sym (agree x (past x (any_in bytes x e)))))
-    (λ x e l h. by_old x e (s.beside x l h)) (λ x e h. s.outside x refl h ∙ keeps x e)
-  where
-    by_old : (x : ℕ) → list_any (λ y. y == x) bytes ≡ false → (at left x ≡ at whole x) ⊎ (at left x ≡ at new x) → (at left x ≡ at old x) ⊎ (at left x ≡ at new x)
-    by_old x e (inl k) = inl (k ∙ keeps x e)
-    by_old x e (inr k) = inr k
+    (λ x e l h. elim (s.beside x l h) [ inl k ↦ inl (k ∙ keeps x e) | inr k ↦ inr k ]) (λ x e h. s.outside x refl h ∙ keeps x e)
 
 -- the write of the count itself
 pub torn_stored : (version n : ℕ) (old left : List ℕ) → PartlyWritten 4 (count version n) old left
     → IsTorn [] (byte_len (count_width version)) old (with_records version old n) left
 torn_stored version n old left p =
-    torn_by [] (byte_len (count_width version)) old (with_records version old n) left
-    (let g = written_grows old 4 (count version n) in let l = p.len in omega arith) (let l = p.len in omega arith)
-    (λ x e. cc) (λ x e l h. p.each x) (λ x e h. by_kept x h (p.each x))
-  where
-    same : (x : ℕ) → (x < 4) ⊎ (4 + byte_len (count_width version) ≤ x) → at (with_records version old n) x ≡ at old x
-    same x (inl l) = at-written_before old (count version n) 4 x l
-    same x (inr l) = counted_past version n old x l
-
-    by_kept : (x : ℕ) → (x < 4) ⊎ (4 + byte_len (count_width version) ≤ x) → (at left x ≡ at old x) ⊎ (at left x ≡ at (with_records version old n) x) → at left x ≡ at old x
-    by_kept x h (inl e) = e
-    by_kept x h (inr e) = e ∙ same x h
+    let g = written_grows old 4 (count version n) in
+    let l = p.len in
+    let same : (x : ℕ) → (x < 4) ⊎ (4 + byte_len (count_width version) ≤ x) → at (with_records version old n) x ≡ at old x =
+    λ x h. elim h [ inl l ↦ at-written_before old (count version n) 4 x l | inr l ↦ counted_past version n old x l ] in
+    torn_by [] (byte_len (count_width version)) old (with_records version old n) left (omega arith) (omega arith)
+    (λ x e. cc) (λ x e l h. p.each x) (λ x e h. elim (p.each x) [ inl k ↦ k | inr k ↦ k ∙ same x h ])

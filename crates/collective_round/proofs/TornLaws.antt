@@ -1,5 +1,6 @@
 -- What a refused step of puts leaves of a file.
 use Rattle.collective_round.proofs.Words.{Header, lt-ltb, ◌≡◌, ℕ, ◌+◌, ◌<◌, ◌≤◌, refl, ap, subst, List, [], length, Bool, true, false, cond, Option, Some, None, arith, nat_lt, byte_len, Pair, PartlyWritten, after, BothTold, told_as, at, longer, Setting, end_for, after_puts, told, count, count_width, is_sound, needed_by, with_records, Puts, covered, IsTorn, IsBetween, needed_now, ArePuts, after_round, counted, after_keeps, longer_long, after_long, after_grows, raised_grows, nat_tests}
+use Rattle.list_laws.proofs.Truth.{either}
 use Rattle.collective_round.proofs.PutLaws.{laid_round}
 use Rattle.collective_round.proofs.StepLaws.{round_by}
 use Rattle.collective_round.proofs.TornFiles.{covered_past, field_of, torn_by, torn_still, torn_grown, torn_laid, torn_wider, counted_past, torn_counted, torn_after, torn_stored}
@@ -49,23 +50,18 @@ counted_agree header n true file x h = counted_past header.version n file x h
 counted_agree header n false file x h = refl
 
 -- the puts were cut off, of a round that would raise the count after them
-round_torn : (s : Setting) (puts : Puts) (records : ℕ) (old left : List ℕ) → is_sound s.header ≡ true → ArePuts s.header puts → told s puts ≡ None
-    → IsTorn (covered s.header puts) 0 old (after_puts s puts None old) left
-    → IsTorn (covered s.header puts) (field_of s.header) old (after_round s puts (counted old records)).file left
-round_torn s puts records old left sound are none t =
-    subst (λ (f : List ℕ). IsTorn (covered s.header puts) (field_of s.header) old f left) (laid_round s puts records old none) (by_test (nat_lt records (needed_by s.header puts)))
-  where
-    by_test : (t : Bool) → IsTorn (covered s.header puts) (field_of s.header) old (counted_file s.header (needed_by s.header puts) t (after_puts s puts None old)) left
-    by_test true = torn_counted s.header.version (needed_by s.header puts) (covered s.header puts) old (after_puts s puts None old) left (λ x m. covered_past s.header puts x sound are m) t
-    by_test false = torn_wider (covered s.header puts) (field_of s.header) old (after_puts s puts None old) left t
-
 pub puts_torn : (s : Setting) (puts : Puts) (records : ℕ) (held now : Option (List ℕ)) → is_sound s.header ≡ true → ArePuts s.header puts → told s puts ≡ None
     → BothTold (λ old left. IsTorn (covered s.header puts) 0 old (after_puts s puts None old) left) held now
     → BothTold (λ old left. IsTorn (covered s.header puts) (field_of s.header) old (after_round s puts (counted old records)).file left) held now
 puts_torn s puts records held now sound are none b =
     told_as (λ old left. IsTorn (covered s.header puts) 0 old (after_puts s puts None old) left)
     (λ old left. IsTorn (covered s.header puts) (field_of s.header) old (after_round s puts (counted old records)).file left) held now
-    (λ old left t. round_torn s puts records old left sound are none t) b
+    (λ old left t. subst (λ (f : List ℕ). IsTorn (covered s.header puts) (field_of s.header) old f left) (laid_round s puts records old none)
+    (either (λ (f : List ℕ). IsTorn (covered s.header puts) (field_of s.header) old f left) (nat_lt records (needed_by s.header puts))
+    (with_records s.header.version (after_puts s puts None old) (needed_by s.header puts)) (after_puts s puts None old)
+    (λ e. torn_counted s.header.version (needed_by s.header puts) (covered s.header puts) old (after_puts s puts None old) left (λ x m. covered_past s.header puts x sound are m) t)
+    (λ e. torn_wider (covered s.header puts) (field_of s.header) old (after_puts s puts None old) left t)))
+    b
 
 -- the count was cut off
 pub count_torn : (s : Setting) (puts : Puts) (records n : ℕ) (held mid now : Option (List ℕ)) → is_sound s.header ≡ true → ArePuts s.header puts

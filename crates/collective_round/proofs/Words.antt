@@ -3,7 +3,8 @@ pub use Rattle.list_laws.proofs.Std.{AllZip, Bool, Err, IfSome, IsErrOf, IsPermu
 pub use Rattle.std.proofs.Math.ListN.{get_or-map}
 pub use Rattle.std.specs.Prelude.{not}
 pub use Rattle.std.specs.declared.alloc.Global.{Global}
-pub use Rattle.aggregator_rounds.proofs.EntryCells.{entries_within}
+pub use Rattle.aggregator_rounds.proofs.CoveredBytes.{in_ranges}
+pub use Rattle.aggregator_rounds.proofs.EntryCells.{entries_from, entries_within}
 pub use Rattle.aggregator_rounds.proofs.ReadParts.{got_whole}
 pub use Rattle.aggregator_rounds.proofs.SplitSteps.{ends_more, entry_ends, first_begins}
 pub use Rattle.aggregator_rounds.specs.EntryParts.{AreFilled, IsCovered, bytes_of_post, places_of}

@@ -1,8 +1,8 @@
 -- The gets of the parts are those of the disk.
-use Rattle.collective_round.proofs.Words.{◌≡◌, ◌∙◌, ℕ, List, refl, length, rules, arith, common_steps, if_some_at, get_turns, HasRead, PartState, part_state}
+use Rattle.collective_round.proofs.Words.{◌≡◌, ◌∙◌, ℕ, List, refl, length, rules, arith, common_steps, if_some_at, get_turns, HasGot, HasRead, PartState, part_state}
 use Rattle.collective_round.proofs.PartDomains.{AreOn, as_many_parts, domain_of_part, domains_room, on_some_part}
-use Rattle.collective_round.proofs.PartLaws.{all_cause, are_split}
-use Rattle.collective_round.proofs.GetPartLaws.{gets_follow, part_read, parts_got, told_read}
+use Rattle.collective_round.proofs.PartLaws.{all_cause, all_follow, are_split}
+use Rattle.collective_round.proofs.GetPartLaws.{part_read, parts_got, told_read}
 use Rattle.collective_round.proofs.rounds.get_parts.Given.{Over}
 use Rattle.collective_round.proofs.rounds.get_parts.Goals as goal
 
@@ -36,10 +36,10 @@ exchange_get-parts-requires-clause-whole g c κs within =
 pub append_all-requires-after_bounds : goal.append_all-requires-after_bounds
 append_all-requires-after_bounds g c κs within =
     let plan = c.args.plan.now in
-    gets_follow (state g) (λ d. get_turns plan d) (state g c.args.disk.now) (state g c.split.new.disk) c.args.domains.now c.in_ok-parts.parts.items c.exchange_get-parts.result.0.items c.exchange_get-parts.result.1
+    all_follow (state g) (state g c.args.disk.now) (state g c.split.new.disk) c.args.domains.now c.in_ok-parts.parts.items
     (are_split (state g) (state g c.args.disk.now) (state g c.split.new.disk) plan.list.now plan.cover.now c.args.domains.now c.in_ok-parts.parts.items c.requires.from
     (record { covers = c.requires.plan.covers; bytes = c.requires.plan.cover_bytes; on = c.requires.on_disk; div = c.requires.domains }) c.in_ok-parts.ensures.front c.in_ok-parts.ensures.parts)
-    c.exchange_get-parts.ensures.got
+    (λ d p now. HasGot (get_turns plan d) p now c.exchange_get-parts.result.1) c.exchange_get-parts.result.0.items c.exchange_get-parts.ensures.got (λ d p now h. record { from = h.from; len = h.len })
 
 pub returns : goal.returns
 returns g c =
@@ -50,12 +50,8 @@ returns g c =
     let parts = c.in_ok-parts.parts.items in
     let news = c.exchange_get-parts.result.0.items in
     let end = c.exchange_get-parts.result.1 in
-    let on : AreOn plan.list.now plan.cover.now c.args.domains.now (g.D.Disk.len c.args.disk.now) = record {
-      covers = c.requires.plan.covers;
-      bytes = c.requires.plan.cover_bytes;
-      on = c.requires.on_disk;
-      div = c.requires.domains;
-    } in
+    let on : AreOn plan.list.now plan.cover.now c.args.domains.now (g.D.Disk.len c.args.disk.now) =
+    record { covers = c.requires.plan.covers; bytes = c.requires.plan.cover_bytes; on = c.requires.on_disk; div = c.requires.domains } in
     let s = are_split (state g) old front plan.list.now plan.cover.now c.args.domains.now parts c.requires.from on c.in_ok-parts.ensures.front c.in_ok-parts.ensures.parts in
     let got = parts_got (state g) (λ d. get_turns plan d) old front new c.args.domains.now parts news end s c.size-size.ensures.told c.exchange_get-parts.ensures.got c.append_all.ensures in
     record {

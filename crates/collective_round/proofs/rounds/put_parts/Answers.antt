@@ -1,8 +1,8 @@
 -- The puts of the parts are those of the disk.
-use Rattle.collective_round.proofs.Words.{◌∙◌, refl, rules, arith, common_steps, planned_turns, source_in, PartState, part_state}
+use Rattle.collective_round.proofs.Words.{◌∙◌, refl, rules, arith, common_steps, planned_turns, source_in, HasPut, PartState, part_state}
 use Rattle.collective_round.proofs.PartDomains.{AreOn, as_many_parts, domain_of_part, domains_room}
-use Rattle.collective_round.proofs.PartLaws.{all_cause, are_split}
-use Rattle.collective_round.proofs.PutParts.{parts_put, puts_follow}
+use Rattle.collective_round.proofs.PartLaws.{all_cause, all_follow, are_split}
+use Rattle.collective_round.proofs.PutParts.{parts_put}
 use Rattle.collective_round.proofs.rounds.put_parts.Given.{Over}
 use Rattle.collective_round.proofs.rounds.put_parts.Goals as goal
 
@@ -29,10 +29,11 @@ exchange_put-parts-requires-clause-domains g c κs within =
 pub append_all-requires-after_bounds : goal.append_all-requires-after_bounds
 append_all-requires-after_bounds g c κs within =
     let plan = c.args.plan.now in
-    puts_follow (state g) (source_in plan) plan.list.now (λ d. planned_turns plan d) (state g c.args.disk.now) (state g c.split.new.disk) c.args.domains.now c.in_ok-parts.parts.items c.exchange_put-parts.result.0.items c.exchange_put-parts.result.1
+    all_follow (state g) (state g c.args.disk.now) (state g c.split.new.disk) c.args.domains.now c.in_ok-parts.parts.items
     (are_split (state g) (state g c.args.disk.now) (state g c.split.new.disk) plan.list.now plan.cover.now c.args.domains.now c.in_ok-parts.parts.items c.requires.from
     (record { covers = c.requires.plan.covers; bytes = c.requires.plan.cover_bytes; on = c.requires.on_disk; div = c.requires.domains }) c.in_ok-parts.ensures.front c.in_ok-parts.ensures.parts)
-    c.exchange_put-parts.ensures.put
+    (λ d p now. HasPut (source_in plan) plan.list.now (planned_turns plan d) p now c.exchange_put-parts.result.1) c.exchange_put-parts.result.0.items c.exchange_put-parts.ensures.put
+    (λ d p now h. record { from = h.from; len = h.len })
 
 pub returns : goal.returns
 returns g c =
@@ -43,12 +44,8 @@ returns g c =
     let parts = c.in_ok-parts.parts.items in
     let news = c.exchange_put-parts.result.0.items in
     let end = c.exchange_put-parts.result.1 in
-    let on : AreOn plan.list.now plan.cover.now c.args.domains.now (g.D.Disk.len c.args.disk.now) = record {
-      covers = c.requires.plan.covers;
-      bytes = c.requires.plan.cover_bytes;
-      on = c.requires.on_disk;
-      div = c.requires.domains;
-    } in
+    let on : AreOn plan.list.now plan.cover.now c.args.domains.now (g.D.Disk.len c.args.disk.now) =
+    record { covers = c.requires.plan.covers; bytes = c.requires.plan.cover_bytes; on = c.requires.on_disk; div = c.requires.domains } in
     let s = are_split (state g) old front plan.list.now plan.cover.now c.args.domains.now parts c.requires.from on c.in_ok-parts.ensures.front c.in_ok-parts.ensures.parts in
     let got = parts_put (state g) (source_in plan) plan.list.now (λ d. planned_turns plan d) plan.cover.now old front new c.args.domains.now parts news end
     (λ o m. (c.requires.plan.pieces o m).some) on s c.size-size.ensures.told c.exchange_put-parts.ensures.put c.append_all.ensures in
