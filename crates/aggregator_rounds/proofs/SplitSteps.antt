@@ -96,6 +96,10 @@ front_all place carried ahead fresh before b = grind (arith, nat_tests, append_a
 
 -- ---- entries that end at a place or before
 
+-- read where a list has none
+abbrev pub no_entry : Owned
+no_entry = record { extent = record { at = 0; len = 0 }; rank = 0; request = 0; slot = 0; from = 0 }
+
 pub entry_ends : (list : List Owned) (i : ℕ) (d : Owned) → EndBelow (2 ^ 62) (extents list) → i < length list
     → (get_or list i d).extent.at + (get_or list i d).extent.len < 2 ^ 62
 entry_ends list i d h l = h (get_or list i d).extent (in_extents list (get_or list i d) (entry_in list i d l))

@@ -6,7 +6,7 @@ pub use Rattle.std.specs.declared.alloc.Global.{Global}
 pub use Rattle.aggregator_rounds.proofs.CoveredBytes.{in_ranges}
 pub use Rattle.aggregator_rounds.proofs.EntryCells.{entries_from, entries_within}
 pub use Rattle.aggregator_rounds.proofs.ReadParts.{got_whole}
-pub use Rattle.aggregator_rounds.proofs.SplitSteps.{ends_more, entry_ends, first_begins}
+pub use Rattle.aggregator_rounds.proofs.SplitSteps.{ends_more, entry_ends, first_begins, no_entry}
 pub use Rattle.aggregator_rounds.specs.EntryParts.{AreFilled, IsCovered, bytes_of_post, places_of}
 pub use Rattle.collective_round.specs.Blobs.{blobs_for}
 pub use Rattle.collective_round.specs.Gathered.{AreAccepted, entries_of, entries_of_all, entries_of_posts, entries_of_some, owned_from, posts_of}

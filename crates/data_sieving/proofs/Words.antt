@@ -9,7 +9,7 @@ pub use Rattle.aggregator_rounds.proofs.PartSteps.{found_at, laid_cell, slot_bel
 pub use Rattle.aggregator_rounds.proofs.PastSteps.{all_left, past_all, past_extents, past_found, past_in, past_kept, past_sorted, past_twice, walk_begin}
 pub use Rattle.aggregator_rounds.proofs.ReadParts.{IsRead, buffer_cells, got_says, parts_got, parts_within, read_as, read_once, says_got, whole_parts}
 pub use Rattle.aggregator_rounds.proofs.RoundLaws.{from_less, window_begun, window_refused_by, window_told_by}
-pub use Rattle.aggregator_rounds.proofs.SplitSteps.{before_or_later, entry_ends, extents_left, extents_right, first_begins, first_joined, front_all, front_sorted, none_got, sorted_right}
+pub use Rattle.aggregator_rounds.proofs.SplitSteps.{before_or_later, entry_ends, extents_left, extents_right, first_begins, first_joined, front_all, front_sorted, no_entry, none_got, sorted_right}
 pub use Rattle.aggregator_rounds.specs.EntryParts.{AreFilled, IsCovered, blob_at, buffer_cell, got_cells, part_in, places_of, source_of}
 pub use Rattle.aggregator_rounds.specs.Left.{BeginBefore, IsPast, entries_left}
 pub use Rattle.aggregator_rounds.specs.ToldWindows.{told_window}

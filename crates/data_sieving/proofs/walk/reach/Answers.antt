@@ -1,14 +1,11 @@
 -- Each entry has all bytes from the place to its end.
-use Rattle.data_sieving.proofs.Words.{◌∙◌, ap, subst, List, max, min, arith, ℕ, take_all, Owned, Reach, entry_ends}
+use Rattle.data_sieving.proofs.Words.{no_entry, ◌∙◌, ap, subst, List, max, min, arith, ℕ, take_all, Owned, Reach, entry_ends}
 use Rattle.data_sieving.proofs.HullSteps.{reach_none, reach_more}
 use Rattle.data_sieving.proofs.walk.reach.Goals as goal
 
-abbrev none : Owned
-none = record { extent = record { at = 0; len = 0 }; rank = 0; request = 0; slot = 0; from = 0 }
-
 pub end_of-requires : goal.end_of-requires
 end_of-requires c =
-    let low = entry_ends c.args.carried.now c.loop-entry.entry-index none c.requires.ends c.loop-entry-test.true in
+    let low = entry_ends c.args.carried.now c.loop-entry.entry-index no_entry c.requires.ends c.loop-entry-test.true in
     omega arith
 
 pub loop-entry-init : goal.loop-entry-init
@@ -16,7 +13,7 @@ loop-entry-init c = reach_none c.args.at c.args.stop c.args.carried.now c.requir
 
 pub loop-entry-preserved : goal.loop-entry-preserved
 loop-entry-preserved c =
-    reach_more c.args.at c.args.stop c.loop-entry.end c.max-end.result c.loop-entry.entry-index c.args.carried.now none c.loop-entry-test.true c.requires.across
+    reach_more c.args.at c.args.stop c.loop-entry.end c.max-end.result c.loop-entry.entry-index c.args.carried.now no_entry c.loop-entry-test.true c.requires.across
     (c.max-end.ensures ∙ ap (λ (n : ℕ). max c.loop-entry.end n) (c.min.ensures ∙ ap (λ (n : ℕ). min n c.args.stop) c.end_of.ensures))
     c.requires.order c.loop-entry.invariant
 
