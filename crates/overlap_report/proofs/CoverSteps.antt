@@ -74,46 +74,27 @@ joined_only at end x (e ∷ es) m =
       in_range e.at e.len x,
     )
 
+in_first : (e : Extent) (es : List Extent) (x : ℕ) → In (spans (e ∷ es)) x → ((e.at ≤ x) × (x < e.at + e.len)) ⊎ In (spans es) x
+in_first e es x m = elim (in_either (range_with_len e.at e.len) (spans es) x m) [ inl a ↦ inl (range_low e.at e.len x a, range_high e.at e.len x a) | inr a ↦ inr a ]
+
 pub joined_all : (at end x : ℕ) (es : List Extent) → IsByPlace es → ((d : Extent) → In es d → at ≤ d.at) → ((at ≤ x) × (x < end)) ⊎ In (spans es) x
     → In (spans (joined_from at end es)) x
 joined_all at end x [] sorted low (inl m) = bytes_run at end x m.0 m.1
 joined_all at end x [] sorted low (inr m) = absurd m
 joined_all at end x (e ∷ es) sorted low m =
-    by_len (λ b n h. joined_all b n x es sorted.1 h) (e.len == 0) (nat_lt end e.at) refl refl m
-  where
-    first : at ≤ e.at
-    first = low e (inl refl)
-
-    by_len : ((b n : ℕ) → ((d : Extent) → In es d → b ≤ d.at) → ((b ≤ x) × (x < n)) ⊎ In (spans es) x → In (spans (joined_from b n es)) x)
-        → (s t : Bool) → (e.len == 0) ≡ s → nat_lt end e.at ≡ t
-        → ((at ≤ x) × (x < end)) ⊎ In (spans (e ∷ es)) x
-        → In (spans (cond s (joined_from at end es) (cond t (run at end ++ joined_from e.at (max end (e.at + e.len)) es) (joined_from at (max end (e.at + e.len)) es)))) x
-    by_len ih true t f g (inl k) = ih at end (λ c l. low c (inr l)) (inl k)
-    by_len ih true t f g (inr k) =
-        elim (in_either (range_with_len e.at e.len) (spans es) x k) [
-          | inl a ↦ (let none : e.len ≡ 0 = eqb-true _ _ f in let l = range_low e.at e.len x a in let h = range_high e.at e.len x a in absurd (omega arith))
-          | inr a ↦ ih at end (λ c l. low c (inr l)) (inr a)
-        ]
-    by_len ih false false f g (inl k) = let h = k.1 in ih at (max end (e.at + e.len)) (λ c l. low c (inr l)) (inl (k.0, omega arith))
-    by_len ih false false f g (inr k) =
-        elim (in_either (range_with_len e.at e.len) (spans es) x k) [
-          | inl a ↦ (let l = range_low e.at e.len x a in let h = range_high e.at e.len x a in let b = low e (inl refl) in
-              ih at (max end (e.at + e.len)) (λ c l. low c (inr l)) (inl (omega arith, omega arith)))
-          | inr a ↦ ih at (max end (e.at + e.len)) (λ c l. low c (inr l)) (inr a)
-        ]
-    by_len ih false true f g k =
-        subst (λ (ys : List ℕ). In ys x) (sym (spans_joined (run at end) (joined_from e.at (max end (e.at + e.len)) es))) (by_place k)
-      where
-        rest : ((e.at ≤ x) × (x < max end (e.at + e.len))) ⊎ In (spans es) x → In (spans (run at end) ++ spans (joined_from e.at (max end (e.at + e.len)) es)) x
-        rest a = in_right (spans (run at end)) (spans (joined_from e.at (max end (e.at + e.len)) es)) x (ih e.at (max end (e.at + e.len)) sorted.0 a)
-
-        by_place : ((at ≤ x) × (x < end)) ⊎ In (spans (e ∷ es)) x → In (spans (run at end) ++ spans (joined_from e.at (max end (e.at + e.len)) es)) x
-        by_place (inl a) = in_left (spans (run at end)) (spans (joined_from e.at (max end (e.at + e.len)) es)) x (bytes_run at end x a.0 a.1)
-        by_place (inr a) =
-            elim (in_either (range_with_len e.at e.len) (spans es) x a) [
-              | inl b ↦ (let l = range_low e.at e.len x b in let h = range_high e.at e.len x b in rest (inl (l, omega arith)))
-              | inr b ↦ rest (inr b)
-            ]
+    grind (
+      arith,
+      nat_tests,
+      joined_all at end x es sorted.1 (λ d k. low d (inr k)),
+      joined_all at (max end (e.at + e.len)) x es sorted.1 (λ d k. low d (inr k)),
+      joined_all e.at (max end (e.at + e.len)) x es sorted.1 sorted.0,
+      spans_joined (run at end) (joined_from e.at (max end (e.at + e.len)) es),
+      in_first e es x,
+      in_right,
+      in_left,
+      bytes_run at end x,
+      low e (inl refl),
+    )
 
 -- ---- one more entry
 
