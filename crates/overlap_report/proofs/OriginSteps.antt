@@ -1,5 +1,5 @@
 -- What entries say of a byte, as origins.
-use Rattle.overlap_report.proofs.Words.{cases_lt, ◌≡◌, ℕ, zero, suc, ◌+◌, ◌-◌, ◌<◌, ◌≤◌, refl, sym, ◌∙◌, ap, subst, inl, inr, List, [], ◌∷◌, map, Bool, true, false, arith, nat_tests, ◌==◌, range_with_len, enumerate_from, Owned, Says, In, Origin, origins_of, origins, AtMost, IsGreatest, IsResolved, IsOnceEach, says_left, says_right, says_cases, greatest_once, Covers, Winner}
+use Rattle.overlap_report.proofs.Words.{cases_lt, ◌≡◌, ℕ, zero, suc, ◌+◌, ◌-◌, ◌<◌, ◌≤◌, refl, sym, ◌∙◌, ap, subst, inl, inr, List, [], ◌∷◌, map, arith, range_with_len, enumerate_from, Owned, Says, In, Origin, origins_of, origins, AtMost, IsGreatest, IsResolved, IsOnceEach, says_left, says_right, says_cases, greatest_once, Covers, Winner}
 
 abbrev pub origin_at : Owned → ℕ → Origin
 origin_at o x = (o.rank, o.slot, o.from + (x - o.extent.at))

@@ -1,6 +1,6 @@
 -- The two least requests of the entries so far that hold a byte.
-use Rattle.overlap_report.proofs.Words.{◌≡◌, ℕ, ◌≤◌, ◌⊎◌, refl, sym, ◌∙◌, subst, inl, inr, List, length, take, Bool, true, false, cond, take_all, key_equal, below_through, Owned, Key, same_key, key_below, Request, Least, Nobody, One, Two, key_of, Covers, IsClearAt, HasHolder, ArePairAt, key, with_key, AreLeast}
-use Rattle.overlap_report.proofs.KeySteps.{equal_key, below_or_above, IsNext, for_next}
+use Rattle.overlap_report.proofs.Words.{◌≡◌, ℕ, ◌⊎◌, refl, sym, ◌∙◌, subst, inl, inr, List, Bool, true, false, cond, key_equal, below_through, Owned, Key, same_key, key_below, Request, Least, Nobody, One, Two, key_of, Covers, HasHolder, ArePairAt, key, with_key, AreLeast}
+use Rattle.overlap_report.proofs.KeySteps.{below_or_above, IsNext, for_next}
 
 -- an entry that holds the byte is of one of the two, or of a later request
 abbrev IsOneOf : ℕ → Key → Key → Owned → Type 0

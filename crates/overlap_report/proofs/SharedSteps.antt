@@ -1,5 +1,5 @@
 -- How far the entries so far reach, and the first byte that two requests hold.
-use Rattle.overlap_report.proofs.Words.{cases_lt, ◌≡◌, ℕ, ◌+◌, ◌<◌, ◌≤◌, ◌⊎◌, refl, sym, ◌∙◌, ap, subst, inl, inr, List, length, take, get_or, Bool, true, false, cond, max, Option, Some, None, arith, nat_lt, MatchOption, range_with_len, take_all, entry_in, in_taken, Owned, Pair, Key, same_key, key_below, Holds, holdings_of_entries, shared_pair_of, first_end, second_end, key_itself, key_equal, pair_found, pair_only, In, extents, IsByPlace, in_range, range_low, range_high, holds_by, holder_of, Reach, key_of, Covers, IsClearAt, AreTwo, IsFirst, HasHolder, ArePairAt, same_as, with_entry, no_both}
+use Rattle.overlap_report.proofs.Words.{cases_lt, ◌≡◌, ℕ, ◌+◌, ◌<◌, ◌≤◌, ◌⊎◌, refl, sym, ◌∙◌, ap, subst, inl, inr, List, length, take, get_or, Bool, true, false, cond, max, Option, Some, None, arith, MatchOption, range_with_len, take_all, entry_in, in_taken, Owned, Pair, Key, same_key, key_below, Holds, holdings_of_entries, shared_pair_of, first_end, second_end, key_itself, key_equal, pair_found, pair_only, In, extents, IsByPlace, in_range, range_low, range_high, holds_by, holder_of, Reach, key_of, Covers, IsClearAt, AreTwo, IsFirst, HasHolder, ArePairAt, same_as, with_entry, no_both}
 use Rattle.list_laws.proofs.Optional.{some_or_none}
 use Rattle.list_laws.proofs.Truth.{holds_or_not}
 use Rattle.overlap_report.proofs.KeySteps.{key_back, key_meet, key_apart, key_apart_back, not_below_itself, IsNext, for_next, before_next, at_or_before}
