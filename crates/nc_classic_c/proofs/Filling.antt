@@ -24,13 +24,6 @@ filled_more {A} old items x h =
     let long : length (items ++ x ∷ []) ≡ suc (length items) = length-append items (x ∷ []) ∙ omega arith in
     grind (arith, nat_tests, next, long, set, filled_whole, set_at, append_assoc)
 
--- there is no room for it
-pub filled_full : {A : Type 0} (old items : List A) (x : A) → length old ≤ length items → filled old items ≡ filled old (items ++ x ∷ [])
-filled_full {A} old items x h =
-    let long = length-append items (x ∷ []) in
-    ap (λ (l : List A). take (length old) items ++ l) (drop_all (length items) old h ∙ sym (drop_all (length (items ++ x ∷ [])) old (omega arith)))
-    ∙ ap (λ (l : List A). l ++ drop (length (items ++ x ∷ [])) old) (sym (take-append-le (length old) items (x ∷ []) h))
-
 -- ---- the next one
 
 laid_by : {A : Type 0} (old done : List A) (from : ℕ) (x : A) (a b : Bool) → leb from (length done) ≡ a → ltb (length done - from) (length old) ≡ b

@@ -9,29 +9,15 @@ use Rattle.serial_spec.proofs.SpellingLaws.{writable_is_sound}
 
 -- ---- begins and records
 
-pub layout_refused : (header : Header) (align : Align) (records : ℕ) (fault : LayoutErr) → Some fault ≡ layout_fault header align
-    → Some (of_layout fault) ≡ place_refusal header align records
-layout_refused header align records fault h = ap (λ (o : Option LayoutErr). option_or (option_map of_layout o) (records_refusal header align records)) h
-
 laid : (header : Header) (align : Align) (records : ℕ) (now : Header) (t : Bool) → None ≡ layout_fault header align → now ≡ laid_header header align → fits records now ≡ t
     → cond t None (Some (of_whole cause.TooLarge)) ≡ place_refusal header align records
 laid header align records now t h e f = grind (arith, nat_tests)
-
-pub records_refused : (header : Header) (align : Align) (records : ℕ) (now : Header) → None ≡ layout_fault header align → now ≡ laid_header header align → fits records now ≡ false
-    → Some (of_whole cause.TooLarge) ≡ place_refusal header align records
-records_refused header align records now h e f = laid header align records now false h e f
 
 pub placed : (header : Header) (align : Align) (records : ℕ) (now : Header) → None ≡ layout_fault header align → now ≡ laid_header header align → fits records now ≡ true
     → None ≡ place_refusal header align records
 placed header align records now h e f = laid header align records now true h e f
 
 -- ---- the whole
-
-pub argument_told : (D : NcvHeaderDef) (u : Unmade) → Some u ≡ argument_refusal D → refusal_of D ≡ Some u
-argument_told D u h = first_counts _ _ u (sym h)
-
-pub definition_told : (D : NcvHeaderDef) (u : Unmade) → None ≡ argument_refusal D → Some u ≡ definition_refusal D → refusal_of D ≡ Some u
-definition_told D u a h = second_counts _ _ (sym a) ∙ first_counts _ _ u (sym h)
 
 pub place_told : (D : NcvHeaderDef) (header : Header) (align : Align) (o : Option Unmade) → None ≡ argument_refusal D → None ≡ definition_refusal D
     → header ≡ header_of D → align ≡ align_of D → o ≡ place_refusal header align D.records → refusal_of D ≡ o

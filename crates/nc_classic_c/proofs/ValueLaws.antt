@@ -44,10 +44,6 @@ pub words_refused : {W : Type 0} (kind : NcType) (told : W → Value) (ws : List
     → position (λ w. not (fits kind (told w))) ws ≡ Some k → pack kind (map told ws) len ≡ Err (refusal.Range k)
 words_refused kind told ws len k h e = grind (arith, nat_tests, length-map, first_of_words)
 
-pub words_long : {W : Type 0} (kind : NcType) (told : W → Value) (ws : List W) (len : ℕ) → is_length kind (length ws) len ≡ false
-    → pack kind (map told ws) len ≡ Err (refusal.Asked code.EInvalRequest)
-words_long kind told ws len h = grind (arith, nat_tests, length-map)
-
 -- ---- values that are written
 
 packed_more : {W : Type 0} (kind : NcType) (told : W → Value) (ws : List W) (i : ℕ) (w : W) → i < length ws → w ≡ get_or ws i w
