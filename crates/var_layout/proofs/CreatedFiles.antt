@@ -1,9 +1,9 @@
 -- Where the variables of a created file lie, one variable after another.
-use Rattle.var_layout.proofs.Words.{◌≡◌, ℕ, zero, suc, ◌+◌, ◌^◌, ◌<◌, ◌≤◌, List, [], ◌∷◌, ◌++◌, length, take, drop, get_or, Bool, true, false, Option, Some, None, refl, sym, ap, ◌∙◌, arith, find, sum_by, not, option_map, option_or, enumerate_from, take_all, drop_all, append-nil, set, get_or-enumerate_from, length-enumerate_from, fold_push, and_second, Header, Var, Align, round_up, vsize, is_record, fixed_variables, record_variables, end_of_fixed, begin_of, placed, begins, header_len, Numbered, fixed_of, records_in, size_fault, layout_fault, find-append, not_from_false, not_from_true, fixed_end, first_record, lies_too_far, far_fixed, far_record, capped, nat_tests}
+use Rattle.var_layout.proofs.Words.{◌≡◌, ℕ, zero, suc, ◌+◌, ◌^◌, ◌<◌, ◌≤◌, List, [], ◌∷◌, ◌++◌, length, take, drop, get_or, Bool, true, false, Option, Some, None, refl, sym, ap, ◌∙◌, arith, filter, find, no_both, sum_by, not, option_map, option_or, enumerate_from, take_all, drop_all, append-nil, set, get_or-enumerate_from, length-enumerate_from, fold_push, and_second, Header, Var, Align, round_up, vsize, is_record, fixed_variables, record_variables, end_of_fixed, begin_of, placed, begins, header_len, Numbered, fixed_of, records_in, size_fault, layout_fault, find-append, not_from_false, not_from_true, fixed_end, first_record, lies_too_far, far_fixed, far_record, capped, nat_tests}
 use borrow.Author.Tests.{ltb-true}
 use Rattle.nc_base.specs.declared.errors.LayoutErr.TheVariants as fault
 use Rattle.var_layout.proofs.Capping.{filter_yes, filter_no, sum_filter_yes}
-use Rattle.var_layout.proofs.Searches.{find_stops, find_goes_on, fails_at}
+use Rattle.var_layout.proofs.Searches.{Lies, find_stops, find_goes_on, fails_at}
 
 -- ---- the variables with their begins
 
@@ -23,143 +23,157 @@ pub length-placed : (header : Header) (align : Align) (first n : ℕ) (vs : List
 length-placed header align first n [] = refl
 length-placed header align first n (v ∷ vs) = ap (λ (m : ℕ). suc m) (length-placed header align first (suc n) vs)
 
-numbered_at : (header : Header) (align : Align) (first k : ℕ) (v : Var) → k < length header.vars → v ≡ get_or header.vars k v
-    → get_or (enumerate_from 0 (placed header align first 0 header.vars)) k (0, v) ≡ (k, in_place header align first k v)
-numbered_at header align first k v h e = grind (arith, nat_tests, get_or-enumerate_from, length-placed, get_or-placed)
+abbrev numbered : Header → Align → ℕ → List Numbered
+numbered header align first = enumerate_from 0 (placed header align first 0 header.vars)
 
-numbered_long : (header : Header) (align : Align) (first k : ℕ) → k < length header.vars → k < length (enumerate_from 0 (placed header align first 0 header.vars))
-numbered_long header align first k h = grind (arith, nat_tests, length-placed, length-enumerate_from)
+-- none that passes the test lies too far, of the first k
+abbrev pub NoneFar : Header → Align → ℕ → (Numbered → Bool) → ℕ → Type 0
+NoneFar header align first p k = find (λ w. lies_too_far header w.1) (filter p (take k (numbered header align first))) ≡ None
 
-pub begin_fixed : (header : Header) (align : Align) (first k : ℕ) (v : Var) → is_record header v ≡ false
-    → begin_of header align first k v ≡ round_up align.var (fixed_end header align first k)
-begin_fixed header align first k v e = grind (arith, nat_tests)
+-- the vsizes of the record variables before variable k
+abbrev pub records_before : Header → ℕ → ℕ
+records_before header k = sum_by (λ v. vsize header v) (record_variables header (take k header.vars))
 
-pub begin_record : (header : Header) (align : Align) (first k : ℕ) (v : Var) → is_record header v ≡ true
-    → begin_of header align first k v ≡ first_record header align first + sum_by (λ w. vsize header w) (record_variables header (take k header.vars))
-begin_record header align first k v e = grind (arith, nat_tests)
+pub records_more : (header : Header) (k : ℕ) (v : Var) → Lies header k v → is_record header v ≡ true → records_before header (k + 1) ≡ records_before header k + vsize header v
+records_more header k v lies f = let e = lies.there in let h = lies.within in grind (arith, nat_tests, sum_filter_yes)
 
--- ---- one variable on
+pub records_same : (header : Header) (k : ℕ) (v : Var) → Lies header k v → is_record header v ≡ false → records_before header (k + 1) ≡ records_before header k
+records_same header k v lies f = let e = lies.there in let h = lies.within in grind (arith, nat_tests, filter_no)
 
-pub fixed_end_more : (header : Header) (align : Align) (first k : ℕ) (v : Var) → k < length header.vars → v ≡ get_or header.vars k v → is_record header v ≡ false
-    → fixed_end header align first (k + 1) ≡ round_up align.var (fixed_end header align first k) + vsize header v
-fixed_end_more header align first k v h e f =
-    ap (λ vs. end_of_fixed header align.var (round_up align.header first) vs)
-    (filter_yes (λ w. not (is_record header w)) header.vars k v h (not_from_false _ (ap (λ (w : Var). is_record header w) (sym e) ∙ f)))
-    ∙ fold_push (λ end w. round_up align.var end + vsize header w) (round_up align.header first) (fixed_variables header (take k header.vars)) (get_or header.vars k v)
-    ∙ ap (λ (w : Var). round_up align.var (fixed_end header align first k) + vsize header w) (sym e)
-
-pub fixed_end_same : (header : Header) (align : Align) (first k : ℕ) (v : Var) → k < length header.vars → v ≡ get_or header.vars k v → is_record header v ≡ true
-    → fixed_end header align first (k + 1) ≡ fixed_end header align first k
-fixed_end_same header align first k v h e f = grind (arith, nat_tests, filter_no, not_from_true)
-
-pub records_more : (header : Header) (k : ℕ) (v : Var) → k < length header.vars → v ≡ get_or header.vars k v → is_record header v ≡ true
-    → sum_by (λ w. vsize header w) (record_variables header (take (k + 1) header.vars))
-    ≡ sum_by (λ w. vsize header w) (record_variables header (take k header.vars)) + vsize header v
-records_more header k v h e f = grind (arith, nat_tests, sum_filter_yes)
-
-pub records_same : (header : Header) (k : ℕ) (v : Var) → k < length header.vars → v ≡ get_or header.vars k v → is_record header v ≡ false
-    → sum_by (λ w. vsize header w) (record_variables header (take (k + 1) header.vars))
-    ≡ sum_by (λ w. vsize header w) (record_variables header (take k header.vars))
-records_same header k v h e f = grind (arith, nat_tests, filter_no)
-
--- ---- the fixed variables, as far as the loop has come
+pub near_end : (header : Header) (v : Var) → lies_too_far header v ≡ false → v.begin + vsize header v < 2 ^ 62
+near_end header v h = grind (arith, nat_tests, ltb-true, and_second)
 
 pub record FixedSoFar (header : Header) (align : Align) (first k end : ℕ) : Type 0 where
   pub place : end ≡ fixed_end header align first k
   pub small : end < 2 ^ 62
-  pub none : find (λ w. lies_too_far (begins header align first) w.1) (fixed_of (begins header align first) (take k (enumerate_from 0 (placed header align first 0 header.vars)))) ≡ None
-
-pub fixed_skip : (header : Header) (align : Align) (first k end : ℕ) (v : Var) → k < length header.vars → v ≡ get_or header.vars k v → is_record header v ≡ true
-    → FixedSoFar header align first k end → FixedSoFar header align first (k + 1) end
-fixed_skip header align first k end v h e f so =
-    record {
-      place = so.place ∙ sym (fixed_end_same header align first k v h e f);
-      small = so.small;
-      none =
-          find_goes_on (λ w. not (is_record header w.1)) (λ w. lies_too_far header w.1) (enumerate_from 0 (placed header align first 0 header.vars)) k (0, v)
-          (k, in_place header align first k v) (numbered_long header align first k h) (numbered_at header align first k v h e) so.none
-          (λ s. absurd (contrary (is_record header v) f s));
-    }
-  where
-    contrary : (t : Bool) → t ≡ true → not t ≡ true → ⊥
-    contrary true a b = cc
-    contrary false a b = cc
-
-pub fixed_next : (header : Header) (align : Align) (first k end next : ℕ) (v : Var) → k < length header.vars → v ≡ get_or header.vars k v → is_record header v ≡ false
-    → lies_too_far header (at_begin v (round_up align.var end)) ≡ false → next ≡ round_up align.var end + vsize header v → next < 2 ^ 62
-    → FixedSoFar header align first k end → FixedSoFar header align first (k + 1) next
-fixed_next header align first k end next v h e f near g l so =
-    record {
-      place = g ∙ ap (λ (n : ℕ). round_up align.var n + vsize header v) so.place ∙ sym (fixed_end_more header align first k v h e f);
-      small = l;
-      none =
-          find_goes_on (λ w. not (is_record header w.1)) (λ w. lies_too_far header w.1) (enumerate_from 0 (placed header align first 0 header.vars)) k (0, v)
-          (k, in_place header align first k v) (numbered_long header align first k h) (numbered_at header align first k v h e) so.none
-          (λ s. ap (λ (n : ℕ). lies_too_far header (at_begin v n)) (begin_fixed header align first k v f ∙ ap (λ (n : ℕ). round_up align.var n) (sym so.place)) ∙ near);
-    }
-
-pub fixed_stops : (header : Header) (align : Align) (first k end : ℕ) (v : Var) → k < length header.vars → v ≡ get_or header.vars k v → is_record header v ≡ false
-    → lies_too_far header (at_begin v (round_up align.var end)) ≡ true
-    → FixedSoFar header align first k end → far_fixed (begins header align first) ≡ Some (k, in_place header align first k v)
-fixed_stops header align first k end v h e f far so =
-    find_stops (λ w. not (is_record header w.1)) (λ w. lies_too_far header w.1) (enumerate_from 0 (placed header align first 0 header.vars)) k (0, v)
-    (k, in_place header align first k v) (numbered_long header align first k h) (numbered_at header align first k v h e) so.none (not_from_false _ f)
-    (ap (λ (n : ℕ). lies_too_far header (at_begin v n)) (begin_fixed header align first k v f ∙ ap (λ (n : ℕ). round_up align.var n) (sym so.place)) ∙ far)
-
-whole_list : (header : Header) (align : Align) (first n : ℕ) → length header.vars ≤ n
-    → take n (enumerate_from 0 (placed header align first 0 header.vars)) ≡ enumerate_from 0 (placed header align first 0 header.vars)
-whole_list header align first n h = grind (arith, nat_tests, length-placed, length-enumerate_from, take_all)
-
-pub fixed_whole : (header : Header) (align : Align) (first n end : ℕ) → length header.vars ≤ n → FixedSoFar header align first n end
-    → far_fixed (begins header align first) ≡ None
-fixed_whole header align first n end h so = grind (arith, nat_tests, whole_list)
-
--- ---- the record variables, as far as the loop has come
+  pub none : NoneFar header align first (λ w. not (is_record header w.1)) k
 
 pub record RecordsSoFar (header : Header) (align : Align) (first k begin : ℕ) : Type 0 where
-  pub place : begin ≡ first_record header align first + sum_by (λ w. vsize header w) (record_variables header (take k header.vars))
-  pub none : find (λ w. lies_too_far (begins header align first) w.1) (records_in (begins header align first) (take k (enumerate_from 0 (placed header align first 0 header.vars)))) ≡ None
+  pub place : begin ≡ first_record header align first + records_before header k
+  pub none : NoneFar header align first (λ w. is_record header w.1) k
 
-pub records_skip : (header : Header) (align : Align) (first k begin : ℕ) (v : Var) → k < length header.vars → v ≡ get_or header.vars k v → is_record header v ≡ false
-    → RecordsSoFar header align first k begin → RecordsSoFar header align first (k + 1) begin
-records_skip header align first k begin v h e f so =
-    record {
-      place = so.place ∙ ap (λ (n : ℕ). first_record header align first + n) (sym (records_same header k v h e f));
-      none =
-          find_goes_on (λ w. is_record header w.1) (λ w. lies_too_far header w.1) (enumerate_from 0 (placed header align first 0 header.vars)) k (0, v)
-          (k, in_place header align first k v) (numbered_long header align first k h) (numbered_at header align first k v h e) so.none
-          (λ s. absurd (contrary (is_record header v) f s));
-    }
-  where
-    contrary : (t : Bool) → t ≡ false → t ≡ true → ⊥
-    contrary true a b = cc
-    contrary false a b = cc
+module _ (header : Header) (align : Align) (first : ℕ) where
+  numbered_at : (k : ℕ) (v : Var) → Lies header k v → get_or (numbered header align first) k (0, v) ≡ (k, in_place header align first k v)
+  numbered_at k v lies = grind (arith, nat_tests, get_or-enumerate_from, length-placed, get_or-placed, lies.within, lies.there)
 
-pub records_next : (header : Header) (align : Align) (first k begin next : ℕ) (v : Var) → k < length header.vars → v ≡ get_or header.vars k v → is_record header v ≡ true
-    → lies_too_far header (at_begin v begin) ≡ false → next ≡ begin + vsize header v
-    → RecordsSoFar header align first k begin → RecordsSoFar header align first (k + 1) next
-records_next header align first k begin next v h e f near g so =
-    let more = records_more header k v h e f in
-    let now = so.place in
-    record {
-      place = omega arith;
-      none =
-          find_goes_on (λ w. is_record header w.1) (λ w. lies_too_far header w.1) (enumerate_from 0 (placed header align first 0 header.vars)) k (0, v)
-          (k, in_place header align first k v) (numbered_long header align first k h) (numbered_at header align first k v h e) so.none
-          (λ s. ap (λ (n : ℕ). lies_too_far header (at_begin v n)) (begin_record header align first k v f ∙ sym so.place) ∙ near);
-    }
+  numbered_long : (k : ℕ) → k < length header.vars → k < length (numbered header align first)
+  numbered_long k h = grind (arith, nat_tests, length-placed, length-enumerate_from)
 
-pub records_stop : (header : Header) (align : Align) (first k begin : ℕ) (v : Var) → k < length header.vars → v ≡ get_or header.vars k v → is_record header v ≡ true
-    → lies_too_far header (at_begin v begin) ≡ true
-    → RecordsSoFar header align first k begin → far_record (begins header align first) ≡ Some (k, in_place header align first k v)
-records_stop header align first k begin v h e f far so =
-    find_stops (λ w. is_record header w.1) (λ w. lies_too_far header w.1) (enumerate_from 0 (placed header align first 0 header.vars)) k (0, v)
-    (k, in_place header align first k v) (numbered_long header align first k h) (numbered_at header align first k v h e) so.none f
-    (ap (λ (n : ℕ). lies_too_far header (at_begin v n)) (begin_record header align first k v f ∙ sym so.place) ∙ far)
+  pub begin_fixed : (k : ℕ) (v : Var) → is_record header v ≡ false → begin_of header align first k v ≡ round_up align.var (fixed_end header align first k)
+  begin_fixed k v e = grind (arith, nat_tests)
 
-pub records_whole : (header : Header) (align : Align) (first n begin : ℕ) → length header.vars ≤ n → RecordsSoFar header align first n begin
-    → far_record (begins header align first) ≡ None
-records_whole header align first n begin h so = grind (arith, nat_tests, whole_list)
+  pub begin_record : (k : ℕ) (v : Var) → is_record header v ≡ true → begin_of header align first k v ≡ first_record header align first + records_before header k
+  begin_record k v e = grind (arith, nat_tests)
+
+  -- ---- one variable on
+
+  pub fixed_end_more : (k : ℕ) (v : Var) → Lies header k v → is_record header v ≡ false
+      → fixed_end header align first (k + 1) ≡ round_up align.var (fixed_end header align first k) + vsize header v
+  fixed_end_more k v lies f =
+      ap (λ vs. end_of_fixed header align.var (round_up align.header first) vs)
+      (filter_yes (λ w. not (is_record header w)) header.vars k v lies.within (not_from_false _ (ap (λ (w : Var). is_record header w) (sym lies.there) ∙ f)))
+      ∙ fold_push (λ end w. round_up align.var end + vsize header w) (round_up align.header first) (fixed_variables header (take k header.vars)) (get_or header.vars k v)
+      ∙ ap (λ (w : Var). round_up align.var (fixed_end header align first k) + vsize header w) (sym lies.there)
+
+  pub fixed_end_same : (k : ℕ) (v : Var) → Lies header k v → is_record header v ≡ true → fixed_end header align first (k + 1) ≡ fixed_end header align first k
+  fixed_end_same k v lies f = let e = lies.there in let h = lies.within in grind (arith, nat_tests, filter_no, not_from_true)
+
+  -- ---- the search for a variable that lies too far, as far as a loop has come
+
+  pub none_more : (p : Numbered → Bool) (k : ℕ) (v : Var) → Lies header k v
+      → (p (k, in_place header align first k v) ≡ true → lies_too_far header (in_place header align first k v) ≡ false)
+      → NoneFar header align first p k → NoneFar header align first p (k + 1)
+  none_more p k v lies near none =
+      find_goes_on p (λ w. lies_too_far header w.1) (numbered header align first) k (0, v) _ (numbered_long k lies.within) (numbered_at k v lies) none near
+
+  pub far_here : (p : Numbered → Bool) (k : ℕ) (v : Var) → Lies header k v → p (k, in_place header align first k v) ≡ true
+      → lies_too_far header (in_place header align first k v) ≡ true
+      → NoneFar header align first p k → find (λ w. lies_too_far header w.1) (filter p (numbered header align first)) ≡ Some (k, in_place header align first k v)
+  far_here p k v lies passes far none =
+      find_stops p (λ w. lies_too_far header w.1) (numbered header align first) k (0, v) _ (numbered_long k lies.within) (numbered_at k v lies) none passes far
+
+  fits_at : (p : Numbered → Bool) (k : ℕ) (v : Var) → Lies header k v → find (λ w. lies_too_far header w.1) (filter p (numbered header align first)) ≡ None
+      → p (k, in_place header align first k v) ≡ true → lies_too_far header (in_place header align first k v) ≡ false
+  fits_at p k v lies none passes =
+      fails_at p (λ w. lies_too_far header w.1) (numbered header align first) k (0, v) _ (numbered_long k lies.within) (numbered_at k v lies) none passes
+
+  -- all have been looked at
+  pub none_whole : (p : Numbered → Bool) (n : ℕ) → length header.vars ≤ n → NoneFar header align first p n
+      → find (λ w. lies_too_far header w.1) (filter p (numbered header align first)) ≡ None
+  none_whole p n h none =
+      let whole : length (numbered header align first) ≤ n = grind (arith, nat_tests, length-placed, length-enumerate_from) in
+      rw (take_all n (numbered header align first) whole) at none
+
+  -- ---- where none lies too far
+
+  pub fixed_fits : (k : ℕ) (v : Var) → far_fixed (begins header align first) ≡ None → Lies header k v → is_record header v ≡ false
+      → lies_too_far header (in_place header align first k v) ≡ false
+  fixed_fits k v none lies f = fits_at (λ w. not (is_record header w.1)) k v lies none (not_from_false _ f)
+
+  pub record_fits : (k : ℕ) (v : Var) → far_record (begins header align first) ≡ None → Lies header k v → is_record header v ≡ true
+      → lies_too_far header (in_place header align first k v) ≡ false
+  record_fits k v none lies f = fits_at (λ w. is_record header w.1) k v lies none f
+
+  pub fixed_near : (k : ℕ) (v : Var) → far_fixed (begins header align first) ≡ None → Lies header k v → is_record header v ≡ false
+      → round_up align.var (fixed_end header align first k) + vsize header v < 2 ^ 62
+  fixed_near k v none lies f =
+      let near = near_end header (in_place header align first k v) (fixed_fits k v none lies f) in
+      let at = begin_fixed k v f in
+      omega arith
+
+  pub record_near : (k : ℕ) (v : Var) → far_record (begins header align first) ≡ None → Lies header k v → is_record header v ≡ true
+      → first_record header align first + records_before header k + vsize header v < 2 ^ 62
+  record_near k v none lies f =
+      let near = near_end header (in_place header align first k v) (record_fits k v none lies f) in
+      let at = begin_record k v f in
+      omega arith
+
+  -- ---- the fixed variables and the record variables, as far as the loop has come
+
+  fixed_far : (k end : ℕ) (v : Var) (far : Bool) → is_record header v ≡ false → FixedSoFar header align first k end
+      → lies_too_far header (at_begin v (round_up align.var end)) ≡ far → lies_too_far header (in_place header align first k v) ≡ far
+  fixed_far k end v far f so e = ap (λ (n : ℕ). lies_too_far header (at_begin v n)) (begin_fixed k v f ∙ ap (λ (n : ℕ). round_up align.var n) (sym so.place)) ∙ e
+
+  record_far : (k begin : ℕ) (v : Var) (far : Bool) → is_record header v ≡ true → RecordsSoFar header align first k begin
+      → lies_too_far header (at_begin v begin) ≡ far → lies_too_far header (in_place header align first k v) ≡ far
+  record_far k begin v far f so e = ap (λ (n : ℕ). lies_too_far header (at_begin v n)) (begin_record k v f ∙ sym so.place) ∙ e
+
+  pub fixed_skip : (k end : ℕ) (v : Var) → Lies header k v → is_record header v ≡ true → FixedSoFar header align first k end → FixedSoFar header align first (k + 1) end
+  fixed_skip k end v lies f so = record {
+    place = so.place ∙ sym (fixed_end_same k v lies f);
+    small = so.small;
+    none = none_more (λ w. not (is_record header w.1)) k v lies (λ s. no_both _ s (not_from_true _ f)) so.none;
+  }
+
+  pub fixed_next : (k end next : ℕ) (v : Var) → Lies header k v → is_record header v ≡ false
+      → lies_too_far header (at_begin v (round_up align.var end)) ≡ false → next ≡ round_up align.var end + vsize header v → next < 2 ^ 62
+      → FixedSoFar header align first k end → FixedSoFar header align first (k + 1) next
+  fixed_next k end next v lies f near g l so = record {
+    place = g ∙ ap (λ (n : ℕ). round_up align.var n + vsize header v) so.place ∙ sym (fixed_end_more k v lies f);
+    small = l;
+    none = none_more (λ w. not (is_record header w.1)) k v lies (λ s. fixed_far k end v false f so near) so.none;
+  }
+
+  pub fixed_stops : (k end : ℕ) (v : Var) → Lies header k v → is_record header v ≡ false → lies_too_far header (at_begin v (round_up align.var end)) ≡ true
+      → FixedSoFar header align first k end → far_fixed (begins header align first) ≡ Some (k, in_place header align first k v)
+  fixed_stops k end v lies f far so = far_here (λ w. not (is_record header w.1)) k v lies (not_from_false _ f) (fixed_far k end v true f so far) so.none
+
+  pub records_skip : (k begin : ℕ) (v : Var) → Lies header k v → is_record header v ≡ false → RecordsSoFar header align first k begin → RecordsSoFar header align first (k + 1) begin
+  records_skip k begin v lies f so = record {
+    place = so.place ∙ ap (λ (n : ℕ). first_record header align first + n) (sym (records_same header k v lies f));
+    none = none_more (λ w. is_record header w.1) k v lies (λ s. no_both _ s f) so.none;
+  }
+
+  pub records_next : (k begin next : ℕ) (v : Var) → Lies header k v → is_record header v ≡ true → lies_too_far header (at_begin v begin) ≡ false → next ≡ begin + vsize header v
+      → RecordsSoFar header align first k begin → RecordsSoFar header align first (k + 1) next
+  records_next k begin next v lies f near g so = record {
+    place = omega (arith, records_more header k v lies f, so.place);
+    none = none_more (λ w. is_record header w.1) k v lies (λ s. record_far k begin v false f so near) so.none;
+  }
+
+  pub records_stop : (k begin : ℕ) (v : Var) → Lies header k v → is_record header v ≡ true → lies_too_far header (at_begin v begin) ≡ true
+      → RecordsSoFar header align first k begin → far_record (begins header align first) ≡ Some (k, in_place header align first k v)
+  records_stop k begin v lies f far so = far_here (λ w. is_record header w.1) k v lies f (record_far k begin v true f so far) so.none
 
 -- ---- the begins that are written, the variables standing apart from their header
 
@@ -175,110 +189,68 @@ pub record WrittenSoFar (header : Header) (align : Align) (first : ℕ) (old now
 -- one item further, of two lists of one length
 set_seam : {A : Type 0} (new old : List A) (k : ℕ) (x d : A) → length new ≡ length old → k < length old → get_or new k d ≡ x
     → set (take k new ++ drop k old) k x ≡ take (suc k) new ++ drop (suc k) old
-set_seam new [] k x d l h e = absurd (omega arith)
-set_seam [] (o ∷ old) k x d l h e = absurd (omega arith)
 set_seam (n ∷ new) (o ∷ old) zero x d l h e = ap (λ y. y ∷ old) (sym e)
 set_seam (n ∷ new) (o ∷ old) (suc k) x d l h e = ap (λ ys. n ∷ ys) (set_seam new old k x d (omega arith) (omega arith) e)
+set_seam _ _ k x d l h e = absurd (omega arith)
 
 seam_at : {A : Type 0} (new old : List A) (k : ℕ) (d : A) → length new ≡ length old → k < length old → get_or (take k new ++ drop k old) k d ≡ get_or old k d
-seam_at new [] k d l h = absurd (omega arith)
-seam_at [] (o ∷ old) k d l h = absurd (omega arith)
 seam_at (n ∷ new) (o ∷ old) zero d l h = refl
 seam_at (n ∷ new) (o ∷ old) (suc k) d l h = seam_at new old k d (omega arith) (omega arith)
-
-pub near_end : (header : Header) (v : Var) → lies_too_far header v ≡ false → v.begin + vsize header v < 2 ^ 62
-near_end header v h = grind (arith, nat_tests, ltb-true, and_second)
-
-pub fixed_fits : (header : Header) (align : Align) (first k : ℕ) (v : Var) → far_fixed (begins header align first) ≡ None → k < length header.vars
-    → v ≡ get_or header.vars k v → is_record header v ≡ false → lies_too_far header (in_place header align first k v) ≡ false
-fixed_fits header align first k v none h e f =
-    fails_at (λ w. not (is_record header w.1)) (λ w. lies_too_far header w.1) (enumerate_from 0 (placed header align first 0 header.vars)) k (0, v)
-    (k, in_place header align first k v) (numbered_long header align first k h) (numbered_at header align first k v h e) none (not_from_false _ f)
-
-pub record_fits : (header : Header) (align : Align) (first k : ℕ) (v : Var) → far_record (begins header align first) ≡ None → k < length header.vars
-    → v ≡ get_or header.vars k v → is_record header v ≡ true → lies_too_far header (in_place header align first k v) ≡ false
-record_fits header align first k v none h e f =
-    fails_at (λ w. is_record header w.1) (λ w. lies_too_far header w.1) (enumerate_from 0 (placed header align first 0 header.vars)) k (0, v)
-    (k, in_place header align first k v) (numbered_long header align first k h) (numbered_at header align first k v h e) none f
-
-pub fixed_near : (header : Header) (align : Align) (first k : ℕ) (v : Var) → far_fixed (begins header align first) ≡ None → k < length header.vars
-    → v ≡ get_or header.vars k v → is_record header v ≡ false → round_up align.var (fixed_end header align first k) + vsize header v < 2 ^ 62
-fixed_near header align first k v none h e f =
-    let near = near_end header (in_place header align first k v) (fixed_fits header align first k v none h e f) in
-    let at = begin_fixed header align first k v f in
-    omega arith
-
-pub record_near : (header : Header) (align : Align) (first k : ℕ) (v : Var) → far_record (begins header align first) ≡ None → k < length header.vars
-    → v ≡ get_or header.vars k v → is_record header v ≡ true
-    → first_record header align first + sum_by (λ w. vsize header w) (record_variables header (take k header.vars)) + vsize header v < 2 ^ 62
-record_near header align first k v none h e f =
-    let near = near_end header (in_place header align first k v) (record_fits header align first k v none h e f) in
-    let at = begin_record header align first k v f in
-    omega arith
-
--- the item at the seam
-pub item_there : (header : Header) (align : Align) (first : ℕ) (old now : List Var) (k fixed begin : ℕ) (v : Var) → k < length old → v ≡ get_or now k v
-    → WrittenSoFar header align first old now k fixed begin → v ≡ get_or old k v
-item_there header align first old now k fixed begin v h e so = grind (arith, nat_tests, seam_at, length-placed)
+seam_at _ _ k d l h = absurd (omega arith)
 
 suc_is : (n : ℕ) → suc n ≡ n + 1
 suc_is n = omega arith
 
-one_written : (header : Header) (align : Align) (first : ℕ) (old now : List Var) (k fixed begin : ℕ) (v w : Var) → k < length old → v ≡ get_or old k v
-    → WrittenSoFar header align first old now k fixed begin → in_place (whole_header header old) align first k v ≡ w
-    → set now k w ≡ take (k + 1) (placed (whole_header header old) align first 0 old) ++ drop (k + 1) old
-one_written header align first old now k fixed begin v w h e so f =
-    let whole = whole_header header old in
-    let there = get_or-placed whole align first 0 old k v h
-    ∙ ap (λ (n : ℕ). in_place whole align first n (get_or old k v)) (let z : 0 + k ≡ k = omega arith in z)
-    ∙ ap (λ (x : Var). in_place whole align first k x) (sym e) ∙ f in
-    ap (λ vs. set vs k w) so.items
-    ∙ set_seam (placed whole align first 0 old) old k w v (length-placed whole align first 0 old) h there
-    ∙ ap (λ (n : ℕ). take n (placed whole align first 0 old) ++ drop n old) (suc_is k)
+module _ (header : Header) (align : Align) (first : ℕ) (old : List Var) where
+  -- the item at the seam
+  pub item_there : (now : List Var) (k fixed begin : ℕ) (d : Var) → length now ≡ length old → k < length now → d ≡ get_or now k d
+      → WrittenSoFar header align first old now k fixed begin → Lies (whole_header header old) k (get_or now k d)
+  item_there now k fixed begin d l h e so =
+      let within : k < length old = omega arith in
+      let itself = ap (λ (v : Var). get_or now k v) e in
+      record { within = within; there = grind (arith, nat_tests, seam_at, length-placed) }
 
-pub write_record : (header : Header) (align : Align) (first : ℕ) (old now : List Var) (k fixed begin bytes : ℕ) (v : Var) (new : List Var) (fixed' begin' : ℕ)
-    → k < length old → v ≡ get_or now k v → is_record header v ≡ true → far_record (begins (whole_header header old) align first) ≡ None → bytes ≡ capped (vsize header v)
-    → WrittenSoFar header align first old now k fixed begin → new ≡ set now k (at_begin v begin) → fixed' ≡ fixed → begin' ≡ begin + bytes
-    → WrittenSoFar header align first old new (k + 1) fixed' begin'
-write_record header align first old now k fixed begin bytes v new fixed' begin' h e f none b so n p q =
-    let whole = whole_header header old in
-    let there = item_there header align first old now k fixed begin v h e so in
-    let near = record_near whole align first k v none h there f in
-    let more = records_more whole k v h there f in
-    let at = so.place in
-    let small = so.small in
-    record {
-      items = n ∙ one_written header align first old now k fixed begin v (at_begin v begin) h there so (ap (λ (m : ℕ). at_begin v m) (begin_record whole align first k v f ∙ sym at));
-      fixed_place = p ∙ so.fixed_place ∙ sym (fixed_end_same whole align first k v h there f);
-      small = omega arith;
-      place = omega arith;
-    }
+  one_written : (now : List Var) (k fixed begin b : ℕ) (v : Var) → Lies (whole_header header old) k v → WrittenSoFar header align first old now k fixed begin
+      → b ≡ begin_of (whole_header header old) align first k v
+      → set now k (at_begin v b) ≡ take (k + 1) (placed (whole_header header old) align first 0 old) ++ drop (k + 1) old
+  one_written now k fixed begin b v lies so is =
+      let whole = whole_header header old in
+      let there = get_or-placed whole align first 0 old k v lies.within
+      ∙ ap (λ (n : ℕ). in_place whole align first n (get_or old k v)) (let z : 0 + k ≡ k = omega arith in z)
+      ∙ ap (λ (x : Var). in_place whole align first k x) (sym lies.there) ∙ ap (λ (n : ℕ). at_begin v n) (sym is) in
+      ap (λ vs. set vs k (at_begin v b)) so.items
+      ∙ set_seam (placed whole align first 0 old) old k (at_begin v b) v (length-placed whole align first 0 old) lies.within there
+      ∙ ap (λ (n : ℕ). take n (placed whole align first 0 old) ++ drop n old) (suc_is k)
 
-pub write_fixed : (header : Header) (align : Align) (first : ℕ) (old now : List Var) (k fixed begin bytes place : ℕ) (v : Var) (new : List Var) (fixed' begin' : ℕ)
-    → k < length old → v ≡ get_or now k v → is_record header v ≡ false → far_fixed (begins (whole_header header old) align first) ≡ None → bytes ≡ capped (vsize header v)
-    → WrittenSoFar header align first old now k fixed begin → place ≡ round_up align.var fixed → new ≡ set now k (at_begin v place) → fixed' ≡ place + bytes → begin' ≡ begin
-    → WrittenSoFar header align first old new (k + 1) fixed' begin'
-write_fixed header align first old now k fixed begin bytes place v new fixed' begin' h e f none b so r n p q =
-    let whole = whole_header header old in
-    let there = item_there header align first old now k fixed begin v h e so in
-    let here : place ≡ round_up align.var (fixed_end whole align first k) = r ∙ ap (λ (m : ℕ). round_up align.var m) so.fixed_place in
-    let near = fixed_near whole align first k v none h there f in
-    let more = fixed_end_more whole align first k v h there f in
-    let same = records_same whole k v h there f in
-    let at = so.place in
-    let ends : fixed' ≡ round_up align.var (fixed_end whole align first k) + vsize header v = ends_at place bytes fixed' _ (vsize header v) here b near p in
-    record {
-      items = n ∙ one_written header align first old now k fixed begin v (at_begin v place) h there so (ap (λ (m : ℕ). at_begin v m) (begin_fixed whole align first k v f ∙ sym here));
-      fixed_place = ends ∙ sym more;
-      small = below _ _ ends near;
-      place = omega arith;
-    }
-  where
-    ends_at : (a m c d s : ℕ) → a ≡ d → m ≡ capped s → d + s < 2 ^ 62 → c ≡ a + m → c ≡ d + s
-    ends_at a m c d s u w x y = omega arith
+  pub write_record : (now : List Var) (k fixed begin bytes : ℕ) (v : Var) → Lies (whole_header header old) k v → is_record header v ≡ true
+      → far_record (begins (whole_header header old) align first) ≡ None → bytes ≡ capped (vsize header v)
+      → WrittenSoFar header align first old now k fixed begin → WrittenSoFar header align first old (set now k (at_begin v begin)) (k + 1) fixed (begin + bytes)
+  write_record now k fixed begin bytes v lies f none b so =
+      let whole = whole_header header old in
+      let near = record_near whole align first k v none lies f in
+      record {
+        items = one_written now k fixed begin begin v lies so (so.place ∙ sym (begin_record whole align first k v f));
+        fixed_place = so.fixed_place ∙ sym (fixed_end_same whole align first k v lies f);
+        small = so.small;
+        place = omega (arith, records_more whole k v lies f, so.place, near);
+      }
 
-    below : (a c : ℕ) → a ≡ c → c < 2 ^ 62 → a < 2 ^ 62
-    below a c u w = omega arith
+  pub write_fixed : (now : List Var) (k fixed begin bytes place : ℕ) (v : Var) → Lies (whole_header header old) k v → is_record header v ≡ false
+      → far_fixed (begins (whole_header header old) align first) ≡ None → bytes ≡ capped (vsize header v) → place ≡ round_up align.var fixed
+      → WrittenSoFar header align first old now k fixed begin → WrittenSoFar header align first old (set now k (at_begin v place)) (k + 1) (place + bytes) begin
+  write_fixed now k fixed begin bytes place v lies f none b r so =
+      let whole = whole_header header old in
+      let here : place ≡ round_up align.var (fixed_end whole align first k) = r ∙ ap (λ (m : ℕ). round_up align.var m) so.fixed_place in
+      let ends = ends_at place bytes _ (vsize header v) here b (fixed_near whole align first k v none lies f) in
+      record {
+        items = one_written now k fixed begin place v lies so (here ∙ sym (begin_fixed whole align first k v f));
+        fixed_place = ends.0 ∙ sym (fixed_end_more whole align first k v lies f);
+        small = ends.1;
+        place = so.place ∙ ap (λ (n : ℕ). first_record whole align first + n) (sym (records_same whole k v lies f));
+      }
+    where
+      ends_at : (a m d s : ℕ) → a ≡ d → m ≡ capped s → d + s < 2 ^ 62 → (a + m ≡ d + s) × (a + m < 2 ^ 62)
+      ends_at a m d s u w x = (omega arith, omega arith)
 
 pub written_whole : (header : Header) (align : Align) (first : ℕ) (old now : List Var) (k fixed begin : ℕ) → length old ≤ k
     → WrittenSoFar header align first old now k fixed begin → now ≡ placed (whole_header header old) align first 0 old

@@ -1,7 +1,6 @@
 -- Rows of elements, one dimension at a time, and where elements end.
-use Rattle.var_layout.proofs.Words.{◌≡◌, ℕ, zero, suc, ◌+◌, ◌-◌, ◌*◌, ◌^◌, ◌<◌, ◌≤◌, List, [], ◌∷◌, length, drop, get_or, map, Bool, true, false, cond, Some, refl, ap, arith, slice_get, nat_lt, drop_more, row_fits, mul-le, mul-le-mul_left, nat_tests, size_pos, slab_shared, end_fixed, slab_below, index_fixed, index_record, Header, Var, NcType, size_of, product, greatest, is_record, inner_lengths, slab, recsize, last_share, end_of, end_of_var, row, place, record_of, within_record, IsIndex, IsElement, row_below, records_for, header_len, is_sound}
-use Rattle.var_layout.proofs.Soundness.{Keeps, var_kept, header_short}
-use borrow.Author.Tests.{ltb-true, ltb-false}
+use Rattle.var_layout.proofs.Words.{◌≡◌, ℕ, zero, suc, ◌+◌, ◌-◌, ◌*◌, ◌^◌, ◌<◌, ◌≤◌, List, [], ◌∷◌, inl, inr, holds_or_not, cases_lt, length, drop, get_or, map, Bool, true, false, cond, Some, refl, ap, arith, slice_get, drop_more, row_fits, mul-le, mul-le-mul_left, nat_tests, size_pos, slab_shared, end_fixed, slab_below, index_fixed, index_record, Header, Var, NcType, size_of, product, greatest, is_record, inner_lengths, slab, recsize, last_share, end_of, end_of_var, row, place, record_of, within_record, IsIndex, IsElement, row_below, records_for, header_len, is_sound}
+use Rattle.var_layout.proofs.Soundness.{var_kept, header_short}
 
 -- ---- a row, one dimension at a time
 
@@ -10,9 +9,8 @@ product_pos lengths index h = let below = row_below lengths index h in omega ari
 
 pub same_len : (lengths index : List ℕ) → IsIndex lengths index → length index ≡ length lengths
 same_len [] [] h = refl
-same_len [] (i ∷ index) h = absurd h
-same_len (n ∷ lengths) [] h = absurd h
 same_len (n ∷ lengths) (i ∷ index) h = ap (λ (k : ℕ). suc k) (same_len lengths index h.1)
+same_len _ _ h = absurd h
 
 -- `so_far` is the row of the first k coordinates
 pub record RowSoFar (lengths index : List ℕ) (k so_far : ℕ) : Type 0 where
@@ -70,23 +68,13 @@ for_record header v index e = ap (λ (t : Bool). cond t (record_of index + 1) 0)
 
 before_end_of_var : (header : Header) (v : Var) (index : List ℕ) (n : ℕ) → IsElement header v index → records_for header v index ≤ n
     → place header v index + size_of v.kind ≤ end_of_var header n v
-before_end_of_var header v index n h l = by_test (is_record header v) refl
-  where
-    by_test : (t : Bool) → is_record header v ≡ t → place header v index + size_of v.kind ≤ end_of_var header n v
-    by_test false e =
-        let p = place_fixed header v index e in
-        let q = end_fixed header n v e in
-        let s = in_slab header v index (index_fixed header v index e h) in
-        let m = slab_below header v in
-        omega arith
-    by_test true e =
-        let r = for_record header v index e in
-        let p = place_record header v index e in
-        let q = end_record header n v e (omega arith) in
-        let s = in_slab header v (within_record index) (index_record header v index e h).1 in
-        let m = slab_shared header v in
-        let last : record_of index * recsize header ≤ (n - 1) * recsize header = mul-le (record_of index) (recsize header) (n - 1) (recsize header) (omega arith) (omega arith) in
-        omega arith
+before_end_of_var header v index n h l = elim (holds_or_not (is_record header v)) [
+  | inl e ↦
+      let r = for_record header v index e in
+      let last = mul-le (record_of index) (recsize header) (n - 1) (recsize header) (omega arith) (omega arith) in
+      omega (arith, last, place_record header v index e, end_record header n v e (omega arith), in_slab header v (within_record index) (index_record header v index e h).1, slab_shared header v)
+  | inr e ↦ omega (arith, place_fixed header v index e, end_fixed header n v e, in_slab header v index (index_fixed header v index e h), slab_below header v)
+]
 
 pub before_end : (header : Header) (first k : ℕ) (v : Var) (index : List ℕ) (n : ℕ) → slice_get header.vars k ≡ Some v → IsElement header v index
     → records_for header v index ≤ n → place header v index + size_of v.kind ≤ end_of header first n
@@ -102,20 +90,17 @@ greatest_below f (x ∷ xs) n pos h =
     omega arith
 
 var_end : (header : Header) (k : ℕ) (v : Var) (n : ℕ) → is_sound header ≡ true → slice_get header.vars k ≡ Some v → n ≤ header.records → end_of_var header n v < 2 ^ 62
-var_end header k v n h g l = by_test (is_record header v) refl (var_kept header k v h g).1
-  where
-    by_test : (t : Bool) → is_record header v ≡ t → {before : ℕ} → Keeps header before v → end_of_var header n v < 2 ^ 62
-    by_test false e k = let q = end_fixed header n v e in let m = k.end in omega arith
-    by_test true e k = by_count (nat_lt 0 n) refl
-      where
-        by_count : (t : Bool) → nat_lt 0 n ≡ t → end_of_var header n v < 2 ^ 62
-        by_count true p =
-            let pos : 0 < n = ltb-true _ _ p in
-            let q = end_record header n v e pos in
-            let m = k.last e (omega arith) in
-            let rows : (n - 1) * recsize header ≤ (header.records - 1) * recsize header = mul-le (n - 1) (recsize header) (header.records - 1) (recsize header) (omega arith) (omega arith) in
-            omega arith
-        by_count false p = let none = ltb-false _ _ p in let q = end_none header n v e (omega arith) in omega arith
+var_end header k v n h g l =
+    let keeps = (var_kept header k v h g).1 in
+    elim (holds_or_not (is_record header v)) [
+      | inl e ↦ elim (cases_lt 0 n) [
+        | inl p ↦
+            let rows = mul-le (n - 1) (recsize header) (header.records - 1) (recsize header) (omega arith) (omega arith) in
+            omega (arith, rows, end_record header n v e p, keeps.last e (omega arith))
+        | inr p ↦ omega (arith, end_none header n v e (omega arith))
+      ]
+      | inr e ↦ omega (arith, end_fixed header n v e, keeps.end)
+    ]
 
 pub sound_end : (header : Header) (n : ℕ) → is_sound header ≡ true → n ≤ header.records → end_of header (header_len header) n < 2 ^ 62
 sound_end header n h l =

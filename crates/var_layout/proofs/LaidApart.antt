@@ -1,8 +1,9 @@
 -- No two variables of a laid out header share a byte.
-use Rattle.var_layout.proofs.Words.{◌≡◌, ℕ, zero, suc, ◌+◌, ◌-◌, ◌<◌, ◌≤◌, List, [], ◌∷◌, length, map, Bool, true, false, cond, ◌&&◌, ◌||◌, Some, None, refl, sym, ap, subst, ◌∙◌, arith, max, filter, sum_by, nat_lt, nat_le, slice_get, option_or, nat_tests, length-map, slice_get_read, slab_below, Header, Var, Align, slab, vsize, is_record, recsize, record_size, record_variables, sharing, sharing_with, sharing_from, share, meet, placed, begins, begin_of, HasPlace}
+use Rattle.var_layout.proofs.Words.{◌≡◌, ℕ, zero, suc, ◌+◌, ◌-◌, ◌<◌, ◌≤◌, List, [], ◌∷◌, inl, inr, holds_or_not, length, map, Bool, true, false, cond, ◌&&◌, ◌||◌, Some, None, refl, sym, ap, ◌∙◌, arith, max, filter, sum_by, nat_lt, nat_le, slice_get, option_or, nat_tests, length-map, slice_get_read, slab_below, Header, Var, Align, slab, vsize, is_record, recsize, record_size, record_variables, sharing, sharing_with, sharing_from, share, meet, placed, begins, begin_of, HasPlace}
 use Rattle.var_layout.proofs.Soundness.{recsize_shared}
+use Rattle.var_layout.proofs.Searches.{Lies}
 use Rattle.var_layout.proofs.CreatedFiles.{in_place}
-use Rattle.var_layout.proofs.LaidPlaces.{Lies, lies_at, fixed_grows, all_records, records_grow, fixed_at, record_at, first_low, header_low}
+use Rattle.var_layout.proofs.LaidPlaces.{lies_at, fixed_grows, all_records, records_grow, fixed_at, record_at, first_low, header_low}
 
 -- ---- no two variables share a byte
 
@@ -56,37 +57,33 @@ laid_apart : (header : Header) (align : Align) (len first : ℕ) → 0 < align.v
     → shares_by t u (begin_of header align len i v) (slab header v) (begin_of header align len j w) (slab header w) (recsize header) ≡ false
 laid_apart header align len first pos place i j v w l lies lies' false false e f = grind (arith, nat_tests, fixed_at, fixed_grows, slab_below, fixed_apart)
 laid_apart header align len first pos place i j v w l lies lies' false true e f =
-    let a = fixed_at header align len i v pos lies e in
-    let b = record_at header align len j w lies' f in
-    let grows = fixed_grows header align len (i + 1) (length header.vars) v pos (let q = lies.within in omega arith) (omega arith) in
-    let base = first_low header align len pos in
-    let s = slab_below header v in
-    let high = a.high in
-    let low = b.low in
-    fixed_then_record (begin_of header align len i v) (slab header v) (begin_of header align len j w) (slab header w) (recsize header) (omega arith)
+    fixed_then_record (begin_of header align len i v) (slab header v) (begin_of header align len j w) (slab header w) (recsize header)
+    (omega (
+      arith,
+      (fixed_at header align len i v pos lies e).high,
+      (record_at header align len j w lies' f).low,
+      first_low header align len pos,
+      slab_below header v,
+      fixed_grows header align len (i + 1) (length header.vars) v pos (omega (arith, lies.within)) (omega arith),
+    ))
 laid_apart header align len first pos place i j v w l lies lies' true false e f =
-    let a = record_at header align len i v lies e in
-    let b = fixed_at header align len j w pos lies' f in
-    let grows = fixed_grows header align len (j + 1) (length header.vars) v pos (let q = lies'.within in omega arith) (omega arith) in
-    let base = first_low header align len pos in
-    let s = slab_below header w in
-    let high = b.high in
-    let low = a.low in
-    record_then_fixed (begin_of header align len i v) (slab header v) (begin_of header align len j w) (slab header w) (recsize header) (omega arith)
+    record_then_fixed (begin_of header align len i v) (slab header v) (begin_of header align len j w) (slab header w) (recsize header)
+    (omega (
+      arith,
+      (fixed_at header align len j w pos lies' f).high,
+      (record_at header align len i v lies e).low,
+      first_low header align len pos,
+      slab_below header w,
+      fixed_grows header align len (j + 1) (length header.vars) v pos (omega (arith, lies'.within)) (omega arith),
+    ))
 laid_apart header align len first pos place i j v w l lies lies' true true e f =
     let a = record_at header align len i v lies e in
     let b = record_at header align len j w lies' f in
-    let grows = records_grow header (i + 1) j v (omega arith) (let q = lies'.within in omega arith) in
-    let all = records_grow header (j + 1) (length header.vars) v (let q = lies'.within in omega arith) (omega arith) in
+    let all = records_grow header (j + 1) (length header.vars) v (omega (arith, lies'.within)) (omega arith) in
     let size = recsize_of_two header (count_two (λ x. is_record header x) header.vars i j v w l (get_there header i v lies) (get_there header j w lies') e f) in
-    let whole = all_records header in
-    let s = slab_below header v in
-    let s' = slab_below header w in
-    let a_high = a.high in
-    let a_low = a.low in
-    let b_high = b.high in
-    let b_low = b.low in
-    records_apart (begin_of header align len i v) (slab header v) (begin_of header align len j w) (slab header w) (recsize header) (omega arith) (omega arith)
+    records_apart (begin_of header align len i v) (slab header v) (begin_of header align len j w) (slab header w) (recsize header)
+    (omega (arith, a.high, b.low, slab_below header v, records_grow header (i + 1) j v (omega arith) (omega (arith, lies'.within))))
+    (omega (arith, a.low, b.high, all, size, all_records header, slab_below header w))
 
 pub no_sharing_with : (header : Header) (v : Var) (k m : ℕ) (ws : List Var) → ((j : ℕ) (w : Var) → slice_get ws j ≡ Some w → share header v w ≡ false) → sharing_with header v k m ws ≡ None
 no_sharing_with header v k m [] h = refl
@@ -111,20 +108,15 @@ laid_sharing header align len first pos pos' place =
     (λ i j x y l g f. apart i j x y l (lies_at header align len i x g) (lies_at header align len j y f))
   where
     low : (i : ℕ) (w : Var) → ((v : Var) × Lies header i v × (in_place header align len i v ≡ w)) → len ≤ w.begin
-    low i w found = subst (λ (x : Var). len ≤ x.begin) found.2 (by_test (is_record header found.0) refl)
-      where
-        by_test : (t : Bool) → is_record header found.0 ≡ t → len ≤ begin_of header align len i found.0
-        by_test true e =
-            let a = record_at header align len i found.0 found.1 e in
-            let base = first_low header align len pos' in
-            let past = header_low header align len (length header.vars) found.0 pos pos' (omega arith) in
-            let at = a.low in
-            omega arith
-        by_test false e =
-            let a = fixed_at header align len i found.0 pos' found.1 e in
-            let past = header_low header align len i found.0 pos pos' (let q = found.1.within in omega arith) in
-            let at = a.low in
-            omega arith
+    low i w found = rw (← found.2) (elim (holds_or_not (is_record header found.0)) [
+      | inl e ↦ omega (
+        arith,
+        (record_at header align len i found.0 found.1 e).low,
+        first_low header align len pos',
+        header_low header align len (length header.vars) found.0 pos pos' (omega arith),
+      )
+      | inr e ↦ omega (arith, (fixed_at header align len i found.0 pos' found.1 e).low, header_low header align len i found.0 pos pos' (omega (arith, found.1.within)))
+    ])
 
     apart : (i j : ℕ) (x y : Var) → i < j → ((v : Var) × Lies header i v × (in_place header align len i v ≡ x)) → ((w : Var) × Lies header j w × (in_place header align len j w ≡ y))
         → share (begins header align len) x y ≡ false

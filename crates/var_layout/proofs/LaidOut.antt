@@ -1,5 +1,5 @@
 -- A laid out header is sound.
-use Rattle.var_layout.proofs.Words.{◌≡◌, ℕ, ◌-◌, ◌^◌, ◌<◌, ◌≤◌, List, [], ◌∷◌, length, Bool, true, false, ◌&&◌, None, refl, ap, ◌∙◌, arith, not, nat_le, ◌==◌, is_none, position, list_any, prefix_len, nat_tests, or_parts, not-true, and_from, and_first, and_second, neither_some, Header, Align, most_header_bytes, record_limit, begins, header_len, is_version, all_ones, first_check, two_record_dims, record_later, bad_id, is_sound, counts_are_small, HasPlace, is_unplaced}
+use Rattle.var_layout.proofs.Words.{◌≡◌, ℕ, ◌-◌, ◌^◌, ◌<◌, ◌≤◌, List, [], ◌∷◌, length, Bool, true, false, None, refl, ap, ◌∙◌, arith, not, nat_le, ◌==◌, is_none, position, list_any, prefix_len, nat_tests, or_parts, not-true, and_from, and_first, and_second, neither_some, Header, Align, record_limit, begins, header_len, is_version, all_ones, first_check, two_record_dims, record_later, bad_id, is_sound, counts_are_small, HasPlace, is_unplaced}
 use Rattle.nc_base.specs.declared.errors.HeaderErr.TheVariants as fault
 use Rattle.var_layout.proofs.LaidKept.{placed_any, laid_len, counts_kept}
 use Rattle.var_layout.proofs.LaidPlaces.{laid_measure}
@@ -42,10 +42,8 @@ pub laid_sound : (header : Header) (align : Align) (len first : ℕ) → 0 < ali
     → is_sound (begins header align len) ≡ true
 laid_sound header align len first pos pos' h place =
     let u = unplaced header h in
-    and_from (is_version header.version && counts_are_small (begins header align len) && nat_le (header_len (begins header align len)) most_header_bytes) _
-    (and_from (is_version header.version && counts_are_small (begins header align len)) _
-    (and_from (is_version header.version) _ u.version (counts_kept header align len ∙ u.counts))
-    (let e = laid_len header align len in let l = place.length in let m = place.small in short (header_len (begins header align len)) (omega arith)))
+    and_from _ _
+    (and_from _ _ (and_from _ _ u.version (counts_kept header align len ∙ u.counts)) (short (header_len (begins header align len)) (omega (arith, laid_len header align len, place.length, place.small))))
     (ap (λ o. is_none o) (laid_checks header align len first pos pos' u place))
   where
     short : (n : ℕ) → n ≤ 2 ^ 20 → nat_le n (2 ^ 20) ≡ true

@@ -1,14 +1,11 @@
 -- Each variable of a laid out header lies where it is placed, before the next of its kind, and keeps its bound.
-use Rattle.var_layout.proofs.Words.{◌≡◌, ℕ, zero, suc, ◌+◌, ◌-◌, ◌^◌, ◌<◌, ◌≤◌, List, [], ◌∷◌, length, take, get_or, Bool, true, false, cond, Some, None, refl, sym, ap, ◌∙◌, arith, sum_by, nat_lt, slice_get, nat_tests, take_all, get_or_default, sum_by-cons, slice_get_within, get_or_from_slice_get, and_from, Header, Var, Align, vsize, is_record, record_variables, record_share, round_up, placed, begins, begin_of, measure, past_bound, keeps_bound, fixed_end, first_record, HasPlace}
+use Rattle.var_layout.proofs.Words.{◌≡◌, ℕ, zero, suc, ◌+◌, ◌-◌, ◌^◌, ◌<◌, ◌≤◌, List, [], ◌∷◌, inl, inr, cases_eq, holds_or_not, no_both, length, take, get_or, Bool, true, false, cond, Some, None, refl, ap, ◌∙◌, arith, sum_by, nat_lt, slice_get, nat_tests, take_all, get_or_default, sum_by-cons, slice_get_within, get_or_from_slice_get, and_from, Header, Var, Align, vsize, is_record, record_variables, record_share, round_up, placed, begins, begin_of, measure, past_bound, keeps_bound, fixed_end, first_record, HasPlace}
 use Rattle.var_layout.proofs.Soundness.{shares_are}
-use Rattle.var_layout.proofs.CreatedFiles.{in_place, fixed_end_more, fixed_end_same, records_more, records_same, begin_fixed, begin_record, fixed_near, record_near}
+use Rattle.var_layout.proofs.Searches.{Lies}
+use Rattle.var_layout.proofs.CreatedFiles.{in_place, records_before, fixed_end_more, fixed_end_same, records_more, records_same, begin_fixed, begin_record, fixed_near, record_near}
 use Rattle.var_layout.proofs.LaidKept.{placed_sum_front}
 
 -- ---- each variable lies where it is placed
-
-pub record Lies (header : Header) (k : ℕ) (v : Var) : Type 0 where
-  pub within : k < length header.vars
-  pub there : v ≡ get_or header.vars k v
 
 placed_get : (header : Header) (align : Align) (first n : ℕ) (vs : List Var) (k : ℕ) (w : Var) → slice_get (placed header align first n vs) k ≡ Some w
     → (v : Var) × (slice_get vs k ≡ Some v) × (in_place header align first (n + k) v ≡ w)
@@ -24,47 +21,38 @@ lies_at header align first k w h = grind (arith, nat_tests, placed_get, slice_ge
 up : (unit n : ℕ) → 0 < unit → n ≤ round_up unit n
 up unit n h = omega arith
 
-itself : (header : Header) (k : ℕ) (d : Var) → k < length header.vars → get_or header.vars k d ≡ get_or header.vars k (get_or header.vars k d)
-itself header k d h = get_or_default header.vars k d (get_or header.vars k d) h
+lies_get : (header : Header) (k : ℕ) (d : Var) → k < length header.vars → Lies header k (get_or header.vars k d)
+lies_get header k d h = record { within = h; there = get_or_default header.vars k d (get_or header.vars k d) h }
 
-fixed_step : (header : Header) (align : Align) (first k : ℕ) (d : Var) → 0 < align.var → k < length header.vars → fixed_end header align first k ≤ fixed_end header align first (k + 1)
-fixed_step header align first k d pos h = by_test (is_record header (get_or header.vars k d)) refl
-  where
-    by_test : (t : Bool) → is_record header (get_or header.vars k d) ≡ t → fixed_end header align first k ≤ fixed_end header align first (k + 1)
-    by_test true e = let same = fixed_end_same header align first k (get_or header.vars k d) h (itself header k d h) e in omega arith
-    by_test false e =
-        let more = fixed_end_more header align first k (get_or header.vars k d) h (itself header k d h) e in
-        let l = up align.var (fixed_end header align first k) pos in
-        omega arith
-
-fixed_on : (header : Header) (align : Align) (first k : ℕ) (d : Var) (j : ℕ) → 0 < align.var → k + j ≤ length header.vars → fixed_end header align first k ≤ fixed_end header align first (k + j)
-fixed_on header align first k d zero pos h = let e = ap (λ (m : ℕ). fixed_end header align first m) (let z : k + 0 ≡ k = omega arith in z) in omega arith
-fixed_on header align first k d (suc j) pos h = grind (arith, nat_tests, fixed_on header align first k d j pos (omega arith), fixed_step)
+-- what goes up at each step goes up
+grows : (f : ℕ → ℕ) (n : ℕ) → ((k : ℕ) → k < n → f k ≤ f (k + 1)) → (k m : ℕ) → k ≤ m → m ≤ n → f k ≤ f m
+grows f n step k zero l h = let e : f k ≡ f 0 = ap f (omega arith) in omega arith
+grows f n step k (suc m) l h =
+    let s : f (suc m) ≡ f (m + 1) = ap f (omega arith) in
+    elim (cases_eq k (suc m)) [
+      | inl e ↦ omega (arith, ap f e)
+      | inr e ↦ omega (arith, s, step m (omega arith), grows f n step k m (omega arith) (omega arith))
+    ]
 
 pub fixed_grows : (header : Header) (align : Align) (first k m : ℕ) (d : Var) → 0 < align.var → k ≤ m → m ≤ length header.vars → fixed_end header align first k ≤ fixed_end header align first m
-fixed_grows header align first k m d pos l h = grind (arith, nat_tests, fixed_on header align first k d (m - k) pos (omega arith))
-
-pub records_before : Header → ℕ → ℕ
-records_before header k = sum_by (λ v. vsize header v) (record_variables header (take k header.vars))
-
-records_step : (header : Header) (k : ℕ) (d : Var) → k < length header.vars → records_before header k ≤ records_before header (k + 1)
-unfolding records_before
-records_step header k d h = by_test (is_record header (get_or header.vars k d)) refl
+fixed_grows header align first k m d pos l h = grows (λ n. fixed_end header align first n) (length header.vars) step k m l h
   where
-    by_test : (t : Bool) → is_record header (get_or header.vars k d) ≡ t
-        → sum_by (λ v. vsize header v) (record_variables header (take k header.vars)) ≤ sum_by (λ v. vsize header v) (record_variables header (take (k + 1) header.vars))
-    by_test true e = let more = records_more header k (get_or header.vars k d) h (itself header k d h) e in omega arith
-    by_test false e = let same = records_same header k (get_or header.vars k d) h (itself header k d h) e in omega arith
-
-records_on : (header : Header) (k : ℕ) (d : Var) (j : ℕ) → k + j ≤ length header.vars → records_before header k ≤ records_before header (k + j)
-records_on header k d zero h = let e = ap (λ (m : ℕ). records_before header m) (let z : k + 0 ≡ k = omega arith in z) in omega arith
-records_on header k d (suc j) h = grind (arith, nat_tests, records_on header k d j (omega arith), records_step, records_before)
+    step : (n : ℕ) → n < length header.vars → fixed_end header align first n ≤ fixed_end header align first (n + 1)
+    step n g = elim (holds_or_not (is_record header (get_or header.vars n d))) [
+      | inl e ↦ omega (arith, fixed_end_same header align first n _ (lies_get header n d g) e)
+      | inr e ↦ omega (arith, fixed_end_more header align first n _ (lies_get header n d g) e, up align.var (fixed_end header align first n) pos)
+    ]
 
 pub records_grow : (header : Header) (k m : ℕ) (d : Var) → k ≤ m → m ≤ length header.vars → records_before header k ≤ records_before header m
-records_grow header k m d l h = grind (arith, nat_tests, records_on header k d (m - k) (omega arith), records_before)
+records_grow header k m d l h = grows (λ n. records_before header n) (length header.vars) step k m l h
+  where
+    step : (n : ℕ) → n < length header.vars → records_before header n ≤ records_before header (n + 1)
+    step n g = elim (holds_or_not (is_record header (get_or header.vars n d))) [
+      | inl e ↦ omega (arith, records_more header n _ (lies_get header n d g) e)
+      | inr e ↦ omega (arith, records_same header n _ (lies_get header n d g) e)
+    ]
 
 pub all_records : (header : Header) → records_before header (length header.vars) ≡ sum_by (λ v. vsize header v) (record_variables header header.vars)
-unfolding records_before
 all_records header = ap (λ vs. sum_by (λ v. vsize header v) (record_variables header vs)) (take_all (length header.vars) header.vars (omega arith))
 
 -- a fixed variable ends where the next one may begin, a record variable where the next record variable begins
@@ -80,10 +68,9 @@ pub record RecordAt (header : Header) (align : Align) (first k begin : ℕ) (v :
   pub high : begin + vsize header v ≡ first_record header align first + records_before header (k + 1)
 
 pub record_at : (header : Header) (align : Align) (first k : ℕ) (v : Var) → Lies header k v → is_record header v ≡ true → RecordAt header align first k (begin_of header align first k v) v
-unfolding records_before
 record_at header align first k v lies e =
     let at = begin_record header align first k v e in
-    let more = records_more header k v lies.within lies.there e in
+    let more = records_more header k v lies e in
     record { low = at; high = omega arith }
 
 pub first_low : (header : Header) (align : Align) (first : ℕ) → 0 < align.var → fixed_end header align first (length header.vars) ≤ first_record header align first
@@ -119,7 +106,6 @@ keeps : (header : Header) (before : ℕ) (v : Var) → header.records ≡ 0 → 
 keeps header before v none h = grind (arith, nat_tests, and_from, fits)
 
 pub laid_measure : (header : Header) (align : Align) (len first : ℕ) → header.records ≡ 0 → HasPlace header align len first → measure (begins header align len) ≡ None
-unfolding records_before
 laid_measure header align len first none place =
     past_none (begins header align len) (placed header align len 0 header.vars) 0 0 (λ k w g. kept k w (lies_at header align len k w g))
   where
@@ -127,22 +113,15 @@ laid_measure header align len first none place =
         → keeps_bound (begins header align len) (0 + sum_by (λ x. record_share header x) (take k (placed header align len 0 header.vars))) w ≡ true
     kept k w found =
         let v = found.0 in
-        let before = placed_sum_front (λ x. record_share header x) (λ x b. refl) header align len 0 header.vars k ∙ shares_are header (take k header.vars) in
-        ap (λ (x : Var). keeps_bound (begins header align len) (0 + sum_by (λ y. record_share header y) (take k (placed header align len 0 header.vars))) x) (sym found.2)
-        ∙ keeps (begins header align len) _ (in_place header align len k v) none (by_test (is_record header v) refl before)
-      where
-        by_test : (t : Bool) → is_record header found.0 ≡ t
-            → sum_by (λ x. record_share header x) (take k (placed header align len 0 header.vars)) ≡ sum_by (λ x. vsize header x) (record_variables header (take k header.vars))
-            → Fits (begins header align len) (0 + sum_by (λ x. record_share header x) (take k (placed header align len 0 header.vars))) (in_place header align len k found.0)
-        by_test true e before =
-            let near = record_near header align len k found.0 place.records_fit found.1.within found.1.there e in
-            let at = begin_record header align len k found.0 e in
-            record { end = omega arith; records = λ f. omega arith }
-        by_test false e before =
-            let near = fixed_near header align len k found.0 place.fixed_fit found.1.within found.1.there e in
-            let at = begin_fixed header align len k found.0 e in
-            record { end = omega arith; records = λ f. absurd (contrary (is_record header found.0) e f) }
-          where
-            contrary : (t : Bool) → t ≡ false → t ≡ true → ⊥
-            contrary true a b = cc
-            contrary false a b = cc
+        let seen = placed_sum_front (λ x. record_share header x) (λ x b. refl) header align len 0 header.vars k ∙ shares_are header (take k header.vars) in
+        let fits : Fits (begins header align len) (0 + sum_by (λ x. record_share header x) (take k (placed header align len 0 header.vars))) (in_place header align len k v) =
+        elim (holds_or_not (is_record header v)) [
+          | inl e ↦
+              let near = record_near header align len k v place.records_fit found.1 e in
+              record { end = omega (arith, near, begin_record header align len k v e); records = λ f. omega (arith, near, seen) }
+          | inr e ↦ record {
+            end = omega (arith, fixed_near header align len k v place.fixed_fit found.1 e, begin_fixed header align len k v e);
+            records = λ f. no_both _ f e;
+          }
+        ] in
+        rw (← found.2) (keeps (begins header align len) _ (in_place header align len k v) none fits)

@@ -1,9 +1,10 @@
 -- A laid out header can be written where its names, types and attributes can.
-use Rattle.var_layout.proofs.Words.{◌≡◌, ℕ, suc, ◌-◌, ◌*◌, ◌^◌, ◌<◌, ◌≤◌, List, [], ◌∷◌, length, Bool, true, false, ◌&&◌, Option, Some, None, refl, sym, ap, ◌∙◌, arith, nat_lt, nat_le, option_map, slice_get, position, list_any, list_all, Width, byte_len, nat_tests, prefix_len_passes, slice_get_within, get_or_from_slice_get, and_from, or_parts, leb-true, both_none, and_first, and_second, passes_at, fails_at, Header, Var, Align, most_dims, most_vars, most_dims_of_var, vsize, is_record, placed, begins, begin_width, bad_id, is_sound, is_writable, is_writable_list, is_writable_dim, is_writable_attr, is_redefinable_var, is_writable_var, fits_field, fits_count, is_type, is_large_var, size_fault, lies_too_far, HasPlace, is_unplaced, has_writable_names, has_writable_parts}
+use Rattle.var_layout.proofs.Words.{◌≡◌, ℕ, suc, ◌-◌, ◌*◌, ◌^◌, ◌<◌, ◌≤◌, List, [], ◌∷◌, inl, inr, holds_or_not, length, Bool, true, false, ◌&&◌, Option, Some, None, refl, sym, ap, ◌∙◌, arith, nat_lt, nat_le, option_map, slice_get, position, list_any, list_all, Width, byte_len, nat_tests, prefix_len_passes, slice_get_within, get_or_from_slice_get, and_from, or_parts, leb-true, both_none, and_first, and_second, passes_at, fails_at, Header, Var, Align, most_dims, most_vars, most_dims_of_var, vsize, is_record, placed, begins, begin_width, bad_id, is_writable, is_writable_list, is_writable_var, fits_field, fits_count, is_large_var, size_fault, lies_too_far, HasPlace, is_unplaced, has_writable_names, has_writable_parts}
 use borrow.Author.Tests.{ltb-false}
 use Rattle.nc_base.specs.declared.errors.LayoutErr.TheVariants as fault
 use Rattle.var_layout.proofs.CreatedFiles.{in_place, near_end, fixed_fits, record_fits, length-placed}
-use Rattle.var_layout.proofs.LaidPlaces.{Lies, lies_at}
+use Rattle.var_layout.proofs.Searches.{Lies}
+use Rattle.var_layout.proofs.LaidPlaces.{lies_at}
 use Rattle.var_layout.proofs.LaidApart.{get_there}
 use Rattle.var_layout.proofs.LaidOut.{Unplaced, unplaced, laid_sound}
 
@@ -41,17 +42,11 @@ ids_fit version count (id ∷ ids) l h = grind (arith, nat_tests, ids_fit versio
 laid_var : (header : Header) (align : Align) (len first k : ℕ) (v : Var) → Unplaced header → HasPlace header align len first → position (is_large_var header) header.vars ≡ None
     → list_all (has_writable_names header) header.vars ≡ true → Lies header k v → is_writable_var header (in_place header align len k v) ≡ true
 laid_var header align len first k v u place sizes names lies =
-    and_from (is_redefinable_var header (in_place header align len k v)) _
-    (and_from (fits_count header.version (length v.name) && is_writable_list header.version (λ id. fits_count header.version id) v.dims
-    && is_writable_list header.version (is_writable_attr header.version) v.attrs && is_type header.version v.kind) _
-    (and_from (fits_count header.version (length v.name) && is_writable_list header.version (λ id. fits_count header.version id) v.dims
-    && is_writable_list header.version (is_writable_attr header.version) v.attrs) _
-    (and_from (fits_count header.version (length v.name) && is_writable_list header.version (λ id. fits_count header.version id) v.dims) _
-    (and_from (fits_count header.version (length v.name)) _ (and_first _ _ (and_first _ _ named)) dims)
-    (and_second _ _ (and_first _ _ named)))
-    (and_second _ _ named))
+    let few = near_end header (in_place header align len k v) far in
+    and_from _ _
+    (and_from _ _ (and_from _ _ (and_from _ _ (and_from _ _ (and_first _ _ (and_first _ _ named)) dims) (and_second _ _ (and_first _ _ named))) (and_second _ _ named))
     (begin_fits header (in_place header align len k v) far))
-    (vsize_fits header v (let n = near_end header (in_place header align len k v) far in omega arith) (no_position (is_large_var header) header.vars k v sizes there))
+    (vsize_fits header v (omega arith) (no_position (is_large_var header) header.vars k v sizes there))
   where
     there : slice_get header.vars k ≡ Some v
     there = get_there header k v lies
@@ -60,11 +55,10 @@ laid_var header align len first k v u place sizes names lies =
     named = passes_at (has_writable_names header) header.vars names k v there
 
     far : lies_too_far header (in_place header align len k v) ≡ false
-    far = by_test (is_record header v) refl
-      where
-        by_test : (t : Bool) → is_record header v ≡ t → lies_too_far header (in_place header align len k v) ≡ false
-        by_test true e = record_fits header align len k v place.records_fit lies.within lies.there e
-        by_test false e = fixed_fits header align len k v place.fixed_fit lies.within lies.there e
+    far = elim (holds_or_not (is_record header v)) [
+      | inl e ↦ record_fits header align len k v place.records_fit lies e
+      | inr e ↦ fixed_fits header align len k v place.fixed_fit lies e
+    ]
 
     dims : is_writable_list header.version (λ id. fits_count header.version id) v.dims ≡ true
     dims =
@@ -85,16 +79,10 @@ laid_writable header align len first pos pos' h place sizes parts =
     let few : length header.vars ≤ 8192 =
     leb-true (length header.vars) 8192 (and_second (nat_le (length header.dims) most_dims) (nat_le (length header.vars) most_vars)
     (and_first _ (list_all (λ v. nat_le (length v.dims) most_dims_of_var) header.vars) u.counts)) in
-    and_from (is_sound (begins header align len) && fits_count header.version header.records
-    && is_writable_list header.version (is_writable_dim header.version) header.dims && is_writable_list header.version (is_writable_attr header.version) header.attrs) _
-    (and_from (is_sound (begins header align len) && fits_count header.version header.records && is_writable_list header.version (is_writable_dim header.version) header.dims) _
-    (and_from (is_sound (begins header align len) && fits_count header.version header.records) _
-    (and_from (is_sound (begins header align len)) _ (laid_sound header align len first pos pos' h place)
-    (ap (λ (n : ℕ). fits_count header.version n) u.none ∙ small_count header.version 0 (omega arith)))
-    (and_first _ _ (and_first _ _ parts)))
-    (and_second _ _ (and_first _ _ parts)))
-    (and_from (fits_count header.version (length (placed header align len 0 header.vars))) _
-    (ap (λ (n : ℕ). fits_count header.version n) (length-placed header align len 0 header.vars) ∙ small_count header.version (length header.vars) (omega arith))
+    and_from _ _
+    (and_from _ _ (and_from _ _ (and_from _ _ (laid_sound header align len first pos pos' h place) (ap (λ (n : ℕ). fits_count header.version n) u.none ∙ small_count header.version 0 (omega arith)))
+    (and_first _ _ (and_first _ _ parts))) (and_second _ _ (and_first _ _ parts)))
+    (and_from _ _ (ap (λ (n : ℕ). fits_count header.version n) (length-placed header align len 0 header.vars) ∙ small_count header.version (length header.vars) (omega arith))
     (all_at (is_writable_var (begins header align len)) (placed header align len 0 header.vars) (λ k w g. at k w (lies_at header align len k w g) u large (and_second _ _ parts))))
   where
     no_map : (o : Option ℕ) → option_map (λ k. fault.VarSize k) o ≡ None → o ≡ None

@@ -1,5 +1,5 @@
 -- The first item that two tests pass, as a loop comes to it.
-use Rattle.var_layout.proofs.Words.{◌≡◌, ℕ, ◌+◌, ◌<◌, List, [], ◌∷◌, ◌++◌, length, take, drop, get_or, Bool, true, false, cond, Some, None, filter, find, drop_more, take-append-drop, filter_more, filter-append, find-append, arith, nat_tests}
+use Rattle.var_layout.proofs.Words.{◌≡◌, ℕ, ◌+◌, ◌<◌, List, [], ◌∷◌, ◌++◌, length, take, drop, get_or, Bool, true, false, cond, Some, None, filter, find, drop_more, take-append-drop, filter_more, filter-append, find-append, arith, nat_tests, Header, Var}
 
 -- the list, cut at the item
 cut_at : {A : Type 0} (xs : List A) (k : ℕ) (d x : A) → k < length xs → get_or xs k d ≡ x → xs ≡ take k xs ++ x ∷ drop (k + 1) xs
@@ -21,3 +21,13 @@ find_goes_on p q xs k d x h e none g = grind (arith, nat_tests, filter_more p xs
 pub fails_at : {A : Type 0} (p q : A → Bool) (xs : List A) (k : ℕ) (d x : A) → k < length xs → get_or xs k d ≡ x
     → find q (filter p xs) ≡ None → p x ≡ true → q x ≡ false
 fails_at {A} p q xs k d x h e none f = grind (arith, nat_tests, cut_at xs k d x h e, filter-append, find-append)
+
+-- ---- a variable by its number
+
+pub record Lies (header : Header) (k : ℕ) (v : Var) : Type 0 where
+  pub within : k < length header.vars
+  pub there : v ≡ get_or header.vars k v
+
+-- the variable that a loop over a slice of them has come to
+pub lies_in : (header : Header) (vs : List Var) (k : ℕ) (v : Var) → vs ≡ header.vars → k < length vs → v ≡ get_or vs k v → Lies header k v
+lies_in header vs k v same within there = record { within = rw same at within; there = rw same at there }

@@ -1,5 +1,5 @@
 -- What a sound header bounds.
-use Rattle.var_layout.proofs.Words.{◌≡◌, ℕ, zero, suc, ◌+◌, ◌-◌, ◌*◌, ◌^◌, ◌<◌, ◌≤◌, List, [], ◌∷◌, length, take, drop, get_or, map, Bool, true, false, cond, Option, Some, None, refl, sym, ap, subst, ◌∙◌, arith, count_by, sum_by, ◌==◌, slice_get, IfSome, nat_tests, take_all, drop_more, length-map, length-filter, sum_by-cons, sum_by_more, not-false, slab_below, none_of_test, both_none, untold, told_unless, and_first, and_second, or_first_false, Header, Var, slab, vsize, is_record, recsize, record_size, record_slabs, record_variables, record_share, last_share, round_up, header_len, measure, past_bound, keeps_bound, is_sound, capped}
+use Rattle.var_layout.proofs.Words.{◌≡◌, ℕ, zero, suc, ◌+◌, ◌-◌, ◌*◌, ◌^◌, ◌<◌, ◌≤◌, List, [], ◌∷◌, length, take, drop, get_or, map, Bool, true, false, cond, either, Option, Some, None, refl, sym, ap, subst, ◌∙◌, arith, count_by, sum_by, ◌==◌, slice_get, IfSome, nat_tests, take_all, drop_more, length-map, length-filter, sum_by-cons, sum_by_more, not-false, slab_below, none_of_test, both_none, untold, told_unless, and_first, and_second, or_first_false, Header, Var, slab, vsize, is_record, recsize, record_size, record_slabs, record_variables, record_share, last_share, round_up, header_len, measure, past_bound, keeps_bound, is_sound, capped}
 use borrow.Author.Tests.{ltb-true}
 use Rattle.nc_base.specs.declared.errors.HeaderErr.TheVariants as fault
 
@@ -17,7 +17,7 @@ pub record Keeps (header : Header) (before : ℕ) (v : Var) : Type 0 where
   pub records : is_record header v ≡ true → before + vsize header v < 2 ^ 62
   pub last : is_record header v ≡ true → 0 < header.records → v.begin + (header.records - 1) * recsize header + last_share header v < 2 ^ 62
 
-keeps : (header : Header) (before : ℕ) (v : Var) → keeps_bound header before v ≡ true → Keeps header before v
+pub keeps : (header : Header) (before : ℕ) (v : Var) → keeps_bound header before v ≡ true → Keeps header before v
 keeps header before v h = grind (arith, nat_tests, and_first, ltb-true, and_second)
 
 kept : (header : Header) (before n : ℕ) (vs : List Var) (k : ℕ) (v : Var) → past_bound header before n vs ≡ None → slice_get vs k ≡ Some v → (seen : ℕ) × Keeps header seen v
@@ -64,19 +64,16 @@ goes_on_at header vars k v h e f = grind (arith, nat_tests, one_on header vars k
 
 -- ---- a record
 
-shares_small : (header : Header) (before n : ℕ) (vs : List Var) → past_bound header before n vs ≡ None → before < 2 ^ 62
+pub shares_small : (header : Header) (before n : ℕ) (vs : List Var) → past_bound header before n vs ≡ None → before < 2 ^ 62
     → before + sum_by (λ v. record_share header v) vs < 2 ^ 62
 shares_small header before n [] h l = omega arith
 shares_small header before n (v ∷ vs) h l =
     let both = told_unless (keeps_bound header before v) _ _ h in
-    let here = next (is_record header v) refl (keeps header before v both.0) in
+    let here : before + record_share header v < 2 ^ 62 =
+    either (λ (n : ℕ). before + n < 2 ^ 62) (is_record header v) (vsize header v) 0 (keeps header before v both.0).records (λ e. omega arith) in
     let rest = shares_small header (before + record_share header v) (suc n) vs both.1 here in
     let e = sum_by-cons (λ w. record_share header w) v vs in
     omega arith
-  where
-    next : (t : Bool) → is_record header v ≡ t → Keeps header before v → before + record_share header v < 2 ^ 62
-    next true e k = let s = ap (λ (b : Bool). cond b (vsize header v) 0) e in let m = k.records e in omega arith
-    next false e k = let s = ap (λ (b : Bool). cond b (vsize header v) 0) e in omega arith
 
 pub records_small : (header : Header) → is_sound header ≡ true → sum_by (λ v. record_share header v) header.vars < 2 ^ 62
 records_small header h = let l = shares_small header 0 0 header.vars (measured header h) (omega arith) in omega arith

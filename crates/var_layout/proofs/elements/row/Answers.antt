@@ -14,10 +14,7 @@ step header ids index k n so_far h valid e so =
     (e ∙ sym (get_or-map (λ id. length_of (slice_get header.dims id)) ids k 0)) refl so
 
 pub bounds-index-k : goal.bounds-index-k
-bounds-index-k c =
-    let long = length-map c.args.ids.now (λ id. length_of (slice_get c.args.header.now.dims id)) in
-    let same = same_len _ _ c.requires.valid in
-    omega arith
+bounds-index-k c = omega (arith, length-map c.args.ids.now (λ id. length_of (slice_get c.args.header.now.dims id)), same_len _ _ c.requires.valid)
 
 pub loop-k-preserved : goal.loop-k-preserved
 loop-k-preserved c =
@@ -26,11 +23,9 @@ loop-k-preserved c =
 pub overflow_add-row : goal.overflow_add-row
 overflow_add-row c =
     let next = step c.args.header.now c.args.ids.now c.args.index.now c.loop-k.k c.length_of.result c.loop-k.row (omega arith) c.requires.valid c.length_of.ensures c.loop-k.invariant in
-    let below = so_far_below _ _ _ _ next in
-    omega (arith, below, c.requires.below)
+    omega (arith, so_far_below _ _ _ _ next, c.requires.below)
 
 pub overflow_mul-row : goal.overflow_mul-row
 overflow_mul-row c =
     let next = step c.args.header.now c.args.ids.now c.args.index.now c.loop-k.k c.length_of.result c.loop-k.row (omega arith) c.requires.valid c.length_of.ensures c.loop-k.invariant in
-    let below = so_far_below _ _ _ _ next in
-    omega (arith, below, c.requires.below)
+    omega (arith, so_far_below _ _ _ _ next, c.requires.below)

@@ -1,16 +1,16 @@
-use Rattle.var_layout.proofs.Words.{◌≡◌, List, length, get_or, map, max, ap, ◌∙◌, arith, take_all, Var, header_len, greatest, end_of_var, capped}
+use Rattle.var_layout.proofs.Words.{◌≡◌, List, length, map, max, ap, ◌∙◌, arith, take_all, Var, header_len, greatest, end_of_var, capped}
 use Rattle.var_layout.proofs.Capping.{capped_greatest_more}
+use Rattle.var_layout.proofs.Searches.{lies_in}
 use Rattle.var_layout.proofs.measures.fixed_end.Goals as goal
 
 pub loop-var-preserved : goal.loop-var-preserved
 loop-var-preserved c =
     let header = c.args.header.now in
     let item = c.var-item.result in
-    let same = ap (λ (vs : List Var). length vs) c.as_slice-var-items.ensures in
-    let there = c.var-item.is ∙ ap (λ (vs : List Var). get_or vs c.loop-var.var-index item) c.as_slice-var-items.ensures in
+    let lies = lies_in header _ c.loop-var.var-index item c.as_slice-var-items.ensures (omega arith) c.var-item.is in
     c.max-end.ensures
     ∙ capped_greatest_more (λ v. end_of_var header 0 v) header.vars c.loop-var.var-index item (header_len header) c.loop-var.end c.end_if_fixed.result
-    (omega arith) c.loop-var.invariant (c.end_if_fixed.ensures ∙ ap (λ (v : Var). capped (end_of_var header 0 v)) there)
+    lies.within c.loop-var.invariant (c.end_if_fixed.ensures ∙ ap (λ (v : Var). capped (end_of_var header 0 v)) lies.there)
 
 pub returns : goal.returns
 returns c =

@@ -2,14 +2,6 @@ use Rattle.var_layout.proofs.Words.{arith, AreMeasures}
 use Rattle.var_layout.proofs.Soundness.{recsize_small}
 use Rattle.var_layout.proofs.measures.Measures.recsize.Goals as goal
 
-pub returns-clause-value : goal.returns-clause-value
+pub returns : goal.returns
 unfolding AreMeasures
-returns-clause-value c =
-    let small = recsize_small c.args.header.now c.requires.sound in
-    omega (arith, c.requires.measured.0)
-
-pub returns-clause-small : goal.returns-clause-small
-unfolding AreMeasures
-returns-clause-small c =
-    let small = recsize_small c.args.header.now c.requires.sound in
-    omega (arith, c.requires.measured.0)
+returns c = omega (arith, recsize_small c.args.header.now c.requires.sound, c.requires.measured.0)
