@@ -1,6 +1,6 @@
 -- The lowest bytes of a number: those of a value, where the value is in a type's range.
 use Rattle.std.proofs.lemmas.Bool.Decides.{nat_tests}
-use Rattle.imap_extents.proofs.Cited.{◌≡◌, ℕ, zero, suc, ◌+◌, ◌*◌, ◌^◌, ◌<◌, ◌≤◌, refl, ◌∙◌, ap, List, ◌∷◌, ◌++◌, map, true, false, not, arith, pos, negsuc, ◌+ℤ◌, FitsSigned, to_z, of_z, ◌%◌, flat_map, list_any, range_with_len, Width, w8, w16, w32, w64, byte_len, byte_at, bytes_high_first, to_be_bytes, cast_unsigned, cast_signed, int_wrap, int_rem_euclid, unsigned_abs, not-false, or_parts, ltb-true, of_z-to_z, to_z-of_z, wrapping_add-bits, wrapping_mul-bits, int_wrap-add_right, NcType, Byte, Char, Short, Int, Float, Double, UByte, UShort, UInt, Int64, UInt64, Value, width_of, ext, fits}
+use Rattle.imap_extents.proofs.Cited.{◌≡◌, ℕ, zero, suc, ◌+◌, ◌*◌, ◌^◌, ◌<◌, ◌≤◌, refl, ◌∙◌, ap, List, [], ◌∷◌, ◌++◌, map, true, false, not, arith, pos, negsuc, ◌+ℤ◌, FitsSigned, to_z, of_z, ◌%◌, flat_map, list_any, range_with_len, Width, w8, w16, w32, w64, byte_len, byte_at, bytes_high_first, to_be_bytes, cast_unsigned, cast_signed, int_wrap, int_rem_euclid, unsigned_abs, not-false, or_parts, ltb-true, of_z-to_z, to_z-of_z, wrapping_add-bits, wrapping_mul-bits, int_wrap-add_right, NcType, Byte, Short, Int, Int64, Value, width_of, ext, fits}
 use Rattle.std.proofs.Common.{ℤ, ◌*ℤ◌}
 use Rattle.nc_base.specs.declared.request.Value.TheVariants as value
 use mir.Val.{bits}
@@ -10,10 +10,6 @@ same_bytes zero m n h = refl
 same_bytes (suc k) m n h =
     ap (λ (b : ℕ). b ∷ bytes_high_first k m) (h k (omega arith))
     ∙ ap (λ (l : List ℕ). byte_at k n ∷ l) (same_bytes k m n (λ i l. h i (omega (arith, l))))
-
-in_8 : (n i : ℕ) → i < 1 → byte_at i (n % 2 ^ 8) ≡ byte_at i n
-in_8 n zero h = omega arith
-in_8 n (suc i) h = absurd (omega (arith, h))
 
 in_16 : (n i : ℕ) → i < 2 → byte_at i (n % 2 ^ 16) ≡ byte_at i n
 in_16 n i h = grind (arith, nat_tests)
@@ -38,7 +34,7 @@ in_64 n (suc (suc (suc (suc (suc (suc (suc (suc i)))))))) h = absurd (omega (ari
 
 -- the lowest bytes see nothing of the higher ones
 pub lowest_8 : (n : ℕ) → to_be_bytes w8 (n % 2 ^ 8) ≡ to_be_bytes w8 n
-lowest_8 n = same_bytes 1 (n % 2 ^ 8) n (λ i h. in_8 n i h)
+lowest_8 n = let e : byte_at 0 (n % 2 ^ 8) ≡ byte_at 0 n = omega arith in ap (λ (b : ℕ). b ∷ []) e
 
 pub lowest_16 : (n : ℕ) → to_be_bytes w16 (n % 2 ^ 16) ≡ to_be_bytes w16 n
 lowest_16 n = same_bytes 2 (n % 2 ^ 16) n (λ i h. in_16 n i h)
@@ -85,13 +81,7 @@ number_form Byte (negsuc n) h = complement_8 n (ltb-true _ _ h)
 number_form Short (negsuc n) h = complement_16 n (ltb-true _ _ h)
 number_form Int (negsuc n) h = complement_32 n (ltb-true _ _ h)
 number_form Int64 (negsuc n) h = complement_64 n (ltb-true _ _ h)
-number_form Char (negsuc n) h = absurd (cc)
-number_form Float (negsuc n) h = absurd (cc)
-number_form Double (negsuc n) h = absurd (cc)
-number_form UByte (negsuc n) h = absurd (cc)
-number_form UShort (negsuc n) h = absurd (cc)
-number_form UInt (negsuc n) h = absurd (cc)
-number_form UInt64 (negsuc n) h = absurd (cc)
+number_form _ (negsuc n) h = absurd (cc)
 
 below_wrap : (z : ℤ) → FitsSigned w64 z → of_z w64 z < 2 ^ bits w64
 below_wrap (pos n) f = let h : n < 2 ^ 63 = f.sfits in omega (arith, h)

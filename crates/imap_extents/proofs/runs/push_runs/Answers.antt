@@ -23,14 +23,13 @@ loop-run-preserved g c =
     let now = c.loop-run.bytes.items in
     let part = c.lesser-here.ensures ∙ ap (λ (n : ℕ). min n left) c.count.ensures ∙ ap (λ (r : g.row.R.Denot). min (size r) left) c.run-item.is in
     record {
-      form = forms_more at size (λ v. ext c.args.kind v) c.args.bytes.now.items now c.push_run.new.bytes.items c.args.runs.now c.loop-run.run-index
-          c.args.count left here run c.loop-run-test.true c.loop-run.invariant.rest part c.loop-run.invariant.form
+      form = forms_more at size c.args.runs.now c.loop-run.run-index c.args.count left here run c.loop-run-test.true c.loop-run.invariant.rest part
+          (λ v. ext c.args.kind v) c.args.bytes.now.items now c.push_run.new.bytes.items c.loop-run.invariant.form
           (c.in_ok-push_run.ensures.ok ∙ ap (λ (r : g.row.R.Denot). now ++ flat_map (λ v. ext c.args.kind v) (map (at r) (range_with_len 0 here))) c.run-item.is);
-      fit = fits_more at size (λ v. not (fits c.args.kind v)) c.args.runs.now c.loop-run.run-index c.args.count left here run
-          c.loop-run-test.true c.loop-run.invariant.rest part c.loop-run.invariant.fit
+      fit = fits_more at size c.args.runs.now c.loop-run.run-index c.args.count left here run c.loop-run-test.true c.loop-run.invariant.rest part
+          (λ v. not (fits c.args.kind v)) c.loop-run.invariant.fit
           (sym (ap (λ (r : g.row.R.Denot). list_any (λ v. not (fits c.args.kind v)) (map (at r) (range_with_len 0 here))) c.run-item.is) ∙ c.in_ok-push_run.ensures.right);
-      rest = rest_more at size c.args.runs.now c.loop-run.run-index c.args.count left here (left - here) run
-          c.loop-run-test.true c.loop-run.invariant.rest part refl;
+      rest = rest_more at size c.args.runs.now c.loop-run.run-index c.args.count left here run c.loop-run-test.true c.loop-run.invariant.rest part (left - here) refl;
     }
 
 pub returns-in_err-push_run-clause-refused : goal.returns-in_err-push_run-clause-refused
@@ -43,8 +42,7 @@ returns-in_err-push_run-clause-refused g c =
     let part = c.lesser-here.ensures ∙ ap (λ (n : ℕ). min n left) c.count.ensures ∙ ap (λ (r : g.row.R.Denot). min (size r) left) c.run-item.is in
     let why =
     part_refused (list_any (λ v. not (fits c.args.kind v)) _) _ c.in_err-push_run.field-0.0
-    (λ hit. part_hit at size (λ v. not (fits c.args.kind v)) c.args.runs.now c.loop-run.run-index c.args.count left here run
-    c.loop-run-test.true c.loop-run.invariant.rest part
+    (λ hit. part_hit at size c.args.runs.now c.loop-run.run-index c.args.count left here run c.loop-run-test.true c.loop-run.invariant.rest part (λ v. not (fits c.args.kind v))
     (sym (ap (λ (r : g.row.R.Denot). list_any (λ v. not (fits c.args.kind v)) (map (at r) (range_with_len 0 here))) c.run-item.is) ∙ hit))
     c.in_err-push_run.ensures.refused in
     let p = err_from_is_err_and c.from_residual.result c.from_residual.ensures.1 in
