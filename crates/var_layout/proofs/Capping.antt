@@ -1,5 +1,5 @@
 -- Capped sums and products, one step at a time.
-use Rattle.var_layout.proofs.Words.{◌≡◌, ℕ, zero, suc, ◌+◌, ◌*◌, ◌^◌, ◌<◌, ◌≤◌, List, [], ◌∷◌, ◌++◌, length, take, get_or, map, Bool, true, false, sym, ap, ◌∙◌, arith, max, sum_by, filter, take_more, map-append, append-nil, sum_by_more, sum_by_push, filter_more, cases_lt, mul_comm, mul_assoc, mul-one, product, greatest, capped, nat_tests}
+use Rattle.var_layout.proofs.Words.{◌≡◌, ℕ, zero, suc, ◌+◌, ◌*◌, ◌^◌, ◌<◌, ◌≤◌, List, [], ◌∷◌, ◌++◌, length, take, get_or, map, Bool, true, false, refl, sym, ap, ◌∙◌, arith, max, sum_by, filter, take_more, map-append, append-nil, sum_by_more, sum_by_push, filter_more, cases_lt, mul_comm, mul_assoc, mul-one, product, greatest, capped, nat_tests}
 
 small : (n : ℕ) → n < 2 ^ 62 → capped n ≡ n
 small n h = omega arith
@@ -44,10 +44,7 @@ product_more xs i d h = grind (arith, nat_tests, take_more xs i d h, product-app
 pub product-map_more : {A : Type 0} (f : A → ℕ) (xs : List A) (i : ℕ) (d : A) → i < length xs
     → product (map f (take (i + 1) xs)) ≡ product (map f (take i xs)) * f (get_or xs i d)
 product-map_more f xs i d h =
-    ap (λ ys. product (map f ys)) (take_more xs i d h)
-    ∙ ap (λ ns. product ns) (map-append f (take i xs) (get_or xs i d ∷ []))
-    ∙ product-append (map f (take i xs)) (f (get_or xs i d) ∷ [])
-    ∙ ap (λ (n : ℕ). product (map f (take i xs)) * n) (mul-one (f (get_or xs i d)))
+    rw (take_more xs i d h, map-append f (take i xs) (get_or xs i d ∷ []), product-append (map f (take i xs)) (f (get_or xs i d) ∷ []), mul-one (f (get_or xs i d))) refl
 
 -- the capped product of one more length
 pub capped_product_more : {A : Type 0} (f : A → ℕ) (xs : List A) (i : ℕ) (d : A) (n : ℕ) → i < length xs

@@ -263,12 +263,8 @@ pub fault_is : (header : Header) (align : Align) (len : ℕ) → len ≡ header_
     ≡ option_or (size_fault header)
     (option_or (option_map (λ v. fault.BeginRange v.0) (far_fixed (begins header align len))) (option_map (λ v. fault.BeginRange v.0) (far_record (begins header align len))))
 fault_is header align len e =
-    ap (λ o. option_or (size_fault header) (option_map (λ v. fault.BeginRange v.0) o))
-    (find-append (λ v. lies_too_far header v.1) (fixed_of header (enumerate_from 0 (placed header align (header_len header) 0 header.vars)))
-    (records_in header (enumerate_from 0 (placed header align (header_len header) 0 header.vars))))
-    ∙ ap (λ o. option_or (size_fault header) o) (mapped (far_fixed (begins header align (header_len header))) (far_record (begins header align (header_len header))))
-    ∙ ap (λ (n : ℕ). option_or (size_fault header)
-    (option_or (option_map (λ v. fault.BeginRange v.0) (far_fixed (begins header align n))) (option_map (λ v. fault.BeginRange v.0) (far_record (begins header align n))))) (sym e)
+    rw (e, find-append (λ v. lies_too_far header v.1) (fixed_of header (numbered header align (header_len header))) (records_in header (numbered header align (header_len header))))
+    (ap (λ o. option_or (size_fault header) o) (mapped (far_fixed (begins header align (header_len header))) (far_record (begins header align (header_len header)))))
   where
     mapped : (a b : Option Numbered) → option_map (λ v. fault.BeginRange v.0) (option_or a b)
         ≡ option_or (option_map (λ v. fault.BeginRange v.0) a) (option_map (λ v. fault.BeginRange v.0) b)

@@ -1,5 +1,5 @@
 -- No two variables of a laid out header share a byte.
-use Rattle.var_layout.proofs.Words.{◌≡◌, ℕ, zero, suc, ◌+◌, ◌-◌, ◌<◌, ◌≤◌, List, [], ◌∷◌, inl, inr, holds_or_not, length, map, Bool, true, false, cond, ◌&&◌, ◌||◌, Some, None, refl, sym, ap, ◌∙◌, arith, max, filter, sum_by, nat_lt, nat_le, slice_get, option_or, nat_tests, length-map, slice_get_read, slab_below, Header, Var, Align, slab, vsize, is_record, recsize, record_size, record_variables, sharing, sharing_with, sharing_from, share, meet, placed, begins, begin_of, HasPlace}
+use Rattle.var_layout.proofs.Words.{◌≡◌, ℕ, zero, suc, ◌+◌, ◌-◌, ◌<◌, ◌≤◌, List, [], ◌∷◌, inl, inr, holds_or_not, length, map, Bool, true, false, cond, ◌&&◌, ◌||◌, Some, None, refl, sym, ap, ◌∙◌, arith, max, filter, sum_by, nat_lt, nat_le, slice_get, nat_tests, length-map, slice_get_read, slab_below, Header, Var, Align, slab, vsize, is_record, recsize, record_size, record_variables, sharing, sharing_with, sharing_from, share, meet, placed, begins, begin_of, HasPlace}
 use Rattle.var_layout.proofs.Soundness.{recsize_shared}
 use Rattle.var_layout.proofs.Searches.{Lies}
 use Rattle.var_layout.proofs.CreatedFiles.{in_place}
@@ -87,19 +87,16 @@ laid_apart header align len first pos place i j v w l lies lies' true true e f =
 
 pub no_sharing_with : (header : Header) (v : Var) (k m : ℕ) (ws : List Var) → ((j : ℕ) (w : Var) → slice_get ws j ≡ Some w → share header v w ≡ false) → sharing_with header v k m ws ≡ None
 no_sharing_with header v k m [] h = refl
-no_sharing_with header v k m (w ∷ ws) h =
-    ap (λ (t : Bool). cond t (Some (k, m)) (sharing_with header v k (suc m) ws)) (h 0 w refl) ∙ no_sharing_with header v k (suc m) ws (λ j x g. h (suc j) x g)
+no_sharing_with header v k m (w ∷ ws) h = rw (h 0 w refl) (no_sharing_with header v k (suc m) ws (λ j x g. h (suc j) x g))
 
 pub no_sharing_from : (header : Header) (first k : ℕ) (vs : List Var) → ((i : ℕ) (v : Var) → slice_get vs i ≡ Some v → first ≤ v.begin)
     → ((i j : ℕ) (v w : Var) → i < j → slice_get vs i ≡ Some v → slice_get vs j ≡ Some w → share header v w ≡ false) → sharing_from header first k vs ≡ None
 no_sharing_from header first k [] low h = refl
 no_sharing_from header first k (v ∷ vs) low h =
-    ap (λ (t : Bool). cond t (Some (k, k)) (option_or (sharing_with header v k (suc k) vs) (sharing_from header first (suc k) vs))) (past v (low 0 v refl))
-    ∙ ap (λ o. option_or o (sharing_from header first (suc k) vs)) (no_sharing_with header v k (suc k) vs (λ j w g. h 0 (suc j) v w (omega arith) refl g))
-    ∙ no_sharing_from header first (suc k) vs (λ i w g. low (suc i) w g) (λ i j x y l g f. h (suc i) (suc j) x y (omega arith) g f)
-  where
-    past : (x : Var) → first ≤ x.begin → nat_lt x.begin first ≡ false
-    past x l = grind (arith, nat_tests)
+    let begins = low 0 v refl in
+    let past : nat_lt v.begin first ≡ false = grind (arith, nat_tests) in
+    rw (past, no_sharing_with header v k (suc k) vs (λ j w g. h 0 (suc j) v w (omega arith) refl g))
+    (no_sharing_from header first (suc k) vs (λ i w g. low (suc i) w g) (λ i j x y l g f. h (suc i) (suc j) x y (omega arith) g f))
 
 pub laid_sharing : (header : Header) (align : Align) (len first : ℕ) → 0 < align.header → 0 < align.var → HasPlace header align len first → sharing (begins header align len) len ≡ None
 laid_sharing header align len first pos pos' place =

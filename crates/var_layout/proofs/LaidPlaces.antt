@@ -1,5 +1,5 @@
 -- Each variable of a laid out header lies where it is placed, before the next of its kind, and keeps its bound.
-use Rattle.var_layout.proofs.Words.{◌≡◌, ℕ, zero, suc, ◌+◌, ◌-◌, ◌^◌, ◌<◌, ◌≤◌, List, [], ◌∷◌, inl, inr, cases_eq, holds_or_not, no_both, length, take, get_or, Bool, true, false, cond, Some, None, refl, ap, ◌∙◌, arith, sum_by, nat_lt, slice_get, nat_tests, take_all, get_or_default, sum_by-cons, slice_get_within, get_or_from_slice_get, and_from, Header, Var, Align, vsize, is_record, record_variables, record_share, round_up, placed, begins, begin_of, measure, past_bound, keeps_bound, fixed_end, first_record, HasPlace}
+use Rattle.var_layout.proofs.Words.{◌≡◌, ℕ, zero, suc, ◌+◌, ◌-◌, ◌^◌, ◌<◌, ◌≤◌, List, [], ◌∷◌, inl, inr, cases_eq, holds_or_not, no_both, length, take, get_or, true, false, Some, None, refl, ap, ◌∙◌, arith, sum_by, nat_lt, slice_get, nat_tests, take_all, get_or_default, sum_by-cons, slice_get_within, get_or_from_slice_get, and_from, Header, Var, Align, vsize, is_record, record_variables, record_share, round_up, placed, begins, begin_of, measure, past_bound, keeps_bound, fixed_end, first_record, HasPlace}
 use Rattle.var_layout.proofs.Soundness.{shares_are}
 use Rattle.var_layout.proofs.Searches.{Lies}
 use Rattle.var_layout.proofs.CreatedFiles.{in_place, records_before, fixed_end_more, fixed_end_same, records_more, records_same, begin_fixed, begin_record, fixed_near, record_near}
@@ -90,7 +90,7 @@ past_none header (v ∷ vs) before n h =
     ap (λ (m : ℕ). keeps_bound header m v) (let e : before ≡ before + 0 = omega arith in e) ∙ h 0 v refl in
     let rest = past_none header vs (before + record_share header v) (suc n)
     (λ k w g. ap (λ (m : ℕ). keeps_bound header m w) (shifted before (record_share header v) (sum_by (λ x. record_share header x) (take k vs)) _ (sum_by-cons (λ x. record_share header x) v (take k vs))) ∙ h (suc k) w g) in
-    ap (λ (t : Bool). cond t (past_bound header (before + record_share header v) (suc n) vs) (Some n)) here ∙ rest
+    rw here rest
   where
     shifted : (b s r t : ℕ) → t ≡ s + r → b + s + r ≡ b + t
     shifted b s r t e = omega arith

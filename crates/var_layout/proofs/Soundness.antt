@@ -41,15 +41,8 @@ one_on : (header : Header) (vars : List Var) (k : ℕ) (v : Var) → k < length 
     ≡ cond (keeps_bound header (sum_by (λ w. record_share header w) (take k vars)) v)
     (past_bound header (sum_by (λ w. record_share header w) (take (k + 1) vars)) (k + 1) (drop (k + 1) vars)) (Some k)
 one_on header vars k v h e =
-    let before : ℕ = sum_by (λ w. record_share header w) (take k vars) in
-    let rest : List Var = drop (k + 1) vars in
-    ap (λ ws. past_bound header before k ws) (drop_more vars k v h)
-    ∙ ap (λ (n : ℕ). cond (keeps_bound header before (get_or vars k v)) (past_bound header n (suc k) rest) (Some k)) (sym (sum_by_more (λ w. record_share header w) vars k v h))
-    ∙ ap (λ (n : ℕ). cond (keeps_bound header before (get_or vars k v)) (past_bound header (sum_by (λ w. record_share header w) (take (k + 1) vars)) n rest) (Some k)) (suc_is k)
-    ∙ ap (λ (w : Var). cond (keeps_bound header before w) (past_bound header (sum_by (λ w'. record_share header w') (take (k + 1) vars)) (k + 1) rest) (Some k)) (sym e)
-  where
-    suc_is : (n : ℕ) → suc n ≡ n + 1
-    suc_is n = omega arith
+    let next : suc k ≡ k + 1 = omega arith in
+    rw (drop_more vars k v h, sum_by_more (λ w. record_share header w) vars k v h, next, ← e) refl
 
 pub stops_at : (header : Header) (vars : List Var) (k : ℕ) (v : Var) → k < length vars → v ≡ get_or vars k v
     → keeps_bound header (sum_by (λ w. record_share header w) (take k vars)) v ≡ false
@@ -94,9 +87,7 @@ shares_are header (v ∷ vs) =
 padded_slabs : (header : Header) (vs : List Var) → sum_by (λ s. round_up 4 s) (map (λ v. slab header v) vs) ≡ sum_by (λ v. vsize header v) vs
 padded_slabs header [] = refl
 padded_slabs header (v ∷ vs) =
-    sum_by-cons (λ s. round_up 4 s) (slab header v) (map (λ w. slab header w) vs)
-    ∙ ap (λ (n : ℕ). vsize header v + n) (padded_slabs header vs)
-    ∙ sym (sum_by-cons (λ w. vsize header w) v vs)
+    rw (sum_by-cons (λ s. round_up 4 s) (slab header v) (map (λ w. slab header w) vs), padded_slabs header vs, sum_by-cons (λ w. vsize header w) v vs) refl
 
 -- A record is no larger than its variables with their padding.
 size_below : (header : Header) (vs : List Var) → record_size (map (λ v. slab header v) vs) ≤ sum_by (λ v. vsize header v) vs
