@@ -1,5 +1,5 @@
 -- Over what is written of a header the grammar asks for right fields only.
-use Rattle.cdf_header.proofs.Words.{◌≡◌, ℕ, ◌+◌, ◌-◌, ◌*◌, ◌^◌, ◌≤◌, ◌<◌, List, [], ◌∷◌, ◌++◌, take, drop, length, Bool, true, false, cond, Some, None, refl, sym, ap, subst, ◌∙◌, append_assoc, length-append, arith, ◌==◌, ◌||◌, ◌&&◌, not, nat_lt, nat_le, replicate, list_all, w32, w64, byte_len, to_be_bytes, from_be_bytes, drop-append_seam, take-append_seam, length-drop, length-replicate, drop-drop, from_be_bytes-to_be_bytes_4, from_be_bytes-to_be_bytes_8, ltb-true, eqb-true, le-ltb, leb-true, width_long, and_first, and_second, all_three, equal_itself, Header, Dim, Attr, Var, NcType, Byte, Char, Short, Int, Float, Double, UByte, UShort, UInt, Int64, UInt64, HeaderErr, most_dims, most_vars, most_dims_of_var, file_limit, size_of, round_up, vsize, number_of, is_version, count, tag, name, padded, list_of, dimension, attribute, variable, magic, canon, count_width, begin_width, Field, Magic, Records, Tag, Count, NameLength, Block, DimLength, AttrType, AttrCount, DimCount, DimId, VarType, Vsize, Begin, Entries, Dimensions, Attributes, Variables, Ids, Ask, One, Many, Run, stands, takes, asked, the_header, first_field, other_fields, many, block, most_of, tag_of, type_size, bad_type, version_of, fault_if, wrong, wrong_at, after_field, field_number, field_len, big_endian, field_fault, is_type, fits_field, fits_count, is_writable, is_writable_dim, is_writable_attr, is_writable_list, is_writable_var, run_on, run_whole, len_pos, known_version, nat_tests}
+use Rattle.cdf_header.proofs.Words.{◌≡◌, ℕ, ◌+◌, ◌-◌, ◌*◌, ◌^◌, ◌≤◌, ◌<◌, List, [], ◌∷◌, ◌++◌, take, drop, length, Bool, true, false, cond, Some, None, refl, sym, ap, subst, ◌∙◌, append_assoc, length-append, arith, ◌==◌, ◌||◌, ◌&&◌, not, nat_lt, nat_le, replicate, list_all, w32, w64, byte_len, to_be_bytes, from_be_bytes, drop-append_seam, take-append_seam, length-drop, length-replicate, drop-drop, from_be_bytes-to_be_bytes_4, from_be_bytes-to_be_bytes_8, ltb-true, eqb-true, le-ltb, leb-true, width_long, and_first, and_second, all_three, equal_itself, Header, Dim, Attr, Var, NcType, HeaderErr, most_dims, most_vars, most_dims_of_var, file_limit, size_of, round_up, vsize, number_of, is_version, count, tag, name, padded, list_of, dimension, attribute, variable, magic, canon, count_width, begin_width, Field, Magic, Records, Tag, Count, NameLength, Block, DimLength, AttrType, AttrCount, DimCount, DimId, VarType, Vsize, Begin, Entries, Dimensions, Attributes, Variables, Ids, Ask, One, Many, Run, stands, takes, asked, the_header, first_field, other_fields, many, block, most_of, tag_of, type_size, bad_type, version_of, fault_if, wrong, wrong_at, after_field, field_number, field_len, big_endian, field_fault, is_type, fits_field, fits_count, is_writable, is_writable_dim, is_writable_attr, is_writable_list, is_writable_var, run_on, run_whole, len_pos, known_version, nat_tests}
 use Rattle.std.specs.Prelude.{flat_map}
 use Rattle.nc_base.specs.declared.errors.HeaderErr.TheVariants as fault
 use Rattle.cdf_header.proofs.Pieces.{AtMost, above_none}
@@ -120,17 +120,7 @@ dim_walk v d asks rest a h =
     leb-true n m k = grind arith
 
 number_known : (kind : NcType) → ((number_of kind == 0) ≡ false) × (number_of kind < 2 ^ 32) × (type_size (number_of kind) ≡ size_of kind)
-number_known Byte = (refl, omega arith, refl)
-number_known Char = (refl, omega arith, refl)
-number_known Short = (refl, omega arith, refl)
-number_known Int = (refl, omega arith, refl)
-number_known Float = (refl, omega arith, refl)
-number_known Double = (refl, omega arith, refl)
-number_known UByte = (refl, omega arith, refl)
-number_known UShort = (refl, omega arith, refl)
-number_known UInt = (refl, omega arith, refl)
-number_known Int64 = (refl, omega arith, refl)
-number_known UInt64 = (refl, omega arith, refl)
+number_known kind = grind (arith, nat_tests)
 
 type_fine : (v : ℕ) (kind : NcType) (x : ℕ) → is_type v kind ≡ true → bad_type v x (number_of kind) ≡ None
 type_fine v kind x h = grind (arith, nat_tests, number_known kind)
@@ -172,22 +162,15 @@ few_fine : (s t : Bool) (d e : HeaderErr) → s ≡ false → t ≡ false → co
 few_fine s t d e h k = rw (h, k) refl
 
 zero_by : (t : Bool) → fits_field (cond t w64 w32) 0 ≡ true
-zero_by true = refl
-zero_by false = refl
+zero_by t = grind (arith, nat_tests)
 
 -- the lists of a header that have tags
 pub record IsTagged (e : Entries) : Type 0 where
   pub some : (tag_of e == 0) ≡ false
   pub small : tag_of e < 2 ^ 32
 
-dimensions_tagged : IsTagged Dimensions
-dimensions_tagged = record { some = refl; small = omega arith }
-
 attributes_tagged : IsTagged Attributes
 attributes_tagged = record { some = refl; small = omega arith }
-
-variables_tagged : IsTagged Variables
-variables_tagged = record { some = refl; small = omega arith }
 
 list_walk : {A : Type 0} (v : ℕ) (e : Entries) (f : A → List ℕ) (test : A → Bool) → IsTagged e → ((x : A) → test x ≡ true → WalksEntry v e f x)
     → (xs : List A) → AtMost (most_of e) (length xs) → fits_count v (length xs) ≡ true → list_all test xs ≡ true → (rest : List Ask) → Walk v (One (Tag e) ∷ rest) rest (list_of v (tag_of e) f xs)
@@ -297,10 +280,10 @@ header_walk h is =
     (walk_then v the_header after_magic after_records (magic v) (count v h.records)
     (magic_walk v after_magic (known_version h sound))
     (records_walk v h.records after_records (and_second _ _ h2)))
-    (list_walk v Dimensions (λ d. dimension v d) (is_writable_dim v) dimensions_tagged
+    (list_walk v Dimensions (λ d. dimension v d) (is_writable_dim v) (record { some = refl; small = omega arith })
     (λ d k asks more e. dim_walk v d asks more e k) h.dims (leb-true (length h.dims) most_dims (and_first _ _ (and_first _ _ small))) (and_first _ _ (and_second _ _ h3)) (and_second _ _ (and_second _ _ h3)) after_dims))
     (attrs_walk v h.attrs (and_second _ _ h4) after_attrs))
-    (list_walk v Variables (λ w. variable h w) (λ w. is_writable_var h w && nat_le (length w.dims) most_dims_of_var) variables_tagged
+    (list_walk v Variables (λ w. variable h w) (λ w. is_writable_var h w && nat_le (length w.dims) most_dims_of_var) (record { some = refl; small = omega arith })
     (λ w k. var_walk h w (and_first _ _ k) (and_second _ _ k)) h.vars (leb-true (length h.vars) most_vars (and_second _ _ (and_first _ _ small))) (and_first _ _ (and_second _ _ is))
     (both_tests (is_writable_var h) (λ w. nat_le (length w.dims) most_dims_of_var) h.vars (and_second _ _ (and_second _ _ is)) (and_second _ _ small)) [])
 
