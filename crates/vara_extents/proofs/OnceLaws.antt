@@ -1,5 +1,5 @@
 -- No byte of an accepted region stands twice.
-use Rattle.vara_extents.proofs.Words.{◌≡◌, ℕ, zero, suc, ◌+◌, ◌*◌, ◌/◌, ◌%◌, ◌<◌, ◌≤◌, ◌⊎◌, inl, inr, refl, sym, ap, subst, ◌∙◌, List, [], ◌∷◌, ◌++◌, length, map, true, false, eqb, Option, Some, None, arith, slice_get, flat_map, range_with_len, list_any, or_parts, eqb-false, cases_eq, div-add-mod', mod_below, slice_get_within, same_Some, length-range_with_len, size_pos, same_factor, Header, Var, Post, Region, size_of, is_sound, product, row, place, IsIndex, AreApart, index_at, places, bytes_of, bytes_of_some, elements_apart, IsAccepted, extents_of, element_extents, spans, IsOnce, coordinates_of, index_of, get_left, get_right, nat_tests}
+use Rattle.vara_extents.proofs.Words.{◌≡◌, ℕ, zero, suc, ◌+◌, ◌*◌, ◌/◌, ◌%◌, ◌<◌, ◌≤◌, inl, inr, refl, sym, ap, subst, ◌∙◌, List, [], ◌∷◌, ◌++◌, length, map, true, false, eqb, Option, Some, None, arith, slice_get, flat_map, range_with_len, list_any, or_parts, eqb-false, cases_eq, div-add-mod', mod_below, slice_get_within, same_Some, length-range_with_len, size_pos, same_factor, Header, Var, Post, Region, size_of, is_sound, product, row, place, IsIndex, index_at, places, bytes_of, bytes_of_some, elements_apart, IsAccepted, extents_of, element_extents, spans, IsOnce, coordinates_of, index_of, get_left, get_right, nat_tests}
 use Rattle.serial_spec.proofs.AcceptLaws as accept
 use Rattle.vara_extents.proofs.AcceptedLaws.{passed}
 use Rattle.vara_extents.proofs.JoinLaws.{joined_spans}
@@ -76,24 +76,18 @@ module _ (header : Header) (k : ℕ) (v : Var) (g : Region) (sound : is_sound he
 
       two : (q r p s a b : ℕ) → slice_get (places header v g) q ≡ Some a → slice_get (places header v g) p ≡ Some b → r < size_of v.kind → s < size_of v.kind → a + r ≡ b + s
           → q * size_of v.kind + r ≡ p * size_of v.kind + s
-      two q r p s a b f h l m same = by_case (cases_eq q p)
-        where
-          by_case : (q ≡ p) ⊎ (q ≡ p → ⊥) → q * size_of v.kind + r ≡ p * size_of v.kind + s
-          by_case (inl w) =
-              let one : a ≡ b = same_Some a b (sym f ∙ ap (λ (n : ℕ). slice_get (places header v g) n) w ∙ h) in
-              let rest : r ≡ s = omega arith in
-              (λ z. w z * size_of v.kind + rest z)
-          by_case (inr w) =
-              let x = accepted_place header k v g q sound there ok (number q a f) in
-              let y = accepted_place header k v g p sound there ok (number p b h) in
-              let apart = elements_apart header k k v v (index_of g q) (index_of g p) sound there there x.element y.element
-              (λ z. w (own q p (number q a f) (number p b h) z.1)) in
-              absurd (clash (at q a f) (at p b h) apart)
-            where
-              clash : place header v (index_of g q) ≡ a → place header v (index_of g p) ≡ b
-                  → AreApart (place header v (index_of g q)) (size_of v.kind) (place header v (index_of g p)) (size_of v.kind) → ⊥
-              clash c d (inl z) = omega arith
-              clash c d (inr z) = omega arith
+      two q r p s a b f h l m same = elim (cases_eq q p) [
+        | inl w ↦
+            let one : a ≡ b = same_Some a b (sym f ∙ ap (λ (n : ℕ). slice_get (places header v g) n) w ∙ h) in
+            let rest : r ≡ s = omega arith in
+            (λ z. w z * size_of v.kind + rest z)
+        | inr w ↦
+            let x = accepted_place header k v g q sound there ok (number q a f) in
+            let y = accepted_place header k v g p sound there ok (number p b h) in
+            let apart = elements_apart header k k v v (index_of g q) (index_of g p) sound there there x.element y.element
+            (λ z. w (own q p (number q a f) (number p b h) z.1)) in
+            absurd (omega (arith, at q a f, at p b h, apart))
+      ]
 
 -- ---- in words of extents and of posts
 

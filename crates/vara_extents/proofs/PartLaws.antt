@@ -1,5 +1,5 @@
 -- Parts of one call: the first refusal, the elements that two of them share, and the code of all.
-use Rattle.vara_extents.proofs.Words.{◌≡◌, ℕ, ◌+◌, ◌<◌, ◌≤◌, ◌∙◌, ap, sym, refl, inl, inr, ◌⊎◌, List, [], ◌∷◌, length, map, take, get_or, Bool, true, false, cond, ltb, ◌||◌, ◌&&◌, replicate, arith, flat_map, sum_by, All, list_any, both_ways, and_parts, not-false, eqb-true, lt-ltb, le-ltb, cases_lt, All-nil, All-cons, All-head, All-tail, All-map, sum_by_more, Header, Var, Part, Region, Direction, Code, product, most_elements, elements, coordinates, index_at, check_var, check_parts, first_refusal, is_ok_code, is_put, has_index, part_region, share_element, elements_of_all, capped, boxes_meet, meets_any, some_meet, IsBox, code_by_boxes, refusal_of, together_code, nat_tests}
+use Rattle.vara_extents.proofs.Words.{◌≡◌, ℕ, ◌+◌, ◌<◌, ◌≤◌, ◌∙◌, ap, sym, refl, inl, inr, List, [], ◌∷◌, length, map, take, get_or, Bool, true, false, cond, ltb, ◌||◌, ◌&&◌, replicate, arith, flat_map, sum_by, All, list_any, both_ways, and_parts, not-false, eqb-true, lt-ltb, le-ltb, cases_lt, All-nil, All-cons, All-head, All-tail, All-map, sum_by_more, Header, Var, Part, Region, Direction, Code, product, most_elements, elements, coordinates, index_at, check_var, check_parts, first_refusal, is_ok_code, is_put, has_index, part_region, share_element, elements_of_all, capped, boxes_meet, meets_any, some_meet, IsBox, code_by_boxes, refusal_of, together_code, nat_tests}
 use Rattle.std.specs.Prelude.{not}
 use Rattle.nc_base.specs.declared.answer.Code.TheVariants as code
 use Rattle.vara_extents.proofs.AcceptedLaws.{passed}
@@ -101,15 +101,14 @@ share_is dims (g ∷ parts) h =
 
 together_is : (header : Header) (var : Var) (parts : List Region) (known : ℕ) (direction : Direction)
     → refusal_of header var parts known direction ≡ code.Ok → All (IsBox (length var.dims)) parts → together_code parts direction ≡ check_parts header var parts known direction
-together_is header var parts known direction h boxes = by_size (cases_lt most_elements (elements_of_all parts))
-  where
-    by_size : (most_elements < elements_of_all parts) ⊎ (elements_of_all parts ≤ most_elements) → together_code parts direction ≡ check_parts header var parts known direction
-    by_size (inl more) =
-        ap (λ (b : Bool). cond b code.ETooLarge (cond (is_put direction && some_meet parts) code.ESelf code.Ok)) (lt-ltb most_elements (elements_of_all parts) more)
-        ∙ too_many header var parts known direction h more
-    by_size (inr few) =
-        ap (λ (b : Bool). cond b code.ETooLarge (cond (is_put direction && some_meet parts) code.ESelf code.Ok)) (le-ltb most_elements (elements_of_all parts) few)
-        ∙ sym (by_share header var parts known direction (is_put direction && some_meet parts) h few (ap (λ (b : Bool). is_put direction && b) (share_is (length var.dims) parts boxes)))
+together_is header var parts known direction h boxes = elim (cases_lt most_elements (elements_of_all parts)) [
+  | inl more ↦
+      ap (λ (b : Bool). cond b code.ETooLarge (cond (is_put direction && some_meet parts) code.ESelf code.Ok)) (lt-ltb most_elements (elements_of_all parts) more)
+      ∙ too_many header var parts known direction h more
+  | inr few ↦
+      ap (λ (b : Bool). cond b code.ETooLarge (cond (is_put direction && some_meet parts) code.ESelf code.Ok)) (le-ltb most_elements (elements_of_all parts) few)
+      ∙ sym (by_share header var parts known direction (is_put direction && some_meet parts) h few (ap (λ (b : Bool). is_put direction && b) (share_is (length var.dims) parts boxes)))
+]
 
 by_code : (header : Header) (var : Var) (parts : List Region) (known : ℕ) (direction : Direction) (c : Code)
     → c ≡ refusal_of header var parts known direction → All (HasStrides var) parts

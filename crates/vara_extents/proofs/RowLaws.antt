@@ -1,5 +1,5 @@
 -- Rows of runs: in one dimension the places of runs go up by equal steps.
-use Rattle.vara_extents.proofs.Words.{◌≡◌, ℕ, zero, suc, ◌+◌, ◌*◌, ◌/◌, ◌%◌, ◌<◌, ◌≤◌, inl, inr, refl, sym, ap, subst, ◌∙◌, List, [], ◌∷◌, length, get_or, Bool, true, false, arith, slice_get, length-map, div-mul-add, mod-mul-add, div-add-mod', mod_below, mul-le, mul-div_cancel, mul-mod_left, Header, Var, Region, size_of, product, length_of, recsize, is_record, starts_with_zero, lengths_of, place, index_at, coordinates_of, index_of, weighted, AreRuns, HaveRows, nat_tests}
+use Rattle.vara_extents.proofs.Words.{◌≡◌, ℕ, zero, suc, ◌+◌, ◌*◌, ◌/◌, ◌%◌, ◌<◌, ◌≤◌, inl, inr, holds_or_not, refl, sym, ap, subst, ◌∙◌, List, [], ◌∷◌, length, get_or, true, false, arith, slice_get, length-map, div-mul-add, mod-mul-add, div-add-mod', mod_below, mul-le, mul-div_cancel, mul-mod_left, Header, Var, Region, size_of, product, length_of, recsize, is_record, starts_with_zero, lengths_of, place, index_at, coordinates_of, index_of, weighted, AreRuns, HaveRows, nat_tests}
 use Rattle.serial_spec.specs.Place as spec
 use Rattle.vara_extents.proofs.RowSteps.{record_first, rest, rest_is, fixed_is, record_place_is, record_row, same_rests, split}
 use Rattle.vara_extents.proofs.RunLaws.{kept, same_runs}
@@ -158,14 +158,13 @@ record_sums header v g e h =
 pub rows_of : (header : Header) (v : Var) (g : Region) (run row : ℕ) → length g.start ≡ length v.dims → length g.count ≡ length v.dims → length g.stride ≡ length v.dims
     → ((weights : List ℕ) → length weights ≡ length g.count → HaveRows (λ k. weighted weights (coordinates_of g.count k)) run row (product g.count))
     → HaveRows (λ k. place header v (index_of g k)) run row (product g.count)
-rows_of header v g run row starts counts strides h = by_kind (is_record header v) refl
+rows_of header v g run row starts counts strides h = elim (holds_or_not (is_record header v)) [
+  | inl e ↦ of_sums _ _ (record_sums header v g e shape)
+  | inr e ↦ of_sums _ _ (fixed_sums header v g e shape)
+]
   where
     shape : HasShape v g
     shape = record { starts = starts; counts = counts; strides = strides }
 
     of_sums : (weights : List ℕ) (base : ℕ) → AreSums header v g weights base → HaveRows (λ k. place header v (index_of g k)) run row (product g.count)
     of_sums weights base s = rows_from (λ k. weighted weights (coordinates_of g.count k)) (λ k. place header v (index_of g k)) base run row (product g.count) s.sum (h weights s.long)
-
-    by_kind : (b : Bool) → is_record header v ≡ b → HaveRows (λ k. place header v (index_of g k)) run row (product g.count)
-    by_kind true e = of_sums _ _ (record_sums header v g e shape)
-    by_kind false e = of_sums _ _ (fixed_sums header v g e shape)

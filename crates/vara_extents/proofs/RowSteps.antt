@@ -86,9 +86,7 @@ runs_merged : (header : Header) (id n t run : ℕ) (ids counts strides : List �
     → (n ≡ 1) ⊎ (t ≡ 1) → 1 ≤ n → HaveRuns header (id ∷ ids) (n ∷ counts) (t ∷ strides) (n * run)
 runs_merged header id n t run ids counts strides h all whole one some [] l = absurd (omega arith)
 runs_merged header id n t run ids counts strides h all whole one some (s ∷ starts) l =
-    let inner = subst (λ (r : ℕ). AreRuns (row_of header ids starts counts strides) 1 r (product counts)) all (h starts (omega arith)) in
-    subst (λ (r : ℕ). AreRuns (row_of header (id ∷ ids) (s ∷ starts) (n ∷ counts) (t ∷ strides)) 1 r (n * product counts)) (ap (λ (r : ℕ). n * r) (sym all))
-    (merged (row_of header ids starts counts strides) n s t (product (lengths_of header ids)) 1 (product counts) inner (omega (arith, whole)) one some)
+    rw all (merged (row_of header ids starts counts strides) n s t (product (lengths_of header ids)) 1 (product counts) (rw all at (h starts (omega arith))) (omega (arith, whole)) one some)
 
 some_first : (counts counts' : List ℕ) (n : ℕ) → counts ≡ n ∷ counts' → 1 ≤ product counts → 1 ≤ n
 some_first counts counts' zero e h = let none = ap product e in absurd (omega arith)
@@ -109,16 +107,6 @@ inner_merged header ids counts strides run a b c some h whole one =
     (some_first counts (rest counts) (get_or counts 0 0) (split counts b) some))
 
 -- ---- a variable's places, by its rows
-
--- the same of equal lists
-pub same_row : (header : Header) (number : ℕ) (ids starts counts strides ids' starts' counts' strides' : List ℕ) → ids ≡ ids' → starts ≡ starts' → counts ≡ counts' → strides ≡ strides'
-    → row_of header ids starts counts strides number ≡ row_of header ids' starts' counts' strides' number
-same_row header number ids starts counts strides ids' starts' counts' strides' a b c d = (λ i. row_of header (a i) (b i) (c i) (d i) number)
-
-pub same_valid : (header : Header) (number : ℕ) (ids starts counts strides ids' starts' counts' strides' : List ℕ) → ids ≡ ids' → starts ≡ starts' → counts ≡ counts' → strides ≡ strides'
-    → IsIndex (lengths_of header ids') (index_at starts' strides' (coordinates_of counts' number)) → IsIndex (lengths_of header ids) (index_at starts strides (coordinates_of counts number))
-same_valid header number ids starts counts strides ids' starts' counts' strides' a b c d valid =
-    transport (λ i. IsIndex (lengths_of header (sym a i)) (index_at (sym b i) (sym d i) (coordinates_of (sym c i) number))) valid
 
 fixed_lengths : (ls : List ℕ) → starts_with_zero ls ≡ false → without_record ls ≡ ls
 fixed_lengths (zero ∷ ls) h = absurd (eqb-false 0 0 h refl)
@@ -229,51 +217,39 @@ pub fixed_runs : (header : Header) (v : Var) (g : Region) (run : ℕ) → is_rec
 fixed_runs header v g run e l h =
     grind (arith, nat_tests, sized (row_of header v.dims g.start g.count g.stride) v.begin (size_of v.kind) run (product g.count) (h g.start l), same_runs, fixed_is)
 
+-- where the elements of the first record lie
+abbrev inner_at : Header → Var → Region → ℕ → ℕ
+inner_at header v g k = v.begin + row_of header (rest v.dims) (rest g.start) (rest g.count) (rest g.stride) k * size_of v.kind
+
 -- the inner runs of a record variable, by its records
 by_records : (header : Header) (v : Var) (g : Region) (run : ℕ) → is_record header v ≡ true → 1 ≤ length v.dims → 1 ≤ length g.start → 1 ≤ length g.count → 1 ≤ length g.stride
-    → AreRuns (λ k. (get_or g.start 0 0 + k / product (rest g.count) * get_or g.stride 0 0) * recsize header
-    + (v.begin + row_of header (rest v.dims) (rest g.start) (rest g.count) (rest g.stride) (k % product (rest g.count)) * size_of v.kind)) (size_of v.kind) run (get_or g.count 0 0 * product (rest g.count))
+    → AreRuns (λ k. (get_or g.start 0 0 + k / product (rest g.count) * get_or g.stride 0 0) * recsize header + inner_at header v g (k % product (rest g.count))) (size_of v.kind) run
+    (get_or g.count 0 0 * product (rest g.count))
     → AreRuns (λ k. place header v (index_of g k)) (size_of v.kind) run (product g.count)
 by_records header v g run e a b c d h = grind (arith, nat_tests, split, same_runs, record_place_is, record_row)
-
-inner_bytes : (header : Header) (v : Var) (g : Region) (run : ℕ) → length (rest g.start) ≡ length (rest v.dims) → HaveRuns header (rest v.dims) (rest g.count) (rest g.stride) run
-    → AreRuns (λ k. v.begin + row_of header (rest v.dims) (rest g.start) (rest g.count) (rest g.stride) k * size_of v.kind) (size_of v.kind) run (product (rest g.count))
-inner_bytes header v g run l h = sized (row_of header (rest v.dims) (rest g.start) (rest g.count) (rest g.stride)) v.begin (size_of v.kind) run (product (rest g.count)) (h (rest g.start) l)
 
 pub same_rests : (xs ys : List ℕ) → length xs ≡ length ys → length (rest xs) ≡ length (rest ys)
 same_rests [] [] h = refl
 same_rests (x ∷ xs) (y ∷ ys) h = ap (λ (zs : List ℕ). length zs) (rest_is x xs) ∙ omega arith ∙ sym (ap (λ (zs : List ℕ). length zs) (rest_is y ys))
 same_rests _ _ h = absurd (omega arith)
 
-pub record_kept : (header : Header) (v : Var) (g : Region) (run : ℕ) → is_record header v ≡ true → 1 ≤ length v.dims → length g.start ≡ length v.dims → 1 ≤ length g.count → 1 ≤ length g.stride
-    → HaveRuns header (rest v.dims) (rest g.count) (rest g.stride) run → AreRuns (λ k. place header v (index_of g k)) (size_of v.kind) run (product g.count)
-record_kept header v g run e a l c d h =
-    by_records header v g run e a (omega arith) c d
-    (kept (λ k. v.begin + row_of header (rest v.dims) (rest g.start) (rest g.count) (rest g.stride) k * size_of v.kind) (get_or g.count 0 0) (get_or g.start 0 0) (get_or g.stride 0 0) (recsize header) (size_of v.kind)
-    run (product (rest g.count)) (inner_bytes header v g run (same_rests g.start v.dims l) h))
+module _ (header : Header) (v : Var) (g : Region) (run : ℕ) (e : is_record header v ≡ true) (a : 1 ≤ length v.dims) (l : length g.start ≡ length v.dims)
+    (c : 1 ≤ length g.count) (d : 1 ≤ length g.stride) (h : HaveRuns header (rest v.dims) (rest g.count) (rest g.stride) run) where
+  inner_bytes : AreRuns (λ k. inner_at header v g k) (size_of v.kind) run (product (rest g.count))
+  inner_bytes =
+      sized (row_of header (rest v.dims) (rest g.start) (rest g.count) (rest g.stride)) v.begin (size_of v.kind) run (product (rest g.count)) (h (rest g.start) (same_rests g.start v.dims l))
 
-pub record_merged : (header : Header) (v : Var) (g : Region) (run : ℕ) → is_record header v ≡ true → 1 ≤ length v.dims → length g.start ≡ length v.dims → 1 ≤ length g.count → 1 ≤ length g.stride
-    → 1 ≤ product g.count → HaveRuns header (rest v.dims) (rest g.count) (rest g.stride) run → run ≡ product (rest g.count) → recsize header ≡ run * size_of v.kind → get_or g.stride 0 0 ≡ 1
-    → AreRuns (λ k. place header v (index_of g k)) (size_of v.kind) (get_or g.count 0 0 * run) (product g.count)
-record_merged header v g run e a l c d some h all touching one =
-    let inner = subst (λ (r : ℕ). AreRuns (λ k. v.begin + row_of header (rest v.dims) (rest g.start) (rest g.count) (rest g.stride) k * size_of v.kind) (size_of v.kind) r (product (rest g.count))) all
-    (inner_bytes header v g run (same_rests g.start v.dims l) h) in
-    by_records header v g (get_or g.count 0 0 * run) e a (omega arith) c d
-    (subst (λ (r : ℕ). AreRuns (λ k. (get_or g.start 0 0 + k / product (rest g.count) * get_or g.stride 0 0) * recsize header
-    + (v.begin + row_of header (rest v.dims) (rest g.start) (rest g.count) (rest g.stride) (k % product (rest g.count)) * size_of v.kind)) (size_of v.kind) r (get_or g.count 0 0 * product (rest g.count)))
-    (ap (λ (r : ℕ). get_or g.count 0 0 * r) (sym all))
-    (merged (λ k. v.begin + row_of header (rest v.dims) (rest g.start) (rest g.count) (rest g.stride) k * size_of v.kind) (get_or g.count 0 0) (get_or g.start 0 0) (get_or g.stride 0 0) (recsize header) (size_of v.kind)
-    (product (rest g.count)) inner (ap (λ (r : ℕ). r * size_of v.kind) (sym all) ∙ sym touching) (inr one) (some_first g.count (rest g.count) (get_or g.count 0 0) (split g.count c) some)))
+  pub record_kept : AreRuns (λ k. place header v (index_of g k)) (size_of v.kind) run (product g.count)
+  record_kept =
+      by_records header v g run e a (omega arith) c d
+      (kept (λ k. inner_at header v g k) (get_or g.count 0 0) (get_or g.start 0 0) (get_or g.stride 0 0) (recsize header) (size_of v.kind) run (product (rest g.count)) inner_bytes)
 
--- the same of equal lists
-pub same_have : (header : Header) (run : ℕ) (ids counts strides ids' counts' strides' : List ℕ) → ids ≡ ids' → counts ≡ counts' → strides ≡ strides'
-    → HaveRuns header ids counts strides run → HaveRuns header ids' counts' strides' run
-same_have header run ids counts strides ids' counts' strides' a b c h = transport (λ i. HaveRuns header (a i) (b i) (c i) run) h
-
-pub same_have_rests : (header : Header) (run : ℕ) (ids counts strides ids' counts' strides' : List ℕ) → ids ≡ ids' → counts ≡ counts' → strides ≡ strides'
-    → HaveRuns header (rest ids) (rest counts) (rest strides) run → HaveRuns header (rest ids') (rest counts') (rest strides') run
-same_have_rests header run ids counts strides ids' counts' strides' a b c h =
-    same_have header run (rest ids) (rest counts) (rest strides) (rest ids') (rest counts') (rest strides') (ap rest a) (ap rest b) (ap rest c) h
+  pub record_merged : 1 ≤ product g.count → run ≡ product (rest g.count) → recsize header ≡ run * size_of v.kind → get_or g.stride 0 0 ≡ 1
+      → AreRuns (λ k. place header v (index_of g k)) (size_of v.kind) (get_or g.count 0 0 * run) (product g.count)
+  record_merged some all touching one =
+      by_records header v g (get_or g.count 0 0 * run) e a (omega arith) c d
+      (rw all (merged (λ k. inner_at header v g k) (get_or g.count 0 0) (get_or g.start 0 0) (get_or g.stride 0 0) (recsize header) (size_of v.kind) (product (rest g.count)) (rw all at inner_bytes)
+      (ap (λ (r : ℕ). r * size_of v.kind) (sym all) ∙ sym touching) (inr one) (some_first g.count (rest g.count) (get_or g.count 0 0) (split g.count c) some)))
 
 -- a run is no longer than all elements
 pub run_low : (header : Header) (ids counts strides : List ℕ) (run : ℕ) → HaveRuns header ids counts strides run → 1 ≤ product counts → run ≤ product counts

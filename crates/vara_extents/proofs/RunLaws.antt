@@ -24,13 +24,8 @@ kept_at f s t step size run m q i a b h e total is =
     let low : b * run < total = omega (arith, h.fits) in
     let there : q * run + i ≡ a * total + (b * run + i) = omega (arith, h.is, is, ap (λ (n : ℕ). a * n) is, ap (λ (n : ℕ). n * run) h.is) in
     let begin : q * run ≡ a * total + b * run = omega (arith, h.is, is, ap (λ (n : ℕ). a * n) is, ap (λ (n : ℕ). n * run) h.is) in
-    let row : (q * run + i) / total ≡ a = ap (λ (n : ℕ). n / total) there ∙ div-mul-add a total (b * run + i) fits in
-    let row_begin : (q * run) / total ≡ a = ap (λ (n : ℕ). n / total) begin ∙ div-mul-add a total (b * run) low in
-    let rest : (q * run + i) % total ≡ b * run + i = ap (λ (n : ℕ). n % total) there ∙ mod-mul-add a total (b * run + i) fits in
-    let rest_begin : (q * run) % total ≡ b * run = ap (λ (n : ℕ). n % total) begin ∙ mod-mul-add a total (b * run) low in
-    let left : (s + (q * run + i) / total * t) * step ≡ (s + (q * run) / total * t) * step = ap (λ (n : ℕ). (s + n * t) * step) (row ∙ sym row_begin) in
-    let right : f ((q * run + i) % total) ≡ f ((q * run) % total) + i * size = ap f rest ∙ e ∙ ap (λ (n : ℕ). f n + i * size) (sym rest_begin) in
-    omega (arith, left, right)
+    rw (there, begin, div-mul-add a total (b * run + i) fits, mod-mul-add a total (b * run + i) fits, div-mul-add a total (b * run) low, mod-mul-add a total (b * run) low, e)
+    (omega arith)
 
 -- the runs stay in an outer dimension
 pub kept : (f : ℕ → ℕ) (n s t step size run total : ℕ) → AreRuns f size run total

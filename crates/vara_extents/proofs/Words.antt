@@ -4,9 +4,9 @@ pub use Rattle.std.proofs.Common.{zip}
 pub use Rattle.std.proofs.Math.Seq.{drop-cons}
 pub use Rattle.std.proofs.lemmas.List.{append_assoc, length-append}
 pub use Rattle.std.specs.Prelude.{All, bytes_eq}
-pub use Rattle.list_laws.proofs.Common.{any_map, drop_at, each_at, each_map, each_weaker, entry_map, get_left, get_right, goes_on, no_false, range_append, same_factor}
+pub use Rattle.list_laws.proofs.Common.{any_map, drop_at, each_at, each_map, each_weaker, entry_map, get_left, get_right, goes_on, holds_or_not, no_false, range_append, same_factor}
 pub use Rattle.list_laws.proofs.Types.{Code, Direction, Extent, Header, Part, Post, Region, Var}
-pub use Rattle.serial_spec.proofs.Common.{AreApart, Cell, HasRecord, IsElement, IsElementBelow, IsIndex, IsOnce, accepted, accepted_elements, asks_too_much, at, at-written_after, at-written_before, at-written_inside, bounds, bytes_of, bytes_of_some, cells, check_parts, check_some, check_var, coordinates, coordinates_at, element_inside, elements, elements_apart, elements_of_all, end_of, first_refusal, has_element, has_index, header_len, index_at, index_fixed, index_record, inner_lengths, is_ok_code, is_put, is_record, is_sound, length-coordinates, length_of, lengths_of, most_elements, other_shape, part_region, place, places, product, put, record_limit, record_of, records_of, recsize, row, share_element, size_most, size_of, size_pos, slab_fits, some_edge, some_start, spans, starts_with_zero, within_record, without_record, write_cells, written}
+pub use Rattle.serial_spec.proofs.Common.{Cell, HasRecord, IsElement, IsElementBelow, IsIndex, IsOnce, accepted, accepted_elements, asks_too_much, at, at-written_after, at-written_before, at-written_inside, bounds, bytes_of, bytes_of_some, cells, check_parts, check_some, check_var, coordinates, coordinates_at, element_inside, elements, elements_apart, elements_of_all, end_of, first_refusal, has_element, has_index, header_len, index_at, index_fixed, index_record, inner_lengths, is_ok_code, is_put, is_record, is_sound, length-coordinates, length_of, lengths_of, most_elements, other_shape, part_region, place, places, product, put, record_limit, record_of, records_of, recsize, row, share_element, size_most, size_of, size_pos, slab_fits, some_edge, some_start, spans, starts_with_zero, within_record, without_record, write_cells, written}
 pub use Rattle.var_layout.proofs.ElementPlaces.{place_fixed, place_record, product_pos, row_below_bytes}
 pub use Rattle.var_layout.proofs.Soundness.{if_there}
 pub use Rattle.var_layout.specs.Capped.{capped}

@@ -45,19 +45,17 @@ bytes_in_joined (e ∷ es) = bytes_in_to e (joined es) ∙ ap (λ (n : ℕ). e.l
 cut_to : (file bytes : List ℕ) (e : Extent) (es : List Extent) → bytes_in (e ∷ es) ≤ length bytes
     → write_cells file (cut_by (joined_to e es) bytes) ≡ write_cells file (cut_by (e ∷ es) bytes)
 cut_to file bytes e [] h = refl
-cut_to file bytes e (d ∷ es) h = by_case (cases_eq d.at (e.at + e.len))
-  where
-    first : length (take e.len bytes) ≡ e.len
-    first = grind (arith, common_steps)
-
-    by_case : (d.at ≡ e.at + e.len) ⊎ (d.at ≡ e.at + e.len → ⊥) → write_cells file (cut_by (joined_to e (d ∷ es)) bytes) ≡ write_cells file (cut_by (e ∷ d ∷ es) bytes)
-    by_case (inl k) =
-        ap (λ (ds : List Extent). write_cells file (cut_by ds bytes)) (join_next e d es k)
-        ∙ (λ i. write_cells (written file e.at (take-add e.len d.len bytes i)) (cut_by es (sym (drop-drop d.len e.len bytes) i)))
-        ∙ ap (λ (f : List ℕ). write_cells f (cut_by es (drop d.len (drop e.len bytes))))
-        (sym (written_two file e.at (take e.len bytes) (take d.len (drop e.len bytes)))
-        ∙ ap (λ (x : ℕ). written (written file e.at (take e.len bytes)) x (take d.len (drop e.len bytes))) (ap (λ (n : ℕ). e.at + n) first ∙ sym k))
-    by_case (inr k) = ap (λ (ds : List Extent). write_cells file (cut_by ds bytes)) (join_apart e d es k)
+cut_to file bytes e (d ∷ es) h =
+    let first : length (take e.len bytes) ≡ e.len = grind (arith, common_steps) in
+    elim (cases_eq d.at (e.at + e.len)) [
+      | inl k ↦
+          ap (λ (ds : List Extent). write_cells file (cut_by ds bytes)) (join_next e d es k)
+          ∙ (λ i. write_cells (written file e.at (take-add e.len d.len bytes i)) (cut_by es (sym (drop-drop d.len e.len bytes) i)))
+          ∙ ap (λ (f : List ℕ). write_cells f (cut_by es (drop d.len (drop e.len bytes))))
+          (sym (written_two file e.at (take e.len bytes) (take d.len (drop e.len bytes)))
+          ∙ ap (λ (x : ℕ). written (written file e.at (take e.len bytes)) x (take d.len (drop e.len bytes))) (ap (λ (n : ℕ). e.at + n) first ∙ sym k))
+      | inr k ↦ ap (λ (ds : List Extent). write_cells file (cut_by ds bytes)) (join_apart e d es k)
+    ]
 
 pub cut_joined : (file bytes : List ℕ) (es : List Extent) → bytes_in es ≤ length bytes → write_cells file (cut_by (joined es) bytes) ≡ write_cells file (cut_by es bytes)
 cut_joined file bytes [] h = refl

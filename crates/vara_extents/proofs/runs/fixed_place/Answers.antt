@@ -1,12 +1,12 @@
 -- The begin and the bytes of the rows before.
 use Rattle.vara_extents.proofs.Words.{◌≡◌, ◌+◌, ◌*◌, ℕ, ap, ◌∙◌, arith, size_of, product, row_below_bytes, row_of}
-use Rattle.vara_extents.proofs.RowSteps.{same_row, same_valid, fixed_valid, fixed_is}
+use Rattle.vara_extents.proofs.RowSteps.{fixed_valid, fixed_is}
 use Rattle.vara_extents.proofs.runs.fixed_place.Goals as goal
 
 pub row-rows-requires-clause-valid : goal.row-rows-requires-clause-valid
 row-rows-requires-clause-valid c =
-    same_valid c.args.header.now c.args.number _ _ _ _ c.args.var.now.dims c.args.region.now.start c.args.region.now.count c.args.region.now.stride
-    c.as_slice-ids.ensures c.as_slice-starts.ensures c.as_slice-counts.ensures c.as_slice-strides.ensures (fixed_valid c.args.header.now c.args.var.now _ c.requires.fixed c.requires.valid)
+    rw (c.as_slice-ids.ensures, c.as_slice-starts.ensures, c.as_slice-counts.ensures, c.as_slice-strides.ensures)
+    (fixed_valid c.args.header.now c.args.var.now _ c.requires.fixed c.requires.valid)
 
 pub row-rows-requires-clause-number : goal.row-rows-requires-clause-number
 row-rows-requires-clause-number c = omega (arith, ap product c.as_slice-counts.ensures, c.requires.number)
@@ -16,19 +16,15 @@ row-rows-requires-clause-small c = omega (arith, ap product c.as_slice-counts.en
 
 pub row-rows-requires-clause-below : goal.row-rows-requires-clause-below
 row-rows-requires-clause-below c =
-    let same = same_row c.args.header.now c.args.number _ _ _ _ c.args.var.now.dims c.args.region.now.start c.args.region.now.count c.args.region.now.stride
-    c.as_slice-ids.ensures c.as_slice-starts.ensures c.as_slice-counts.ensures c.as_slice-strides.ensures in
     let is = fixed_is c.args.header.now c.args.var.now c.args.region.now c.args.number c.requires.fixed in
     let low = row_below_bytes (row_of c.args.header.now c.args.var.now.dims c.args.region.now.start c.args.region.now.count c.args.region.now.stride c.args.number) c.args.var.now.kind in
-    omega (arith, same, is, low, c.requires.below)
+    rw (c.as_slice-ids.ensures, c.as_slice-starts.ensures, c.as_slice-counts.ensures, c.as_slice-strides.ensures) (omega (arith, is, low, c.requires.below))
 
 bytes_are : (c : goal.After-size_of) → c.row-rows.result * c.size_of.result
     ≡ row_of c.args.header.now c.args.var.now.dims c.args.region.now.start c.args.region.now.count c.args.region.now.stride c.args.number * size_of c.args.var.now.kind
 bytes_are c =
-    let same = same_row c.args.header.now c.args.number _ _ _ _ c.args.var.now.dims c.args.region.now.start c.args.region.now.count c.args.region.now.stride
-    c.as_slice-ids.ensures c.as_slice-starts.ensures c.as_slice-counts.ensures c.as_slice-strides.ensures in
-    let rows : c.row-rows.result ≡ row_of c.args.header.now c.args.var.now.dims c.args.region.now.start c.args.region.now.count c.args.region.now.stride c.args.number =
-    omega (arith, c.row-rows.ensures, same) in
+    let told = rw (c.as_slice-ids.ensures, c.as_slice-starts.ensures, c.as_slice-counts.ensures, c.as_slice-strides.ensures) at c.row-rows.ensures in
+    let rows : c.row-rows.result ≡ row_of c.args.header.now c.args.var.now.dims c.args.region.now.start c.args.region.now.count c.args.region.now.stride c.args.number = omega (arith, told) in
     (λ i. rows i * c.size_of.ensures i)
 
 pub overflow_mul-result : goal.overflow_mul-result

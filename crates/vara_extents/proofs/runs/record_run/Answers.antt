@@ -1,6 +1,6 @@
 -- The runs of a record, and those of records that touch.
-use Rattle.vara_extents.proofs.Words.{◌*◌, ◌^◌, ℕ, List, length, get_or, ap, sym, subst, ◌∙◌, arith, mul-le, size_most, size_of, product, place, index_of, AreRuns}
-use Rattle.vara_extents.proofs.RowSteps.{rest, inner_small, has_record_dimension, same_rests, record_kept, record_merged, same_have_rests, run_low}
+use Rattle.vara_extents.proofs.Words.{◌*◌, ◌^◌, ℕ, List, length, get_or, ap, sym, ◌∙◌, arith, mul-le, size_most, size_of, product}
+use Rattle.vara_extents.proofs.RowSteps.{rest, inner_small, has_record_dimension, same_rests, record_kept, record_merged, run_low}
 use Rattle.vara_extents.proofs.runs.record_run.Goals as goal
 
 pub returns-in_default : goal.returns-in_default
@@ -30,13 +30,10 @@ overflow_mul-touching c =
 pub returns-then-touching : goal.returns-then-touching
 returns-then-touching c =
     let run = c.inner_run-inner.result.elements in
-    let place_at : ℕ → ℕ = λ k. place c.args.header.now c.args.var.now (index_of c.args.region.now k) in
-    subst (λ (l : List ℕ). AreRuns place_at (size_of c.args.var.now.kind) (get_or l 0 0 * run) (product c.args.region.now.count)) (sym c.as_slice-2.ensures)
+    rw c.as_slice-2.ensures
     (record_merged c.args.header.now c.args.var.now c.args.region.now run c.requires.record_variable (omega (arith, ap length c.as_slice.ensures, c.in-len1-up.len_at_least))
     c.requires.starts (omega (arith, ap length c.as_slice-2.ensures, c.in-len1-up-as_slice.len_at_least)) (omega (arith, ap length c.as_slice-3.ensures, c.in-len1-up-as_slice-2.len_at_least))
-    c.requires.some
-    (same_have_rests c.args.header.now run c.as_slice.result.now c.as_slice-2.result.now c.as_slice-3.result.now c.args.var.now.dims c.args.region.now.count c.args.region.now.stride
-    c.as_slice.ensures c.as_slice-2.ensures c.as_slice-3.ensures c.inner_run-inner.ensures.runs)
+    (rw (c.as_slice.ensures, c.as_slice-2.ensures, c.as_slice-3.ensures) at c.inner_run-inner.ensures.runs) c.requires.some
     ((c.inner_run-inner.ensures.whole c.if-inner.true).0 ∙ ap (λ (l : List ℕ). product (rest l)) c.as_slice-2.ensures)
     (sym c.requires.recsize ∙ c.if-touching.true ∙ ap (λ (n : ℕ). run * n) c.size_of.ensures)
     (sym (ap (λ (l : List ℕ). get_or l 0 0) c.as_slice-3.ensures) ∙ c.if-stride-eq1.true))
@@ -45,5 +42,4 @@ pub returns-else-inner : goal.returns-else-inner
 returns-else-inner c =
     record_kept c.args.header.now c.args.var.now c.args.region.now c.inner_run-inner.result.elements c.requires.record_variable (omega (arith, ap length c.as_slice.ensures, c.in-len1-up.len_at_least))
     c.requires.starts (omega (arith, ap length c.as_slice-2.ensures, c.in-len1-up-as_slice.len_at_least)) (omega (arith, ap length c.as_slice-3.ensures, c.in-len1-up-as_slice-2.len_at_least))
-    (same_have_rests c.args.header.now c.inner_run-inner.result.elements c.as_slice.result.now c.as_slice-2.result.now c.as_slice-3.result.now c.args.var.now.dims c.args.region.now.count c.args.region.now.stride
-    c.as_slice.ensures c.as_slice-2.ensures c.as_slice-3.ensures c.inner_run-inner.ensures.runs)
+    (rw (c.as_slice.ensures, c.as_slice-2.ensures, c.as_slice-3.ensures) at c.inner_run-inner.ensures.runs)
