@@ -1,5 +1,5 @@
 -- A list that is laid into an array item by item.
-use Rattle.nc_classic_c.proofs.Words.{◌≡◌, ℕ, zero, suc, ◌+◌, ◌-◌, ◌<◌, ◌≤◌, List, [], ◌∷◌, ◌++◌, length, take, drop, set, Bool, cond, ltb, leb, ◌&&◌, ap, sym, refl, ◌∙◌, arith, append_assoc, length-append, length-drop, append-nil, set_at, take_all, take-append-le, drop-append-le, drop_all, length-take, leb-true, leb-false, ltb-true, ltb-false, filled, laid_at, nat_tests, laid_from}
+use Rattle.nc_classic_c.proofs.Words.{◌≡◌, ℕ, zero, suc, ◌+◌, ◌-◌, ◌<◌, ◌≤◌, List, [], ◌∷◌, ◌++◌, length, drop, set, Bool, cond, ltb, leb, ◌&&◌, ap, sym, refl, ◌∙◌, arith, append_assoc, length-append, length-drop, append-nil, set_at, take_all, take-append-le, drop-append-le, drop_all, length-take, leb-true, leb-false, ltb-true, ltb-false, filled, laid_at, nat_tests, laid_from}
 
 -- ---- ends
 

@@ -1,5 +1,5 @@
 -- The words of this crate's proofs, from where they stand.
-pub use Rattle.list_laws.proofs.Std.{AllByRecursion, Bool, Err, IfErr, IfSome, IsPermutation, List, None, Ok, OnOk, Option, Result, Some, [], and_from, ap, append-nil, append_assoc, ap₂, arith, below_more, byte_len, cond, count_by, div-le_self, div-mul-le_self, drop, drop-append-le, drop_all, enumerate_from, eqb, err_from_is_err_and, fails_before_first, false, filter, flat_map, flat_map-append, flat_map-map, from_be_bytes, get_or, get_or-drop, get_or-map, get_or-map-range_with_len, get_or-take, inl, inr, is_none, le-leb, le-ltb, leb, leb-false, leb-true, length, length-append, length-map, length-map-range_with_len, length-take, length-take-le, list_any, list_any-append, lt-leb, lt-ltb, ltb, ltb-false, ltb-true, map, map-append, map-map, map-range_with_len_more, mod-eq-sub-div-mul, mul-le-mul_right, nat_le, nat_lt, nat_tests, not, not-false, option_copied, option_map, option_or, or_parts, position, position_or_len, position_or_len_is, range_with_len, refl, rules, same_Some, set, set_at, sfits_lit, slice_get, slice_get_within, subst, suc, sum_by-cons, sym, take, take-append-le, take-put_mid, take_all, take_more, take_more_set, to_z-of_z, true, utf8_valid_len-IsUtf8, w32, w64, zero, ℕ, ◌%◌, ◌&&◌, ◌*◌, ◌++◌, ◌+◌, ◌-◌, ◌/◌, ◌<◌, ◌==◌, ◌^◌, ◌||◌, ◌↔◌, ◌∙◌, ◌∷◌, ◌≡◌, ◌≤◌, ◌⊎◌}
+pub use Rattle.list_laws.proofs.Std.{AllByRecursion, Bool, Err, IfErr, IfSome, IsPermutation, List, None, Ok, OnOk, Option, Result, Some, [], and_from, ap, append-nil, append_assoc, ap₂, arith, below_more, byte_len, cond, count_by, div-le_self, div-mul-le_self, drop, drop-append-le, drop_all, enumerate_from, eqb, err_from_is_err_and, fails_before_first, false, filter, flat_map, flat_map-append, flat_map-map, from_be_bytes, get_or, get_or-drop, get_or-map, get_or-map-range_with_len, get_or-take, inl, inr, is_none, le-leb, le-ltb, leb, leb-false, leb-true, length, length-append, length-map, length-map-range_with_len, length-take, length-take-le, list_any, list_any-append, lt-leb, lt-ltb, ltb, ltb-false, ltb-true, map, map-append, map-map, map-range_with_len_more, mod-eq-sub-div-mul, mul-le-mul_right, nat_le, nat_lt, nat_tests, not, not-false, option_copied, option_map, or_parts, position, position_or_len, position_or_len_is, range_with_len, refl, rules, same_Some, set, set_at, sfits_lit, slice_get, slice_get_within, subst, suc, sum_by-cons, sym, take, take-append-le, take-put_mid, take_all, take_more, take_more_set, to_z-of_z, true, utf8_valid_len-IsUtf8, w32, w64, zero, ℕ, ◌%◌, ◌&&◌, ◌*◌, ◌++◌, ◌+◌, ◌-◌, ◌/◌, ◌<◌, ◌==◌, ◌^◌, ◌||◌, ◌↔◌, ◌∙◌, ◌∷◌, ◌≡◌, ◌≤◌, ◌⊎◌}
 pub use Rattle.std.proofs.Common.{length-drop}
 pub use Rattle.std.specs.Prelude.{ℤ}
 pub use Rattle.cdf_header.specs.Decoded.{BeginsWith}
@@ -8,8 +8,8 @@ pub use Rattle.file_domains.specs.Domains.{LiesIn, low_of, share_of}
 pub use Rattle.file_domains.specs.Rounds.{bytes_in, round_windows, window_told, windows_left}
 pub use Rattle.file_domains.specs.declared.walk.Window.{Window}
 pub use Rattle.file_domains.specs.declared.walk.WindowWalk.{WindowWalk}
-pub use Rattle.list_laws.proofs.Common.{and_first, and_second, both_none, each_fails, each_map, each_passes, each_weaker, equal_true, fails_each, filter_at_most, first_counts, if_some_at, neither_some, no_both, no_false, map_map, no_none_some, none_before_map, none_of_test, not_zero, passes_each, position_map, second_counts, told_else, told_unless}
-pub use Rattle.list_laws.proofs.Types.{Align, Code, Dim, Direction, Double, Extent, Float, Header, HeaderErr, Hints, LayoutErr, NcType, Owned, Region, Value, Var}
+pub use Rattle.list_laws.proofs.Common.{and_first, and_second, both_none, each_fails, each_map, each_passes, each_weaker, equal_true, fails_each, filter_at_most, if_some_at, neither_some, no_both, no_false, map_map, no_none_some, none_before_map, none_of_test, not_zero, passes_each, position_map, second_counts, told_else, told_unless}
+pub use Rattle.list_laws.proofs.Types.{Align, Code, Dim, Direction, Double, Extent, Float, Header, HeaderErr, Hints, NcType, Owned, Region, Value, Var}
 pub use Rattle.nc_classic_c.specs.Accepted.{Accepts, HasRegion}
 pub use Rattle.nc_classic_c.specs.Answers.{code_number, number_of}
 pub use Rattle.nc_classic_c.specs.Causes.{cause_number}
@@ -18,7 +18,7 @@ pub use Rattle.nc_classic_c.specs.Definitions.{att_cause, att_refusal, atts_refu
 pub use Rattle.nc_classic_c.specs.Domains.{is_asked}
 pub use Rattle.nc_classic_c.specs.Extents.{AreLaid, filled, laid_at, laid_from}
 pub use Rattle.nc_classic_c.specs.Headers.{IsHeaderRefusal, first_bytes}
-pub use Rattle.nc_classic_c.specs.Making.{IsMade, IsUnmade, align_of, argument_refusal, is_align, laid_header, len_told, made_header, needed_len, of_layout, of_whole, place_refusal, placed_header, records_refusal, refusal_of, why_unmade}
+pub use Rattle.nc_classic_c.specs.Making.{IsMade, IsUnmade, align_of, argument_refusal, is_align, laid_header, len_told, made_header, needed_len, of_whole, place_refusal, placed_header, refusal_of, why_unmade}
 pub use Rattle.nc_classic_c.specs.Naming.{name_cause}
 pub use Rattle.nc_classic_c.specs.Overlaps.{ends_low, holdings}
 pub use Rattle.nc_classic_c.specs.Regions.{direction_of, region_of}
