@@ -1,5 +1,5 @@
 -- A run of the owner: its first strange arrival, and its order by the arrivals before that one.
-use Rattle.owner_laws.proofs.Words.{◌≡◌, ℕ, ◌<◌, refl, sym, ◌∙◌, ap, subst, List, [], ◌∷◌, ◌++◌, replicate, max, Bool, true, false, ◌&&◌, Option, Some, None, arith, length-replicate, list_all-append, slice_get, nat_lt, list_all, entry_below, and_first, and_second, Mark, Client, Owner, event, first_owner, free_client, is_strange, needed_now, served, Counted, Setting, Arrival, done, served_on, stranger_on, none_marked, get_replicate, done_is, IsCutByArrivals, IsDoneByArrivals, before_stranger, before_stranger_from, first_stranger, first_stranger_from, is_strange_after, puts_brought}
+use Rattle.owner_laws.proofs.Words.{◌≡◌, ℕ, ◌<◌, refl, sym, ◌∙◌, ap, subst, List, [], ◌∷◌, ◌++◌, replicate, max, Bool, true, false, ◌&&◌, Option, Some, None, arith, length-replicate, list_all-append, slice_get, nat_lt, list_all, entry_below, and_first, and_second, Mark, Client, Owner, event, first_owner, free_client, is_strange, needed_now, served, Counted, Setting, Arrival, done, served_on, stranger_on, none_marked, entry_replicate, done_is, IsCutByArrivals, IsDoneByArrivals, before_stranger, before_stranger_from, first_stranger, first_stranger_from, is_strange_after, puts_brought}
 use borrow.Author.Tests.{ltb-true}
 use Rattle.owner_laws.proofs.HeldClients.{Kept, OfNumber}
 use Rattle.owner_laws.proofs.StrangerLaws.{event_next, not_taken, same_strange}
@@ -71,11 +71,10 @@ first_kept : (ranks r : ℕ) (c : Counted) → r < ranks → Kept ranks [] (firs
 first_kept ranks r c l =
     let long = length-replicate ranks free_client in
     let own = entry_below (replicate ranks free_client) r (omega arith) in
-    let is_first = get_replicate ranks free_client in
     record {
       long = long;
-      some_free = record { number = r; free = own.0; at_free = own.1; is_free = ap (λ (x : Client). x.held) (is_first r own.0 own.1) };
-      each = λ q x e. let first : OfNumber [] 0 q free_client = record { count = omega arith; held = λ o h. absurd cc; ended = refl } in subst (λ (z : Client). OfNumber [] 0 q z) (sym (is_first q x e)) first;
+      some_free = record { number = r; free = own.0; at_free = own.1; is_free = ap (λ (x : Client). x.held) (entry_replicate ranks r free_client own.0 own.1) };
+      each = λ q x e. let first : OfNumber [] 0 q free_client = record { count = omega arith; held = λ o h. absurd cc; ended = refl } in subst (λ (z : Client). OfNumber [] 0 q z) (sym (entry_replicate ranks q free_client x e)) first;
     }
 
 found_first : (s : Setting) (ranks : ℕ) (c : Counted) (arrivals : List Arrival) → list_all (λ a. nat_lt a.0 ranks) arrivals ≡ true

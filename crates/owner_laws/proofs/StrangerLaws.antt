@@ -1,8 +1,9 @@
 -- The owner finds the arrivals strange that are.
-use Rattle.owner_laws.proofs.Words.{◌≡◌, ℕ, suc, ◌+◌, refl, sym, ◌∙◌, ap, subst, inl, inr, ◌⊎◌, List, [], ◌∷◌, ◌++◌, length, map, set, max, Bool, true, false, cond, ◌&&◌, Option, Some, None, arith, length-append, length-map, length-set, eqb-false, nat_tests, option_map, option_or, slice_get, filter_map, ◌==◌, is_some, list_all, list_any, range_with_len, entry_set, MeetKind, Offer, OfferKind, RankItem, at_item, at_offer, Owner, differs, event, Event, freed, has_ended, has_held, holds, is_strange, kind_held, left_behind, meets_if, needed_now, offers_held, Client, some_true, strange_offer, puts_of, Setting, Arrival, is_offer, kind_of_meeting, meeting_kind, offer_of, Puts, are_left_behind, end_of_item, ends, is_strange_after, last, meeting_offer, meeting_offers, puts_brought, puts_complete, puts_met, waits, entry_map, client_ended, client_held}
+use Rattle.owner_laws.proofs.Words.{◌≡◌, ℕ, suc, ◌+◌, refl, sym, ◌∙◌, ap, subst, inl, inr, ◌⊎◌, List, [], ◌∷◌, ◌++◌, length, map, set, max, Bool, true, false, cond, ◌&&◌, Option, Some, None, arith, length-append, length-map, length-set, eqb-false, nat_tests, option_map, option_or, slice_get, filter_map, ◌==◌, is_some, list_all, list_any, range_with_len, entry_set, MeetKind, Offer, OfferKind, RankItem, at_item, at_offer, Owner, differs, event, freed, has_ended, has_held, holds, is_strange, kind_held, left_behind, meets_if, needed_now, offers_held, Client, some_true, strange_offer, puts_of, Setting, Arrival, is_offer, kind_of_meeting, meeting_kind, offer_of, Puts, are_left_behind, end_of_item, ends, is_strange_after, last, meeting_offer, meeting_offers, puts_brought, puts_complete, puts_met, waits, entry_map, client_ended, client_held}
 use Rattle.nc_base.specs.declared.step.OfferKind.TheVariants as offer
 use Rattle.nc_base.specs.declared.step.RankItem.TheVariants as item
-use Rattle.join_laws.proofs.StrangeLaws.{event_is, strange_alone, freed_none as none_hold}
+use Rattle.join_laws.proofs.StrangeLaws.{strange_alone, freed_none as none_hold}
+use Rattle.join_laws.proofs.TurnLaws.{by_event}
 use Rattle.join_laws.proofs.StepLaws.{Free, not_all, one_held}
 use Rattle.list_laws.proofs.Maps.{mapped_entry}
 use Rattle.list_laws.proofs.Optional.{some_or_none}
@@ -139,20 +140,10 @@ module _ (s : Setting) (ranks : ℕ) (before : List Arrival) (d : Owner) (kept :
             (λ q y g. let z : q ≡ 0 + q = omega arith in held_is q y g ∙ ap (λ (j : ℕ). last (meeting_offers j after)) z)
             ∙ ap (λ (n : ℕ). filter_map (λ q. last (meeting_offers q after)) (range_with_len 0 n)) long
 
-    meeting_next : (t : Bool) → list_all holds clients ≡ t → Next s ranks before d r (item.Offer c o) (meets_if s d clients t)
-    meeting_next true e = meets_next e
-    meeting_next false e = waits_next e
-
-  offer_next : (c : ℕ) (o : Offer) (k : OfferKind) → o.kind ≡ k → x.held ≡ None → Next s ranks before d r (item.Offer c o) (at_offer s d r c o x k)
-  offer_next c o offer.Solo e h = solo_next c o e
-  offer_next c o (offer.Meet kind) e h = meeting_next c o kind e h (list_all holds (set d.clients r (client_held x o))) refl
-
-  item_next : (i : RankItem) → (is_offer i ≡ true → x.held ≡ None) → Next s ranks before d r i (at_item s d r x i)
-  item_next (item.Ended m) h = end_next m
-  item_next (item.Offer c o) h = offer_next c o o.kind refl (h refl)
-
   pub event_next : (i : RankItem) → (is_offer i ≡ true → x.held ≡ None) → Next s ranks before d r i (event s d (r, i))
-  event_next i h = subst (λ (e : Event). Next s ranks before d r i e) (sym (event_is s d r i x at)) (item_next i h)
+  event_next =
+      by_event s d r x at (Next s ranks before d r) end_next (λ c o idle k. solo_next c o k) (λ c o kind idle k some. waits_next c o kind k idle some)
+      (λ c o kind idle k all. meets_next c o kind k idle all)
 
   alone : (i : RankItem) → (is_offer i && has_held (slice_get d.clients r)) ≡ false → is_offer i ≡ true → x.held ≡ None
   alone i e f = grind (arith, nat_tests, some_or_none x.held)

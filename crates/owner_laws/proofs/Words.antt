@@ -6,8 +6,7 @@ pub use Rattle.join_laws.proofs.ClientTurns.{client_ended, client_held}
 pub use Rattle.join_laws.proofs.DoneLaws.{done_is}
 pub use Rattle.join_laws.proofs.JoinLaws.{served_on, stranger_on}
 pub use Rattle.join_laws.proofs.OwnerAlikeLaws.{none_marked}
-pub use Rattle.join_laws.proofs.WholeLaws.{get_replicate}
-pub use Rattle.list_laws.proofs.Common.{and_first, and_second, entry_below, entry_map, entry_set, entry_set_other, none_last}
+pub use Rattle.list_laws.proofs.Common.{and_first, and_second, entry_below, entry_map, entry_replicate, entry_set, entry_set_other, none_last}
 pub use Rattle.list_laws.proofs.Types.{Mark, MeetKind, Offer, OfferKind, RankItem}
 pub use Rattle.owner_laws.specs.ByArrivals.{IsCutByArrivals, IsDoneByArrivals}
 pub use Rattle.owner_laws.specs.Strangers.{are_left_behind, before_stranger, before_stranger_from, brought, end_of_item, ends, first_stranger, first_stranger_from, has_fewer, has_left, is_strange_after, kind_waiting, last, meeting_offer, meeting_offers, puts_brought, puts_complete, puts_met, waiting, waits}
