@@ -1,5 +1,5 @@
 -- An arrival that is not strange, as the clients, the disk, the order and the lines show it.
-use Rattle.file_owner.proofs.Words.{◌≡◌, ℕ, zero, suc, ◌<◌, ◌≤◌, refl, sym, ◌∙◌, ap, subst, inl, inr, ◌⊎◌, List, [], ◌∷◌, ◌++◌, length, set, get_or, Bool, true, false, Option, Some, None, Result, arith, cases_eq, append-nil, length-set, slice_get, is_some, IfSome, OnOk, list_all, list_any, same_Some, get_or_from_slice_get, and_first, and_second, Header, Hints, DiskCall, MeetKind, Offer, OfferKind, OwnerItem, Stop, RankItem, with_end, End, Owner, Event, Client, at_offer, differs, does_meeting, does_solo, event, holds, is_strange, keeps, kind_held, meets_if, offers_held, stop_held, stops, meeting_calls, solo_calls, Setting, is_sound, Arrival, kind_of_meeting, counted, HasOwnElements, HasOwnPuts, AreAlike, IsCount, IsFit, event_is, calls_at, calls_at_offer, calls_if, owner_at, each_told, event_calls, GoesSo, Grows, HasDone, HasMovedOnce, HoldSingle, IsAlone, IsHeld, IsSingle, IsSteady, IsTogether, Standing, IsSingleOffer, held_stops, put_one, stop_each, stops_for, count_less, count_longer, entry_below, entry_set, entry_set_other, with_end-nil, client_ended, client_held, nat_tests}
+use Rattle.file_owner.proofs.Words.{◌≡◌, ℕ, zero, suc, ◌<◌, ◌≤◌, refl, sym, ◌∙◌, ap, subst, inl, inr, ◌⊎◌, List, [], ◌∷◌, ◌++◌, length, set, get_or, Bool, true, false, Option, Some, None, Result, arith, cases_eq, append-nil, length-set, slice_get, is_some, IfSome, OnOk, list_all, list_any, same_Some, get_or_from_slice_get, and_first, and_second, Header, Hints, DiskCall, MeetKind, Offer, OfferKind, OwnerItem, Stop, RankItem, with_end, End, Owner, Event, Client, at_offer, differs, does_meeting, does_solo, event, holds, is_strange, keeps, kind_held, meets_if, offers_held, stop_held, stops, meeting_calls, solo_calls, Setting, is_sound, Arrival, kind_of_meeting, counted, HasOwnElements, HasOwnPuts, AreAlike, IsCount, IsFit, event_is, calls_at, calls_at_offer, calls_if, owner_at, each_told, event_calls, GoesSo, Grows, HasDone, HasMovedOnce, HoldSingle, IsAlone, IsHeld, IsSingle, IsSteady, IsTogether, Standing, IsSingleOffer, held_stops, put_one, stop_each, stops_for, count_less, count_longer, entry_below, entry_set, entry_set_other, with_end-nil, client_ended, client_held, nat_tests, IfSome_then}
 use Rattle.nc_base.specs.declared.step.OfferKind.TheVariants as offer
 use Rattle.nc_base.specs.declared.step.RankItem.TheVariants as item
 use Rattle.file_owner.proofs.AlikeLaws.{lines_as, lines_none, lines_twice}
@@ -66,24 +66,16 @@ as_event hints s b m n a once to made told calls order heard lines e c alone h =
         heard = g.heard ∙ (λ i. with_end (heard i) (each_told (sym (e file) i)));
         given = λ q l. subst (λ (ev : Event). AreAlike (h.more q) (ev.given q)) (sym (e file)) (g.given q (low q l));
       };
-  exact = exact b.told m.told told h.exact;
+  exact = IfSome_then b.told (subst (λ (t : Option (List ℕ)). IfSome t (λ file. GoesSo once (to file) (made file) h.more m n)) told h.exact) (λ file k. record {
+    told = k.told ∙ ap (λ (ev : Event). Some ev.owner.state.file) (sym (e file));
+    given = λ q l. k.given q (low q l) ∙ ap (λ (ev : Event). ev.given q) (sym (e file));
+    calls = λ o. k.calls (alone o) ∙ (λ i. with_end (calls i) (sym (c file) i));
+  });
   single = λ o. h.single (alone o);
 }
   where
     low : (q : ℕ) → q < length b.lines → q < length m.lines
     low q l = subst (λ (ls : List (End OwnerItem)). q < length ls) (sym lines) l
-
-    exact : (bt mt : Option (List ℕ)) → mt ≡ bt → IfSome mt (λ file. GoesSo once (to file) (made file) h.more m n)
-        → IfSome bt (λ file. GoesSo (HoldSingle b.clients × IsSingle a.1) (event s (owner_at b file) a) (event_calls hints s (owner_at b file) a) h.more b n)
-    exact (Some file) (Some other) f g = whole (subst (λ (y : List ℕ). GoesSo once (to y) (made y) h.more m n) (same_Some other file f) g)
-      where
-        whole : GoesSo once (to file) (made file) h.more m n → GoesSo (HoldSingle b.clients × IsSingle a.1) (event s (owner_at b file) a) (event_calls hints s (owner_at b file) a) h.more b n
-        whole k = record {
-          told = k.told ∙ ap (λ (ev : Event). Some ev.owner.state.file) (sym (e file));
-          given = λ q l. k.given q (low q l) ∙ ap (λ (ev : Event). ev.given q) (sym (e file));
-          calls = λ o. k.calls (alone o) ∙ (λ i. with_end (calls i) (sym (c file) i));
-        }
-    exact bt mt f g = grind (arith, nat_tests)
 
 pub done_alone : (hints : Hints) (s : Setting) (b n : Standing) (r c : ℕ) (o : Offer) (x : Client) → slice_get b.clients r ≡ Some x → o.kind ≡ offer.Solo → IsAlone hints s c (r, o) b n
     → HasDone hints s (r, item.Offer c o) b n
@@ -244,12 +236,10 @@ good_at s len b r c i o sound h low own fit e = grind (arith, nat_tests, is_good
 pub as_item : (hints : Hints) (s : Setting) (r : ℕ) (i j : RankItem) (b n : Standing) → i ≡ j → HasDone hints s (r, j) b n → HasDone hints s (r, i) b n
 as_item hints s r i j b n e h = subst (λ (k : RankItem). HasDone hints s (r, k) b n) (sym e) h
 
--- the client that was read is the one there
-pub client_read : (clients : List Client) (r : ℕ) (x read : Client) → slice_get clients r ≡ Some x → read ≡ get_or clients r read → read ≡ x
-client_read clients r x read e f = f ∙ get_or_from_slice_get clients r x read e
-
-pub held_as : (x read y : Client) (o : Offer) → read ≡ x → y ≡ client_held read o → y ≡ client_held x o
-held_as x read y o e f = f ∙ ap (λ (z : Client). client_held z o) e
+-- the client that was read is the one there, and then holds this offer
+pub held_now : {header : Header} {len : ℕ} {b : Standing} {r c : ℕ} {o : Offer} (good : IsGood header len b r c o) (read y : Client) → read ≡ get_or b.clients r read → y ≡ client_held read o
+    → y ≡ client_held good.client o
+held_now {header} {len} {b} {r} {c} {o} good read y e f = f ∙ ap (λ (z : Client). client_held z o) (e ∙ get_or_from_slice_get b.clients r good.client read good.there)
 
 pub stopped_as : (d : Owner) (r : ℕ) (i j : RankItem) (old now : List (End OwnerItem)) → i ≡ j → Grows old (stops d ((r, j) ∷ [])) now → Grows old (stops d ((r, i) ∷ [])) now
 stopped_as d r i j old now e g = subst (λ (k : RankItem). Grows old (stops d ((r, k) ∷ [])) now) (sym e) g

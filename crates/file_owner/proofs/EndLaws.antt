@@ -1,5 +1,5 @@
 -- What the owner's ends tell when it is done.
-use Rattle.file_owner.proofs.Words.{point, ◌≡◌, ℕ, suc, ◌+◌, ◌<◌, refl, sym, ◌∙◌, ap, subst, inl, inr, List, [], ◌∷◌, ◌++◌, length, map, replicate, Bool, true, Option, Some, None, arith, append-nil, length-append, length-map, length-replicate, slice_get, nat_lt, filter, IfSome, list_all, Hints, DiskCall, Mark, Offer, OwnerItem, Stop, RankItem, StepErr, with_end, In, End, Receiver, Owner, Client, free_client, given_along, offers_in, owed, own_items, served, stop_held, stops, IsGivenInPart, Setting, Arrival, is_offer, OwnerStoodAt, counted, of_fault, of_stranger, IsHaltAt, Outcome, taken_from, stopped_with, owner_at, owner_calls, run, AreSingle, GoesSo, Grows, HoldSingle, Standing, HasCutService, arrived, gained, opening, HasFailed, HasTaken, HasToldAlong, HavePut, IsCutOff, IsDone, IsDoneSo, passed, Outlets, Halt, one_if, owed_count, alike_same, alike_two, if_some_at, entry_below, entry_replicate, own_two, nat_tests}
+use Rattle.file_owner.proofs.Words.{point, ◌≡◌, ℕ, suc, ◌+◌, ◌<◌, refl, sym, ◌∙◌, ap, subst, List, [], ◌∷◌, ◌++◌, length, map, replicate, Bool, true, Option, Some, None, arith, append-nil, length-append, length-map, length-replicate, slice_get, nat_lt, filter, IfSome, list_all, Hints, DiskCall, Mark, Offer, OwnerItem, Stop, RankItem, StepErr, with_end, In, End, Receiver, Owner, Client, free_client, given_along, offers_in, owed, own_items, served, stop_held, stops, IsGivenInPart, Setting, Arrival, is_offer, OwnerStoodAt, counted, of_fault, of_stranger, IsHaltAt, Outcome, taken_from, stopped_with, owner_at, owner_calls, run, AreSingle, GoesSo, Grows, HoldSingle, Standing, HasCutService, arrived, gained, opening, HasFailed, HasTaken, HasToldAlong, HavePut, IsCutOff, IsDone, IsDoneSo, passed, Outlets, Halt, one_if, owed_count, alike_same, alike_two, if_some_at, entry_below, entry_replicate, own_two, nat_tests, in_left, in_right}
 use Rattle.nc_outside.specs.declared.disk.Disk.{Ghosts as DiskGhosts}
 use Rattle.nc_outside.specs.declared.told.Told.{Ghosts as ToldGhosts}
 use Rattle.file_owner.specs.declared.service.Halt.TheVariants as halt
@@ -8,6 +8,20 @@ use Rattle.file_owner.proofs.OwnerRuns.{goes_on, GoesOn}
 use Rattle.file_owner.proofs.RefusedSteps.{stood_later}
 use Rattle.file_owner.proofs.StopLaws.{filter_joined, only_stops}
 use Rattle.file_owner.proofs.GainedLaws.{gained_is, have_put, arrived_is, StoppedAt, stopped_at, left_at}
+
+-- ---- stops alone
+
+stops_are : (xs : List RankItem) → map (λ (i : RankItem). Stop) xs ≡ replicate (length xs) Stop
+stops_are [] = refl
+stops_are (x ∷ xs) = ap (λ (items : List OwnerItem). Stop ∷ items) (stops_are xs)
+
+pub only_stops : (m : Option Client) (xs : List RankItem) → (k : ℕ) × (stop_held m ++ map (λ (i : RankItem). Stop) xs ≡ replicate k Stop)
+only_stops None xs = (length xs, stops_are xs)
+only_stops (Some x) xs = by_held x.held x.ended
+  where
+    by_held : (held : Option Offer) (ended : Option Bool) → (k : ℕ) × (stop_held (Some (record { held = held; ended = ended })) ++ map (λ (i : RankItem). Stop) xs ≡ replicate k Stop)
+    by_held None ended = (length xs, stops_are xs)
+    by_held (Some p) ended = (suc (length xs), ap (λ (items : List OwnerItem). Stop ∷ items) (stops_are xs))
 
 -- ---- the clauses
 
@@ -63,12 +77,7 @@ module _ (hints : Hints) (s : Setting) (old now : Receiver RankItem) (left : Lis
   out_bytes f m e = grind (arith, nat_tests, told_so, on, at, left_at, arrivals_are, gains, owes_stops)
 
   single_first : AreSingle (arrived old now) → AreSingle o.first
-  single_first alone a i = alone a (subst (λ (xs : List Arrival). In xs a) (sym arrivals_are) (joined o.first i))
-    where
-      joined : (xs : List Arrival) → In xs a → In (xs ++ o.last) a
-      joined [] i = absurd i
-      joined (x ∷ xs) (inl e) = inl e
-      joined (x ∷ xs) (inr i) = inr (joined xs i)
+  single_first alone a i = alone a (subst (λ (xs : List Arrival). In xs a) (sym arrivals_are) (in_left o.first o.last a i))
 
   pub out_calls : of_fault h ≡ None → HoldSingle before.clients → AreSingle (arrived old now) → (m : Option (List ℕ)) → before.told ≡ m
       → IfSome m (λ file. made ≡ with_end before.calls (owner_calls hints s (owner_at before file) (arrived old now)))
@@ -175,16 +184,7 @@ module _ (hints : Hints) (s : Setting) (old now : Receiver RankItem) (left : Lis
       )
     where
       single_later : AreSingle o.later
-      single_later a i = alone a (subst (λ (xs : List Arrival). In xs a) (sym arrivals_are) (behind o.first (subst (λ (xs : List Arrival). In xs a) (sym o.parts) (front o.later i))))
-        where
-          behind : (xs : List Arrival) → In o.last a → In (xs ++ o.last) a
-          behind [] k = k
-          behind (x ∷ xs) k = inr (behind xs k)
-
-          front : (xs : List Arrival) → In xs a → In (xs ++ o.more) a
-          front [] k = absurd k
-          front (x ∷ xs) (inl k) = inl k
-          front (x ∷ xs) (inr k) = inr (front xs k)
+      single_later a i = alone a (subst (λ (xs : List Arrival). In xs a) (sym arrivals_are) (in_right o.first o.last a (subst (λ (xs : List Arrival). In xs a) (sym o.parts) (in_left o.later o.more a i))))
 
   pub out_cut : (senders k : ℕ) (e : StepErr) → h ≡ halt.Fault e → ((file : List ℕ) → owner_at before file ≡ opening senders (counted file k)) → before.order ≡ [] → before.clients ≡ replicate senders free_client
       → HoldSingle before.clients → length before.lines ≡ senders → senders ≡ old.senders → (m : Option (List ℕ)) → before.told ≡ m

@@ -1,7 +1,7 @@
 mod Words
 pub mod AlikeLaws
 mod GainedLaws
-mod EndLaws
+pub mod EndLaws
 mod HaltedLaws
 mod HaltLaws
 pub mod StopLaws

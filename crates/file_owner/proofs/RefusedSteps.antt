@@ -1,5 +1,5 @@
 -- What a refused step leaves, as the owner's event has it.
-use Rattle.file_owner.proofs.Words.{◌≡◌, ℕ, ◌<◌, length, refl, sym, ◌∙◌, ap, subst, inl, inr, ◌⊎◌, List, [], ◌∷◌, ◌++◌, max, set, Bool, true, false, Option, Some, None, arith, append-nil, same_Some, slice_get, flat_map, IfSome, enumerate_from, list_all, byte_len, Batch, MeetKind, Offer, RankItem, StepErr, Memory, after, BothTold, Owner, Event, Client, does_meeting, does_solo, event, holds, is_strange, meets_if, needed_now, offers_at, offers_held, step_offers, Setting, meeting, puts_of, solo, count_width, Arrival, Puts, covered, IsTorn, OwnerStoodAt, at_arrival, between_arrivals, counted, puts_in, torn_by, torn_wider, batches_of, known_of, met, IsOneRise, met_count, met_done, met_torn, event_is, met_is, puts_same, owner_at, HoldSingle, IsSingle, IsSingleOffer, Standing, IsFaultAt, IsRefusedAlone, IsRefusedArrival, IsRefusedTogether, entry_below, client_held, nat_tests}
+use Rattle.file_owner.proofs.Words.{◌≡◌, ℕ, ◌<◌, length, refl, sym, ◌∙◌, ap, subst, inl, inr, ◌⊎◌, List, [], ◌∷◌, ◌++◌, max, set, Bool, true, false, Option, Some, None, arith, append-nil, same_Some, slice_get, flat_map, IfSome, enumerate_from, list_all, byte_len, Batch, MeetKind, Offer, RankItem, StepErr, Memory, after, BothTold, Owner, Event, Client, does_meeting, does_solo, event, holds, is_strange, meets_if, needed_now, offers_at, offers_held, step_offers, Setting, puts_of, solo, count_width, Arrival, Puts, covered, IsTorn, OwnerStoodAt, at_arrival, between_arrivals, counted, puts_in, torn_by, torn_wider, batches_of, known_of, met, IsOneRise, met_count, met_done, met_torn, event_is, met_is, puts_same, owner_at, HoldSingle, IsSingle, IsSingleOffer, Standing, IsFaultAt, IsRefusedAlone, IsRefusedArrival, IsRefusedTogether, entry_below, client_held, nat_tests, IfSome_then, some_each}
 use Rattle.nc_base.specs.declared.step.OfferKind.TheVariants as offer
 use Rattle.nc_base.specs.declared.step.RankItem.TheVariants as item
 use Rattle.serial_spec.specs.Torn.{IsLeft}
@@ -66,7 +66,13 @@ done_once s b batches known n left e f bytes count single = refused_together s b
 -- that brings an end, at which nothing is done
 pub arrival_ended : (s : Setting) (b : Standing) (r n : ℕ) (i : RankItem) (memory : Bool) (left : Option (List ℕ)) → i ≡ item.Ended memory → r < length b.clients → left ≡ b.told → n ≡ b.records
     → IsRefusedArrival s (r, i) b left n
-arrival_ended s b r n i memory left is low same count = subst (λ (j : RankItem). IsRefusedArrival s (r, j) b left n) (sym is) (by_told b.told same)
+arrival_ended s b r n i memory left is low same count =
+    subst (λ (j : RankItem). IsRefusedArrival s (r, j) b left n) (sym is) (some_each b.told (λ file there.
+    let x = entry_below b.clients r low in (
+      file,
+      same ∙ there,
+      subst (λ (v : Event). IsLeft s.header (held file) (counted file b.records) v.owner.state file n) (sym (event_is s (owner_at b file) r (item.Ended memory) x.0 x.1)) (kept file),
+    )))
   where
     held : List ℕ → List ℕ
     held file = covered s.header (flat_map puts_of (step_offers (owner_at b file) (r, item.Ended memory)))
@@ -74,20 +80,12 @@ arrival_ended s b r n i memory left is low same count = subst (λ (j : RankItem)
     kept : (file : List ℕ) → IsLeft s.header (held file) (counted file b.records) (counted file b.records) file n
     kept file = grind (arith, nat_tests, torn_by, held)
 
-    by_told : (m : Option (List ℕ)) → left ≡ m
-        → IfSome m (λ file. (now : List ℕ) × (left ≡ Some now) × IsLeft s.header (held file) (counted file b.records) (event s (owner_at b file) (r, item.Ended memory)).owner.state now n)
-    by_told None f = tt
-    by_told (Some file) f =
-        let there = entry_below b.clients r low in (
-          file,
-          f,
-          subst (λ (v : Event). IsLeft s.header (held file) (counted file b.records) v.owner.state file n) (sym (event_is s (owner_at b file) r (item.Ended memory) there.0 there.1)) (kept file),
-        )
-
 -- that brings its number's own step
 pub arrival_alone : (s : Setting) (b : Standing) (r c n : ℕ) (i : RankItem) (o : Offer) (x : Client) (left : Option (List ℕ)) → i ≡ item.Offer c o → slice_get b.clients r ≡ Some x → o.kind ≡ offer.Solo
     → IsRefusedAlone s c (r, o) b left n → IsRefusedArrival s (r, i) b left n
-arrival_alone s b r c n i o x left is e k h = subst (λ (j : RankItem). IsRefusedArrival s (r, j) b left n) (sym is) (by_told b.told h)
+arrival_alone s b r c n i o x left is e k h =
+    subst (λ (j : RankItem). IsRefusedArrival s (r, j) b left n) (sym is)
+    (IfSome_then b.told h (λ file t. grind (arith, nat_tests, bytes file, offer_event s (owner_at b file) r c o x offer.Solo e k)))
   where
     offers : (file : List ℕ) → step_offers (owner_at b file) (r, item.Offer c o) ≡ (r, o) ∷ []
     offers file = ap (λ (m : Option Client). elim m [ None ↦ [] | Some y ↦ offers_at (owner_at b file) r o y o.kind ]) e ∙ ap (offers_at (owner_at b file) r o x) k
@@ -95,29 +93,24 @@ arrival_alone s b r c n i o x left is e k h = subst (λ (j : RankItem). IsRefuse
     bytes : (file : List ℕ) → covered s.header (puts_of (r, o)) ≡ covered s.header (flat_map puts_of (step_offers (owner_at b file) (r, item.Offer c o)))
     bytes file = sym (ap (λ (os : List (ℕ × Offer)). covered s.header (flat_map puts_of os)) (offers file) ∙ ap (λ (ps : Puts). covered s.header ps) (append-nil (puts_of (r, o))))
 
-    by_told : (m : Option (List ℕ))
-        → IfSome m (λ file. (now : List ℕ) × (left ≡ Some now) × IsLeft s.header (covered s.header (puts_of (r, o))) (counted file b.records) (does_solo s (owner_at b file) r c o).owner.state now n)
-        → IfSome m (λ file. (now : List ℕ) × (left ≡ Some now) × IsLeft s.header (covered s.header (flat_map puts_of (step_offers (owner_at b file) (r, item.Offer c o)))) (counted file b.records)
-        (event s (owner_at b file) (r, item.Offer c o)).owner.state now n)
-    by_told None t = tt
-    by_told (Some file) t = grind (arith, nat_tests, bytes file, offer_event s (owner_at b file) r c o x offer.Solo e k)
-
 -- that brings a meeting
 pub arrival_together : (s : Setting) (b : Standing) (r c n : ℕ) (i : RankItem) (o : Offer) (x y : Client) (kind : MeetKind) (left : Option (List ℕ)) → i ≡ item.Offer c o → slice_get b.clients r ≡ Some x
     → y ≡ client_held x o → o.kind ≡ offer.Meet kind → list_all holds (set b.clients r y) ≡ true
     → (HoldSingle (set b.clients r y) → IsRefusedTogether s (with_clients b (set b.clients r y)) left n) → HoldSingle b.clients → IsSingle i → IsRefusedArrival s (r, i) b left n
 arrival_together s b r c n i o x y kind left is e f k all h held single =
     subst (λ (j : RankItem). IsRefusedArrival s (r, j) b left n) (sym is)
-    (by_told b.told (subst (λ (z : Client). IsRefusedTogether s (with_clients b (set b.clients r z)) left n) f (h alone)))
+    (IfSome_then b.told (subst (λ (z : Client). IsRefusedTogether s (with_clients b (set b.clients r z)) left n) f (h alone)) (λ file t. (
+      t.0,
+      t.1,
+      subst (λ (os : List (ℕ × Offer)). IsLeft s.header (covered s.header (flat_map puts_of os)) (counted file b.records) (event s (owner_at b file) (r, item.Offer c o)).owner.state t.0 n) (sym (offers file))
+          (subst (λ (ev : Event). IsLeft s.header (covered s.header (flat_map puts_of (enumerate_from 0 (offers_held (set b.clients r (client_held x o)))))) (counted file b.records) ev.owner.state t.0 n) (sym (to file)) t.2),
+    )))
   where
     own : IsSingleOffer o
     own = subst (λ (j : RankItem). IsSingle j) is single
 
     alone : HoldSingle (set b.clients r y)
     alone = single_set b.clients r x y e held (λ p g. subst IsSingleOffer (same_Some o p (sym (ap (λ (z : Client). z.held) f) ∙ g)) own)
-
-    clients : List Client
-    clients = set b.clients r (client_held x o)
 
     every : list_all holds (set b.clients r (client_held x o)) ≡ true
     every = ap (λ (z : Client). list_all holds (set b.clients r z)) (sym f) ∙ all
@@ -128,30 +121,11 @@ arrival_together s b r c n i o x y kind left is e f k all h held single =
     to : (file : List ℕ) → event s (owner_at b file) (r, item.Offer c o) ≡ does_meeting s (owner_at b file) (set b.clients r (client_held x o))
     to file = offer_event s (owner_at b file) r c o x (offer.Meet kind) e k ∙ ap (meets_if s (owner_at b file) (set b.clients r (client_held x o))) every
 
-    by_told : (m : Option (List ℕ))
-        → IfSome m (λ file. (now : List ℕ) × (left ≡ Some now) × IsLeft s.header (covered s.header (flat_map puts_of (enumerate_from 0 (offers_held (set b.clients r (client_held x o)))))) (counted file b.records)
-        (does_meeting s (owner_at b file) (set b.clients r (client_held x o))).owner.state now n)
-        → IfSome m (λ file. (now : List ℕ) × (left ≡ Some now) × IsLeft s.header (covered s.header (flat_map puts_of (step_offers (owner_at b file) (r, item.Offer c o)))) (counted file b.records)
-        (event s (owner_at b file) (r, item.Offer c o)).owner.state now n)
-    by_told None t = tt
-    by_told (Some file) t = (
-      t.0,
-      t.1,
-      subst (λ (os : List (ℕ × Offer)). IsLeft s.header (covered s.header (flat_map puts_of os)) (counted file b.records) (event s (owner_at b file) (r, item.Offer c o)).owner.state t.0 n) (sym (offers file))
-          (subst (λ (ev : Event). IsLeft s.header (covered s.header (flat_map puts_of (enumerate_from 0 (offers_held (set b.clients r (client_held x o)))))) (counted file b.records) ev.owner.state t.0 n) (sym (to file)) t.2),
-    )
-
 -- ---- where the owner stood
 
 pub fault_at : (s : Setting) (e : StepErr) (b : Standing) (a : Arrival) (n : ℕ) (left : Option (List ℕ)) → ((file : List ℕ) → is_strange s (owner_at b file) a ≡ false)
     → (HoldSingle b.clients → IsSingle a.1 → IsRefusedArrival s a b left n) → IsFaultAt s e b (a ∷ []) n left
-fault_at s e b a n left fit h = λ held single. by_told b.told (h held (single a (inl refl)))
-  where
-    by_told : (m : Option (List ℕ))
-        → IfSome m (λ file. (now : List ℕ) × (left ≡ Some now) × IsLeft s.header (covered s.header (flat_map puts_of (step_offers (owner_at b file) a))) (counted file b.records) (event s (owner_at b file) a).owner.state now n)
-        → IfSome m (λ file. (now : List ℕ) × (left ≡ Some now) × OwnerStoodAt s e (owner_at b file) (a ∷ []) now n)
-    by_told None t = tt
-    by_told (Some file) t = (t.0, t.1, at_arrival a [] refl (fit file) t.2)
+fault_at s e b a n left fit h = λ held single. IfSome_then b.told (h held (single a (inl refl))) (λ file t. (t.0, t.1, at_arrival a [] refl (fit file) t.2))
 
 -- nothing arrived yet
 pub fault_none : (s : Setting) (e : StepErr) (b : Standing) (n : ℕ) (left : Option (List ℕ)) → e ≡ Memory → left ≡ b.told → n ≡ b.records → IsFaultAt s e b [] n left

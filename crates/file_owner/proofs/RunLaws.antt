@@ -1,5 +1,5 @@
 -- What can be seen of an owner, arrival after arrival.
-use Rattle.file_owner.proofs.Words.{◌≡◌, ℕ, refl, sym, ◌∙◌, ap, subst, inl, inr, List, [], ◌∷◌, ◌++◌, length, false, Option, Some, None, append_assoc, arith, append-nil, IfSome, Hints, DiskCall, Mark, OwnerItem, with_end, In, Setting, Arrival, Owner, Event, event, given_along, is_strange, served, served_on, alike_two, owner_at, owner_calls, owner_told, each_told, event_calls, run, AreSingle, GoesAlike, GoesSo, HasDone, HasRun, HoldSingle, IsSingle, Standing, with_end-with_end, with_end-nil, nat_tests}
+use Rattle.file_owner.proofs.Words.{◌≡◌, ℕ, refl, sym, ◌∙◌, ap, inl, List, [], ◌∷◌, ◌++◌, length, false, Option, Some, None, append_assoc, arith, append-nil, IfSome, Hints, DiskCall, Mark, OwnerItem, with_end, Setting, Arrival, Owner, Event, event, given_along, is_strange, served, served_on, alike_two, owner_at, owner_calls, owner_told, each_told, event_calls, run, AreSingle, GoesAlike, GoesSo, HasDone, HasRun, HoldSingle, IsSingle, Standing, with_end-with_end, with_end-nil, nat_tests, IfSome_then, if_some_at, in_left, in_right}
 use Rattle.file_owner.proofs.AlikeLaws.{alike_by, lines_none, lines_twice}
 use Rattle.file_owner.proofs.OwnerRuns.{goes_on, told_on}
 
@@ -9,19 +9,10 @@ run_none hints s x = grind (arith, nat_tests, lines_none x.lines x.lines refl, a
 -- ---- one arrival more
 
 single_front : (first : List Arrival) (a : Arrival) → AreSingle (first ++ a ∷ []) → AreSingle first
-single_front first a h b i = h b (joined first b i)
-  where
-    joined : (xs : List Arrival) (b : Arrival) → In xs b → In (xs ++ a ∷ []) b
-    joined [] b i = absurd i
-    joined (x ∷ xs) b (inl e) = inl e
-    joined (x ∷ xs) b (inr i) = inr (joined xs b i)
+single_front first a h b i = h b (in_left first (a ∷ []) b i)
 
 single_last : (first : List Arrival) (a : Arrival) → AreSingle (first ++ a ∷ []) → IsSingle a.1
-single_last first a h = h a (last first)
-  where
-    last : (xs : List Arrival) → In (xs ++ a ∷ []) a
-    last [] = inl refl
-    last (x ∷ xs) = inr (last xs)
+single_last first a h = h a (in_right first (a ∷ []) a (inl refl))
 
 -- whatever bytes the file had, along the arrivals so far and the next one
 record GoesOnBy (hints : Hints) (s : Setting) (d : Owner) (first : List Arrival) (a : Arrival) : Type 0 where
@@ -60,18 +51,12 @@ run_more hints s before mid now first a r fit m = record {
     more = λ q. r.moved.more q ++ m.more q;
     lines = lines_twice before.lines mid.lines now.lines r.moved.more m.more r.moved.lines m.lines;
     alike = alike;
-    exact = exact before.told refl r.moved.exact;
+    exact = exact;
     single = λ h. m.single (r.moved.single (h.0, single_front first a h.1), single_last first a h.1);
   };
   none_strange = λ file. (by file).stranger;
 }
   where
-    last : List ℕ → Owner
-    last file = (served s (owner_at before file) first).owner
-
-    bytes : List ℕ → List ℕ
-    bytes file = (served s (owner_at before file) first).owner.state.file
-
     there : (file : List ℕ) → (served s (owner_at before file) first).owner ≡ owner_at mid (served s (owner_at before file) first).owner.state.file
     there file = (r.moved.alike file).owner
 
@@ -106,39 +91,21 @@ run_more hints s before mid now first a r fit m = record {
               (alike_two (r.moved.more q) (given_along s (owner_at before file) first q) (m.more q) ((event s (owner_at mid b) a).given q) (f.given q l) (g.given q (omega (arith, same_long))));
         }
 
-    exact : (told : Option (List ℕ)) → before.told ≡ told
-        → IfSome told (λ file. GoesSo (HoldSingle before.clients × AreSingle first) (run s (owner_at before file) first) (owner_calls hints s (owner_at before file) first) r.moved.more before mid)
-        → IfSome told (λ file. GoesSo (HoldSingle before.clients × AreSingle (first ++ a ∷ [])) (run s (owner_at before file) (first ++ a ∷ [])) (owner_calls hints s (owner_at before file) (first ++ a ∷ [])) (λ q. r.moved.more q ++ m.more q) before now)
-    exact None e h = tt
-    exact (Some file) e h = on_told mid.told h.told m.exact
-      where
-        b : List ℕ
-        b = (served s (owner_at before file) first).owner.state.file
-
-        to : event s (served s (owner_at before file) first).owner a ≡ event s (owner_at mid (served s (owner_at before file) first).owner.state.file) a
-        to = ap (λ (d : Owner). event s d a) (there file)
-
-        on_told : (t : Option (List ℕ)) → t ≡ Some (served s (owner_at before file) first).owner.state.file
-            → IfSome t (λ x. GoesSo (HoldSingle mid.clients × IsSingle a.1) (event s (owner_at mid x) a) (event_calls hints s (owner_at mid x) a) m.more mid now)
-            → GoesSo (HoldSingle before.clients × AreSingle (first ++ a ∷ [])) (run s (owner_at before file) (first ++ a ∷ [])) (owner_calls hints s (owner_at before file) (first ++ a ∷ [])) (λ q. r.moved.more q ++ m.more q) before now
-        on_told None f k = absurd cc
-        on_told (Some x) f k =
-            let same : x ≡ (served s (owner_at before file) first).owner.state.file = cc in
-            whole (subst (λ (y : List ℕ). GoesSo (HoldSingle mid.clients × IsSingle a.1) (event s (owner_at mid y) a) (event_calls hints s (owner_at mid y) a) m.more mid now) same k)
-          where
-            whole : GoesSo (HoldSingle mid.clients × IsSingle a.1) (event s (owner_at mid (served s (owner_at before file) first).owner.state.file) a)
-                (event_calls hints s (owner_at mid (served s (owner_at before file) first).owner.state.file) a) m.more mid now
-                → GoesSo (HoldSingle before.clients × AreSingle (first ++ a ∷ [])) (run s (owner_at before file) (first ++ a ∷ [])) (owner_calls hints s (owner_at before file) (first ++ a ∷ [])) (λ q. r.moved.more q ++ m.more q) before now
-            whole g = record {
-              told = g.told ∙ ap (λ (ev : Event). Some ev.owner.state.file) (sym to) ∙ ap (λ (d : Owner). Some d.state.file) (sym (by file).owner);
-              given = λ q l.
-                  (λ i. h.given q l i ++ g.given q (omega (arith, same_long)) i)
-                  ∙ ap (λ (ev : Event). given_along s (owner_at before file) first q ++ ev.given q) (sym to) ∙ sym ((by file).given q);
-              calls = λ c.
-                  let own : HoldSingle before.clients × AreSingle first = (c.0, single_front first a c.1) in
-                  g.calls (r.moved.single own, single_last first a c.1)
-                  ∙ ap (λ (cs : Option (List DiskCall)). with_end cs (event_calls hints s (owner_at mid (served s (owner_at before file) first).owner.state.file) a)) (h.calls own)
-                  ∙ with_end-with_end before.calls (owner_calls hints s (owner_at before file) first) (event_calls hints s (owner_at mid (served s (owner_at before file) first).owner.state.file) a)
-                  ∙ ap (λ (d : Owner). with_end before.calls (owner_calls hints s (owner_at before file) first ++ event_calls hints s d a)) (sym (there file))
-                  ∙ ap (λ (cs : List DiskCall). with_end before.calls cs) (sym (by file).calls);
-            }
+    exact : IfSome before.told (λ file. GoesSo (HoldSingle before.clients × AreSingle (first ++ a ∷ [])) (run s (owner_at before file) (first ++ a ∷ [])) (owner_calls hints s (owner_at before file) (first ++ a ∷ [])) (λ q. r.moved.more q ++ m.more q) before now)
+    exact = IfSome_then before.told r.moved.exact (λ file h.
+        let b = (served s (owner_at before file) first).owner.state.file in
+        let to = ap (λ (d : Owner). event s d a) (there file) in
+        let g = if_some_at (λ (x : List ℕ). GoesSo (HoldSingle mid.clients × IsSingle a.1) (event s (owner_at mid x) a) (event_calls hints s (owner_at mid x) a) m.more mid now) mid.told b h.told m.exact in
+        record {
+          told = g.told ∙ ap (λ (ev : Event). Some ev.owner.state.file) (sym to) ∙ ap (λ (d : Owner). Some d.state.file) (sym (by file).owner);
+          given = λ q l.
+              (λ i. h.given q l i ++ g.given q (omega (arith, same_long)) i)
+              ∙ ap (λ (ev : Event). given_along s (owner_at before file) first q ++ ev.given q) (sym to) ∙ sym ((by file).given q);
+          calls = λ c.
+              let own : HoldSingle before.clients × AreSingle first = (c.0, single_front first a c.1) in
+              g.calls (r.moved.single own, single_last first a c.1)
+              ∙ ap (λ (cs : Option (List DiskCall)). with_end cs (event_calls hints s (owner_at mid b) a)) (h.calls own)
+              ∙ with_end-with_end before.calls (owner_calls hints s (owner_at before file) first) (event_calls hints s (owner_at mid b) a)
+              ∙ ap (λ (d : Owner). with_end before.calls (owner_calls hints s (owner_at before file) first ++ event_calls hints s d a)) (sym (there file))
+              ∙ ap (λ (cs : List DiskCall). with_end before.calls cs) (sym (by file).calls);
+        })

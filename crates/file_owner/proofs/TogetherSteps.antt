@@ -1,5 +1,5 @@
 -- The meeting of what is held, as the disk, the order and the lines show it.
-use Rattle.file_owner.proofs.Words.{◌≡◌, ℕ, zero, suc, ◌+◌, ◌≤◌, refl, sym, ◌∙◌, ap, subst, List, [], ◌∷◌, ◌++◌, length, map, max, Option, Some, None, arith, flat_map, IfSome, enumerate_from, Pair, Batch, Hints, Meet, Offer, after, with_end, does_meeting, freed, needed_now, offers_held, to_each, meeting_calls, Counted, Setting, after_puts, get_post, meeting, puts_of, told, wanted, counted, puts_in, AreAlike, owner_at, replies, GoesSo, Grows, HoldSingle, IsTogether, Standing, reply_of, batches_of, known_of, met, met_calls, IsOneRise, gots_long, met_calls_are, met_is, puts_same, replies_are, if_some_at, map_map, raised_records, nat_tests}
+use Rattle.file_owner.proofs.Words.{◌≡◌, ℕ, zero, suc, ◌+◌, ◌≤◌, refl, sym, ◌∙◌, ap, subst, List, [], ◌∷◌, ◌++◌, length, map, max, Option, Some, arith, flat_map, IfSome, enumerate_from, Pair, Batch, Hints, Meet, Offer, after, with_end, freed, needed_now, offers_held, to_each, Counted, Setting, after_puts, get_post, meeting, puts_of, told, wanted, counted, puts_in, AreAlike, replies, Grows, HoldSingle, IsTogether, Standing, reply_of, batches_of, known_of, met, met_calls, IsOneRise, gots_long, met_calls_are, met_is, puts_same, replies_are, if_some_at, map_map, raised_records, nat_tests, some_each}
 use Rattle.nc_base.specs.declared.step.Reply as reply
 use Rattle.file_owner.proofs.HeldLaws.{freed_none}
 
@@ -62,7 +62,18 @@ together s hints b n batches known pair table h = record {
     heard = h.heard ∙ ap (λ (k : ℕ). with_end b.heard ((Meet b.met, k) ∷ [])) (sym (count file));
     given = λ q l. each_alike s pair (told s (flat_map puts_of (enumerate_from 0 offers))) n.records (meeting s offers (counted file b.records)).0 table offers q same_pair (sym (count file)) fits;
   };
-  exact = exact b.told refl;
+  exact = some_each b.told (λ file e.
+      let c = counted file b.records in
+      let left = h.bytes ∙ ap (after (λ file. (met s batches known (counted file b.records)).file)) e in
+      let got = if_some_at (λ x. table ≡ map (λ b. map (get_post s x) b.gets) batches) n.told (met s batches known c).file left h.got in
+      let all = replies_are s (offers_held b.clients) batches known n.records c pair table h.batches_are h.known_is h.pair_is (count_of file) got in
+      record {
+        told = left ∙ ap (λ (d : Counted). Some d.file) (sym (met_is s (offers_held b.clients) batches known c h.batches_are h.known_is));
+        given = λ q l. replies_each pair n.records table q ∙ ap (λ (ys : List reply.Reply). to_each ys q) (sym all);
+        calls = λ alone.
+            if_some_at (λ x. n.calls ≡ with_end b.calls (met_calls hints s batches known (counted x b.records))) b.told file e (h.calls (once alone))
+            ∙ ap (with_end b.calls) (sym (met_calls_are hints s (offers_held b.clients) batches known c h.batches_are h.known_is));
+      });
   single = grind (arith, nat_tests, freed_none);
 }
   where
@@ -92,19 +103,3 @@ together s hints b n batches known pair table h = record {
 
     once : HoldSingle b.clients → IsOneRise known batches
     once alone = subst (λ (k : ℕ). IsOneRise k batches) (sym h.known_is) (subst (λ (bs : List Batch). IsOneRise (known_of (offers_held b.clients)) bs) (sym h.batches_are) (h.once alone))
-
-    exact : (m : Option (List ℕ)) → b.told ≡ m
-        → IfSome m (λ file. GoesSo (HoldSingle b.clients) (does_meeting s (owner_at b file) b.clients) (meeting_calls hints s (offers_held b.clients) (counted file b.records)) (replies pair n.records table) b n)
-    exact None e = tt
-    exact (Some file) e =
-        let c = counted file b.records in
-        let left = h.bytes ∙ ap (after (λ file. (met s batches known (counted file b.records)).file)) e in
-        let got = if_some_at (λ x. table ≡ map (λ b. map (get_post s x) b.gets) batches) n.told (met s batches known c).file left h.got in
-        let all = replies_are s (offers_held b.clients) batches known n.records c pair table h.batches_are h.known_is h.pair_is (count_of file) got in
-        record {
-          told = left ∙ ap (λ (d : Counted). Some d.file) (sym (met_is s (offers_held b.clients) batches known c h.batches_are h.known_is));
-          given = λ q l. replies_each pair n.records table q ∙ ap (λ (ys : List reply.Reply). to_each ys q) (sym all);
-          calls = λ alone.
-              if_some_at (λ x. n.calls ≡ with_end b.calls (met_calls hints s batches known (counted x b.records))) b.told file e (h.calls (once alone))
-              ∙ ap (with_end b.calls) (sym (met_calls_are hints s (offers_held b.clients) batches known c h.batches_are h.known_is));
-        }

@@ -1,5 +1,5 @@
 -- The words of this crate's proofs, from where they stand.
-pub use Rattle.list_laws.proofs.Std.{AllByRecursion, Bool, Err, IfSome, List, None, OnOk, Option, Result, Some, [], and_right, any_passes_from_place, ap, append-nil, append_assoc, arith, byte_len, cases_eq, common_steps, drop, drop-append_seam, enumerate_from, eqb_tells, false, filter, flat_map, get_or, get_or_from_slice_get, inl, inr, is_some, length, length-map, length-replicate, length-set, list_all, list_any, map, map-append, max, nat_lt, nat_tests, not, not-false, on_err_weaker, on_ok_weaker, option_map, option_to_list, or_parts, refl, replicate, rules, same_Some, set, slice_get, slice_get-get_or, subst, suc, sym, take, true, zero, ℕ, ◌&&◌, ◌*◌, ◌++◌, ◌+◌, ◌<◌, ◌==◌, ◌^◌, ◌||◌, ◌∙◌, ◌∷◌, ◌≡◌, ◌≤◌, ◌⊎◌}
+pub use Rattle.list_laws.proofs.Std.{AllByRecursion, Bool, Err, IfSome, IfSome_then, List, None, OnOk, Option, Result, Some, [], and_right, any_passes_from_place, ap, append-nil, append_assoc, arith, byte_len, cases_eq, common_steps, drop, drop-append_seam, enumerate_from, eqb_tells, false, filter, flat_map, get_or, get_or_from_slice_get, inl, inr, is_some, length, length-map, length-replicate, length-set, list_all, list_any, map, map-append, max, nat_lt, nat_tests, not, not-false, on_err_weaker, on_ok_weaker, option_map, option_to_list, or_parts, refl, replicate, rules, same_Some, set, slice_get, slice_get-get_or, subst, suc, sym, take, true, zero, ℕ, ◌&&◌, ◌*◌, ◌++◌, ◌+◌, ◌<◌, ◌==◌, ◌^◌, ◌||◌, ◌∙◌, ◌∷◌, ◌≡◌, ◌≤◌, ◌⊎◌}
 pub use Rattle.std.proofs.lemmas.List.{length-append}
 pub use Rattle.std.specs.Prelude.{◌≢◌}
 pub use Rattle.collective_round.proofs.TornFiles.{torn_by, torn_wider}
@@ -31,7 +31,7 @@ pub use Rattle.nc_base.specs.declared.step.OwnerItem.TheVariants.{Reply}
 pub use Rattle.nc_outside.proofs.ToldLaws.{with_end-nil, with_end-with_end}
 pub use Rattle.nc_outside.specs.Cause.{Rose}
 pub use Rattle.nc_outside.specs.Told.{BothTold, after, with_end}
-pub use Rattle.overlay_laws.proofs.Common.{In}
+pub use Rattle.overlay_laws.proofs.Common.{In, in_left, in_right}
 pub use Rattle.owner_laws.proofs.ServedLaws.{cut_by_arrivals, done_by_arrivals}
 pub use Rattle.rank_core.specs.Offered.{IsPut, IsSoundOffer}
 pub use Rattle.rank_items.proofs.OwnBytes.{own_bytes}
@@ -43,6 +43,7 @@ pub use Rattle.turn_run.proofs.CountLaws.{count_less, count_longer, count_max}
 pub use Rattle.turn_run.proofs.CutMeet.{met_count, met_done, met_torn}
 pub use Rattle.turn_run.proofs.MeetOffers.{offers_job, one_rise, rise_brought}
 pub use Rattle.turn_run.proofs.MeetStep.{met_calls_are, met_is, puts_same, replies_are}
+pub use Rattle.turn_run.proofs.StageLaws.{some_each}
 pub use Rattle.turn_run.specs.Counts.{IsCount, IsFit, IsRise}
 pub use Rattle.turn_run.specs.Known.{point}
 pub use Rattle.turn_run.specs.Running.{reply_of}

@@ -1,7 +1,7 @@
 -- An end, an offer that a number makes alone, a meeting, and an offer that is held.
 use Rattle.file_owner.proofs.Words.{ℕ, [], sym, refl, ◌∙◌, ap, subst, on_err_weaker, on_ok_weaker, list_all, holds, dataset_setting, owner_of, standing, count_longer, IsCount, entry_read}
 use Rattle.nc_base.specs.declared.step.RankItem.TheVariants as item
-use Rattle.file_owner.proofs.ArriveSteps.{all_stopped, as_item, done_alone, done_ended, done_held, done_together, good_at, held_as, on_ok_three, client_read, steady_alone, steady_ended, steady_held, stopped_as}
+use Rattle.file_owner.proofs.ArriveSteps.{all_stopped, as_item, done_alone, done_ended, done_held, done_together, good_at, held_now, on_ok_three, steady_alone, steady_ended, steady_held, stopped_as}
 use Rattle.file_owner.proofs.RefusedSteps.{arrival_alone, arrival_ended, arrival_together}
 use Rattle.file_owner.proofs.owner.Owner.arrive.Goals as goal
 
@@ -23,8 +23,7 @@ do_together-requires-clause-steady g c κs within =
     let good = good_at (dataset_setting c.args.dataset.now) (g.D.Disk.len c.args.out.now.disk.now) b c.args.number c.in-Offer.call c.args.item c.in-Offer.offer c.requires.dataset.sound c.requires.steady c.requires.number
     c.requires.own c.requires.fit c.in-Offer.is in
     steady_held c.args.dataset.now.header.now (g.D.Disk.len c.args.out.now.disk.now) b c.args.number c.in-Offer.call c.in-Offer.offer c.hold.new.self c.in-Meet.field-0 c.requires.steady good
-    (held_as good.client c.index_mut-in-Meet.result.now c.hold.new.self c.in-Offer.offer (client_read c.args.self.now.clients.items c.args.number good.client c.index_mut-in-Meet.result.now good.there c.index_mut-in-Meet.ensures.value)
-    c.hold.ensures) c.in-Meet.is
+    (held_now good c.index_mut-in-Meet.result.now c.hold.new.self c.index_mut-in-Meet.ensures.value c.hold.ensures) c.in-Meet.is
 
 pub returns-then-memory-clause-refused : goal.returns-then-memory-clause-refused
 returns-then-memory-clause-refused g c = λ held single.
@@ -79,8 +78,7 @@ returns-then-all_hold-clause-done g c =
     on_ok_weaker c.do_together.result (λ h.
     as_item c.args.dataset.now.hints.now (dataset_setting c.args.dataset.now) c.args.number c.args.item (item.Offer c.in-Offer.call c.in-Offer.offer) b now c.in-Offer.is
     (done_together c.args.dataset.now.hints.now (dataset_setting c.args.dataset.now) b now c.args.number c.in-Offer.call c.in-Offer.offer good.client c.hold.new.self c.in-Meet.field-0 good.there
-    (held_as good.client c.index_mut-in-Meet.result.now c.hold.new.self c.in-Offer.offer (client_read c.args.self.now.clients.items c.args.number good.client c.index_mut-in-Meet.result.now good.there c.index_mut-in-Meet.ensures.value)
-    c.hold.ensures) c.in-Meet.is (ap (λ ss. list_all holds ss) (sym c.deref-in-Meet.ensures.value) ∙ sym c.all_hold.ensures ∙ c.if-all_hold.true) h)) c.do_together.ensures.done
+    (held_now good c.index_mut-in-Meet.result.now c.hold.new.self c.index_mut-in-Meet.ensures.value c.hold.ensures) c.in-Meet.is (ap (λ ss. list_all holds ss) (sym c.deref-in-Meet.ensures.value) ∙ sym c.all_hold.ensures ∙ c.if-all_hold.true) h)) c.do_together.ensures.done
 
 pub returns-then-all_hold-clause-stopped : goal.returns-then-all_hold-clause-stopped
 returns-then-all_hold-clause-stopped g c =
@@ -99,8 +97,7 @@ returns-else-all_hold-clause-done g c =
     c.requires.own c.requires.fit c.in-Offer.is in
     as_item c.args.dataset.now.hints.now (dataset_setting c.args.dataset.now) c.args.number c.args.item (item.Offer c.in-Offer.call c.in-Offer.offer) b _ c.in-Offer.is
     (done_held c.args.dataset.now.hints.now (dataset_setting c.args.dataset.now) b c.args.number c.in-Offer.call c.in-Offer.offer good.client c.hold.new.self c.in-Meet.field-0 good.there
-    (held_as good.client c.index_mut-in-Meet.result.now c.hold.new.self c.in-Offer.offer (client_read c.args.self.now.clients.items c.args.number good.client c.index_mut-in-Meet.result.now good.there c.index_mut-in-Meet.ensures.value)
-    c.hold.ensures) c.in-Meet.is (ap (λ ss. list_all holds ss) (sym c.deref-in-Meet.ensures.value) ∙ sym c.all_hold.ensures ∙ c.if-all_hold.false))
+    (held_now good c.index_mut-in-Meet.result.now c.hold.new.self c.index_mut-in-Meet.ensures.value c.hold.ensures) c.in-Meet.is (ap (λ ss. list_all holds ss) (sym c.deref-in-Meet.ensures.value) ∙ sym c.all_hold.ensures ∙ c.if-all_hold.false))
 
 pub returns-else-all_hold-clause-steady : goal.returns-else-all_hold-clause-steady
 returns-else-all_hold-clause-steady g c =
@@ -108,8 +105,7 @@ returns-else-all_hold-clause-steady g c =
     let good = good_at (dataset_setting c.args.dataset.now) (g.D.Disk.len c.args.out.now.disk.now) b c.args.number c.in-Offer.call c.args.item c.in-Offer.offer c.requires.dataset.sound c.requires.steady c.requires.number
     c.requires.own c.requires.fit c.in-Offer.is in
     steady_held c.args.dataset.now.header.now (g.D.Disk.len c.args.out.now.disk.now) b c.args.number c.in-Offer.call c.in-Offer.offer c.hold.new.self c.in-Meet.field-0 c.requires.steady good
-    (held_as good.client c.index_mut-in-Meet.result.now c.hold.new.self c.in-Offer.offer (client_read c.args.self.now.clients.items c.args.number good.client c.index_mut-in-Meet.result.now good.there c.index_mut-in-Meet.ensures.value)
-    c.hold.ensures) c.in-Meet.is
+    (held_now good c.index_mut-in-Meet.result.now c.hold.new.self c.index_mut-in-Meet.ensures.value c.hold.ensures) c.in-Meet.is
 
 pub returns-in-Solo-clause-refused : goal.returns-in-Solo-clause-refused
 returns-in-Solo-clause-refused g c =
@@ -128,5 +124,4 @@ returns-then-all_hold-clause-refused g c =
     on_err_weaker c.do_together.result (λ h.
     arrival_together (dataset_setting c.args.dataset.now) b c.args.number c.in-Offer.call c.do_together.new.out.records.now c.args.item c.in-Offer.offer good.client c.hold.new.self c.in-Meet.field-0
     (g.D.Disk.held c.do_together.new.out.disk.now) c.in-Offer.is good.there
-    (held_as good.client c.index_mut-in-Meet.result.now c.hold.new.self c.in-Offer.offer (client_read c.args.self.now.clients.items c.args.number good.client c.index_mut-in-Meet.result.now good.there c.index_mut-in-Meet.ensures.value)
-    c.hold.ensures) c.in-Meet.is (ap (λ ss. list_all holds ss) (sym c.deref-in-Meet.ensures.value) ∙ sym c.all_hold.ensures ∙ c.if-all_hold.true) h) c.do_together.ensures.refused
+    (held_now good c.index_mut-in-Meet.result.now c.hold.new.self c.index_mut-in-Meet.ensures.value c.hold.ensures) c.in-Meet.is (ap (λ ss. list_all holds ss) (sym c.deref-in-Meet.ensures.value) ∙ sym c.all_hold.ensures ∙ c.if-all_hold.true) h) c.do_together.ensures.refused
