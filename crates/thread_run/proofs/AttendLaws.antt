@@ -1,10 +1,9 @@
 -- What a rank put and took, from one offer to the next.
-use Rattle.thread_run.proofs.Words.{◌≡◌, ℕ, ◌+◌, refl, List, [], ◌∷◌, ◌++◌, length, Bool, true, false, Option, Some, None, Ok, Err, Result, append_assoc, length-append, is_err, append-nil, filter-append, list_all-append, Answer, Header, Memory, Call, RankStop, Offer, OwnerItem, RankItem, offers_in, fits_offer, waiting, waiting_end, waiting_stop, Going, advance, first_going, hears, HasAttended, HasStood, IsAccounted, IsBroken, runner_end, asking, between, going_of, Runner, going_free, going_held, answers_begin, waiting_misfit, waiting_reply, waiting_end_misfit, waiting_end_reply, waiting_stop_misfit, waiting_stop_reply, arith, nat_tests}
+use Rattle.thread_run.proofs.Words.{◌≡◌, ℕ, refl, List, [], ◌∷◌, ◌++◌, length, Bool, true, false, Option, Some, None, Ok, Err, Result, append_assoc, length-append, is_err, append-nil, filter-append, list_all-append, Answer, Header, Memory, Call, RankStop, Offer, OwnerItem, RankItem, offers_in, fits_offer, waiting, waiting_end, waiting_stop, Going, advance, first_going, hears, HasAttended, HasStood, IsAccounted, IsBroken, runner_end, asking, between, going_of, Runner, going_free, going_held, answers_begin, waiting_misfit, waiting_reply, waiting_end_misfit, waiting_end_reply, waiting_stop_misfit, waiting_stop_reply, arith, nat_tests}
 use Rattle.nc_base.specs.declared.run.RankStop.TheVariants as stop
 use Rattle.nc_base.specs.declared.step.OwnerItem.TheVariants as owner_item
 use Rattle.nc_base.specs.declared.step.RankItem.TheVariants as item
 use Rattle.nc_base.specs.declared.step.Reply.{Reply}
-use Rattle.serial_spec.specs.RankMachine as machine
 
 -- ---- accounts
 

@@ -1,8 +1,10 @@
 -- A rank at its offer: what it waits for, and its way after the reply.
-use Rattle.thread_run.proofs.Words.{◌≡◌, ℕ, ◌<◌, ap, sym, subst, ◌∙◌, List, [], ◌∷◌, ◌++◌, length, map, Bool, true, Option, Some, None, append_assoc, arith, slice_get, is_some, IfSome, bytes_eq-Decides, at_in, and_first, Header, Var, Answer, Call, Direction, Region, Script, Mark, Meet, Solo, Offer, OfferKind, is_lawful, most_calls, Open, hear, fits_offer, wanted, check_some, Going, advance, first_going, hears, fits_gets, IsSoundOffer, HasOwnElements, own_elements, IsOnWay, meetings, Keeps, ranks_lawful, call_number, call_waits, way_begins, way_hears, IsAsked, asking, between, calls_of, going_of, HasHeard, IsPlaced, IsPlacedWith, first_runner, Runner, alone_waits, going_held, alone_heard, answered_is, heard_runner, entry_below, nat_tests, OwnerItem, RankItem, refl}
+use Rattle.thread_run.proofs.Words.{◌≡◌, ℕ, ◌<◌, ap, sym, subst, ◌∙◌, List, [], ◌∷◌, ◌++◌, length, map, Bool, true, Option, Some, None, append_assoc, arith, slice_get, is_some, IfSome, bytes_eq-Decides, at_in, and_first, Header, Var, Answer, Call, Direction, Region, Script, Mark, Meet, Solo, Offer, OfferKind, is_lawful, most_calls, Open, hear, fits_offer, wanted, check_some, Going, advance, first_going, hears, fits_gets, IsSoundOffer, HasOwnElements, own_elements, IsOnWay, meetings, Keeps, ranks_lawful, call_number, call_waits, way_begins, way_hears, IsAsked, asking, between, calls_of, going_of, HasHeard, IsPlaced, IsPlacedWith, first_runner, Runner, alone_waits, going_held, alone_heard, answered_is, heard_runner, entry_below, nat_tests, OwnerItem, RankItem, refl, IsAccounted, HasStood, Result, RankStop, Memory}
 use Rattle.nc_base.specs.declared.answer.Code.TheVariants as code
 use Rattle.nc_base.specs.declared.step.OfferKind.TheVariants as offer
+use Rattle.nc_base.specs.declared.step.RankItem.TheVariants as item
 use Rattle.nc_base.specs.declared.step.Reply.{Reply}
+use Rattle.thread_run.proofs.AttendLaws.{accounted_held}
 
 -- ---- before the first call
 
@@ -31,11 +33,11 @@ later_some header own before mid reply answers e heard (rest, h) = grind (arith,
 
 -- ---- at an offer
 
-pub placed_held : (script : Script) (header : Header) (order : List Mark) (r : ℕ) (own : List Call) (runner : Runner) (o : Offer) → runner.held ≡ Some o
+placed_held : (script : Script) (header : Header) (order : List Mark) (r : ℕ) (own : List Call) (runner : Runner) (o : Offer) → runner.held ≡ Some o
     → IsPlaced script header order r (going_of own runner) runner.held → IsPlacedWith script header order r (asking own runner, o) o.kind
 placed_held script header order r own runner o e w = grind (arith, nat_tests, going_held)
 
-pub placed_waits : (script : Script) (header : Header) (order : List Mark) (r : ℕ) (s : Going) (o : Offer) → IsPlacedWith script header order r (s, o) o.kind → Keeps s.rank.«open» o
+placed_waits : (script : Script) (header : Header) (order : List Mark) (r : ℕ) (s : Going) (o : Offer) → IsPlacedWith script header order r (s, o) o.kind → Keeps s.rank.«open» o
 placed_waits script header order r s o w = grind (arith, nat_tests, alone_waits, call_waits)
 
 pub placed_number : (script : Script) (header : Header) (order : List Mark) (r : ℕ) (s : Going) (o : Offer) → IsPlacedWith script header order r (s, o) o.kind
@@ -62,7 +64,7 @@ placed_heard script header order r own before now o reply e w h = by o.kind w
 
 -- ---- a reply that fits
 
-pub fits_is : (m : Option Open) (header same : Header) (o : Offer) (reply : Reply) (fits : Bool) → same ≡ header → Keeps m o
+fits_is : (m : Option Open) (header same : Header) (o : Offer) (reply : Reply) (fits : Bool) → same ≡ header → Keeps m o
     → IfSome m (λ w. fits ≡ fits_gets same w.gets reply) → fits ≡ fits_offer header o reply
 fits_is m header same o reply fits e keeps h = grind (arith, nat_tests)
 
@@ -93,3 +95,45 @@ pub one_each : (out : List RankItem) (from : List OwnerItem) (put : List RankIte
     → (p : List RankItem) × (t : List OwnerItem) × (now ≡ out ++ p) × (last ≡ from ++ t) × P p t
 one_each out from put taken x {mid} {now} {back} {last} {i} {j} P e f g same h p =
     (put ++ j ∷ [], taken ++ x ∷ [], items_more out mid now put i j e g same, items_more from back last taken x x f h refl, p)
+
+-- ---- at an offer that it holds, by all that it put and took so far
+
+pub record AtOffer (script : Script) (header : Header) (r : ℕ) (own : List Call) (out mid : List RankItem) (from back : List OwnerItem) (runner : Runner) (o : Offer) : Type 0 where
+  pub order : List Mark
+  pub placed : IsPlacedWith script header order r (asking own runner, o) o.kind
+  pub waits : Keeps runner.rank.state.«open» o
+  pub fits : (reply : Reply) (t : Bool) → IfSome runner.rank.state.«open» (λ w. t ≡ fits_gets runner.rank.header w.gets reply) → t ≡ fits_offer header o reply
+  pub put : List RankItem
+  pub taken : List OwnerItem
+  pub sent : mid ≡ out ++ put
+  pub came : back ≡ from ++ taken
+  pub account : IsAccounted header own put taken (asking own runner, Some o)
+
+pub at_offer : (script : Script) (header : Header) (r : ℕ) (own : List Call) (out mid : List RankItem) (from back : List OwnerItem) (runner : Runner) (o : Offer) → runner.rank.header ≡ header
+    → runner.held ≡ Some o → ((order : List Mark) × IsPlaced script header order r (going_of own runner) runner.held)
+    → ((put : List RankItem) × (taken : List OwnerItem) × (mid ≡ out ++ put) × (back ≡ from ++ taken) × IsAccounted header own put taken (going_of own runner, runner.held))
+    → AtOffer script header r own out mid from back runner o
+at_offer script header r own out mid from back runner o e held w a =
+    let placed = placed_held script header w.0 r own runner o held w.1 in
+    let waits = placed_waits script header w.0 r (asking own runner) o placed in
+    record {
+      order = w.0;
+      placed = placed;
+      waits = waits;
+      fits = λ reply t h. fits_is runner.rank.state.«open» header runner.rank.header o reply t e waits h;
+      put = a.0;
+      taken = a.1;
+      sent = a.2;
+      came = a.3;
+      account = accounted_held header own a.0 a.1 runner o held a.4;
+    }
+
+-- its offer was put, this item was taken, and so it stood
+pub stood_each : {script : Script} {header : Header} {r : ℕ} {own : List Call} {out mid : List RankItem} {from back : List OwnerItem} {runner : Runner} {o : Offer} {calls : List Call} {left : Runner}
+    {result : Result RankStop Memory} {now : List RankItem} {last : List OwnerItem} {i : RankItem} {n : ℕ} (at : AtOffer script header r own out mid from back runner o) (x : OwnerItem) → own ≡ calls
+    → now ≡ mid ++ i ∷ [] → i ≡ item.Offer n o → n ≡ length runner.answers → last ≡ back ++ x ∷ []
+    → HasStood header own (at.put ++ item.Offer (length runner.answers) o ∷ []) (at.taken ++ x ∷ []) left result
+    → (put : List RankItem) × (taken : List OwnerItem) × (now ≡ out ++ put) × (last ≡ from ++ taken) × HasStood header calls put taken left result
+stood_each {script} {header} {r} {own} {out} {mid} {from} {back} {runner} {o} {calls} {left} {result} at x all e is count f h =
+    one_each out from at.put at.taken x (λ p t. HasStood header calls p t left result) at.sent at.came e (is ∙ ap (λ (k : ℕ). item.Offer k o) count) f
+    (subst (λ (cs : List Call). HasStood header cs (at.put ++ item.Offer (length runner.answers) o ∷ []) (at.taken ++ x ∷ []) left result) all h)

@@ -1,6 +1,6 @@
 -- The owner's run along arrivals of which none was strange, wherever it was cut off: it is the serial run of its order, and each rank
 -- ended where that run's rank goes up to.
-use Rattle.thread_run.proofs.Words.{◌≡◌, ℕ, ◌+◌, ◌<◌, ◌≤◌, refl, sym, ◌∙◌, ap, subst, List, [], ◌∷◌, ◌++◌, length, map, replicate, Bool, true, false, Option, Some, None, append_assoc, arith, length-map, length-replicate, list_all-append, slice_get_within, slice_get, fold, nat_lt, list_all, entry_below, entry_replicate, entry_beside, and_first, and_second, Header, Call, Script, Mark, Offer, OwnerItem, Stop, Owner, Client, event, free_client, given_along, is_strange, offers_in, own_items, served, Setting, Counted, Arrival, is_sound, opening_owner, run_of, rank_end, Going, after_mark, first_going, setting_of, Begins, HasOffered, sound_small, calls_of, stranger_on, served_on, ServedOn, fold_two, counts_along, owner_told, given_on, mapped_entry, nat_tests}
+use Rattle.thread_run.proofs.Words.{◌≡◌, ℕ, ◌<◌, ◌≤◌, refl, sym, ◌∙◌, ap, subst, List, [], ◌∷◌, ◌++◌, length, map, replicate, Bool, true, false, Option, Some, None, append_assoc, arith, length-map, length-replicate, list_all-append, slice_get_within, slice_get, fold, nat_lt, list_all, entry_below, entry_replicate, entry_beside, and_first, and_second, Header, Call, Script, Mark, Offer, OwnerItem, Stop, Owner, Client, event, free_client, given_along, is_strange, offers_in, own_items, served, Setting, Counted, Arrival, is_sound, opening_owner, run_of, rank_end, Going, after_mark, first_going, setting_of, Begins, HasOffered, sound_small, calls_of, stranger_on, served_on, ServedOn, fold_two, counts_along, owner_told, given_on, mapped_entry, nat_tests}
 use borrow.Author.Tests.{ltb-true}
 use Rattle.thread_run.proofs.TellLaws.{count_of, tells_more}
 use Rattle.thread_run.proofs.CutRank.{IsPaired, sits_as}
@@ -60,7 +60,7 @@ ran s ((r, i) ∷ first) later d goings n end none low t = by (is_strange s d (r
         }
 
         step : Stepped s d goings (λ q. own_items q (first ++ later)) (event s d (r, i)) (λ q. given_along s (event s d (r, i)).owner first q ++ replicate (n q) Stop) end
-        step = arrival_stands s d goings r i (first ++ later) client.0 going.0 (λ q. given_along s (event s d (r, i)).owner first q ++ replicate (n q) Stop) end client.1 going.1 f whole
+        step = arrival_stands s d goings r (first ++ later) client.0 going.0 end client.1 going.1 i (λ q. given_along s (event s d (r, i)).owner first q ++ replicate (n q) Stop) f whole
 
         after : Ran s (event s d (r, i)).owner step.after first later n end
         after =

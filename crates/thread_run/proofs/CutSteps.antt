@@ -1,6 +1,5 @@
 -- All ranks, of whose items the owner saw a beginning each, at one arrival more that is not strange.
-use Rattle.thread_run.proofs.Words.{◌≡◌, ℕ, zero, suc, ◌+◌, ◌<◌, ◌≤◌, refl, sym, ◌∙◌, ap, subst, inl, inr, ◌⊎◌, List, [], ◌∷◌, ◌++◌, length, map, max, set, Bool, true, false, Option, Some, None, arith, ltb-false, or_from, eqb_tells, nat_tests, length-map, length-set, slice_get-map, same_Some, slice_get, flat_map, fold, is_some, enumerate_from, list_all, passes_at, some_or_none, entry_set, entry_set_other, entry_beside, or_first_false, or_second_false, solo_goes, Header, Offer, OfferKind, OwnerItem, Reply, RankItem, Owner, Event, Client, at_offer, does_meeting, does_solo, event, freed, holds, is_strange, keeps, meets_if, needed_now, offers_held, own_items, some_true, strange_offer, to_each, Setting, Counted, meeting, puts_of, solo, Arrival, record_limit, Going, advance, after_mark, hears, offers_of, less_max, meeting_small, solo_small, to_one_here, to_one_other, own_here, own_other, fit_passes, meeting_fits, solo_fits, going_after, goings_after, goings_long, meeting_is, meeting_within, offer_at, offers_long, replied, same_offers, solo_of_is, solo_within, Replied, event_is, strange_alone, client_ended, client_held}
-use Rattle.nc_base.specs.declared.step.OfferKind.TheVariants as offer
+use Rattle.thread_run.proofs.Words.{◌≡◌, ℕ, zero, suc, ◌<◌, ◌≤◌, refl, sym, ◌∙◌, ap, subst, inl, inr, ◌⊎◌, List, [], ◌∷◌, ◌++◌, length, map, max, set, Bool, true, false, Option, Some, None, arith, ltb-false, or_from, eqb_tells, nat_tests, length-map, length-set, slice_get-map, same_Some, slice_get, flat_map, fold, is_some, enumerate_from, list_all, passes_at, some_or_none, entry_set, entry_set_other, entry_beside, or_first_false, or_second_false, solo_goes, Header, Offer, OwnerItem, Reply, RankItem, Owner, Event, Client, does_meeting, does_solo, event, freed, holds, is_strange, keeps, needed_now, offers_held, own_items, some_true, strange_offer, to_each, Setting, Counted, meeting, puts_of, solo, Arrival, record_limit, Going, advance, after_mark, hears, offers_of, less_max, meeting_small, solo_small, to_one_here, to_one_other, own_here, own_other, fit_passes, meeting_fits, solo_fits, going_after, goings_after, goings_long, meeting_is, meeting_within, offer_at, offers_long, replied, same_offers, solo_of_is, solo_within, Replied, by_event, strange_alone, client_ended, client_held}
 use Rattle.nc_base.specs.declared.step.RankItem.TheVariants as item
 use Rattle.nc_base.specs.declared.step.Reply as reply
 use Rattle.thread_run.proofs.CutRank.{begin_ended, IsPaired, Waits, offered_now, held_now, hold_it, heard_now, sits_as}
@@ -38,93 +37,9 @@ pub fits_now : (s : Setting) (d : Owner) (r c : ℕ) (o : Offer) → is_strange 
 unfolding is_strange
 fits_now s d r c o h = grind (arith, nat_tests, fifth_false)
 
--- ---- an end, or an offer that is held
-
-set_one : (s : Setting) (d : Owner) (goings : List Going) (r : ℕ) (i : RankItem) (rest : List Arrival) (x y : Client) (g : Going) (given : ℕ → List OwnerItem) (end : ℕ → Going)
-    → slice_get d.clients r ≡ Some x → slice_get goings r ≡ Some g → IsPaired s.header y g (own_items r rest) (given r) (end r)
-    → ((o : Offer) → y.held ≡ Some o → strange_offer s.header d.reached (Some o) ≡ false)
-    → Stands s d goings (λ q. own_items q ((r, i) ∷ rest)) given end → Stands s (keeps d (set d.clients r y)).owner goings (λ q. own_items q rest) given end
-set_one s d goings r i rest x y g given end a b mine own t = record {
-  long = length-set d.clients r y ∙ t.long;
-  paired_at = λ q z h c e. by_number (λ p. slice_get (set d.clients r y) p ≡ Some z → slice_get goings p ≡ Some h → IsPaired s.header z h (own_items p rest) (given p) (end p)) q r here (λ n. there q z h n) c e;
-  held = λ q z o c e. grind (arith, nat_tests, set d.clients r y, entry_set d.clients r x y a, by_number, same_Some, entry_set_other);
-  counted = t.counted;
-  small = t.small;
-}
-  where
-    here : {z : Client} {h : Going} → slice_get (set d.clients r y) r ≡ Some z → slice_get goings r ≡ Some h → IsPaired s.header z h (own_items r rest) (given r) (end r)
-    here {z} {h} c e =
-        subst (λ (w : Client). IsPaired s.header w h (own_items r rest) (given r) (end r)) (same_Some y z (sym (entry_set d.clients r x y a) ∙ c))
-        (subst (λ (w : Going). IsPaired s.header y w (own_items r rest) (given r) (end r)) (same_Some g h (sym b ∙ e)) mine)
-
-    there : (q : ℕ) (z : Client) (h : Going) → (q ≡ r → ⊥) → slice_get (set d.clients r y) q ≡ Some z → slice_get goings q ≡ Some h → IsPaired s.header z h (own_items q rest) (given q) (end q)
-    there q z h n c e =
-        sits_as s.header z z h (own_items q ((r, i) ∷ rest)) (own_items q rest) (given q) (given q) (end q) refl (own_other q r i rest n) refl
-        (t.paired_at q z h (sym (entry_set_other d.clients r q y n) ∙ c) e)
-
-mine_first : (s : Setting) (d : Owner) (goings : List Going) (r : ℕ) (i : RankItem) (rest : List Arrival) (x : Client) (g : Going) (given : ℕ → List OwnerItem) (end : ℕ → Going) → slice_get d.clients r ≡ Some x
-    → slice_get goings r ≡ Some g → Stands s d goings (λ q. own_items q ((r, i) ∷ rest)) given end → IsPaired s.header x g (i ∷ own_items r rest) (given r) (end r)
-mine_first s d goings r i rest x g given end a b t = grind (arith, nat_tests, own_here r i rest, sits_as)
-
 ended_sits : (header : Header) (x : Client) (g : Going) (m : Bool) (items : List RankItem) (given : List OwnerItem) (end : Going) → IsPaired header x g (item.Ended m ∷ items) given end
     → IsPaired header (client_ended x m) g items given end
 ended_sits header x g m items given end t = grind (arith, nat_tests, begin_ended header x.held g t.back m items t.stream)
-
--- nothing of it is done
-kept : (s : Setting) (d : Owner) (goings : List Going) (coming : ℕ → List RankItem) (clients : List Client) (given : ℕ → List OwnerItem) (end : ℕ → Going) → length clients ≡ length d.clients
-    → Stands s (keeps d clients).owner goings coming given end → Stepped s d goings coming (keeps d clients) given end
-kept s d goings coming clients given end l t = record { after = goings; folded = refl; ranks = l; stands = t }
-
--- ---- an offer that its number makes alone
-
-solo_stands : (s : Setting) (d : Owner) (goings : List Going) (r c : ℕ) (o : Offer) (rest : List Arrival) (x : Client) (g : Going) (given : ℕ → List OwnerItem) (end : ℕ → Going) → slice_get d.clients r ≡ Some x
-    → slice_get goings r ≡ Some g → x.held ≡ None → strange_offer s.header d.reached (Some o) ≡ false
-    → Stands s d goings (λ q. own_items q ((r, item.Offer c o) ∷ rest)) (λ q. (does_solo s d r c o).given q ++ given q) end
-    → Stepped s d goings (λ q. own_items q rest) (does_solo s d r c o) given end
-solo_stands s d goings r c o rest x g given end a b free fit t = record {
-  after = set goings r heard;
-  folded = solo_goes s r d.state goings g b ∙ ap (λ (p : Counted × Going). (p.0, set goings r p.1)) (solo_of_is s r d.state (advance s.header g) o now.0);
-  ranks = refl;
-  stands = record {
-    long = t.long ∙ sym (length-set goings r heard);
-    paired_at = λ q z h e f. by_number (λ p. slice_get d.clients p ≡ Some z → slice_get (set goings r heard) p ≡ Some h → IsPaired s.header z h (own_items p rest) (given p) (end p)) q r here (λ n. there q z h n) e f;
-    held = λ q z p e f. not_stray s.header d.reached (max d.reached (needed_now s (puts_of (r, o)))) p (omega arith) (t.held q z p e f);
-    counted = let k = t.counted in omega arith;
-    small = within;
-  };
-}
-  where
-    y : reply.Reply
-    y = (solo s r o d.state).1
-
-    heard : Going
-    heard = hears s.header (advance s.header g).0 (solo s r o d.state).1
-
-    mine : IsPaired s.header x g (item.Offer c o ∷ own_items r rest) (Reply (solo s r o d.state).1 ∷ given r) (end r)
-    mine =
-        sits_as s.header x x g (item.Offer c o ∷ own_items r rest) (item.Offer c o ∷ own_items r rest) ((does_solo s d r c o).given r ++ given r) (Reply (solo s r o d.state).1 ∷ given r) (end r) refl refl
-        (ap (λ (xs : List OwnerItem). xs ++ given r) (to_one_here r (solo s r o d.state).1))
-        (mine_first s d goings r (item.Offer c o) rest x g (λ q. (does_solo s d r c o).given q ++ given q) end a b t)
-
-    now : ((advance s.header g).1 ≡ Some o) × Waits s.header (advance s.header g).0 o (own_items r rest) (Reply (solo s r o d.state).1 ∷ given r) (end r)
-    now = offered_now s.header x g c o (own_items r rest) (Reply (solo s r o d.state).1 ∷ given r) (end r) free mine
-
-    within : max d.reached (needed_now s (puts_of (r, o))) < record_limit s.header.version
-    within = less_max d.reached (needed_now s (puts_of (r, o))) (record_limit s.header.version) t.small (solo_small s r d.reached o fit)
-
-    few : (solo s r o d.state).1.records < record_limit s.header.version
-    few = grind (arith, nat_tests, solo_within s r d.reached o d.state (known_low s.header d.reached o fit), known_low, within)
-
-    here : {z : Client} {h : Going} → slice_get d.clients r ≡ Some z → slice_get (set goings r heard) r ≡ Some h → IsPaired s.header z h (own_items r rest) (given r) (end r)
-    here {z} {h} e f =
-        subst (λ (w : Client). IsPaired s.header w h (own_items r rest) (given r) (end r)) (same_Some x z (sym a ∙ e))
-        (subst (λ (w : Going). IsPaired s.header x w (own_items r rest) (given r) (end r)) (same_Some heard h (sym (entry_set goings r g heard b) ∙ f))
-        (heard_now s.header x (advance s.header g).0 o (solo s r o d.state).1 (own_items r rest) (given r) (end r) free (fit_passes s o (solo s r o d.state).1 (solo_fits s r o d.state) few) now.1))
-
-    there : (q : ℕ) (z : Client) (h : Going) → (q ≡ r → ⊥) → slice_get d.clients q ≡ Some z → slice_get (set goings r heard) q ≡ Some h → IsPaired s.header z h (own_items q rest) (given q) (end q)
-    there q z h n e f =
-        sits_as s.header z z h (own_items q ((r, item.Offer c o) ∷ rest)) (own_items q rest) ((does_solo s d r c o).given q ++ given q) (given q) (end q) refl (own_other q r (item.Offer c o) rest n)
-        (ap (λ (xs : List OwnerItem). xs ++ given q) (to_one_other q r (solo s r o d.state).1 n)) (t.paired_at q z h e (sym (entry_set_other goings r q heard n) ∙ f))
 
 -- ---- a meeting of all
 
@@ -197,59 +112,107 @@ meeting_stands s d goings coming clients given end all same t = record {
             subst (λ (w : Client). IsPaired s.header w h (coming q) (given q) (end q)) (same_Some (freed x) z (sym at_client ∙ e))
             (subst (λ (w : Going). IsPaired s.header (freed x) w (coming q) (given q) (end q)) (same_Some _ h (sym at_going ∙ f)) (one q x g o a b k y))
 
--- an offer that arrives is its rank's next
-pub own_offer : (s : Setting) (d : Owner) (goings : List Going) (r c : ℕ) (o : Offer) (rest : List Arrival) (x : Client) (g : Going) (given : ℕ → List OwnerItem) (end : ℕ → Going) → slice_get d.clients r ≡ Some x
-    → slice_get goings r ≡ Some g → x.held ≡ None → Stands s d goings (λ q. own_items q ((r, item.Offer c o) ∷ rest)) given end → (advance s.header g).1 ≡ Some o
-own_offer s d goings r c o rest x g given end a b free t =
-    (offered_now s.header x g c o (own_items r rest) (given r) (end r) free (mine_first s d goings r (item.Offer c o) rest x g given end a b t)).0
+-- ---- one rank's arrival
 
--- and is held
-pub held_keeps : (s : Setting) (d : Owner) (goings : List Going) (r c : ℕ) (o : Offer) (rest : List Arrival) (x : Client) (g : Going) (given : ℕ → List OwnerItem) (end : ℕ → Going) → slice_get d.clients r ≡ Some x
-    → slice_get goings r ≡ Some g → x.held ≡ None → strange_offer s.header d.reached (Some o) ≡ false → Stands s d goings (λ q. own_items q ((r, item.Offer c o) ∷ rest)) given end
-    → Stands s (keeps d (set d.clients r (client_held x o))).owner goings (λ q. own_items q rest) given end
-held_keeps s d goings r c o rest x g given end a b free fit u =
-    let now = offered_now s.header x g c o (own_items r rest) (given r) (end r) free (mine_first s d goings r (item.Offer c o) rest x g given end a b u) in
-    set_one s d goings r (item.Offer c o) rest x (client_held x o) g given end a b (hold_it s.header (client_held x o) g o (own_items r rest) (given r) (end r) refl now.0 now.1)
-    (λ p e. subst (λ (q : Offer). strange_offer s.header d.reached (Some q) ≡ false) (same_Some o p e) fit) u
+module _ (s : Setting) (d : Owner) (goings : List Going) (r : ℕ) (rest : List Arrival) (x : Client) (g : Going) (end : ℕ → Going) (a : slice_get d.clients r ≡ Some x) (b : slice_get goings r ≡ Some g) where
+  -- where this item of it comes first
+  abbrev Comes : RankItem → (ℕ → List OwnerItem) → Type 0
+  Comes i given = Stands s d goings (λ q. own_items q ((r, i) ∷ rest)) given end
 
--- ---- an arrival
+  mine_first : (i : RankItem) (given : ℕ → List OwnerItem) → Comes i given → IsPaired s.header x g (i ∷ own_items r rest) (given r) (end r)
+  mine_first i given t = subst (λ (items : List RankItem). IsPaired s.header x g items (given r) (end r)) (own_here r i rest) (t.paired_at r x g a b)
 
-offer_stands : (s : Setting) (d : Owner) (goings : List Going) (r c : ℕ) (o : Offer) (rest : List Arrival) (x : Client) (g : Going) (given : ℕ → List OwnerItem) (end : ℕ → Going) → slice_get d.clients r ≡ Some x
-    → slice_get goings r ≡ Some g → x.held ≡ None → strange_offer s.header d.reached (Some o) ≡ false → (kind : OfferKind)
-    → Stands s d goings (λ q. own_items q ((r, item.Offer c o) ∷ rest)) (λ q. (at_offer s d r c o x kind).given q ++ given q) end
-    → Stepped s d goings (λ q. own_items q rest) (at_offer s d r c o x kind) given end
-offer_stands s d goings r c o rest x g given end a b free fit offer.Solo t = solo_stands s d goings r c o rest x g given end a b free fit t
-offer_stands s d goings r c o rest x g given end a b free fit (offer.Meet kind) t = by_full (list_all holds clients) refl t
-  where
-    clients : List Client
-    clients = set d.clients r (client_held x o)
+  -- its client alone changes
+  set_one : (i : RankItem) (y : Client) (given : ℕ → List OwnerItem) → IsPaired s.header y g (own_items r rest) (given r) (end r)
+      → ((o : Offer) → y.held ≡ Some o → strange_offer s.header d.reached (Some o) ≡ false) → Comes i given → Stands s (keeps d (set d.clients r y)).owner goings (λ q. own_items q rest) given end
+  set_one i y given mine own t = record {
+    long = length-set d.clients r y ∙ t.long;
+    paired_at = λ q z h c e. by_number (λ p. slice_get (set d.clients r y) p ≡ Some z → slice_get goings p ≡ Some h → IsPaired s.header z h (own_items p rest) (given p) (end p)) q r here (λ n. there q z h n) c e;
+    held = λ q z o c e. grind (arith, nat_tests, set d.clients r y, entry_set d.clients r x y a, by_number, same_Some, entry_set_other);
+    counted = t.counted;
+    small = t.small;
+  }
+    where
+      here : {z : Client} {h : Going} → slice_get (set d.clients r y) r ≡ Some z → slice_get goings r ≡ Some h → IsPaired s.header z h (own_items r rest) (given r) (end r)
+      here {z} {h} c e =
+          subst (λ (w : Client). IsPaired s.header w h (own_items r rest) (given r) (end r)) (same_Some y z (sym (entry_set d.clients r x y a) ∙ c))
+          (subst (λ (w : Going). IsPaired s.header y w (own_items r rest) (given r) (end r)) (same_Some g h (sym b ∙ e)) mine)
 
-    by_full : (full : Bool) → list_all holds (set d.clients r (client_held x o)) ≡ full
-        → Stands s d goings (λ q. own_items q ((r, item.Offer c o) ∷ rest)) (λ q. (meets_if s d (set d.clients r (client_held x o)) full).given q ++ given q) end
-        → Stepped s d goings (λ q. own_items q rest) (meets_if s d (set d.clients r (client_held x o)) full) given end
-    by_full false e u = kept s d goings (λ q. own_items q rest) (set d.clients r (client_held x o)) given end (length-set d.clients r (client_held x o)) (held_keeps s d goings r c o rest x g given end a b free fit u)
-    by_full true e u =
-        meeting_stands s d goings (λ q. own_items q rest) (set d.clients r (client_held x o)) given end e (length-set d.clients r (client_held x o))
-        (held_keeps s d goings r c o rest x g (λ q. (does_meeting s d (set d.clients r (client_held x o))).given q ++ given q) end a b free fit u)
+      there : (q : ℕ) (z : Client) (h : Going) → (q ≡ r → ⊥) → slice_get (set d.clients r y) q ≡ Some z → slice_get goings q ≡ Some h → IsPaired s.header z h (own_items q rest) (given q) (end q)
+      there q z h n c e =
+          sits_as s.header z z h (own_items q ((r, i) ∷ rest)) (own_items q rest) (given q) (given q) (end q) refl (own_other q r i rest n) refl
+          (t.paired_at q z h (sym (entry_set_other d.clients r q y n) ∙ c) e)
 
-pub arrival_stands : (s : Setting) (d : Owner) (goings : List Going) (r : ℕ) (i : RankItem) (rest : List Arrival) (x : Client) (g : Going) (given : ℕ → List OwnerItem) (end : ℕ → Going) → slice_get d.clients r ≡ Some x
-    → slice_get goings r ≡ Some g → is_strange s d (r, i) ≡ false
-    → Stands s d goings (λ q. own_items q ((r, i) ∷ rest)) (λ q. (event s d (r, i)).given q ++ given q) end → Stepped s d goings (λ q. own_items q rest) (event s d (r, i)) given end
-arrival_stands s d goings r (item.Ended m) rest x g given end a b fit t =
-    subst (λ (e : Event). Stepped s d goings (λ q. own_items q rest) e given end) (sym is)
-    (kept s d goings (λ q. own_items q rest) (set d.clients r (client_ended x m)) given end (length-set d.clients r (client_ended x m))
-    (set_one s d goings r (item.Ended m) rest x (client_ended x m) g given end a b
-    (ended_sits s.header x g m (own_items r rest) (given r) (end r) (mine_first s d goings r (item.Ended m) rest x g given end a b u)) (λ o e. u.held r x o a e) u))
-  where
-    is : event s d (r, item.Ended m) ≡ keeps d (set d.clients r (client_ended x m))
-    is = event_is s d r (item.Ended m) x a
+  -- its offer is its next
+  pub own_offer : (c : ℕ) (o : Offer) (given : ℕ → List OwnerItem) → x.held ≡ None → Comes (item.Offer c o) given → (advance s.header g).1 ≡ Some o
+  own_offer c o given free t = (offered_now s.header x g c o (own_items r rest) (given r) (end r) free (mine_first (item.Offer c o) given t)).0
 
-    u : Stands s d goings (λ q. own_items q ((r, item.Ended m) ∷ rest)) given end
-    u = subst (λ (e : Event). Stands s d goings (λ q. own_items q ((r, item.Ended m) ∷ rest)) (λ q. e.given q ++ given q) end) is t
-arrival_stands s d goings r (item.Offer c o) rest x g given end a b fit t =
-    subst (λ (e : Event). Stepped s d goings (λ q. own_items q rest) e given end) (sym is)
-    (offer_stands s d goings r c o rest x g given end a b (strange_alone s d r (item.Offer c o) x a fit refl) (fits_now s d r c o fit) o.kind
-    (subst (λ (e : Event). Stands s d goings (λ q. own_items q ((r, item.Offer c o) ∷ rest)) (λ q. e.given q ++ given q) end) is t))
-  where
-    is : event s d (r, item.Offer c o) ≡ at_offer s d r c o x o.kind
-    is = event_is s d r (item.Offer c o) x a
+  -- and is held
+  pub held_keeps : (c : ℕ) (o : Offer) (given : ℕ → List OwnerItem) → x.held ≡ None → strange_offer s.header d.reached (Some o) ≡ false → Comes (item.Offer c o) given
+      → Stands s (keeps d (set d.clients r (client_held x o))).owner goings (λ q. own_items q rest) given end
+  held_keeps c o given free fit t =
+      let now = offered_now s.header x g c o (own_items r rest) (given r) (end r) free (mine_first (item.Offer c o) given t) in
+      set_one (item.Offer c o) (client_held x o) given (hold_it s.header (client_held x o) g o (own_items r rest) (given r) (end r) refl now.0 now.1)
+      (λ p e. subst (λ (q : Offer). strange_offer s.header d.reached (Some q) ≡ false) (same_Some o p e) fit) t
+
+  -- it makes its step alone
+  solo_stands : (c : ℕ) (o : Offer) (given : ℕ → List OwnerItem) → x.held ≡ None → strange_offer s.header d.reached (Some o) ≡ false → Comes (item.Offer c o) (λ q. (does_solo s d r c o).given q ++ given q)
+      → Stepped s d goings (λ q. own_items q rest) (does_solo s d r c o) given end
+  solo_stands c o given free fit t = record {
+    after = set goings r heard;
+    folded = solo_goes s r d.state goings g b ∙ ap (λ (p : Counted × Going). (p.0, set goings r p.1)) (solo_of_is s r d.state (advance s.header g) o now.0);
+    ranks = refl;
+    stands = record {
+      long = t.long ∙ sym (length-set goings r heard);
+      paired_at = λ q z h e f. by_number (λ p. slice_get d.clients p ≡ Some z → slice_get (set goings r heard) p ≡ Some h → IsPaired s.header z h (own_items p rest) (given p) (end p)) q r here (λ n. there q z h n) e f;
+      held = λ q z p e f. not_stray s.header d.reached (max d.reached (needed_now s (puts_of (r, o)))) p (omega arith) (t.held q z p e f);
+      counted = let k = t.counted in omega arith;
+      small = within;
+    };
+  }
+    where
+      heard : Going
+      heard = hears s.header (advance s.header g).0 (solo s r o d.state).1
+
+      now : ((advance s.header g).1 ≡ Some o) × Waits s.header (advance s.header g).0 o (own_items r rest) (Reply (solo s r o d.state).1 ∷ given r) (end r)
+      now =
+          offered_now s.header x g c o (own_items r rest) (Reply (solo s r o d.state).1 ∷ given r) (end r) free
+          (subst (λ (xs : List OwnerItem). IsPaired s.header x g (item.Offer c o ∷ own_items r rest) (xs ++ given r) (end r)) (to_one_here r (solo s r o d.state).1)
+          (mine_first (item.Offer c o) (λ q. (does_solo s d r c o).given q ++ given q) t))
+
+      within : max d.reached (needed_now s (puts_of (r, o))) < record_limit s.header.version
+      within = less_max d.reached (needed_now s (puts_of (r, o))) (record_limit s.header.version) t.small (solo_small s r d.reached o fit)
+
+      few : (solo s r o d.state).1.records < record_limit s.header.version
+      few = grind (arith, nat_tests, solo_within s r d.reached o d.state (known_low s.header d.reached o fit), known_low, within)
+
+      here : {z : Client} {h : Going} → slice_get d.clients r ≡ Some z → slice_get (set goings r heard) r ≡ Some h → IsPaired s.header z h (own_items r rest) (given r) (end r)
+      here {z} {h} e f =
+          subst (λ (w : Client). IsPaired s.header w h (own_items r rest) (given r) (end r)) (same_Some x z (sym a ∙ e))
+          (subst (λ (w : Going). IsPaired s.header x w (own_items r rest) (given r) (end r)) (same_Some heard h (sym (entry_set goings r g heard b) ∙ f))
+          (heard_now s.header x (advance s.header g).0 o (solo s r o d.state).1 (own_items r rest) (given r) (end r) free (fit_passes s o (solo s r o d.state).1 (solo_fits s r o d.state) few) now.1))
+
+      there : (q : ℕ) (z : Client) (h : Going) → (q ≡ r → ⊥) → slice_get d.clients q ≡ Some z → slice_get (set goings r heard) q ≡ Some h → IsPaired s.header z h (own_items q rest) (given q) (end q)
+      there q z h n e f =
+          sits_as s.header z z h (own_items q ((r, item.Offer c o) ∷ rest)) (own_items q rest) ((does_solo s d r c o).given q ++ given q) (given q) (end q) refl (own_other q r (item.Offer c o) rest n)
+          (ap (λ (xs : List OwnerItem). xs ++ given q) (to_one_other q r (solo s r o d.state).1 n)) (t.paired_at q z h e (sym (entry_set_other goings r q heard n) ∙ f))
+
+  pub arrival_stands : (i : RankItem) (given : ℕ → List OwnerItem) → is_strange s d (r, i) ≡ false → Comes i (λ q. (event s d (r, i)).given q ++ given q)
+      → Stepped s d goings (λ q. own_items q rest) (event s d (r, i)) given end
+  arrival_stands i given fit =
+      by_event s d r x a (λ j e. is_strange s d (r, j) ≡ false → Comes j (λ q. e.given q ++ given q) → Stepped s d goings (λ q. own_items q rest) e given end)
+      (λ m f t. record {
+        after = goings;
+        folded = refl;
+        ranks = length-set d.clients r (client_ended x m);
+        stands = set_one (item.Ended m) (client_ended x m) given (ended_sits s.header x g m (own_items r rest) (given r) (end r) (mine_first (item.Ended m) given t)) (λ o e. t.held r x o a e) t;
+      })
+      (λ c o free k f t. solo_stands c o given free (fits_now s d r c o f) t)
+      (λ c o kind free k some f t. record {
+        after = goings;
+        folded = refl;
+        ranks = length-set d.clients r (client_held x o);
+        stands = held_keeps c o given free (fits_now s d r c o f) t;
+      })
+      (λ c o kind free k all f t. meeting_stands s d goings (λ q. own_items q rest) (set d.clients r (client_held x o)) given end all (length-set d.clients r (client_held x o))
+      (held_keeps c o (λ q. (does_meeting s d (set d.clients r (client_held x o))).given q ++ given q) free (fits_now s d r c o f) t)) i (strange_alone s d r i x a fit) fit

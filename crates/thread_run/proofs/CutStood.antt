@@ -1,5 +1,5 @@
 -- Where a run on threads stood that a fault cut off, and which answers its ranks have.
-use Rattle.thread_run.proofs.Words.{◌≡◌, ℕ, ◌+◌, ◌≤◌, refl, sym, ◌∙◌, ap, subst, inl, inr, ◌⊎◌, List, [], ◌∷◌, ◌++◌, length, map, set, Bool, true, false, Option, Some, None, arith, eqb_tells, append-nil, slice_get, flat_map, nat_lt, list_all, byte_len, entry_below, entry_beside, and_first, and_second, Header, Call, Script, Mark, Meet, Solo, Offer, OfferKind, OwnerItem, Reply, Stop, RankItem, StepErr, In, Owner, Event, Client, at_offer, event, holds, is_strange, meets_if, offers_at, offers_held, own_items, step_offers, Setting, Counted, puts_of, count_width, Arrival, IsLegal, fits_offer, offered, offered_by, waiting, Going, advance, after_mark, first_going, hears, offers_of, covered, IsLeft, IsTorn, OwnerStoodAt, StoodAt, bytes_of_mark, at_arrival, between_arrivals, in_step, torn_still, solo_goes, HasOffered, IsBeginning, waiting_misfit, waiting_reply, meeting_is, same_offers, solo_of_is, AreSingle, IsSingleOffer, event_is, strange_alone, own_here, own_other, raised_grows, mark_grows, in_left, client_held, nat_tests, torn_same}
+use Rattle.thread_run.proofs.Words.{◌≡◌, ℕ, ◌≤◌, refl, sym, ◌∙◌, ap, subst, inl, inr, ◌⊎◌, List, [], ◌∷◌, ◌++◌, length, map, set, Bool, true, false, Option, Some, None, arith, eqb_tells, append-nil, slice_get, flat_map, nat_lt, list_all, byte_len, entry_below, entry_beside, and_first, and_second, Header, Call, Script, Mark, Meet, Solo, Offer, OfferKind, OwnerItem, Reply, Stop, RankItem, StepErr, In, Owner, Event, Client, event, holds, is_strange, offers_at, offers_held, own_items, step_offers, Setting, Counted, puts_of, count_width, Arrival, IsLegal, fits_offer, offered, offered_by, waiting, Going, advance, after_mark, first_going, hears, offers_of, covered, IsLeft, IsTorn, OwnerStoodAt, StoodAt, bytes_of_mark, at_arrival, between_arrivals, in_step, torn_still, solo_goes, HasOffered, IsBeginning, waiting_misfit, waiting_reply, meeting_is, same_offers, solo_of_is, AreSingle, IsSingleOffer, strange_alone, own_here, own_other, raised_grows, mark_grows, in_left, client_held, nat_tests, torn_same, by_event, does_meeting, does_solo}
 use borrow.Author.Tests.{ltb-true}
 use Rattle.nc_base.specs.declared.step.OfferKind.TheVariants as offer
 use Rattle.nc_base.specs.declared.step.RankItem.TheVariants as item
@@ -10,68 +10,46 @@ use Rattle.thread_run.proofs.ThreadCalls.{single_go}
 
 -- ---- the step that an arrival brings
 
--- it is the serial run's step of a mark, or none
-pub record BringsStep (s : Setting) (d : Owner) (goings : List Going) (a : Arrival) : Type 0 where
+-- its event is the serial run's step of a mark, or none
+pub record BringsStep (s : Setting) (d : Owner) (goings : List Going) (a : Arrival) (e : Event) : Type 0 where
   pub mark : Mark
-  pub marks : (event s d a).marks ≡ mark ∷ []
-  pub state : (event s d a).owner.state ≡ (after_mark s (d.state, goings) mark).0
+  pub marks : e.marks ≡ mark ∷ []
+  pub state : e.owner.state ≡ (after_mark s (d.state, goings) mark).0
   pub bytes : covered s.header (flat_map puts_of (step_offers d a)) ≡ bytes_of_mark s goings mark
 
-abbrev pub Brings : Setting → Owner → List Going → Arrival → Type 0
-Brings s d goings a = ((event s d a).owner.state ≡ d.state) ⊎ BringsStep s d goings a
+abbrev pub Brings : Setting → Owner → List Going → Arrival → Event → Type 0
+Brings s d goings a e = (e.owner.state ≡ d.state) ⊎ BringsStep s d goings a e
 
 module _ (s : Setting) (d : Owner) (goings : List Going) (r c : ℕ) (o : Offer) (x : Client) (g : Going) (a : slice_get d.clients r ≡ Some x) (b : slice_get goings r ≡ Some g)
     (next : (advance s.header g).1 ≡ Some o) where
   offers_are : (kind : OfferKind) → o.kind ≡ kind → step_offers d (r, item.Offer c o) ≡ offers_at d r o x kind
   offers_are kind k = ap (λ (m : Option Client). elim m [ None ↦ [] | Some y ↦ offers_at d r o y o.kind ]) a ∙ ap (offers_at d r o x) k
 
-  event_of : (kind : OfferKind) → o.kind ≡ kind → event s d (r, item.Offer c o) ≡ at_offer s d r c o x kind
-  event_of kind k = event_is s d r (item.Offer c o) x a ∙ ap (at_offer s d r c o x) k
-
-  brings_solo : o.kind ≡ offer.Solo → BringsStep s d goings (r, item.Offer c o)
+  brings_solo : o.kind ≡ offer.Solo → BringsStep s d goings (r, item.Offer c o) (does_solo s d r c o)
   brings_solo k = record {
     mark = Solo r c;
-    marks = ap (λ (e : Event). e.marks) (event_of offer.Solo k);
-    state = grind (arith, nat_tests, event_of offer.Solo k, solo_goes s r d.state goings g b, solo_of_is s r d.state (advance s.header g) o next);
+    marks = refl;
+    state = sym (ap (λ (st : Counted × List Going). st.0) (solo_goes s r d.state goings g b ∙ ap (λ (p : Counted × Going). (p.0, set goings r p.1)) (solo_of_is s r d.state (advance s.header g) o next)));
     bytes = grind (arith, nat_tests, offers_are offer.Solo k, append-nil (puts_of (r, o)));
   }
 
   brings_meeting : (kind : _) → o.kind ≡ offer.Meet kind → list_all holds (set d.clients r (client_held x o)) ≡ true → offers_of (map (advance s.header) goings) ≡ offers_held (set d.clients r (client_held x o))
-      → BringsStep s d goings (r, item.Offer c o)
+      → BringsStep s d goings (r, item.Offer c o) (does_meeting s d (set d.clients r (client_held x o)))
   brings_meeting kind k all same = record {
     mark = Meet d.met;
-    marks = ap (λ (e : Event). e.marks) to;
-    state = ap (λ (e : Event). e.owner.state) to ∙ sym (ap (λ (st : Counted × List Going). st.0) (meeting_is s (offers_held (set d.clients r (client_held x o))) d.state goings same));
+    marks = refl;
+    state = sym (ap (λ (st : Counted × List Going). st.0) (meeting_is s (offers_held (set d.clients r (client_held x o))) d.state goings same));
     bytes = grind (arith, nat_tests, offers_are (offer.Meet kind) k, set d.clients r (client_held x o));
   }
-    where
-      to : event s d (r, item.Offer c o) ≡ meets_if s d (set d.clients r (client_held x o)) true
-      to = event_of (offer.Meet kind) k ∙ ap (meets_if s d (set d.clients r (client_held x o))) all
-
-  brings_none : (kind : _) → o.kind ≡ offer.Meet kind → list_all holds (set d.clients r (client_held x o)) ≡ false → (event s d (r, item.Offer c o)).owner.state ≡ d.state
-  brings_none kind k all = ap (λ (e : Event). e.owner.state) (event_of (offer.Meet kind) k ∙ ap (meets_if s d (set d.clients r (client_held x o))) all)
 
 pub brings : (s : Setting) (d : Owner) (goings : List Going) (r : ℕ) (i : RankItem) (others : List Arrival) (x : Client) (g : Going) (given : ℕ → List OwnerItem) (end : ℕ → Going) → slice_get d.clients r ≡ Some x
-    → slice_get goings r ≡ Some g → is_strange s d (r, i) ≡ false → Stands s d goings (λ q. own_items q ((r, i) ∷ others)) given end → Brings s d goings (r, i)
-brings s d goings r (item.Ended m) others x g given end a b fit t = inl (ap (λ (e : Event). e.owner.state) (event_is s d r (item.Ended m) x a))
-brings s d goings r (item.Offer c o) others x g given end a b fit t = by_kind o.kind refl
-  where
-    free : x.held ≡ None
-    free = strange_alone s d r (item.Offer c o) x a fit refl
-
-    next : (advance s.header g).1 ≡ Some o
-    next = own_offer s d goings r c o others x g given end a b free t
-
-    by_full : (kind : _) → o.kind ≡ offer.Meet kind → (full : Bool) → list_all holds (set d.clients r (client_held x o)) ≡ full → Brings s d goings (r, item.Offer c o)
-    by_full kind k false e = inl (brings_none s d goings r c o x g a b next kind k e)
-    by_full kind k true e =
-        let u = held_keeps s d goings r c o others x g given end a b free (fits_now s d r c o fit) t in
-        inr (brings_meeting s d goings r c o x g a b next kind k e
-        (same_offers s.header (set d.clients r (client_held x o)) goings u.long e (λ q y h p f j k'. (u.paired_at q y h f j).waits p k')))
-
-    by_kind : (kind : OfferKind) → o.kind ≡ kind → Brings s d goings (r, item.Offer c o)
-    by_kind offer.Solo k = inr (brings_solo s d goings r c o x g a b next k)
-    by_kind (offer.Meet kind) k = by_full kind k (list_all holds (set d.clients r (client_held x o))) refl
+    → slice_get goings r ≡ Some g → is_strange s d (r, i) ≡ false → Stands s d goings (λ q. own_items q ((r, i) ∷ others)) given end → Brings s d goings (r, i) (event s d (r, i))
+brings s d goings r i others x g given end a b fit =
+    by_event s d r x a (λ j e. is_strange s d (r, j) ≡ false → Stands s d goings (λ q. own_items q ((r, j) ∷ others)) given end → Brings s d goings (r, j) e) (λ m f t. inl refl)
+    (λ c o free k f t. inr (brings_solo s d goings r c o x g a b (own_offer s d goings r others x g end a b c o given free t) k)) (λ c o kind free k some f t. inl refl) (λ c o kind free k all f t.
+    let u = held_keeps s d goings r others x g end a b c o given free (fits_now s d r c o f) t in
+    inr (brings_meeting s d goings r c o x g a b (own_offer s d goings r others x g end a b c o given free t) kind k all
+    (same_offers s.header (set d.clients r (client_held x o)) goings u.long all (λ q y h p w j k'. (u.paired_at q y h w j).waits p k')))) i (strange_alone s d r i x a fit) fit
 
 -- ---- nothing was done
 
@@ -102,12 +80,12 @@ stood_run script s e d goings order later left records given end t low begun nex
     numbers : list_all (λ (b : Arrival). nat_lt b.0 (length d.clients)) (a ∷ others) ≡ true
     numbers = subst (λ (xs : List Arrival). list_all (λ (b : Arrival). nat_lt b.0 (length d.clients)) xs ≡ true) is low
 
-    found : (r : ℕ) (i : RankItem) → (r, i) ≡ a → Brings s d goings a
+    found : (r : ℕ) (i : RankItem) → (r, i) ≡ a → Brings s d goings a (event s d a)
     found r i e =
         let low = ltb-true r (length d.clients) (ap (λ (b : Arrival). nat_lt b.0 (length d.clients)) e ∙ and_first (nat_lt a.0 (length d.clients)) _ numbers) in
         let client = entry_below d.clients r low in
         let going = entry_beside d.clients goings r client.0 t.long client.1 in
-        subst (λ (b : Arrival). Brings s d goings b) e
+        subst (λ (b : Arrival). Brings s d goings b (event s d b)) e
         (brings s d goings r i others client.0 going.0 given end client.1 going.1 (ap (λ (b : Arrival). is_strange s d b) e ∙ fit)
         (subst (λ (b : Arrival). Stands s d goings (λ q. own_items q (b ∷ others)) given end) (sym e) here))
 
@@ -117,7 +95,7 @@ stood_run script s e d goings order later left records given end t low begun nex
     own : List ℕ
     own = covered s.header (flat_map puts_of (step_offers d a))
 
-    by_step : Brings s d goings a → StoodAt script s e (d.state, goings) order left records
+    by_step : Brings s d goings a (event s d a) → StoodAt script s e (d.state, goings) order left records
     by_step (inl same) =
         stood_still script s e (d.state, goings) order left records begun
         (torn_same own (byte_len (count_width s.header.version)) d.state.file left

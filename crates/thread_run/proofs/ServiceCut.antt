@@ -1,5 +1,5 @@
 -- The part of a run on threads that was done when a fault cut it off, from what the owner tells.
-use Rattle.thread_run.proofs.Words.{point, ◌≡◌, ℕ, suc, ◌-◌, ◌<◌, refl, sym, ◌∙◌, ap, List, [], ◌∷◌, ◌++◌, length, map, replicate, Bool, true, false, Option, Some, None, arith, append-nil, slice_get, filter, Hints, Mark, Offer, OwnerItem, Stop, RankItem, StepErr, Owner, Client, event, given_along, is_strange, own_items, owed, served, stop_held, stops, Setting, Arrival, is_offer, passed, HasCutService, owed_stop, served_on, goes_on, stops_at, nat_tests}
+use Rattle.thread_run.proofs.Words.{point, ◌≡◌, ℕ, ◌<◌, refl, sym, ◌∙◌, ap, List, [], ◌∷◌, ◌++◌, length, replicate, Bool, true, false, Option, None, arith, append-nil, slice_get, filter, Hints, Mark, OwnerItem, Stop, StepErr, Owner, event, given_along, is_strange, own_items, owed, served, stops, Setting, Arrival, is_offer, passed, HasCutService, owed_stop, served_on, goes_on, stops_at, nat_tests}
 use Rattle.file_owner.proofs.StopLaws.{only_stops}
 
 -- ---- the part of a run that was done

@@ -1,101 +1,6 @@
 -- The owner's run beside the serial run, one arrival after another: its device calls, its offers, and what its ranks know.
-use Rattle.thread_run.proofs.Words.{◌≡◌, ℕ, ◌<◌, refl, sym, ◌∙◌, ap, subst, inl, inr, ◌⊎◌, List, [], ◌∷◌, ◌++◌, length, map, set, Bool, true, false, Option, Some, None, append-nil, length-set, slice_get, fold, nat_lt, list_all, same_Some, entry_below, entry_beside, and_first, Header, Answer, Call, Hints, Mark, MeetKind, Offer, OfferKind, RankItem, In, Owner, Event, Client, at_item, at_offer, event, holds, is_strange, meets_if, own_items, owed, served, meeting_calls, Counted, Setting, Arrival, is_offer, Rank, Going, advance, after_mark, go, offers_of, calls_so_far, calls_more, get_set, own_here, Arrived, Stands, join, served_on, stranger_on, same_offers, event_is, not_ended, strange_alone, Lasting, IsPaired, offered_now, client_held, AreSingle, IsSingle, calls_at, calls_at_offer, calls_if, owner_calls, event_calls, IsSingleOffer, quiet_step, calls_on, arith, nat_tests, fold_two}
-use borrow.Author.Tests.{ltb-true}
-use Rattle.nc_base.specs.declared.step.OfferKind.TheVariants as offer
+use Rattle.thread_run.proofs.Words.{◌≡◌, ℕ, refl, sym, ◌∙◌, ap, subst, inl, inr, ◌⊎◌, List, [], ◌∷◌, ◌++◌, length, map, set, Bool, true, false, Option, Some, append-nil, length-set, slice_get, list_all, same_Some, Header, Answer, Call, Hints, Mark, MeetKind, Offer, OfferKind, RankItem, In, Owner, Event, Client, at_item, at_offer, event, holds, meets_if, served, meeting_calls, Counted, Setting, Arrival, Rank, Going, advance, go, offers_of, calls_so_far, calls_more, get_set, Stands, served_on, same_offers, event_is, Lasting, client_held, AreSingle, IsSingle, calls_at, calls_at_offer, calls_if, owner_calls, event_calls, IsSingleOffer, quiet_step, calls_on, arith, nat_tests, along}
 use Rattle.nc_base.specs.declared.step.RankItem.TheVariants as item
-use Rattle.nc_base.specs.declared.step.Want.TheVariants as want
-use Rattle.join_laws.proofs.JoinLaws.{arrived}
-
--- ---- one arrival
-
-pub record Onward (s : Setting) (Good : ℕ → Going → Type 0) (d : Owner) (goings : List Going) (r : ℕ) (i : RankItem) (rest : List Arrival) : Type 0 where
-  pub not_strange : is_strange s d (r, i) ≡ false
-  pub kinds_left : List MeetKind
-  pub after : List Going
-  pub folded : fold (after_mark s) (d.state, goings) (event s d (r, i)).marks ≡ ((event s d (r, i)).owner.state, after)
-  pub stands : Stands s Good kinds_left (event s d (r, i)).owner after rest
-  pub client : Client
-  pub going : Going
-  pub at_client : slice_get d.clients r ≡ Some client
-  pub at_going : slice_get goings r ≡ Some going
-  pub offers : (c : ℕ) (o : Offer) → i ≡ item.Offer c o → (advance s.header going).1 ≡ Some o
-  pub is : event s d (r, i) ≡ at_item s d r client i
-
-not_strange_of : (s : Setting) (d : Owner) (a : Arrival) (rest : List Arrival) → (served s d (a ∷ rest)).stranger ≡ None → is_strange s d a ≡ false
-not_strange_of s d a rest e = grind (arith, nat_tests, stranger_on)
-
-pub onward : (s : Setting) (Good : ℕ → Going → Type 0) (lasting : Lasting s.header Good) (ks : List MeetKind) (d : Owner) (goings : List Going) (r : ℕ) (i : RankItem) (rest : List Arrival)
-    → Stands s Good ks d goings ((r, i) ∷ rest) → Onward s Good d goings r i rest
-onward s Good lasting ks d goings r i rest t = by (entry_below goings r low)
-  where
-    low : r < length goings
-    low = ltb-true r (length goings) (and_first (nat_lt r (length goings)) (list_all (λ a. nat_lt a.0 (length goings)) rest) t.numbers)
-
-    e : is_strange s d (r, i) ≡ false
-    e = not_strange_of s d (r, i) rest (join s Good lasting ks d goings ((r, i) ∷ rest) t).no_stranger
-
-    by_two : (x : Client) (g : Going) → slice_get d.clients r ≡ Some x → slice_get goings r ≡ Some g → Onward s Good d goings r i rest
-    by_two x g a b = record {
-      not_strange = e;
-      kinds_left = done.stepped.kinds_left;
-      after = done.stepped.after;
-      folded = done.stepped.folded;
-      stands = done.stands;
-      client = x;
-      going = g;
-      at_client = a;
-      at_going = b;
-      offers = offers;
-      is = event_is s d r i x a;
-    }
-      where
-        done : Arrived s Good d goings r i rest
-        done = arrived s Good lasting ks d goings r i rest x g a b t e
-
-        mine : IsPaired s.header Good ks d.reached x g (i ∷ own_items r rest) (owed s d ((r, i) ∷ rest) r)
-        mine = subst (λ (u : List RankItem). IsPaired s.header Good ks d.reached x g u (owed s d ((r, i) ∷ rest) r)) (own_here r i rest) (t.paired.paired_at r x g a b)
-
-        ended : x.ended ≡ None
-        ended = not_ended s.header Good ks d.reached x g i (own_items r rest) (owed s d ((r, i) ∷ rest) r) mine
-
-        offers : (c : ℕ) (o : Offer) → i ≡ item.Offer c o → (advance s.header g).1 ≡ Some o
-        offers c o f =
-            (offered_now s.header Good ks d.reached x g c o (own_items r rest) (owed s d ((r, i) ∷ rest) r) ended
-            (strange_alone s d r i x a e (ap (λ (z : RankItem). is_offer z) f))
-            (subst (λ (z : RankItem). IsPaired s.header Good ks d.reached x g (z ∷ own_items r rest) (owed s d ((r, i) ∷ rest) r)) f mine)).is
-
-    by : (g : Going) × (slice_get goings r ≡ Some g) → Onward s Good d goings r i rest
-    by (g, b) = let x = entry_beside goings d.clients r g (sym t.paired.long) b in by_two x.0 g x.1 b
-
--- what follows for all arrivals from what each adds
-pub along : (s : Setting) (Good : ℕ → Going → Type 0) (lasting : Lasting s.header Good) (P : Owner → List Going → List Arrival → Type 0)
-    → ((ks : List MeetKind) (d : Owner) (goings : List Going) → Stands s Good ks d goings [] → P d goings [])
-    → ((ks : List MeetKind) (d : Owner) (goings : List Going) (r : ℕ) (i : RankItem) (rest : List Arrival) → Stands s Good ks d goings ((r, i) ∷ rest) → (o : Onward s Good d goings r i rest)
-    → P (event s d (r, i)).owner o.after rest → P d goings ((r, i) ∷ rest))
-    → (ks : List MeetKind) (d : Owner) (goings : List Going) (arrivals : List Arrival) → Stands s Good ks d goings arrivals → P d goings arrivals
-along s Good lasting P none more ks d goings [] t = none ks d goings t
-along s Good lasting P none more ks d goings ((r, i) ∷ rest) t =
-    let o = onward s Good lasting ks d goings r i rest t in
-    more ks d goings r i rest t o (along s Good lasting P none more o.kinds_left (event s d (r, i)).owner o.after rest o.stands)
-
--- where the owner and the ranks stand in the end
-pub record Last (s : Setting) (Good : ℕ → Going → Type 0) (d : Owner) (goings : List Going) (arrivals : List Arrival) : Type 0 where
-  pub kinds_left : List MeetKind
-  pub after : List Going
-  pub folded : fold (after_mark s) (d.state, goings) (served s d arrivals).marks ≡ ((served s d arrivals).owner.state, after)
-  pub stands : Stands s Good kinds_left (served s d arrivals).owner after []
-
-pub last_along : (s : Setting) (Good : ℕ → Going → Type 0) (lasting : Lasting s.header Good) (ks : List MeetKind) (d : Owner) (goings : List Going) (arrivals : List Arrival)
-    → Stands s Good ks d goings arrivals → Last s Good d goings arrivals
-last_along s Good lasting = along s Good lasting (Last s Good) (λ ks d goings t. record { kinds_left = ks; after = goings; folded = refl; stands = t }) (λ ks d goings r i rest t o later.
-    let on = served_on s d (r, i) rest o.not_strange in
-    record {
-      kinds_left = later.kinds_left;
-      after = later.after;
-      folded = ap (λ (ms : List Mark). fold (after_mark s) (d.state, goings) ms) on.marks ∙ fold_two s (d.state, goings) (event s d (r, i)).marks (served s (event s d (r, i)).owner rest).marks
-          ∙ ap (λ (u : Counted × List Going). fold (after_mark s) u (served s (event s d (r, i)).owner rest).marks) o.folded ∙ later.folded ∙ sym (ap (λ (z : Owner). (z.state, later.after)) on.owner);
-      stands = subst (λ (z : Owner). Stands s Good later.kinds_left z later.after []) (sym on.owner) later.stands;
-    })
 
 -- with one offer more, each that is held is still the next of its rank
 pub held_next : (s : Setting) (d : Owner) (goings : List Going) (r : ℕ) (x : Client) (g : Going) (o : Offer) → slice_get goings r ≡ Some g → (advance s.header g).1 ≡ Some o
@@ -132,9 +37,9 @@ calls_along hints s Good lasting =
     let here : event_calls hints s d (r, i) ≡ calls_so_far hints s (d.state, goings) (event s d (r, i)).marks =
     ap (λ (m : Option Client). calls_at hints s d r i m) o.at_client
     ∙ item_is hints s d goings r o.client o.going o.at_client o.at_going t.paired.long (λ q x' g' o' a b w. ((t.paired.paired_at q x' g' a b).waits o' w).0) i o.offers
-    ∙ ap (λ (u : Event). calls_so_far hints s (d.state, goings) u.marks) (sym o.is) in
+    ∙ ap (λ (u : Event). calls_so_far hints s (d.state, goings) u.marks) (sym (event_is s d r i o.client o.at_client)) in
     calls_on hints s d (r, i) rest o.not_strange ∙ (λ j. here j ++ later j)
-    ∙ ap (λ (z : Counted × List Going). calls_so_far hints s (d.state, goings) (event s d (r, i)).marks ++ calls_so_far hints s z (served s (event s d (r, i)).owner rest).marks) (sym o.folded)
+    ∙ ap (λ (z : Counted × List Going). calls_so_far hints s (d.state, goings) (event s d (r, i)).marks ++ calls_so_far hints s z (served s (event s d (r, i)).owner rest).marks) (sym o.stepped.folded)
     ∙ sym (calls_more hints s (d.state, goings) (event s d (r, i)).marks (served s (event s d (r, i)).owner rest).marks)
     ∙ ap (λ (ms : List Mark). calls_so_far hints s (d.state, goings) ms) (sym (served_on s d (r, i) rest o.not_strange).marks))
 

@@ -1,9 +1,8 @@
 -- The counts that the ranks know at their ends are such that the header can have.
-use Rattle.thread_run.proofs.Words.{◌≡◌, ℕ, suc, ◌*◌, ◌^◌, ◌<◌, refl, sym, ◌∙◌, ap, subst, inl, inr, ◌⊎◌, List, [], ◌∷◌, ◌++◌, length, map, max, set, Bool, true, false, Option, Some, None, arith, eqb_tells, nat_tests, length-set, map-append, slice_get, flat_map, not, nat_lt, ◌==◌, IfSome, enumerate_from, list_all, list_any, same_Some, or_first_false, or_second_false, Pair, Header, Var, Post, MeetKind, Offer, OfferKind, RankItem, Owner, Event, Client, at_item, at_offer, holds, meets_if, needed_now, offers_held, refused, served, strange_offer, size_of, Setting, needs, puts_of, told, header_len, is_sound, Arrival, end_of, greatest, product, needed, Going, advance, Puts, sound_end, put_needed, bad_none, bad_put, passes_accepted, Stands, served_on, offer_at, offers_long, Lasting, client_held, one_held, entry_beside}
+use Rattle.thread_run.proofs.Words.{◌≡◌, ℕ, suc, ◌*◌, ◌^◌, ◌<◌, refl, sym, ◌∙◌, ap, subst, inl, inr, ◌⊎◌, List, [], ◌∷◌, ◌++◌, length, map, max, set, Bool, true, false, Option, Some, None, arith, eqb_tells, nat_tests, length-set, map-append, slice_get, flat_map, not, nat_lt, ◌==◌, IfSome, enumerate_from, list_all, list_any, same_Some, or_first_false, or_second_false, Pair, Header, Var, Post, MeetKind, Offer, RankItem, Owner, Client, holds, needed_now, offers_held, refused, served, strange_offer, size_of, Setting, needs, puts_of, told, header_len, is_sound, Arrival, end_of, greatest, product, needed, Going, advance, Puts, sound_end, put_needed, bad_none, bad_put, passes_accepted, Stands, served_on, offer_at, offers_long, Lasting, client_held, one_held, entry_beside, along, by_event, does_meeting, does_solo, event, is_offer, strange_alone}
 use Rattle.nc_base.specs.declared.request.Direction.TheVariants as way
-use Rattle.nc_base.specs.declared.step.OfferKind.TheVariants as offer
 use Rattle.nc_base.specs.declared.step.RankItem.TheVariants as item
-use Rattle.thread_run.proofs.ThreadCalls.{held_next, along}
+use Rattle.thread_run.proofs.ThreadCalls.{held_next}
 
 -- ---- counts whose file does not end too far
 
@@ -91,10 +90,9 @@ module _ (s : Setting) (sound : is_sound s.header ≡ true) (d : Owner) (goings 
     (fits : (q : ℕ) (g' : Going) (o : Offer) → slice_get goings q ≡ Some g' → (advance s.header g').1 ≡ Some o → strange_offer s.header d.reached (Some o) ≡ false)
     (waits : (q : ℕ) (x' : Client) (g' : Going) (o : Offer) → slice_get d.clients q ≡ Some x' → slice_get goings q ≡ Some g' → x'.held ≡ Some o → (advance s.header g').1 ≡ Some o)
     (near : EndsNear s.header sound d.reached) where
-  near_meets : (o : Offer) (t : Bool) → (advance s.header g).1 ≡ Some o → list_all holds (set d.clients r (client_held x o)) ≡ t
-      → EndsNear s.header sound (meets_if s d (set d.clients r (client_held x o)) t).owner.reached
-  near_meets o false e h = near
-  near_meets o true e h =
+  near_meets : (o : Offer) → (advance s.header g).1 ≡ Some o → list_all holds (set d.clients r (client_held x o)) ≡ true
+      → EndsNear s.header sound (does_meeting s d (set d.clients r (client_held x o))).owner.reached
+  near_meets o e h =
       near_max s.header sound d.reached (needed_now s (flat_map puts_of (enumerate_from 0 (offers_held (set d.clients r (client_held x o)))))) near
       (near_needs s sound (flat_map puts_of (enumerate_from 0 (offers_held (set d.clients r (client_held x o)))))
       (near_all s.header sound d.reached (offers_held (set d.clients r (client_held x o))) 0 each))
@@ -107,14 +105,14 @@ module _ (s : Setting) (sound : is_sound s.header ≡ true) (d : Owner) (goings 
           let same : w.0 ≡ o' = same_Some w.0 o' (sym (offer_at (set d.clients r (client_held x o)) q y.0 w.0 h y.1 w.1) ∙ a) in
           subst (λ (p : Offer). strange_offer s.header d.reached (Some p) ≡ false) same (fits q z.0 w.0 z.1 (held_next s d goings r x g o at_going e waits q y.0 z.0 w.0 y.1 z.1 w.1))
 
-  near_offer : (c : ℕ) (o : Offer) (k : OfferKind) → (advance s.header g).1 ≡ Some o → EndsNear s.header sound (at_offer s d r c o x k).owner.reached
-  near_offer c o offer.Solo e =
+  near_solo : (c : ℕ) (o : Offer) → (advance s.header g).1 ≡ Some o → EndsNear s.header sound (does_solo s d r c o).owner.reached
+  near_solo c o e =
       grind (arith, nat_tests, near_posts s.header sound o.known r o.batch.puts (bad_none s.header d.reached o (fits r g o at_going e)), near_max, near_needs, bad_none)
-  near_offer c o (offer.Meet kind) e = near_meets o (list_all holds (set d.clients r (client_held x o))) e refl
 
-  near_item : (i : RankItem) → ((c : ℕ) (o : Offer) → i ≡ item.Offer c o → (advance s.header g).1 ≡ Some o) → EndsNear s.header sound (at_item s d r x i).owner.reached
-  near_item (item.Ended memory) f = near
-  near_item (item.Offer c o) f = near_offer c o o.kind (f c o refl)
+  near_event : (i : RankItem) → (is_offer i ≡ true → x.held ≡ None) → ((c : ℕ) (o : Offer) → i ≡ item.Offer c o → (advance s.header g).1 ≡ Some o) → EndsNear s.header sound (event s d (r, i)).owner.reached
+  near_event =
+      by_event s d r x at_client (λ i e. ((c : ℕ) (o : Offer) → i ≡ item.Offer c o → (advance s.header g).1 ≡ Some o) → EndsNear s.header sound e.owner.reached) (λ m f. near)
+      (λ c o free k f. near_solo c o (f c o refl)) (λ c o kind free k some f. near) (λ c o kind free k all f. near_meets o (f c o refl) all)
 
 -- ---- along all arrivals
 
@@ -124,5 +122,6 @@ near_along s sound Good lasting =
     along s Good lasting (λ d goings arrivals. EndsNear s.header sound d.reached → EndsNear s.header sound (served s d arrivals).owner.reached) (λ ks d goings t near. near) (λ ks d goings r i rest t o later near.
     let fits : (q : ℕ) (g : Going) (p : Offer) → slice_get goings q ≡ Some g → (advance s.header g).1 ≡ Some p → strange_offer s.header d.reached (Some p) ≡ false = λ q g p b e.
     let y = entry_beside goings d.clients q g (sym t.paired.long) b in lasting.fits d.reached g p (t.paired.paired_at q y.0 g y.1 b).good e in
-    let here = near_item s sound d goings r o.client o.going o.at_client o.at_going t.paired.long fits (λ q x g p a b w. ((t.paired.paired_at q x g a b).waits p w).0) near i o.offers in
-    subst (λ (z : Owner). EndsNear s.header sound z.reached) (sym (served_on s d (r, i) rest o.not_strange).owner) (later (subst (λ (u : Event). EndsNear s.header sound u.owner.reached) (sym o.is) here)))
+    let here = near_event s sound d goings r o.client o.going o.at_client o.at_going t.paired.long fits (λ q x g p a b w. ((t.paired.paired_at q x g a b).waits p w).0) near i
+    (strange_alone s d r i o.client o.at_client o.not_strange) o.offers in
+    subst (λ (z : Owner). EndsNear s.header sound z.reached) (sym (served_on s d (r, i) rest o.not_strange).owner) (later here))

@@ -1,8 +1,7 @@
 -- The owner's whole run beside the serial run: its device calls, its offers, and the count to which it is closed.
-use Rattle.thread_run.proofs.Words.{◌≡◌, ℕ, suc, ◌+◌, ◌^◌, ◌<◌, ◌≤◌, refl, sym, ◌∙◌, ap, subst, List, [], ◌∷◌, ◌++◌, length, map, max, replicate, true, Option, Some, None, arith, length-map, length-replicate, slice_get, fold, nat_lt, enumerate_from, list_all, Header, Call, Script, MeetKind, Offer, Owner, Client, free_client, own_items, owed, served, run_calls, store_records, Counted, Setting, header_len, is_sound, Arrival, IsJoined, back_of, opening_owner, rank_ends, run_of, is_lawful, end_of, greatest, record_limit, rank_end, Going, advance, after_mark, first_going, first_state, serial_from, setting_of, end_grows, counted_sound, calls_close, sound_small, Good, good_first, lasting, Joins, Stands, join, closes, client_end, IsPaired, ArePaired, AreSingle, owner_calls, entry_map, map_map, entry_beside}
-use Rattle.nc_base.specs.declared.step.OfferKind.TheVariants as offer
-use Rattle.join_laws.proofs.WholeLaws.{get_replicate, lawful_agrees, get_map as from_map, none_first}
-use Rattle.thread_run.proofs.ThreadCalls.{calls_along, single_along, last_along, Last}
+use Rattle.thread_run.proofs.Words.{◌≡◌, ℕ, suc, ◌+◌, ◌^◌, ◌<◌, ◌≤◌, refl, sym, ◌∙◌, ap, subst, List, [], ◌∷◌, ◌++◌, map, max, true, Option, Some, None, arith, slice_get, fold, nat_lt, enumerate_from, Header, Call, Script, MeetKind, Offer, Owner, free_client, served, run_calls, store_records, Counted, Setting, header_len, is_sound, Arrival, IsJoined, back_of, opening_owner, rank_ends, run_of, is_lawful, end_of, greatest, record_limit, rank_end, Going, advance, after_mark, first_going, first_state, serial_from, setting_of, end_grows, counted_sound, calls_close, sound_small, Good, good_first, lasting, Joins, Stands, join, closes, AreSingle, owner_calls, map_map, entry_beside}
+use Rattle.join_laws.proofs.WholeLaws.{client_of, first_stands, going_of, lawful_agrees}
+use Rattle.thread_run.proofs.ThreadCalls.{calls_along, single_along}
 use Rattle.thread_run.proofs.ThreadKnown.{EndsNear, near_along, near_first}
 
 rows_within : {B : Type 0} (h : ℕ × B → ℕ) (n : ℕ) (ys : List B) (from : ℕ) → ((q : ℕ) (b : B) → slice_get ys q ≡ Some b → h (from + q, b) ≤ n) → greatest (map h (enumerate_from from ys)) ≤ n
@@ -30,45 +29,13 @@ module _ (script : Script) (header : Header) (file : List ℕ) (arrivals : List 
   abbrev meetings : List MeetKind
   meetings = (lawful_agrees script lawful).meetings
 
-  clients_long : length (replicate (length script.calls) free_client) ≡ length (map (first_going header) script.calls)
-  clients_long = length-replicate (length script.calls) free_client ∙ sym (length-map script.calls (first_going header))
-
-  paired : ArePaired header (Good header script.ranks) (lawful_agrees script lawful).meetings header.records (replicate (length script.calls) free_client) (map (first_going header) script.calls)
-      (λ q. own_items q arrivals) (owed (setting_of script header) (opening_owner script header file) arrivals)
-  paired = record { long = clients_long; paired_at = paired_at }
-    where
-      paired_at : (q : ℕ) (x : Client) (g : Going) → slice_get (replicate (length script.calls) free_client) q ≡ Some x → slice_get (map (first_going header) script.calls) q ≡ Some g
-          → IsPaired header (Good header script.ranks) (lawful_agrees script lawful).meetings header.records x g (own_items q arrivals) (owed (setting_of script header) (opening_owner script header file) arrivals q)
-      paired_at q x g a b =
-          let own = from_map (first_going header) script.calls q g b in
-          let free = get_replicate (length script.calls) free_client q x a in
-          subst (λ (z : Client). IsPaired header (Good header script.ranks) (lawful_agrees script lawful).meetings header.records z g (own_items q arrivals) (owed (setting_of script header) (opening_owner script header file) arrivals q)) (sym free)
-          (subst (λ (z : Going). IsPaired header (Good header script.ranks) (lawful_agrees script lawful).meetings header.records free_client z (own_items q arrivals) (owed (setting_of script header) (opening_owner script header file) arrivals q)) (sym own.1.1)
-          (record { stream = joined.each q own.0 own.1.0; waits = none_waits own.0; kind_list = (lawful_agrees script lawful).agree q own.0 own.1.0; good = good_first script header q own.0 lawful own.1.0 }))
-        where
-          none_waits : (own : List Call) (o : Offer) → None ≡ Some o → ((advance header (first_going header own)).1 ≡ Some o) × ((kind : MeetKind) × (o.kind ≡ offer.Meet kind))
-          none_waits own o e = cc
-
   stands : Stands s (Good header script.ranks) meetings owner goings arrivals
-  stands = record {
-    paired = paired;
-    counted = le_refl header.records;
-    small = sound_small header sound;
-    not_full = none_first (length script.calls) some;
-    numbers = ap (λ (n : ℕ). list_all (λ a. nat_lt a.0 n) arrivals) (length-map script.calls (first_going header) ∙ (lawful_agrees script lawful).one_list_each) ∙ joined.numbers;
-  }
-    where
-      le_refl : (n : ℕ) → n ≤ n
-      le_refl n = omega arith
+  stands =
+      first_stands script header file arrivals (Good header script.ranks) (lasting header sound script.ranks) (λ r own e. good_first script header r own lawful e) (sound_small header sound)
+      (lawful_agrees script lawful) joined
 
-      some : 0 < length script.calls
-      some = let a = (lawful_agrees script lawful).some_rank in let b = (lawful_agrees script lawful).one_list_each in omega arith
-
-  whole : Joins s owner goings arrivals
+  whole : Joins s (Good header script.ranks) owner goings arrivals
   whole = join s (Good header script.ranks) (lasting header sound script.ranks) meetings owner goings arrivals stands
-
-  final : Last s (Good header script.ranks) owner goings arrivals
-  final = last_along s (Good header script.ranks) (lasting header sound script.ranks) meetings owner goings arrivals stands
 
   pub single_all : AreSingle arrivals
   single_all = single_along s (Good header script.ranks) (lasting header sound script.ranks) meetings owner goings arrivals stands
@@ -89,16 +56,10 @@ module _ (script : Script) (header : Header) (file : List ℕ) (arrivals : List 
       → (rank_end header (first_going header own) (back_of script header file arrivals q)).rank.known ≤ (run_of script header file arrivals).owner.reached
   known_each q own e =
       let back = back_of script header file arrivals q in
-      let g = entry_map (first_going header) script.calls q own e in
-      let x = entry_beside goings (replicate (length script.calls) free_client) q (first_going header own) (sym clients_long) g in
-      let cm = whole.ranks q x.0 (first_going header own) x.1 g in
-      let ends : advance header cm.going ≡ (rank_end header (first_going header own) back, None) =
-      cm.ends ∙ ap (λ (z : Client). (client_end header z.held (first_going header own) back, None)) (get_replicate (length script.calls) free_client q x.0 x.1) in
-      let last : slice_get (fold (after_mark s) (owner.state, goings) (served s owner arrivals).marks).1 q ≡ Some cm.going =
-      ap (λ (u : Counted × List Going). slice_get u.1 q) whole.folded ∙ cm.at_last in
-      let there : slice_get final.after q ≡ Some cm.going = sym (ap (λ (u : Counted × List Going). slice_get u.1 q) final.folded) ∙ last in
-      let y = entry_beside final.after (served s owner arrivals).owner.clients q cm.going (sym final.stands.paired.long) there in
-      let good = (final.stands.paired.paired_at q y.0 cm.going y.1 there).good in
+      let cm = whole.ranks q free_client (first_going header own) (client_of script header file arrivals q own e) (going_of script header file arrivals q own e) in
+      let ends : advance header cm.going ≡ (rank_end header (first_going header own) back, None) = cm.ends in
+      let y = entry_beside whole.last (served s owner arrivals).owner.clients q cm.going (sym whole.stands.paired.long) cm.at_last in
+      let good = (whole.stands.paired.paired_at q y.0 cm.going y.1 cm.at_last).good in
       let kept = (closes header q 0 cm.going (ap (λ (p : Going × Option Offer). p.1) ends)).known in
       let same = ap (λ (p : Going × Option Offer). p.0.rank.known) ends in
       within _ _ _ _ good.known kept same
@@ -117,7 +78,7 @@ module _ (script : Script) (header : Header) (file : List ℕ) (arrivals : List 
       (λ q own e. let same : q ≡ 0 + q = omega arith in subst (λ (k : ℕ). (rank_end header (first_going header own) (back_of script header file arrivals k)).rank.known ≤ reached) same (known_each q own e))) in
       let near = near_along s sound (Good header script.ranks) (lasting header sound script.ranks) meetings owner goings arrivals stands (near_first header sound) in
       let grows = end_grows header (header_len header) most reached below in
-      counted_sound header most sound (less most reached (record_limit header.version) below final.stands.small)
+      counted_sound header most sound (less most reached (record_limit header.version) below whole.stands.small)
       (less (end_of header (header_len header) most) (end_of header (header_len header) reached) (2 ^ 62) grows near)
     where
       less : (a b n : ℕ) → a ≤ b → b < n → a < n

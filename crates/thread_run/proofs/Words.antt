@@ -17,14 +17,14 @@ pub use Rattle.join_laws.proofs.CountLaws.{bad_none, bad_put, less_max, meeting_
 pub use Rattle.join_laws.proofs.EventLaws.{get_set, own_here, own_other, to_one_here, to_one_other}
 pub use Rattle.join_laws.proofs.GoingOnLaws.{given_on}
 pub use Rattle.join_laws.proofs.GoodLaws.{Good, good_first, lasting}
-pub use Rattle.join_laws.proofs.JoinLaws.{Arrived, Joins, ServedOn, Stands, fold_two, join, owed_stop, served_on, stranger_on}
+pub use Rattle.join_laws.proofs.JoinLaws.{Joins, ServedOn, Stands, along, fold_two, join, owed_stop, served_on, stranger_on}
 pub use Rattle.join_laws.proofs.QuietLaws.{quiet_step}
 pub use Rattle.join_laws.proofs.ReplyLaws.{fit_passes, meeting_fits, solo_fits}
 pub use Rattle.join_laws.proofs.StepLaws.{Replied, going_after, goings_after, goings_long, meeting_is, meeting_within, offer_at, offers_long, replied, same_offers, solo_of_is, solo_within}
 pub use Rattle.join_laws.proofs.StrangeLaws.{event_is, not_ended, strange_alone}
 pub use Rattle.join_laws.proofs.StreamLaws.{client_end, closes, ends_once, to_come, waiting_end_misfit, waiting_end_reply, waiting_misfit, waiting_reply, waiting_stop_misfit, waiting_stop_reply}
 pub use Rattle.join_laws.proofs.TieLaws.{long_whole, one_held, one_if, tied_each, tied_joins}
-pub use Rattle.join_laws.proofs.TurnLaws.{ArePaired}
+pub use Rattle.join_laws.proofs.TurnLaws.{ArePaired, by_event}
 pub use Rattle.join_laws.proofs.WholeLaws.{lawful_agrees, whole_run}
 pub use Rattle.join_laws.specs.Alike.{AreAlike, AreNear, blank}
 pub use Rattle.join_laws.specs.Begun.{HasOffered, IsBeginning}

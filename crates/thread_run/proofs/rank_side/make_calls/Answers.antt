@@ -1,10 +1,10 @@
 -- From one offer to the next, or to the end.
-use Rattle.thread_run.proofs.Words.{◌≡◌, ℕ, ◌<◌, ap, sym, subst, refl, ◌∙◌, length, List, [], ◌∷◌, ◌++◌, Ok, length-append, arith, append-nil, Answer, Call, advance, HasStood, asking, between, calls_of, going_of, Runner, fits_open, heard_runner, IsAccounted}
+use Rattle.thread_run.proofs.Words.{ℕ, ◌<◌, ap, sym, subst, refl, ◌∙◌, length, List, [], ◌∷◌, Ok, length-append, arith, append-nil, Answer, Call, advance, HasStood, asking, between, calls_of, going_of, Runner, fits_open, heard_runner, IsAccounted}
 use Rattle.nc_base.specs.declared.run.RankStop.TheVariants as stop
 use Rattle.nc_base.specs.declared.step.OwnerItem.TheVariants as owner_item
 use Rattle.nc_base.specs.declared.step.RankItem.TheVariants as item
-use Rattle.thread_run.proofs.AttendLaws.{accounted_first, accounted_free, accounted_held, accounted_on, broken_at, broken_first, stood_done, stood_misfit, stood_stopped, unheard_begins}
-use Rattle.thread_run.proofs.AttendWay.{asked_own, first_between, first_some, first_way, fits_is, fits_long, later_some, placed_heard, placed_held, placed_number, placed_waits, one_each}
+use Rattle.thread_run.proofs.AttendLaws.{accounted_first, accounted_free, accounted_on, broken_at, broken_first, stood_done, stood_misfit, stood_stopped, unheard_begins}
+use Rattle.thread_run.proofs.AttendWay.{asked_own, at_offer, first_between, first_some, first_way, fits_long, later_some, one_each, placed_heard, placed_number, stood_each}
 use Rattle.thread_run.proofs.rank_side.make_calls.Goals as goal
 
 pub go_on-requires-clause-way : goal.go_on-requires-clause-way
@@ -47,129 +47,71 @@ offer-requires g c = asked_own c.args.header.now c.offers.runner.rank.state.know
 
 pub returns-in-Stop-clause-stood : goal.returns-in-Stop-clause-stood
 returns-in-Stop-clause-stood g c =
-    let own = c.own_calls-calls.result.now in
-    let header = c.args.header.now in
-    let runner = c.offers.runner in
-    let o = c.in-Some.offer in
-    let account = c.offers.invariant.accounted in
-    let here = accounted_held header own account.0 account.1 runner o (sym c.in-Some.ensures.value) account.4 in
-    let sent : c.offer.result ≡ item.Offer (length runner.answers) o = c.offer.ensures ∙ ap (λ (n : ℕ). item.Offer n o) c.len.ensures in
-    let all = c.own_calls-calls.ensures ∙ ap (calls_of c.args.script.now) c.number-number.ensures in
-    let left : Runner = record { rank = runner.rank; answers = runner.answers; held = c.take.new.self } in
-    one_each _ _ account.0 account.1 _ (λ p t. HasStood header (calls_of c.args.script.now c.args.out.now.number) p t left (Ok stop.Stopped)) account.2 account.3 c.put.ensures.items sent c.in-Stop.ensures.items
-    (subst (λ (cs : List Call). HasStood header cs (account.0 ++ item.Offer (length runner.answers) o ∷ []) (account.1 ++ owner_item.Stop ∷ []) left (Ok stop.Stopped)) all
-    (stood_stopped header own account.0 account.1 (asking own runner) o left here refl refl))
+    let at = at_offer c.args.script.now c.args.header.now c.number-number.result c.own_calls-calls.result.now _ _ _ _ c.offers.runner c.in-Some.offer c.offers.invariant.of_header
+    (sym c.in-Some.ensures.value) c.offers.invariant.placed c.offers.invariant.accounted in
+    stood_each at owner_item.Stop (c.own_calls-calls.ensures ∙ ap (calls_of c.args.script.now) c.number-number.ensures) c.put.ensures.items c.offer.ensures c.len.ensures c.in-Stop.ensures.items
+    (stood_stopped _ _ _ _ _ _ (record { rank = c.offers.runner.rank; answers = c.offers.runner.answers; held = c.take.new.self }) at.account refl refl)
 
 pub fits-requires : goal.fits-requires
 fits-requires g c =
-    let own = c.own_calls-calls.result.now in
-    let header = c.args.header.now in
-    let runner = c.offers.runner in
-    let o = c.in-Some.offer in
-    let placed = c.offers.invariant.placed in
-    let with_offer = placed_held c.args.script.now header placed.0 c.number-number.result own runner o (sym c.in-Some.ensures.value) placed.1 in
-    let waits = placed_waits c.args.script.now header placed.0 c.number-number.result (asking own runner) o with_offer in
-    record { waits = waits.0 }
+    let at = at_offer c.args.script.now c.args.header.now c.number-number.result c.own_calls-calls.result.now _ _ _ _ c.offers.runner c.in-Some.offer c.offers.invariant.of_header
+    (sym c.in-Some.ensures.value) c.offers.invariant.placed c.offers.invariant.accounted in
+    record { waits = at.waits.0 }
 
 pub returns-then-not-fits-clause-stood : goal.returns-then-not-fits-clause-stood
 returns-then-not-fits-clause-stood g c =
-    let own = c.own_calls-calls.result.now in
-    let header = c.args.header.now in
-    let runner = c.offers.runner in
-    let o = c.in-Some.offer in
-    let account = c.offers.invariant.accounted in
-    let here = accounted_held header own account.0 account.1 runner o (sym c.in-Some.ensures.value) account.4 in
-    let sent : c.offer.result ≡ item.Offer (length runner.answers) o = c.offer.ensures ∙ ap (λ (n : ℕ). item.Offer n o) c.len.ensures in
-    let all = c.own_calls-calls.ensures ∙ ap (calls_of c.args.script.now) c.number-number.ensures in
-    let placed = c.offers.invariant.placed in
-    let with_offer = placed_held c.args.script.now header placed.0 c.number-number.result own runner o (sym c.in-Some.ensures.value) placed.1 in
-    let waits = placed_waits c.args.script.now header placed.0 c.number-number.result (asking own runner) o with_offer in
-    let fits = fits_is runner.rank.state.«open» header runner.rank.header o c.in-Reply.reply c.fits.result c.offers.invariant.of_header waits c.fits.ensures in
-    let left : Runner = record { rank = runner.rank; answers = runner.answers; held = c.take.new.self } in
-    one_each _ _ account.0 account.1 _ (λ p t. HasStood header (calls_of c.args.script.now c.args.out.now.number) p t left (Ok stop.Misfit)) account.2 account.3 c.put.ensures.items sent c.in-Reply.ensures.items
-    (subst (λ (cs : List Call). HasStood header cs (account.0 ++ item.Offer (length runner.answers) o ∷ []) (account.1 ++ owner_item.Reply c.in-Reply.reply ∷ []) left (Ok stop.Misfit)) all
-    (stood_misfit header own account.0 account.1 (asking own runner) o c.in-Reply.reply left here (sym fits ∙ c.if-not-fits.true) refl refl))
+    let at = at_offer c.args.script.now c.args.header.now c.number-number.result c.own_calls-calls.result.now _ _ _ _ c.offers.runner c.in-Some.offer c.offers.invariant.of_header
+    (sym c.in-Some.ensures.value) c.offers.invariant.placed c.offers.invariant.accounted in
+    stood_each at (owner_item.Reply c.in-Reply.reply) (c.own_calls-calls.ensures ∙ ap (calls_of c.args.script.now) c.number-number.ensures) c.put.ensures.items c.offer.ensures c.len.ensures
+    c.in-Reply.ensures.items (stood_misfit _ _ _ _ _ _ c.in-Reply.reply (record { rank = c.offers.runner.rank; answers = c.offers.runner.answers; held = c.take.new.self }) at.account (sym (at.fits c.in-Reply.reply c.fits.result c.fits.ensures) ∙ c.if-not-fits.true) refl refl)
 
 pub hear-requires : goal.hear-requires
 hear-requires g c =
-    let own = c.own_calls-calls.result.now in
-    let header = c.args.header.now in
-    let runner = c.offers.runner in
-    let o = c.in-Some.offer in
-    let placed = c.offers.invariant.placed in
-    let with_offer = placed_held c.args.script.now header placed.0 c.number-number.result own runner o (sym c.in-Some.ensures.value) placed.1 in
-    let waits = placed_waits c.args.script.now header placed.0 c.number-number.result (asking own runner) o with_offer in
+    let at = at_offer c.args.script.now c.args.header.now c.number-number.result c.own_calls-calls.result.now _ _ _ _ c.offers.runner c.in-Some.offer c.offers.invariant.of_header
+    (sym c.in-Some.ensures.value) c.offers.invariant.placed c.offers.invariant.accounted in
     record {
-      waits = waits.0;
-      fits =
-          let fits = fits_is runner.rank.state.«open» header runner.rank.header o c.in-Reply.reply c.fits.result c.offers.invariant.of_header waits c.fits.ensures in
-          fits_open runner.rank.state.«open» header runner.rank.header o.batch.gets c.in-Reply.reply.got c.offers.invariant.of_header waits.1
-          (fits_long header o c.in-Reply.reply (sym fits ∙ c.if-not-fits.false));
+      waits = at.waits.0;
+      fits = fits_open c.offers.runner.rank.state.«open» c.args.header.now c.offers.runner.rank.header c.in-Some.offer.batch.gets c.in-Reply.reply.got c.offers.invariant.of_header at.waits.1
+          (fits_long c.args.header.now c.in-Some.offer c.in-Reply.reply (sym (at.fits c.in-Reply.reply c.fits.result c.fits.ensures) ∙ c.if-not-fits.false));
     }
 
 pub returns-in_err-hear-clause-stood : goal.returns-in_err-hear-clause-stood
 returns-in_err-hear-clause-stood g c =
-    let own = c.own_calls-calls.result.now in
-    let header = c.args.header.now in
-    let runner = c.offers.runner in
-    let o = c.in-Some.offer in
-    let account = c.offers.invariant.accounted in
-    let here = accounted_held header own account.0 account.1 runner o (sym c.in-Some.ensures.value) account.4 in
-    let sent : c.offer.result ≡ item.Offer (length runner.answers) o = c.offer.ensures ∙ ap (λ (n : ℕ). item.Offer n o) c.len.ensures in
-    let all = c.own_calls-calls.ensures ∙ ap (calls_of c.args.script.now) c.number-number.ensures in
-    let placed = c.offers.invariant.placed in
-    let with_offer = placed_held c.args.script.now header placed.0 c.number-number.result own runner o (sym c.in-Some.ensures.value) placed.1 in
-    let waits = placed_waits c.args.script.now header placed.0 c.number-number.result (asking own runner) o with_offer in
-    let fits = fits_is runner.rank.state.«open» header runner.rank.header o c.in-Reply.reply c.fits.result c.offers.invariant.of_header waits c.fits.ensures in
-    one_each _ _ account.0 account.1 _ (λ p t. HasStood header (calls_of c.args.script.now c.args.out.now.number) p t c.hear.new.self c.from_residual-in_err-hear.result) account.2 account.3 c.put.ensures.items sent c.in-Reply.ensures.items
-    (subst (λ (cs : List Call). HasStood header cs (account.0 ++ item.Offer (length runner.answers) o ∷ []) (account.1 ++ owner_item.Reply c.in-Reply.reply ∷ []) c.hear.new.self c.from_residual-in_err-hear.result) all
-    (broken_at header own account.0 account.1 (asking own runner) o c.in-Reply.reply c.hear.new.self c.from_residual-in_err-hear.result here (sym fits ∙ c.if-not-fits.false)
-    c.from_residual-in_err-hear.ensures.0 (unheard_begins header (asking own runner) c.in-Reply.reply c.hear.new.self.answers c.in_err-hear.ensures.kept)))
+    let at = at_offer c.args.script.now c.args.header.now c.number-number.result c.own_calls-calls.result.now _ _ _ _ c.offers.runner c.in-Some.offer c.offers.invariant.of_header
+    (sym c.in-Some.ensures.value) c.offers.invariant.placed c.offers.invariant.accounted in
+    stood_each at (owner_item.Reply c.in-Reply.reply) (c.own_calls-calls.ensures ∙ ap (calls_of c.args.script.now) c.number-number.ensures) c.put.ensures.items c.offer.ensures c.len.ensures
+    c.in-Reply.ensures.items
+    (broken_at _ _ _ _ _ _ c.in-Reply.reply c.hear.new.self c.from_residual-in_err-hear.result at.account (sym (at.fits c.in-Reply.reply c.fits.result c.fits.ensures) ∙ c.if-not-fits.false) c.from_residual-in_err-hear.ensures.0
+    (unheard_begins c.args.header.now (asking c.own_calls-calls.result.now c.offers.runner) c.in-Reply.reply c.hear.new.self.answers c.in_err-hear.ensures.kept))
 
 pub go_on-requires-in-Some-clause-way : goal.go_on-requires-in-Some-clause-way
 go_on-requires-in-Some-clause-way g c κs within =
-    let own = c.own_calls-calls.result.now in
-    let header = c.args.header.now in
-    let runner = c.offers.runner in
-    let o = c.in-Some.offer in
-    let placed = c.offers.invariant.placed in
-    let with_offer = placed_held c.args.script.now header placed.0 c.number-number.result own runner o (sym c.in-Some.ensures.value) placed.1 in
-    placed_heard c.args.script.now header placed.0 c.number-number.result own (record { rank = runner.rank; answers = runner.answers; held = c.take.new.self }) c.hear.new.self o c.in-Reply.reply
-    c.offers.invariant.of_header with_offer c.in_ok-hear.ensures.heard
+    let at = at_offer c.args.script.now c.args.header.now c.number-number.result c.own_calls-calls.result.now _ _ _ _ c.offers.runner c.in-Some.offer c.offers.invariant.of_header
+    (sym c.in-Some.ensures.value) c.offers.invariant.placed c.offers.invariant.accounted in
+    placed_heard c.args.script.now c.args.header.now at.order c.number-number.result c.own_calls-calls.result.now (record { rank = c.offers.runner.rank; answers = c.offers.runner.answers; held = c.take.new.self })
+    c.hear.new.self c.in-Some.offer c.in-Reply.reply c.offers.invariant.of_header at.placed c.in_ok-hear.ensures.heard
 
 pub offers-smaller : goal.offers-smaller
 offers-smaller g c =
-    let own = c.own_calls-calls.result.now in
-    let header = c.args.header.now in
-    let runner = c.offers.runner in
-    let o = c.in-Some.offer in
-    let placed = c.offers.invariant.placed in
-    let with_offer = placed_held c.args.script.now header placed.0 c.number-number.result own runner o (sym c.in-Some.ensures.value) placed.1 in
-    let few = placed_number c.args.script.now header placed.0 c.number-number.result (asking own runner) o with_offer in
+    let at = at_offer c.args.script.now c.args.header.now c.number-number.result c.own_calls-calls.result.now _ _ _ _ c.offers.runner c.in-Some.offer c.offers.invariant.of_header
+    (sym c.in-Some.ensures.value) c.offers.invariant.placed c.offers.invariant.accounted in
+    let few = placed_number c.args.script.now c.args.header.now at.order c.number-number.result (asking c.own_calls-calls.result.now c.offers.runner) c.in-Some.offer at.placed in
     let heard = c.in_ok-hear.ensures.heard in
-    let one = ap (λ (xs : List Answer). length xs) heard.answers ∙ length-append runner.answers (heard.answer ∷ []) in
+    let one = ap (λ (xs : List Answer). length xs) heard.answers ∙ length-append c.offers.runner.answers (heard.answer ∷ []) in
     let more = c.in_ok-go_on-2.ensures.more in
     omega arith
 
 pub offers-preserved : goal.offers-preserved
 offers-preserved g c =
+    let at = at_offer c.args.script.now c.args.header.now c.number-number.result c.own_calls-calls.result.now _ _ _ _ c.offers.runner c.in-Some.offer c.offers.invariant.of_header
+    (sym c.in-Some.ensures.value) c.offers.invariant.placed c.offers.invariant.accounted in
     let own = c.own_calls-calls.result.now in
     let header = c.args.header.now in
-    let runner = c.offers.runner in
-    let o = c.in-Some.offer in
-    let account = c.offers.invariant.accounted in
-    let here = accounted_held header own account.0 account.1 runner o (sym c.in-Some.ensures.value) account.4 in
-    let sent : c.offer.result ≡ item.Offer (length runner.answers) o = c.offer.ensures ∙ ap (λ (n : ℕ). item.Offer n o) c.len.ensures in
-    let placed = c.offers.invariant.placed in
-    let with_offer = placed_held c.args.script.now header placed.0 c.number-number.result own runner o (sym c.in-Some.ensures.value) placed.1 in
-    let waits = placed_waits c.args.script.now header placed.0 c.number-number.result (asking own runner) o with_offer in
-    let fits = fits_is runner.rank.state.«open» header runner.rank.header o c.in-Reply.reply c.fits.result c.offers.invariant.of_header waits c.fits.ensures in
-    let before : Runner = record { rank = runner.rank; answers = runner.answers; held = c.take.new.self } in
-    let mid = c.hear.new.self in
+    let before : Runner = record { rank = c.offers.runner.rank; answers = c.offers.runner.answers; held = c.take.new.self } in
     let new = c.go_on-in-Some.new.self in
     let heard = c.in_ok-hear.ensures.heard in
-    let way = placed_heard c.args.script.now header placed.0 c.number-number.result own before mid o c.in-Reply.reply c.offers.invariant.of_header with_offer heard in
-    let went = ap (advance header) (sym (heard_runner header own before mid c.in-Reply.reply c.offers.invariant.of_header heard)) ∙ c.in_ok-go_on-2.ensures.advanced in
+    let way = placed_heard c.args.script.now header at.order c.number-number.result own before c.hear.new.self c.in-Some.offer c.in-Reply.reply c.offers.invariant.of_header at.placed heard in
+    let went = ap (advance header) (sym (heard_runner header own before c.hear.new.self c.in-Reply.reply c.offers.invariant.of_header heard)) ∙ c.in_ok-go_on-2.ensures.advanced in
     record {
       of_header = c.go_on-in-Some.ensures.header;
       out = (c.put.ensures.of ∙ c.offers.invariant.out.0, c.put.ensures.number ∙ c.offers.invariant.out.1);
@@ -177,30 +119,21 @@ offers-preserved g c =
       placed = (way.0, c.in_ok-go_on-2.ensures.placed way.0 way.1);
       asked = c.in_ok-go_on-2.ensures.asked;
       ended = c.in_ok-go_on-2.ensures.ended;
-      accounted = one_each _ _ account.0 account.1 _ (λ p t. IsAccounted header own p t (going_of own new, new.held)) account.2 account.3 c.put.ensures.items sent c.in-Reply.ensures.items
-          (accounted_on header own account.0 account.1 (asking own runner) o c.in-Reply.reply (going_of own new, new.held) here (sym fits ∙ c.if-not-fits.false) went);
+      accounted = one_each _ _ at.put at.taken _ (λ p t. IsAccounted header own p t (going_of own new, new.held)) at.sent at.came c.put.ensures.items
+          (c.offer.ensures ∙ ap (λ (n : ℕ). item.Offer n c.in-Some.offer) c.len.ensures) c.in-Reply.ensures.items
+          (accounted_on header own at.put at.taken (asking own c.offers.runner) c.in-Some.offer c.in-Reply.reply (going_of own new, new.held) at.account (sym (at.fits c.in-Reply.reply c.fits.result c.fits.ensures) ∙ c.if-not-fits.false) went);
     }
 
 pub returns-in_err-go_on-2-clause-stood : goal.returns-in_err-go_on-2-clause-stood
 returns-in_err-go_on-2-clause-stood g c =
-    let own = c.own_calls-calls.result.now in
-    let header = c.args.header.now in
-    let runner = c.offers.runner in
-    let o = c.in-Some.offer in
-    let account = c.offers.invariant.accounted in
-    let here = accounted_held header own account.0 account.1 runner o (sym c.in-Some.ensures.value) account.4 in
-    let sent : c.offer.result ≡ item.Offer (length runner.answers) o = c.offer.ensures ∙ ap (λ (n : ℕ). item.Offer n o) c.len.ensures in
-    let all = c.own_calls-calls.ensures ∙ ap (calls_of c.args.script.now) c.number-number.ensures in
-    let placed = c.offers.invariant.placed in
-    let with_offer = placed_held c.args.script.now header placed.0 c.number-number.result own runner o (sym c.in-Some.ensures.value) placed.1 in
-    let waits = placed_waits c.args.script.now header placed.0 c.number-number.result (asking own runner) o with_offer in
-    let fits = fits_is runner.rank.state.«open» header runner.rank.header o c.in-Reply.reply c.fits.result c.offers.invariant.of_header waits c.fits.ensures in
-    let before : Runner = record { rank = runner.rank; answers = runner.answers; held = c.take.new.self } in
-    one_each _ _ account.0 account.1 _ (λ p t. HasStood header (calls_of c.args.script.now c.args.out.now.number) p t c.go_on-in-Some.new.self c.from_residual-in_err-go_on-2.result) account.2 account.3 c.put.ensures.items sent c.in-Reply.ensures.items
-    (subst (λ (cs : List Call). HasStood header cs (account.0 ++ item.Offer (length runner.answers) o ∷ []) (account.1 ++ owner_item.Reply c.in-Reply.reply ∷ []) c.go_on-in-Some.new.self c.from_residual-in_err-go_on-2.result) all
-    (broken_at header own account.0 account.1 (asking own runner) o c.in-Reply.reply c.go_on-in-Some.new.self c.from_residual-in_err-go_on-2.result here (sym fits ∙ c.if-not-fits.false)
-    c.from_residual-in_err-go_on-2.ensures.0 (later_some header own before c.hear.new.self c.in-Reply.reply c.go_on-in-Some.new.self.answers c.offers.invariant.of_header c.in_ok-hear.ensures.heard
-    c.in_err-go_on-2.ensures.some)))
+    let at = at_offer c.args.script.now c.args.header.now c.number-number.result c.own_calls-calls.result.now _ _ _ _ c.offers.runner c.in-Some.offer c.offers.invariant.of_header
+    (sym c.in-Some.ensures.value) c.offers.invariant.placed c.offers.invariant.accounted in
+    stood_each at (owner_item.Reply c.in-Reply.reply) (c.own_calls-calls.ensures ∙ ap (calls_of c.args.script.now) c.number-number.ensures) c.put.ensures.items c.offer.ensures c.len.ensures
+    c.in-Reply.ensures.items
+    (broken_at _ _ _ _ _ _ c.in-Reply.reply c.go_on-in-Some.new.self c.from_residual-in_err-go_on-2.result at.account (sym (at.fits c.in-Reply.reply c.fits.result c.fits.ensures) ∙ c.if-not-fits.false)
+    c.from_residual-in_err-go_on-2.ensures.0
+    (later_some c.args.header.now c.own_calls-calls.result.now (record { rank = c.offers.runner.rank; answers = c.offers.runner.answers; held = c.take.new.self }) c.hear.new.self c.in-Reply.reply
+    c.go_on-in-Some.new.self.answers c.offers.invariant.of_header c.in_ok-hear.ensures.heard c.in_err-go_on-2.ensures.some))
 
 pub returns-clause-stood : goal.returns-clause-stood
 returns-clause-stood g c =
