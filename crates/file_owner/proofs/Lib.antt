@@ -12,6 +12,6 @@ mod AloneSteps
 mod HeldLaws
 mod LentLaws
 mod TogetherSteps
-mod StrangeLaws
+pub mod StrangeLaws
 pub mod OwnerRuns
 mod RunLaws

@@ -92,7 +92,7 @@ none_in p (z ∷ xs) x h (inr i) = none_in p xs x (or_parts (p z) (list_any p xs
 not_refused : (header : Header) (known : ℕ) (way : Direction) (p : Post) → refused header known way p ≡ false → check header p.var p.region known way ≡ code.Ok
 not_refused header known way p e = ok_is (check header p.var p.region known way) (not-false (is_ok_code (check header p.var p.region known way)) e)
 
-whole_length : (header : Header) (p : Post) → wrong_length header p ≡ false → IfSome (slice_get header.vars p.var) (λ v. length p.bytes ≡ product p.region.count * size_of v.kind)
+pub whole_length : (header : Header) (p : Post) → wrong_length header p ≡ false → IfSome (slice_get header.vars p.var) (λ v. length p.bytes ≡ product p.region.count * size_of v.kind)
 whole_length header p e = grind (arith, nat_tests, not, not-false)
 
 sound_offer : (header : Header) (o : Offer) → is_sound header ≡ true → bad_batch header o ≡ false → HasOwnElements o.batch.puts → IsSoundOffer header o

@@ -1,7 +1,8 @@
 -- The counts that the ranks know at their ends are such that the header can have.
-use Rattle.thread_run.proofs.Words.{◌≡◌, ℕ, suc, ◌*◌, ◌^◌, ◌<◌, refl, sym, ◌∙◌, ap, subst, inl, inr, ◌⊎◌, List, [], ◌∷◌, ◌++◌, length, map, max, set, Bool, true, false, Option, Some, None, arith, eqb_tells, nat_tests, length-set, map-append, slice_get, flat_map, not, nat_lt, ◌==◌, IfSome, enumerate_from, list_all, list_any, same_Some, or_first_false, or_second_false, Pair, Header, Var, Post, MeetKind, Offer, RankItem, Owner, Client, holds, needed_now, offers_held, refused, served, strange_offer, size_of, Setting, needs, puts_of, told, header_len, is_sound, Arrival, end_of, greatest, product, needed, Going, advance, Puts, sound_end, put_needed, bad_none, bad_put, passes_accepted, Stands, served_on, offer_at, offers_long, Lasting, client_held, one_held, entry_beside, along, by_event, does_meeting, does_solo, event, is_offer, strange_alone}
+use Rattle.thread_run.proofs.Words.{◌≡◌, ℕ, ◌^◌, ◌<◌, refl, sym, ◌∙◌, subst, List, length, max, set, Bool, true, false, Some, None, arith, nat_tests, length-set, slice_get, flat_map, nat_lt, enumerate_from, list_all, same_Some, or_first_false, or_second_false, Header, Post, MeetKind, Offer, RankItem, Owner, Client, holds, needed_now, offers_held, refused, served, strange_offer, Setting, puts_of, header_len, is_sound, Arrival, end_of, needed, Going, advance, sound_end, put_needed, bad_put, passes_accepted, Stands, served_on, offer_at, offers_long, Lasting, client_held, one_held, entry_beside, along, by_event, does_meeting, does_solo, event, is_offer, strange_alone, IsKept, meeting_kept, solo_kept}
 use Rattle.nc_base.specs.declared.request.Direction.TheVariants as way
 use Rattle.nc_base.specs.declared.step.RankItem.TheVariants as item
+use Rattle.file_owner.proofs.StrangeLaws.{whole_length}
 use Rattle.thread_run.proofs.ThreadCalls.{held_next}
 
 -- ---- counts whose file does not end too far
@@ -26,62 +27,14 @@ module _ (header : Header) (sound : is_sound header ≡ true) where
 
   near_post : (known : ℕ) (post : Post) → bad_put header known post ≡ false → EndsNear (needed header post)
   unfolding EndsNear
-  near_post known post h = (put_needed header post (record { accepted = (known, way.Put, passes_accepted _ (or_first_false _ _ h)); whole = whole (slice_get header.vars post.var) (or_second_false (refused header known way.Put post) _ h) })).1
-    where
-      same : (a b : ℕ) → not (a == b) ≡ false → a ≡ b
-      same a b e = by (eqb_tells a b)
-        where
-          by : (((a == b) ≡ true) × (a ≡ b)) ⊎ (((a == b) ≡ false) × (a ≡ b → ⊥)) → a ≡ b
-          by (inl (f, n)) = n
-          by (inr (f, n)) = absurd (never (sym (ap not f) ∙ e))
-            where
-              never : true ≡ false → ⊥
-              never z = cc
+  near_post known post h =
+      (put_needed header post (record {
+        accepted = (known, way.Put, passes_accepted _ (or_first_false _ _ h));
+        whole = whole_length header post (or_second_false (refused header known way.Put post) _ h);
+      })).1
 
-      whole : (o : Option Var) → elim o [ None ↦ true | Some var ↦ not (length post.bytes == product post.region.count * size_of var.kind) ] ≡ false
-          → IfSome o (λ v. length post.bytes ≡ product post.region.count * size_of v.kind)
-      whole None e = tt
-      whole (Some v) e = same (length post.bytes) (product post.region.count * size_of v.kind) e
-
-  most_needed : Puts → ℕ
-  most_needed puts = greatest (map (λ p. needed header p.1) puts)
-
-  near_posts : (known rank : ℕ) (posts : List Post) → list_any (bad_put header known) posts ≡ false → EndsNear (most_needed (map (λ post. (rank, post)) posts))
-  unfolding most_needed
-  near_posts known rank [] h = near_zero
-  near_posts known rank (p ∷ posts) h =
-      grind (arith, nat_tests, near_posts known rank posts (or_second_false (bad_put header known p) _ h), near_max, near_post, or_first_false, or_second_false)
-
-  near_greatest : (xs ys : List ℕ) → EndsNear (greatest xs) → EndsNear (greatest ys) → EndsNear (greatest (xs ++ ys))
-  near_greatest [] ys h k = k
-  near_greatest (x ∷ xs) ys h k =
-      let a = near_max (greatest (x ∷ xs)) (greatest ys) h k in
-      let e : max (greatest (x ∷ xs)) (greatest ys) ≡ greatest ((x ∷ xs) ++ ys) = sym (greatest_two (x ∷ xs) ys) in
-      subst (λ (m : ℕ). EndsNear m) e a
-    where
-      greatest_two : (xs ys : List ℕ) → greatest (xs ++ ys) ≡ max (greatest xs) (greatest ys)
-      greatest_two [] ys = omega arith
-      greatest_two (x ∷ xs) ys = let a = greatest_two xs ys in omega arith
-
-  near_two : (a b : Puts) → EndsNear (most_needed a) → EndsNear (most_needed b) → EndsNear (most_needed (a ++ b))
-  unfolding most_needed
-  near_two a b h k = grind (arith, nat_tests, map-append, near_greatest)
-
-  near_all : (n : ℕ) (offers : List Offer) (a : ℕ) → ((q : ℕ) (o : Offer) → slice_get offers q ≡ Some o → strange_offer header n (Some o) ≡ false)
-      → EndsNear (most_needed (flat_map puts_of (enumerate_from a offers)))
-  unfolding most_needed
-  near_all n [] a f = near_zero
-  near_all n (o ∷ offers) a f =
-      near_two (puts_of (a, o)) (flat_map puts_of (enumerate_from _ offers)) (near_posts o.known a o.batch.puts (bad_none header n o (f 0 o refl)))
-      (near_all n offers _ (λ q p e. f (suc q) p e))
-
-near_needs : (s : Setting) (sound : is_sound s.header ≡ true) (puts : Puts) → EndsNear s.header sound (most_needed s.header sound puts) → EndsNear s.header sound (needed_now s puts)
-unfolding most_needed
-near_needs s sound puts h = by (told s puts)
-  where
-    by : (pair : Option Pair) → EndsNear s.header sound (needs s puts pair)
-    by None = h
-    by (Some p) = near_zero s.header sound
+  near_kept : IsKept header EndsNear
+  near_kept = record { none = near_zero; most = near_max; post = near_post }
 
 -- ---- what an arrival brings
 
@@ -94,8 +47,7 @@ module _ (s : Setting) (sound : is_sound s.header ≡ true) (d : Owner) (goings 
       → EndsNear s.header sound (does_meeting s d (set d.clients r (client_held x o))).owner.reached
   near_meets o e h =
       near_max s.header sound d.reached (needed_now s (flat_map puts_of (enumerate_from 0 (offers_held (set d.clients r (client_held x o)))))) near
-      (near_needs s sound (flat_map puts_of (enumerate_from 0 (offers_held (set d.clients r (client_held x o)))))
-      (near_all s.header sound d.reached (offers_held (set d.clients r (client_held x o))) 0 each))
+      (meeting_kept s (EndsNear s.header sound) (near_kept s.header sound) d.reached (offers_held (set d.clients r (client_held x o))) each)
     where
       each : (q : ℕ) (o' : Offer) → slice_get (offers_held (set d.clients r (client_held x o))) q ≡ Some o' → strange_offer s.header d.reached (Some o') ≡ false
       each q o' a =
@@ -107,7 +59,7 @@ module _ (s : Setting) (sound : is_sound s.header ≡ true) (d : Owner) (goings 
 
   near_solo : (c : ℕ) (o : Offer) → (advance s.header g).1 ≡ Some o → EndsNear s.header sound (does_solo s d r c o).owner.reached
   near_solo c o e =
-      grind (arith, nat_tests, near_posts s.header sound o.known r o.batch.puts (bad_none s.header d.reached o (fits r g o at_going e)), near_max, near_needs, bad_none)
+      near_max s.header sound d.reached (needed_now s (puts_of (r, o))) near (solo_kept s (EndsNear s.header sound) (near_kept s.header sound) r d.reached o (fits r g o at_going e))
 
   near_event : (i : RankItem) → (is_offer i ≡ true → x.held ≡ None) → ((c : ℕ) (o : Offer) → i ≡ item.Offer c o → (advance s.header g).1 ≡ Some o) → EndsNear s.header sound (event s d (r, i)).owner.reached
   near_event =

@@ -13,7 +13,7 @@ pub use Rattle.join_laws.proofs.AlikeLaws.{end_alike, offered_alike}
 pub use Rattle.join_laws.proofs.BegunLaws.{begun_each, begun_known}
 pub use Rattle.join_laws.proofs.ClientTurns.{IsPaired, Lasting, client_ended, client_held, offered_now}
 pub use Rattle.join_laws.proofs.Completing.{completed, completed_by}
-pub use Rattle.join_laws.proofs.CountLaws.{bad_none, bad_put, less_max, meeting_small, passes_accepted, solo_small, sound_small}
+pub use Rattle.join_laws.proofs.CountLaws.{IsKept, bad_put, less_max, meeting_kept, meeting_small, passes_accepted, solo_kept, solo_small, sound_small}
 pub use Rattle.join_laws.proofs.EventLaws.{get_set, own_here, own_other, to_one_here, to_one_other}
 pub use Rattle.join_laws.proofs.GoingOnLaws.{given_on}
 pub use Rattle.join_laws.proofs.GoodLaws.{Good, good_first, lasting}
