@@ -1,5 +1,5 @@
 -- A run on threads, from what the owner tells and what the close tells.
-use Rattle.thread_run.proofs.Words.{◌≡◌, ℕ, sym, ◌∙◌, ap, subst, inl, inr, ◌⊎◌, List, [], ◌++◌, map, max, replicate, true, Option, Some, None, nat_lt, IfSome, Header, RankEnd, RunEnd, ServeEnd, Script, DiskCall, Mark, OwnerItem, StepErr, Rose, after, with_end, Owner, Ending, first_owner, free_client, served, run_calls, store_records, raised, is_sound, Arrival, IsLegal, opening_owner, run_of, is_lawful, serial_from, setting_of, as_setting, counted, seen, HasBegun, HasCut, IsRun, owner_calls, IsDone, IsDoneSo, opening, passed, NoneBroke, most_known_of, Closing, rose_later, blank, with_end-with_end, rose_before, some_or_none, le_two, arith, nat_tests, append-nil}
+use Rattle.thread_run.proofs.Words.{◌≡◌, ℕ, sym, ◌∙◌, ap, subst, inl, inr, ◌⊎◌, List, [], ◌++◌, map, max, true, Option, Some, None, nat_lt, IfSome, Header, RankEnd, RunEnd, ServeEnd, Script, DiskCall, Mark, OwnerItem, StepErr, Rose, after, with_end, Ending, served, run_calls, store_records, raised, is_sound, Arrival, IsLegal, opening_owner, run_of, is_lawful, serial_from, setting_of, as_setting, counted, seen, HasBegun, HasCut, IsRun, owner_calls, IsDone, IsDoneSo, passed, NoneBroke, most_known_of, Closing, rose_later, blank, with_end-with_end, rose_before, some_or_none, le_two, arith, nat_tests, append-nil, length}
 use Rattle.nc_base.specs.declared.step.StepErr.TheVariants as fault
 use Rattle.thread_run.proofs.ThreadRuns.{Finished, FinishedAlike, FinishedSo, finished, finished_alike, finished_so}
 use Rattle.thread_run.proofs.ThreadTies.{Told, begun, OwnerSide}
@@ -9,30 +9,27 @@ if_both m p q f = grind (arith, nat_tests)
 
 module _ (script : Script) (header : Header) (arrivals : List Arrival) (given : ℕ → List OwnerItem) (ends : List RankEnd)
     (sound : is_sound header ≡ true) (lawful : is_lawful script ≡ true) (t : Told script header arrivals given ends) where
-  owner_at : (file : List ℕ) → opening script.ranks (counted file header.records) ≡ opening_owner script header file
-  owner_at file = ap (λ (n : ℕ). first_owner (replicate n free_client) (counted file header.records)) (sym t.calls)
-
   -- the owner's order begins one of the script's
   pub order_begun : {held : Option (List ℕ)} {calls : Option (List DiskCall)} {faults : ℕ} {told : Option (List (Mark × ℕ))} {left : Option (List ℕ)} {made : Option (List DiskCall)} {failed records : ℕ}
-      {heard : Option (List (Mark × ℕ))} {end : ServeEnd} → OwnerSide script header arrivals given script.ranks held calls faults told left made failed records heard end → HasBegun script end.order
+      {heard : Option (List (Mark × ℕ))} {end : ServeEnd} → OwnerSide script header arrivals given script.ranks (length script.calls) held calls faults told left made failed records heard end → HasBegun script end.order
   order_begun {end} o = by (some_or_none end.fault)
     where
       by : (end.fault ≡ None) ⊎ ((e : StepErr) × (end.fault ≡ Some e)) → HasBegun script end.order
       by (inl none) =
-          let e : end.order ≡ (run_of script header [] arrivals).marks = (o.done none []).order ∙ ap (λ (d : Owner). (served (setting_of script header) d arrivals).marks) (owner_at []) in
+          let e : end.order ≡ (run_of script header [] arrivals).marks = (o.done none []).order in
           subst (λ (ms : List Mark). HasBegun script ms) (sym e) (begun script header arrivals given ends t [] arrivals [] (sym (append-nil arrivals)) lawful)
       by (inr (x, some)) =
           let h = o.cut_off x some in
-          let e : end.order ≡ (run_of script header [] h.first).marks = (h.cut_off []).order ∙ ap (λ (d : Owner). (served (setting_of script header) d h.first).marks) (owner_at []) in
+          let e : end.order ≡ (run_of script header [] h.first).marks = (h.cut_off []).order in
           subst (λ (ms : List Mark). HasBegun script ms) (sym e) (begun script header arrivals given ends t [] h.first h.later h.all lawful)
 
-  pub known_sound : (end : ServeEnd) → ((file : List ℕ) → IsDone (setting_of script header) (opening script.ranks (counted file header.records)) (passed arrivals script.ranks given) end.order end.stranger)
+  pub known_sound : (end : ServeEnd) → ((file : List ℕ) → IsDone (setting_of script header) (opening_owner script header file) (passed arrivals script.ranks given) end.order end.stranger)
       → NoneBroke ends → is_sound (record header { records = most_known_of ends }) ≡ true
   known_sound end done whole = (finished script header arrivals given ends end.order end.stranger sound lawful t whole done).sound
 
   pub run_all : {held : Option (List ℕ)} {calls : Option (List DiskCall)} {faults : ℕ} {told : Option (List (Mark × ℕ))} {held' : Option (List ℕ)} {calls' : Option (List DiskCall)} {faults' count : ℕ}
       {heard : Option (List (Mark × ℕ))} {before : ServeEnd} {left : Option (List ℕ)} {made : Option (List DiskCall)} {failed records : ℕ} {end : RunEnd}
-      → OwnerSide script header arrivals given script.ranks held calls faults told held' calls' faults' count heard before → Closing header ends before held' calls' faults' count left made failed records end
+      → OwnerSide script header arrivals given script.ranks (length script.calls) held calls faults told held' calls' faults' count heard before → Closing header ends before held' calls' faults' count left made failed records end
       → HasCut script header held left records end → IsRun script header (seen held calls faults) (seen left made failed) records end
   run_all {held} {calls} {faults} {held'} {calls'} {faults'} {count} {before} {left} {failed} {records} {end} o c cut_off = record {
     legal = λ none. subst (λ (ms : List Mark). IsLegal script ms) (sym c.order) (fin none).legal;
@@ -50,8 +47,8 @@ module _ (script : Script) (header : Header) (arrivals : List Arrival) (given : 
     pending = λ none file. c.pending none ∙ (fin_alike none file).pending ∙ ap (λ (ms : List Mark). (serial_from script header file ms).pending) (sym c.order);
     calls = λ none. if_both held (o.bytes (c.went none).0) (o.device (c.went none).0 (fin none).single) (λ file so made_so.
         (c.closed none).device ∙ ap (λ (m : Option (List DiskCall)). with_end m (store_records (as_setting header) (nat_lt count records))) made_so
-        ∙ with_end-with_end calls (owner_calls script.hints (setting_of script header) (opening script.ranks (counted file header.records)) arrivals) (store_records (setting_of script header) (nat_lt count records))
-        ∙ (λ i. with_end calls (owner_calls script.hints (setting_of script header) (opening script.ranks (counted file header.records)) arrivals
+        ∙ with_end-with_end calls (owner_calls script.hints (setting_of script header) (opening_owner script header file) arrivals) (store_records (setting_of script header) (nat_lt count records))
+        ∙ (λ i. with_end calls (owner_calls script.hints (setting_of script header) (opening_owner script header file) arrivals
         ++ store_records (setting_of script header) (nat_lt (so.records i) (counts none file so i))))
         ∙ ap (λ (cs : List DiskCall). with_end calls cs) (sym (fin_so none file so).calls) ∙ ap (λ (ms : List Mark). with_end calls (run_calls script header file ms)) (sym c.order));
     sound = c.sound;
@@ -63,20 +60,20 @@ module _ (script : Script) (header : Header) (arrivals : List Arrival) (given : 
   }
     where
       state : List ℕ → Ending
-      state file = served (setting_of script header) (opening script.ranks (counted file header.records)) arrivals
+      state file = served (setting_of script header) (opening_owner script header file) arrivals
 
       fin : end.fault ≡ None → Finished script header arrivals ends before.order
       fin none = finished script header arrivals given ends before.order before.stranger sound lawful t (c.went none).1 (o.done (c.went none).0)
 
       fin_alike : end.fault ≡ None → (file : List ℕ)
-          → FinishedAlike script header ends before.order file (served (setting_of script header) (opening script.ranks (counted file header.records)) arrivals).owner
+          → FinishedAlike script header ends before.order file (run_of script header file arrivals).owner
       fin_alike none file = finished_alike script header arrivals given ends before.order before.stranger sound lawful t (c.went none).1 (o.done (c.went none).0) file
 
-      fin_so : end.fault ≡ None → (file : List ℕ) → IsDoneSo (setting_of script header) (opening script.ranks (counted file header.records)) (passed arrivals script.ranks given) held' count
-          → FinishedSo script header arrivals ends before.order file (served (setting_of script header) (opening script.ranks (counted file header.records)) arrivals).owner
+      fin_so : end.fault ≡ None → (file : List ℕ) → IsDoneSo (setting_of script header) (opening_owner script header file) (passed arrivals script.ranks given) held' count
+          → FinishedSo script header arrivals ends before.order file (run_of script header file arrivals).owner
       fin_so none file so = finished_so script header arrivals given ends before.order before.stranger sound lawful t (c.went none).1 (o.done (c.went none).0) file held' count so
 
-      counts : end.fault ≡ None → (file : List ℕ) → IsDoneSo (setting_of script header) (opening script.ranks (counted file header.records)) (passed arrivals script.ranks given) held' count
+      counts : end.fault ≡ None → (file : List ℕ) → IsDoneSo (setting_of script header) (opening_owner script header file) (passed arrivals script.ranks given) held' count
           → records ≡ (serial_from script header file before.order).records
       counts none file so = (c.closed none).count ∙ ap (λ (n : ℕ). max n (most_known_of ends)) so.records ∙ (fin_alike none file).records
 

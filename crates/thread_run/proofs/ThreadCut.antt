@@ -1,5 +1,5 @@
 -- A run on threads that a fault cut off, from what the owner tells and what the close tells.
-use Rattle.thread_run.proofs.Words.{◌≡◌, ℕ, ◌-◌, ◌<◌, ◌≤◌, refl, sym, ◌∙◌, ap, subst, inl, inr, ◌⊎◌, List, [], ◌∷◌, ◌++◌, length, map, max, replicate, Bool, true, false, cond, Option, Some, None, append_assoc, arith, append-nil, length-map, length-replicate, list_all-append, slice_get_within, same_Some, slice_get, nat_lt, filter, byte_len, list_all, entry_below, entry_beside, and_second, Answer, Header, Call, RankEnd, RunEnd, ServeEnd, Script, Mark, OwnerItem, Stop, RankItem, StepErr, BothTold, Owner, event, first_owner, free_client, given_along, is_strange, offers_in, own_items, served, Counted, raised, count_width, is_sound, Arrival, IsLegal, is_offer, opening_owner, run_of, is_lawful, rank_end, told_of, Going, advance, after_mark, first_going, first_state, serial_from, setting_of, state_after, Begins, HasAnswers, IsCutRun, IsLeft, IsTorn, OwnerStoodAt, StoodAt, in_close, as_setting, counted, HasOffered, completed, completed_by, contents_of, point, HasBegun, HasSaid, calls_of, cut_rows, no_answers, said_here, said_part, said_up, told_along, counts_along, owner_told, AreSingle, HasCutService, IsDone, IsDoneSo, opening, passed, HasCut, EndedAt, NoneBroke, most_known_of, EndOfCut, served_on, goes_on, mapped_entry, nat_tests, stood_as, some_each, if_some_at, DiskCall}
+use Rattle.thread_run.proofs.Words.{◌≡◌, ℕ, ◌-◌, ◌<◌, ◌≤◌, refl, sym, ◌∙◌, ap, subst, inl, inr, ◌⊎◌, List, [], ◌∷◌, ◌++◌, length, map, max, replicate, Bool, true, false, cond, Option, Some, None, append_assoc, arith, append-nil, length-map, length-replicate, list_all-append, slice_get_within, same_Some, slice_get, nat_lt, filter, byte_len, list_all, entry_below, entry_beside, and_second, Answer, Header, Call, RankEnd, RunEnd, ServeEnd, Script, Mark, OwnerItem, Stop, RankItem, StepErr, BothTold, Owner, event, free_client, given_along, is_strange, offers_in, own_items, served, Counted, raised, count_width, is_sound, Arrival, IsLegal, is_offer, opening_owner, run_of, is_lawful, rank_end, told_of, Going, advance, after_mark, first_going, first_state, serial_from, setting_of, state_after, Begins, HasAnswers, IsCutRun, IsLeft, IsTorn, OwnerStoodAt, StoodAt, in_close, as_setting, counted, HasOffered, completed, completed_by, contents_of, point, HasBegun, HasSaid, calls_of, cut_rows, no_answers, said_here, said_part, said_up, told_along, counts_along, owner_told, AreSingle, HasCutService, IsDone, IsDoneSo, passed, HasCut, EndedAt, NoneBroke, most_known_of, EndOfCut, served_on, goes_on, mapped_entry, nat_tests, stood_as, some_each, if_some_at, DiskCall}
 use Rattle.std.proofs.lemmas.List.{length-append}
 use Rattle.nc_base.specs.declared.run.RankStop.TheVariants as stop
 use Rattle.nc_base.specs.declared.step.StepErr.TheVariants as fault
@@ -9,7 +9,7 @@ use Rattle.thread_run.proofs.CutRank.{last_end}
 use Rattle.thread_run.proofs.CutJoin.{Ran, cut_run, end_of_rank}
 use Rattle.thread_run.proofs.CutStood.{single_begun, stood_run}
 use Rattle.thread_run.proofs.TellLaws.{count_of}
-use Rattle.thread_run.proofs.ThreadRuns.{FinishedSo, finished, finished_so, FinishedAlike, finished_alike}
+use Rattle.thread_run.proofs.ThreadRuns.{finished, finished_so, finished_alike}
 use Rattle.thread_run.proofs.ThreadTies.{Own, Told, begun, broke_or_not, offered_all, own_of, puts, takes, OwnerSide}
 use Rattle.thread_run.proofs.ServiceCut.{Service, service_cut, service_done}
 
@@ -144,9 +144,6 @@ module _ (script : Script) (header : Header) (arrivals : List Arrival) (given : 
   abbrev owner : Owner
   owner = opening_owner script header file
 
-  pub owner_is : opening script.ranks (counted file header.records) ≡ opening_owner script header file
-  owner_is = ap (λ (n : ℕ). first_owner (replicate n free_client) (counted file header.records)) (sym t.calls)
-
   pub ranks_are : script.ranks ≡ length (opening_owner script header file).clients
   ranks_are = sym t.calls ∙ sym (length-replicate (length script.calls) free_client)
 
@@ -162,74 +159,67 @@ module _ (script : Script) (header : Header) (arrivals : List Arrival) (given : 
   -- the owner met a fault
   cut_served : (x e : StepErr) (before : ServeEnd) (held : Option (List ℕ)) (count : ℕ) (left : Option (List ℕ)) (records : ℕ) (end : RunEnd) → EndOfCut header ends before e held count left records end
       → (x ≡ e) ⊎ (e ≡ fault.Memory) → left ≡ held → records ≡ count
-      → HasCutService (setting_of script header) x (opening script.ranks (counted file header.records)) (passed arrivals script.ranks given) (point before.order held count)
+      → HasCutService (setting_of script header) x (opening_owner script header file) (passed arrivals script.ranks given) (point before.order held count)
       → (bytes : List ℕ) × (left ≡ Some bytes) × IsCutRun script header file e end.order bytes records end.answers
   unfolding service_cut
   cut_served x e before held count left records end c which l k service =
-      let g = subst (λ (d : Owner). HasCutService (setting_of script header) x d (passed arrivals script.ranks given) (point before.order held count)) owner_is service in
-      let h = service_cut (setting_of script header) (opening_owner script header file) script.ranks count x arrivals given before.order held ranks_are g in
+      let h = service_cut (setting_of script header) (opening_owner script header file) script.ranks count x arrivals given before.order held ranks_are service in
       let alone = single script header arrivals given ends sound lawful t file before.order h in
-      let told = g.told (subst AreSingle (sym g.all) alone) in
-      let at = stood_served script header arrivals given ends sound lawful t file before.order h x g.left count (g.service.stood alone) in (
-        g.left,
+      let told = service.told (subst AreSingle (sym service.all) alone) in
+      let at = stood_served script header arrivals given ends sound lawful t file before.order h x service.left count (service.service.stood alone) in (
+        service.left,
         l ∙ told,
-        as_run e before held count left records end c h g.left
-            (subst (λ (n : ℕ). StoodAt script (setting_of script header) e (state_after script header file before.order) before.order g.left n) (sym k)
+        as_run e before held count left records end c h service.left
+            (subst (λ (n : ℕ). StoodAt script (setting_of script header) e (state_after script header file before.order) before.order service.left n) (sym k)
             (stood_as which at)),
       )
 
   -- a rank had no memory, and the owner met no fault
   cut_broken : (e : StepErr) (before : ServeEnd) (held : Option (List ℕ)) (count : ℕ) (left : Option (List ℕ)) (records : ℕ) (end : RunEnd) → EndOfCut header ends before e held count left records end
       → e ≡ fault.Memory → left ≡ held → records ≡ count
-      → IsDone (setting_of script header) (opening script.ranks (counted file header.records)) (passed arrivals script.ranks given) before.order before.stranger
-      → IsDoneSo (setting_of script header) (opening script.ranks (counted file header.records)) (passed arrivals script.ranks given) held count
+      → IsDone (setting_of script header) (opening_owner script header file) (passed arrivals script.ranks given) before.order before.stranger
+      → IsDoneSo (setting_of script header) (opening_owner script header file) (passed arrivals script.ranks given) held count
       → (bytes : List ℕ) × (left ≡ Some bytes) × IsCutRun script header file e end.order bytes records end.answers
   cut_broken e before held count left records end c memory l k done so =
       let s = setting_of script header in
-      let d = subst (λ (d : Owner). IsDone s d (passed arrivals script.ranks given) before.order before.stranger) owner_is done in
-      let o = subst (λ (d : Owner). IsDoneSo s d (passed arrivals script.ranks given) held count) owner_is so in
-      let h = service_done script.hints s (opening_owner script header file) script.ranks arrivals given before.order d.order o.given in
+      let h = service_done script.hints s (opening_owner script header file) script.ranks arrivals given before.order done.order so.given in
       let state = state_is script header arrivals given ends sound lawful t file before.order h.0 in
       let there : (run_of script header file arrivals).owner.state ≡ (state_after script header file before.order).0 =
       ap (λ (x : Owner). x.state) (sym h.1) ∙ sym (ap (λ (st : Counted × List Going). st.0) state) in
       let may = may_follow script header arrivals given ends sound lawful t file before.order h.0 in (
         (run_of script header file arrivals).owner.state.file,
-        l ∙ o.told,
+        l ∙ so.told,
         as_run e before held count left records end c h.0 (run_of script header file arrivals).owner.state.file
-            (between may.0 may.1 memory (ap (λ (x : Counted). x.file) there) (k ∙ o.records ∙ ap (λ (x : Counted). x.records) there)),
+            (between may.0 may.1 memory (ap (λ (x : Counted). x.file) there) (k ∙ so.records ∙ ap (λ (x : Counted). x.records) there)),
       )
 
   -- the close was refused, or done before there was no memory
   cut_closing : (e : StepErr) (before : ServeEnd) (held : Option (List ℕ)) (count : ℕ) (left : Option (List ℕ)) (records : ℕ) (end : RunEnd) → EndOfCut header ends before e held count left records end
       → NoneBroke ends → BothTold (λ old now. IsTorn [] (byte_len (count_width header.version)) old (raised (as_setting header) (counted old count) (most_known_of ends)).file now) held left
       → (records ≡ count) ⊎ (records ≡ max count (most_known_of ends))
-      → ((f : List ℕ) → IsDone (setting_of script header) (opening script.ranks (counted f header.records)) (passed arrivals script.ranks given) before.order before.stranger)
-      → IsDoneSo (setting_of script header) (opening script.ranks (counted file header.records)) (passed arrivals script.ranks given) held count
+      → ((f : List ℕ) → IsDone (setting_of script header) (opening_owner script header f) (passed arrivals script.ranks given) before.order before.stranger)
+      → IsDoneSo (setting_of script header) (opening_owner script header file) (passed arrivals script.ranks given) held count
       → (bytes : List ℕ) × (left ≡ Some bytes) × IsCutRun script header file e end.order bytes records end.answers
   cut_closing e before held count left records end c whole torn which done so =
       let s = setting_of script header in
-      let d = subst (λ (d : Owner). IsDone s d (passed arrivals script.ranks given) before.order before.stranger) owner_is (done file) in
-      let o = subst (λ (d : Owner). IsDoneSo s d (passed arrivals script.ranks given) held count) owner_is so in
-      let h = service_done script.hints s (opening_owner script header file) script.ranks arrivals given before.order d.order o.given in
+      let h = service_done script.hints s (opening_owner script header file) script.ranks arrivals given before.order (done file).order so.given in
       let state = state_is script header arrivals given ends sound lawful t file before.order h.0 in
       let there : (run_of script header file arrivals).owner.state ≡ (state_after script header file before.order).0 =
       ap (λ (x : Owner). x.state) (sym h.1) ∙ sym (ap (λ (st : Counted × List Going). st.0) state) in
       let fin = finished script header arrivals given ends before.order before.stranger sound lawful t whole done in
-      let last = subst (λ (d : Owner). FinishedSo script header arrivals ends before.order file (served s d arrivals).owner) owner_is
-      (finished_so script header arrivals given ends before.order before.stranger sound lawful t whole done file held count so) in
-      let near = subst (λ (d : Owner). FinishedAlike script header ends before.order file (served s d arrivals).owner) owner_is
-      (finished_alike script header arrivals given ends before.order before.stranger sound lawful t whole done file) in
+      let last = finished_so script header arrivals given ends before.order before.stranger sound lawful t whole done file held count so in
+      let near = finished_alike script header arrivals given ends before.order before.stranger sound lawful t whole done file in
       let st = (run_of script header file arrivals).owner.state in
-      let b = subst (λ (m : Option (List ℕ)). BothTold (λ old now. IsTorn [] (byte_len (count_width header.version)) old (raised (as_setting header) (counted old count) (most_known_of ends)).file now) m left) o.told torn in
+      let b = subst (λ (m : Option (List ℕ)). BothTold (λ old now. IsTorn [] (byte_len (count_width header.version)) old (raised (as_setting header) (counted old count) (most_known_of ends)).file now) m left) so.told torn in
       let file_is : (raised (as_setting header) (counted st.file count) (most_known_of ends)).file ≡ (serial_from script header file before.order).bytes =
-      ap (λ (n : ℕ). (raised (as_setting header) (counted st.file n) (most_known_of ends)).file) o.records ∙ last.bytes in (
+      ap (λ (n : ℕ). (raised (as_setting header) (counted st.file n) (most_known_of ends)).file) so.records ∙ last.bytes in (
         b.0,
         b.1,
         as_run e before held count left records end c h.0 b.0
             (in_close fin.legal
             (subst (λ (old : Counted). IsLeft header [] old (record { file = (serial_from script header file before.order).bytes; records = (serial_from script header file before.order).records }) b.0 records) there (
               subst (λ (f : List ℕ). IsTorn [] (byte_len (count_width header.version)) st.file f b.0) file_is b.2,
-              by_count st.records (serial_from script header file before.order).records o.records near.records which,
+              by_count st.records (serial_from script header file before.order).records so.records near.records which,
             ))),
       )
     where
@@ -239,9 +229,9 @@ module _ (script : Script) (header : Header) (arrivals : List Arrival) (given : 
 
   cut_at : (e : StepErr) (before : ServeEnd) (held : Option (List ℕ)) (count : ℕ) (left : Option (List ℕ)) (records : ℕ) (end : RunEnd) → EndOfCut header ends before e held count left records end
       → EndedAt header ends before.fault e (contents_of held count) (contents_of left records)
-      → (before.fault ≡ None → (f : List ℕ) → IsDone (setting_of script header) (opening script.ranks (counted f header.records)) (passed arrivals script.ranks given) before.order before.stranger)
-      → (before.fault ≡ None → IsDoneSo (setting_of script header) (opening script.ranks (counted file header.records)) (passed arrivals script.ranks given) held count)
-      → ((x : StepErr) → before.fault ≡ Some x → HasCutService (setting_of script header) x (opening script.ranks (counted file header.records)) (passed arrivals script.ranks given) (point before.order held count))
+      → (before.fault ≡ None → (f : List ℕ) → IsDone (setting_of script header) (opening_owner script header f) (passed arrivals script.ranks given) before.order before.stranger)
+      → (before.fault ≡ None → IsDoneSo (setting_of script header) (opening_owner script header file) (passed arrivals script.ranks given) held count)
+      → ((x : StepErr) → before.fault ≡ Some x → HasCutService (setting_of script header) x (opening_owner script header file) (passed arrivals script.ranks given) (point before.order held count))
       → (bytes : List ℕ) × (left ≡ Some bytes) × IsCutRun script header file e end.order bytes records end.answers
   cut_at e before held count left records end c (in_closing none whole torn which) done so cut = cut_closing e before held count left records end c whole torn which (done none) (so none)
   cut_at e before held count left records end c (as_left (inl some) l k) done so cut = cut_served e e before held count left records end c (inl refl) l k (cut e some)
@@ -254,9 +244,9 @@ module _ (script : Script) (header : Header) (arrivals : List Arrival) (given : 
 pub run_cut : (script : Script) (header : Header) (arrivals : List Arrival) (given : ℕ → List OwnerItem) (ends : List RankEnd) → is_sound header ≡ true → is_lawful script ≡ true
     → Told script header arrivals given ends → {held : Option (List ℕ)} {calls : Option (List DiskCall)} {faults : ℕ} {told : Option (List (Mark × ℕ))} {left : Option (List ℕ)} {made : Option (List DiskCall)}
     {failed count : ℕ} {heard : Option (List (Mark × ℕ))} {before : ServeEnd} {now : Option (List ℕ)} {records : ℕ} {end : RunEnd}
-    → OwnerSide script header arrivals given script.ranks held calls faults told left made failed count heard before
+    → OwnerSide script header arrivals given script.ranks (length script.calls) held calls faults told left made failed count heard before
     → ((e : StepErr) → end.fault ≡ Some e → EndOfCut header ends before e left count now records end) → HasCut script header held now records end
 run_cut script header arrivals given ends sound lawful t {held} {left} {count} {before} {now} {records} {end} o c e is = some_each held (λ file there.
     cut_at script header arrivals given ends sound lawful t file e before left count now records end (c e is) (c e is).at o.done
-    (λ none. if_some_at (λ (f : List ℕ). IsDoneSo (setting_of script header) (opening script.ranks (counted f header.records)) (passed arrivals script.ranks given) left count) held file there (o.bytes none))
-    (λ x some. if_some_at (λ (f : List ℕ). HasCutService (setting_of script header) x (opening script.ranks (counted f header.records)) (passed arrivals script.ranks given) (point before.order left count)) held file there (o.cut x some)))
+    (λ none. if_some_at (λ (f : List ℕ). IsDoneSo (setting_of script header) (opening_owner script header f) (passed arrivals script.ranks given) left count) held file there (o.bytes none))
+    (λ x some. if_some_at (λ (f : List ℕ). HasCutService (setting_of script header) x (opening_owner script header f) (passed arrivals script.ranks given) (point before.order left count)) held file there (o.cut x some)))

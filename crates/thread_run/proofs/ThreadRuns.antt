@@ -1,5 +1,5 @@
 -- A run on threads without a fault is the serial run of its order.
-use Rattle.thread_run.proofs.Words.{◌≡◌, ℕ, ◌+◌, ◌<◌, sym, ◌∙◌, ap, subst, List, [], ◌++◌, map, max, replicate, true, Option, Some, arith, slice_get, nat_lt, enumerate_from, same_Some, Header, Call, RankEnd, Script, Mark, OwnerItem, Owner, first_owner, free_client, owed, served, run_calls, store_records, Counted, raised, is_sound, Arrival, IsLegal, IsJoined, back_of, close_by, opening_owner, rank_ends, run_of, is_lawful, greatest, rank_end, Going, first_going, serial_from, setting_of, as_setting, counted, blank, AreAlike, AreNear, end_alike, lawful_agrees, whole_run, HasFinished, AreSingle, owner_calls, IsDone, IsDoneSo, opening, passed, most_known_of, NoneBroke, map_map, rows_same, raised_records, nat_tests}
+use Rattle.thread_run.proofs.Words.{◌≡◌, ℕ, ◌+◌, ◌<◌, sym, ◌∙◌, ap, subst, List, [], ◌++◌, map, max, true, Option, Some, arith, slice_get, nat_lt, enumerate_from, same_Some, Header, Call, RankEnd, Script, Mark, OwnerItem, Owner, run_calls, store_records, Counted, raised, is_sound, Arrival, IsLegal, IsJoined, back_of, close_by, opening_owner, rank_ends, run_of, is_lawful, greatest, rank_end, Going, first_going, serial_from, setting_of, as_setting, counted, blank, AreAlike, AreNear, end_alike, lawful_agrees, whole_run, HasFinished, AreSingle, owner_calls, IsDone, IsDoneSo, passed, most_known_of, NoneBroke, map_map, rows_same, raised_records}
 use Rattle.serial_spec.specs.RankMachine as machine
 use Rattle.serial_spec.specs.SerialEnd.{End}
 use Rattle.thread_run.proofs.ThreadTies.{Told, finished_of, joined, low_rank, own_of, puts, takes, took_all}
@@ -16,7 +16,7 @@ pub record FinishedSo (script : Script) (header : Header) (arrivals : List Arriv
   pub bytes : (raised (as_setting header) (counted owner.state.file owner.state.records) (most_known_of ends)).file ≡ (serial_from script header file order).bytes
   pub answers : map (λ end. end.answers) ends ≡ (serial_from script header file order).answers
   pub calls : run_calls script header file order
-      ≡ owner_calls script.hints (setting_of script header) (opening script.ranks (counted file header.records)) arrivals
+      ≡ owner_calls script.hints (setting_of script header) (opening_owner script header file) arrivals
       ++ store_records (setting_of script header) (nat_lt owner.state.records (serial_from script header file order).records)
 
 -- whatever they are
@@ -27,16 +27,12 @@ pub record FinishedAlike (script : Script) (header : Header) (ends : List RankEn
 
 module _ (script : Script) (header : Header) (arrivals : List Arrival) (given : ℕ → List OwnerItem) (ends : List RankEnd) (order : List Mark) (stranger : Option ℕ)
     (sound : is_sound header ≡ true) (lawful : is_lawful script ≡ true) (t : Told script header arrivals given ends) (whole : NoneBroke ends)
-    (done : (file : List ℕ) → IsDone (setting_of script header) (opening script.ranks (counted file header.records)) (passed arrivals script.ranks given) order stranger) where
-  owner_is : (file : List ℕ) → opening script.ranks (counted file header.records) ≡ opening_owner script header file
-  owner_is file = ap (λ (n : ℕ). first_owner (replicate n free_client) (counted file header.records)) (sym t.calls)
-
+    (done : (file : List ℕ) → IsDone (setting_of script header) (opening_owner script header file) (passed arrivals script.ranks given) order stranger) where
   alike : (file : List ℕ) (q : ℕ) → q < script.ranks → AreAlike (given q) (back_of script header file arrivals q)
-  alike file q low =
-      subst (λ (d : Owner). AreAlike (given q) (owed (setting_of script header) d arrivals q)) (owner_is file) ((done file).given q low)
+  alike file q low = (done file).given q low
 
   order_is : (file : List ℕ) → order ≡ (run_of script header file arrivals).marks
-  order_is file = (done file).order ∙ ap (λ (d : Owner). (served (setting_of script header) d arrivals).marks) (owner_is file)
+  order_is file = (done file).order
 
   joined_at : (file : List ℕ) → IsJoined script header file arrivals
   joined_at file = joined script header arrivals given ends t (lawful_agrees script lawful) whole file (alike file)
@@ -82,8 +78,8 @@ module _ (script : Script) (header : Header) (arrivals : List Arrival) (given : 
   last file = ap (λ (ms : List Mark). serial_from script header file ms) (order_is file) ∙ (whole_run script header file arrivals sound lawful (joined_at file)).ends
 
   pub finished_alike : (file : List ℕ)
-      → FinishedAlike script header ends order file (served (setting_of script header) (opening script.ranks (counted file header.records)) arrivals).owner
-  finished_alike file = subst (λ (d : Owner). FinishedAlike script header ends order file (served (setting_of script header) d arrivals).owner) (sym (owner_is file)) (record {
+      → FinishedAlike script header ends order file (run_of script header file arrivals).owner
+  finished_alike file = record {
     records = ap (λ (n : ℕ). max (run_of script header file arrivals).owner.state.records n) (known_is file)
         ∙ sym (raised_records (setting_of script header) (run_of script header file arrivals).owner.state (greatest (map (λ g. g.rank.known) (rank_ends script header file arrivals)))) ∙ sym (ap (λ (e : End). e.records) (last file));
     answers = map_map (map blank) (λ (end : RankEnd). end.answers) ends
@@ -92,17 +88,17 @@ module _ (script : Script) (header : Header) (arrivals : List Arrival) (given : 
         ∙ sym (map_map (map blank) (λ (g : Going). g.answers) (rank_ends script header file arrivals)) ∙ sym (ap (λ (e : End). map (map blank) e.answers) (last file));
     pending = each_end (λ end. end.pending) (λ g. machine.pending g.rank) (back_of script header file arrivals)
         (λ r own e. (fin file r own e).pending ∙ ap (λ (k : machine.Rank). machine.pending k) (end_near file r own e).rank) ∙ sym (ap (λ (e : End). e.pending) (last file));
-  })
+  }
 
   pub finished_so : (file : List ℕ) (told : Option (List ℕ)) (records : ℕ)
-      → IsDoneSo (setting_of script header) (opening script.ranks (counted file header.records)) (passed arrivals script.ranks given) told records
-      → FinishedSo script header arrivals ends order file (served (setting_of script header) (opening script.ranks (counted file header.records)) arrivals).owner
-  finished_so file told records so = subst (λ (d : Owner). FinishedSo script header arrivals ends order file (served (setting_of script header) d arrivals).owner) (sym (owner_is file)) (record {
+      → IsDoneSo (setting_of script header) (opening_owner script header file) (passed arrivals script.ranks given) told records
+      → FinishedSo script header arrivals ends order file (run_of script header file arrivals).owner
+  finished_so file told records so = record {
     bytes = ap (λ (n : ℕ). (raised (as_setting header) (counted state.file state.records) n).file) (known_is file) ∙ sym (ap (λ (e : End). e.bytes) (last file));
     answers = each_end (λ end. end.answers) (λ g. g.answers) (back_of script header file arrivals)
         (λ r own e. (fin file r own e).answers ∙ ap (λ (v : List OwnerItem). (rank_end header (first_going header own) v).answers) (back r own e)) ∙ sym (ap (λ (e : End). e.answers) (last file));
     calls = calls;
-  })
+  }
     where
       state : Counted
       state = (run_of script header file arrivals).owner.state
@@ -111,9 +107,11 @@ module _ (script : Script) (header : Header) (arrivals : List Arrival) (given : 
       back r own e =
           took_all script header arrivals given ends t (lawful_agrees script lawful) whole file (alike file) r own e
           ∙ so.given r (low_rank script header arrivals given ends t r own e)
-          ∙ ap (λ (d : Owner). owed (setting_of script header) d arrivals r) (owner_is file)
 
       calls : run_calls script header file order
-          ≡ owner_calls script.hints (setting_of script header) (opening script.ranks (counted file header.records)) arrivals
+          ≡ owner_calls script.hints (setting_of script header) (opening_owner script header file) arrivals
           ++ store_records (setting_of script header) (nat_lt (run_of script header file arrivals).owner.state.records (serial_from script header file order).records)
-      calls = grind (arith, nat_tests, order_is file, calls_all script header file arrivals sound lawful (joined_at file), owner_is file, joined_at)
+      calls =
+          ap (λ (ms : List Mark). run_calls script header file ms) (order_is file) ∙ calls_all script header file arrivals sound lawful (joined_at file)
+          ∙ ap (λ (ms : List Mark). owner_calls script.hints (setting_of script header) (opening_owner script header file) arrivals
+          ++ store_records (setting_of script header) (nat_lt state.records (serial_from script header file ms).records)) (sym (order_is file))

@@ -13,17 +13,17 @@ pub record Told (script : Script) (header : Header) (arrivals : List Arrival) (g
   pub calls : length script.calls ≡ script.ranks
   pub each : (r : ℕ) (end : RankEnd) → slice_get ends r ≡ Some end → IsSettled header (calls_of script r) (own_items r arrivals) (given r) end
 
--- what the owner tells, who served so many senders
-pub record OwnerSide (script : Script) (header : Header) (arrivals : List Arrival) (given : ℕ → List OwnerItem) (n : ℕ) (held : Option (List ℕ)) (calls : Option (List DiskCall)) (faults : ℕ)
+-- what the owner tells, who served n senders and opened with m clients
+pub record OwnerSide (script : Script) (header : Header) (arrivals : List Arrival) (given : ℕ → List OwnerItem) (n m : ℕ) (held : Option (List ℕ)) (calls : Option (List DiskCall)) (faults : ℕ)
     (told : Option (List (Mark × ℕ))) (left : Option (List ℕ)) (made : Option (List DiskCall)) (failed records : ℕ) (heard : Option (List (Mark × ℕ))) (end : ServeEnd) : Type 0 where
-  pub done : end.fault ≡ None → (file : List ℕ) → IsDone (setting_of script header) (opening n (counted file header.records)) (passed arrivals n given) end.order end.stranger
-  pub counts : end.fault ≡ None → (file : List ℕ) → records ≡ (served (setting_of script header) (opening n (counted file header.records)) arrivals).owner.state.records
-  pub bytes : end.fault ≡ None → IfSome held (λ file. IsDoneSo (setting_of script header) (opening n (counted file header.records)) (passed arrivals n given) left records)
-  pub device : end.fault ≡ None → AreSingle arrivals → IfSome held (λ file. made ≡ with_end calls (owner_calls script.hints (setting_of script header) (opening n (counted file header.records)) arrivals))
-  pub cut_off : (e : StepErr) → end.fault ≡ Some e → HasFailed (setting_of script header) (opening n) header.records (passed arrivals n given) end.order end.stranger
+  pub done : end.fault ≡ None → (file : List ℕ) → IsDone (setting_of script header) (opening m (counted file header.records)) (passed arrivals n given) end.order end.stranger
+  pub counts : end.fault ≡ None → (file : List ℕ) → records ≡ (served (setting_of script header) (opening m (counted file header.records)) arrivals).owner.state.records
+  pub bytes : end.fault ≡ None → IfSome held (λ file. IsDoneSo (setting_of script header) (opening m (counted file header.records)) (passed arrivals n given) left records)
+  pub device : end.fault ≡ None → AreSingle arrivals → IfSome held (λ file. made ≡ with_end calls (owner_calls script.hints (setting_of script header) (opening m (counted file header.records)) arrivals))
+  pub cut_off : (e : StepErr) → end.fault ≡ Some e → HasFailed (setting_of script header) (opening m) header.records (passed arrivals n given) end.order end.stranger
   pub cut : (x : StepErr) → end.fault ≡ Some x
-      → IfSome held (λ file. HasCutService (setting_of script header) x (opening n (counted file header.records)) (passed arrivals n given) (point end.order left records))
-  pub told_along : (file : List ℕ) → HasToldAlong (setting_of script header) (opening n (counted file header.records)) arrivals end.order told heard
+      → IfSome held (λ file. HasCutService (setting_of script header) x (opening m (counted file header.records)) (passed arrivals n given) (point end.order left records))
+  pub told_along : (file : List ℕ) → HasToldAlong (setting_of script header) (opening m (counted file header.records)) arrivals end.order told heard
   pub cause : end.fault ≡ Some fault.Disk → Rose faults failed
   pub later : faults ≤ failed
 

@@ -1,34 +1,28 @@
 -- What a run on threads told, from what the owner tells.
-use Rattle.thread_run.proofs.Words.{◌≡◌, ℕ, refl, sym, ◌∙◌, ap, subst, List, [], true, Option, Some, None, Header, RankEnd, ServeEnd, Script, Mark, OwnerItem, StepErr, with_end, Owner, is_sound, Arrival, opening_owner, is_lawful, told_of, setting_of, counted, point, told_marks, HasTold, owner_told, HasCutService, opening, HasToldAlong, IsDone, IsDoneSo, passed, marks_ended, some_each, if_some_at, DiskCall}
+use Rattle.thread_run.proofs.Words.{◌≡◌, ℕ, refl, sym, ◌∙◌, ap, subst, List, [], true, Option, Some, None, Header, RankEnd, ServeEnd, Script, Mark, OwnerItem, StepErr, with_end, is_sound, Arrival, opening_owner, is_lawful, told_of, setting_of, point, told_marks, HasTold, owner_told, HasCutService, IsDoneSo, passed, marks_ended, some_each, if_some_at, DiskCall, length}
 use Rattle.thread_run.proofs.TellLaws.{marks_along, same_told}
 use Rattle.thread_run.proofs.ServiceCut.{service_cut, service_done, Service}
-use Rattle.thread_run.proofs.ThreadCut.{owner_is, ranks_are, told_is}
+use Rattle.thread_run.proofs.ThreadCut.{ranks_are, told_is}
 use Rattle.thread_run.proofs.ThreadTies.{Told, OwnerSide}
 
 module _ (script : Script) (header : Header) (arrivals : List Arrival) (given : ℕ → List OwnerItem) (ends : List RankEnd) (sound : is_sound header ≡ true) (lawful : is_lawful script ≡ true)
     (t : Told script header arrivals given ends) {held : Option (List ℕ)} {calls : Option (List DiskCall)} {faults : ℕ} {told : Option (List (Mark × ℕ))} {left : Option (List ℕ)} {made : Option (List DiskCall)}
-    {failed count : ℕ} {heard : Option (List (Mark × ℕ))} {before : ServeEnd} (o : OwnerSide script header arrivals given script.ranks held calls faults told left made failed count heard before) where
+    {failed count : ℕ} {heard : Option (List (Mark × ℕ))} {before : ServeEnd} (o : OwnerSide script header arrivals given script.ranks (length script.calls) held calls faults told left made failed count heard before) where
   -- with the counts, where the bytes are told
   run_counts : (file : List ℕ) → held ≡ Some file → heard ≡ with_end told (told_of script header file before.order)
   run_counts file there = by_service (by_fault before.fault refl)
     where
-      is : opening script.ranks (counted file header.records) ≡ opening_owner script header file
-      is = owner_is script header arrivals given ends sound lawful t file
-
       by_fault : (m : Option StepErr) → before.fault ≡ m → Service (setting_of script header) (opening_owner script header file) script.ranks arrivals given before.order
       by_fault None none =
-          let so = if_some_at (λ (f : List ℕ). IsDoneSo (setting_of script header) (opening script.ranks (counted f header.records)) (passed arrivals script.ranks given) left count) held file there (o.bytes none) in
-          (service_done script.hints (setting_of script header) (opening_owner script header file) script.ranks arrivals given before.order
-          (subst (λ (d : Owner). IsDone (setting_of script header) d (passed arrivals script.ranks given) before.order before.stranger) is (o.done none file)).order
-          (subst (λ (d : Owner). IsDoneSo (setting_of script header) d (passed arrivals script.ranks given) left count) is so).given).0
+          let so = if_some_at (λ (f : List ℕ). IsDoneSo (setting_of script header) (opening_owner script header f) (passed arrivals script.ranks given) left count) held file there (o.bytes none) in
+          (service_done script.hints (setting_of script header) (opening_owner script header file) script.ranks arrivals given before.order (o.done none file).order so.given).0
       by_fault (Some x) some =
-          let cut = if_some_at (λ (f : List ℕ). HasCutService (setting_of script header) x (opening script.ranks (counted f header.records)) (passed arrivals script.ranks given) (point before.order left count)) held file there (o.cut x some) in
           service_cut (setting_of script header) (opening_owner script header file) script.ranks count x arrivals given before.order left (ranks_are script header arrivals given ends sound lawful t file)
-          (subst (λ (d : Owner). HasCutService (setting_of script header) x d (passed arrivals script.ranks given) (point before.order left count)) is cut)
+          (if_some_at (λ (f : List ℕ). HasCutService (setting_of script header) x (opening_owner script header f) (passed arrivals script.ranks given) (point before.order left count)) held file there (o.cut x some))
 
       by_service : Service (setting_of script header) (opening_owner script header file) script.ranks arrivals given before.order → heard ≡ with_end told (told_of script header file before.order)
       by_service h =
-          let a = subst (λ (d : Owner). HasToldAlong (setting_of script header) d arrivals before.order told heard) is (o.told_along file) in
+          let a = o.told_along file in
           a.heard
           ∙ ap (λ (more : List (Mark × ℕ)). with_end told more)
           (same_told (setting_of script header) a.first a.later h.first h.later (opening_owner script header file) (sym a.all ∙ h.all) a.none_strange h.none (sym a.order ∙ h.order_is)
@@ -36,7 +30,7 @@ module _ (script : Script) (header : Header) (arrivals : List Arrival) (given : 
 
   pub run_told : (order : List Mark) → order ≡ before.order → HasTold script header held told heard order
   run_told order same =
-      let a = o.told_along [] in let d = opening script.ranks (counted [] header.records) in
+      let a = o.told_along [] in let d = opening_owner script header [] in
       subst (λ (ms : List Mark). HasTold script header held told heard ms) (sym same) (record {
         marks = ap told_marks a.heard ∙ marks_ended told (owner_told (setting_of script header) d a.first)
             ∙ ap (λ (ms : List Mark). with_end (told_marks told) ms) (marks_along (setting_of script header) a.first d ∙ sym a.order);

@@ -29,9 +29,12 @@ end_run-requires-clause-known g c κs within =
     (subst (λ (v : List RankHandle). AreSettled inbox.items v c.into_vec.result.items ends) (with_items_is c.args.started.ones now (search rules)) c.join_all.ensures) in
     let script = c.args.run.now.script.now in let header = c.args.run.now.header.now in
     let arrivals = arrived c.args.started.inbox inbox in let given = gained c.from_vec-back.result back in
-    λ none whole. known_sound script header arrivals given ends c.requires.sound c.requires.lawful (told_all c.requires.lawful s settled) c.serve-served.result
-    (λ file. subst (λ (n : ℕ). IsDone (setting_of script header) (opening n (counted file header.records)) (passed arrivals n given) c.serve-served.result.order c.serve-served.result.stranger)
-    c.requires.started.senders (served.done none file)) whole
+    let all = told_all c.requires.lawful s settled in
+    let senders = c.requires.started.senders in
+    let clients = senders ∙ sym all.calls in
+    λ none whole. known_sound script header arrivals given ends c.requires.sound c.requires.lawful all c.serve-served.result
+    (λ file. subst (λ (p : ℕ × ℕ). IsDone (setting_of script header) (opening p.1 (counted file header.records)) (passed arrivals p.0 given) c.serve-served.result.order c.serve-served.result.stranger)
+    (λ i. (senders i, clients i)) (served.done none file)) whole
 
 pub returns : goal.returns
 returns g c =
@@ -43,9 +46,11 @@ returns g c =
     let script = c.args.run.now.script.now in let header = c.args.run.now.header.now in
     let arrivals = arrived c.args.started.inbox inbox in let given = gained c.from_vec-back.result back in
     let all = told_all c.requires.lawful s settled in let end = c.end_run.ensures in
-    let owner = subst (λ (n : ℕ). OwnerSide script header arrivals given n (g.D.Disk.held c.args.disk.now) (g.D.Disk.calls c.args.disk.now) (g.D.Disk.faults c.args.disk.now) (g.T.Told.heard c.args.told.now)
+    let senders = c.requires.started.senders in
+    let clients = senders ∙ sym all.calls in
+    let owner = subst (λ (p : ℕ × ℕ). OwnerSide script header arrivals given p.0 p.1 (g.D.Disk.held c.args.disk.now) (g.D.Disk.calls c.args.disk.now) (g.D.Disk.faults c.args.disk.now) (g.T.Told.heard c.args.told.now)
     (g.D.Disk.held c.serve-served.new.disk) (g.D.Disk.calls c.serve-served.new.disk) (g.D.Disk.faults c.serve-served.new.disk) c.serve-served.new.records (g.T.Told.heard c.serve-served.new.told) c.serve-served.result)
-    c.requires.started.senders (record {
+    (λ i. (senders i, clients i)) (record {
       done = served.done;
       counts = served.records;
       bytes = served.bytes;
