@@ -114,4 +114,4 @@ module _ (script : Script) (header : Header) (arrivals : List Arrival) (given : 
       calls =
           ap (λ (ms : List Mark). run_calls script header file ms) (order_is file) ∙ calls_all script header file arrivals sound lawful (joined_at file)
           ∙ ap (λ (ms : List Mark). owner_calls script.hints (setting_of script header) (opening_owner script header file) arrivals
-          ++ store_records (setting_of script header) (nat_lt state.records (serial_from script header file ms).records)) (sym (order_is file))
+          ++ store_records (setting_of script header) (nat_lt (run_of script header file arrivals).owner.state.records (serial_from script header file ms).records)) (sym (order_is file))
