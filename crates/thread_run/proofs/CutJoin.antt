@@ -1,10 +1,11 @@
 -- The owner's run along arrivals of which none was strange, wherever it was cut off: it is the serial run of its order, and each rank
 -- ended where that run's rank goes up to.
-use Rattle.thread_run.proofs.Words.{◌≡◌, ℕ, ◌<◌, ◌≤◌, refl, sym, ◌∙◌, ap, subst, List, [], ◌∷◌, ◌++◌, length, map, replicate, Bool, true, false, Option, Some, None, append_assoc, arith, length-map, length-replicate, list_all-append, slice_get_within, slice_get, fold, nat_lt, list_all, entry_below, entry_replicate, entry_beside, and_first, and_second, Header, Call, Script, Mark, Offer, OwnerItem, Stop, Owner, Client, event, free_client, given_along, is_strange, offers_in, own_items, served, Setting, Counted, Arrival, is_sound, opening_owner, run_of, rank_end, Going, after_mark, first_going, setting_of, Begins, HasOffered, sound_small, calls_of, stranger_on, served_on, ServedOn, fold_two, counts_along, owner_told, given_on, mapped_entry, nat_tests}
+use Rattle.thread_run.proofs.Words.{◌≡◌, ℕ, ◌<◌, ◌≤◌, sym, ◌∙◌, ap, subst, List, [], ◌∷◌, ◌++◌, length, map, replicate, true, Option, Some, None, append_assoc, arith, length-map, length-replicate, list_all-append, slice_get_within, slice_get, fold, nat_lt, list_all, entry_below, entry_replicate, entry_beside, and_first, and_second, Header, Call, Script, Mark, Offer, OwnerItem, Stop, Owner, Client, event, free_client, given_along, is_strange, offers_in, own_items, served, Setting, Counted, Arrival, is_sound, opening_owner, run_of, rank_end, Going, after_mark, first_going, setting_of, Begins, HasOffered, sound_small, calls_of, stranger_on, served_on, fold_two, counts_along, owner_told, given_on, mapped_entry, nat_tests, inl, inr}
 use borrow.Author.Tests.{ltb-true}
+use Rattle.list_laws.proofs.Truth.{holds_or_not}
 use Rattle.thread_run.proofs.TellLaws.{count_of, tells_more}
-use Rattle.thread_run.proofs.CutRank.{IsPaired, sits_as}
-use Rattle.thread_run.proofs.CutSteps.{Stands, Stepped, arrival_stands}
+use Rattle.thread_run.proofs.CutRank.{IsPaired}
+use Rattle.thread_run.proofs.CutSteps.{Stands, arrival_stands}
 
 -- ---- arrivals
 
@@ -19,53 +20,36 @@ pub ran : (s : Setting) (first later : List Arrival) (d : Owner) (goings : List 
     → list_all (λ (a : Arrival). nat_lt a.0 (length d.clients)) first ≡ true
     → Stands s d goings (λ q. own_items q (first ++ later)) (λ q. given_along s d first q ++ replicate (n q) Stop) end → Ran s d goings first later n end
 ran s [] later d goings n end none low t = grind (arith, nat_tests)
-ran s ((r, i) ∷ first) later d goings n end none low t = by (is_strange s d (r, i)) refl (λ d' goings' f l u. ran s first later d' goings' n end f l u)
-  where
-    by : (v : Bool) → is_strange s d (r, i) ≡ v
-        → ((d' : Owner) (goings' : List Going) → (served s d' first).stranger ≡ None → list_all (λ (a : Arrival). nat_lt a.0 (length d'.clients)) first ≡ true
-        → Stands s d' goings' (λ q. own_items q (first ++ later)) (λ q. given_along s d' first q ++ replicate (n q) Stop) end → Ran s d' goings' first later n end)
-        → Ran s d goings ((r, i) ∷ first) later n end
-    by true f again = let z = sym (stranger_on s d (r, i) first f) ∙ none in absurd cc
-    by false f again = record {
-      last = after.last;
-      folded = ap (λ (ms : List Mark). fold (after_mark s) (d.state, goings) ms) on.marks
-          ∙ fold_two s (d.state, goings) (event s d (r, i)).marks (served s (event s d (r, i)).owner first).marks
-          ∙ ap (λ (st : Counted × List Going). fold (after_mark s) st (served s (event s d (r, i)).owner first).marks) step.folded ∙ after.folded
-          ∙ ap (λ (e : Owner). (e.state, after.last)) (sym on.owner);
-      told = tells_more s d goings step.after (r, i) first f step.folded after.told;
-      long = after.long ∙ step.ranks;
-      stands = subst (λ (e : Owner). Stands s e after.last (λ q. own_items q later) (λ q. replicate (n q) Stop) end) (sym on.owner) after.stands;
-    }
-      where
-        on : ServedOn s d (r, i) first
-        on = served_on s d (r, i) first f
-
-        client : (x : Client) × (slice_get d.clients r ≡ Some x)
-        client = entry_below d.clients r (ltb-true r (length d.clients) (and_first (nat_lt r (length d.clients)) (list_all (λ (a : Arrival). nat_lt a.0 (length d.clients)) first) low))
-
-        going : (g : Going) × (slice_get goings r ≡ Some g)
-        going = entry_beside d.clients goings r client.0 t.long client.1
-
-        whole : Stands s d goings (λ q. own_items q ((r, i) ∷ (first ++ later))) (λ q. (event s d (r, i)).given q ++ (given_along s (event s d (r, i)).owner first q ++ replicate (n q) Stop)) end
-        whole = record {
-          long = t.long;
-          paired_at = λ q x g a b.
-              sits_as s.header x x g (own_items q ((r, i) ∷ (first ++ later))) (own_items q ((r, i) ∷ (first ++ later))) (given_along s d ((r, i) ∷ first) q ++ replicate (n q) Stop)
-              ((event s d (r, i)).given q ++ (given_along s (event s d (r, i)).owner first q ++ replicate (n q) Stop)) (end q) refl refl
-              (ap (λ (xs : List OwnerItem). xs ++ replicate (n q) Stop) (given_on s d (r, i) first q f)
-              ∙ append_assoc ((event s d (r, i)).given q) (given_along s (event s d (r, i)).owner first q) (replicate (n q) Stop)) (t.paired_at q x g a b);
-          held = t.held;
-          counted = t.counted;
-          small = t.small;
-        }
-
-        step : Stepped s d goings (λ q. own_items q (first ++ later)) (event s d (r, i)) (λ q. given_along s (event s d (r, i)).owner first q ++ replicate (n q) Stop) end
-        step = arrival_stands s d goings r (first ++ later) client.0 going.0 end client.1 going.1 i (λ q. given_along s (event s d (r, i)).owner first q ++ replicate (n q) Stop) f whole
-
-        after : Ran s (event s d (r, i)).owner step.after first later n end
-        after =
-            again (event s d (r, i)).owner step.after (sym on.stranger ∙ none)
-            (ap (λ (k : ℕ). list_all (λ (a : Arrival). nat_lt a.0 k) first) step.ranks ∙ and_second (nat_lt r (length d.clients)) (list_all (λ (a : Arrival). nat_lt a.0 (length d.clients)) first) low) step.stands
+ran s ((r, i) ∷ first) later d goings n end none low t = elim (holds_or_not (is_strange s d (r, i))) [
+  | inl f ↦ (let z = sym (stranger_on s d (r, i) first f) ∙ none in absurd cc)
+  | inr f ↦
+      (let on = served_on s d (r, i) first f in
+      let client = entry_below d.clients r (ltb-true r (length d.clients) (and_first (nat_lt r (length d.clients)) (list_all (λ (a : Arrival). nat_lt a.0 (length d.clients)) first) low)) in
+      let going = entry_beside d.clients goings r client.0 t.long client.1 in
+      let left = λ (q : ℕ). given_along s (event s d (r, i)).owner first q ++ replicate (n q) Stop in
+      let whole : Stands s d goings (λ q. own_items q ((r, i) ∷ (first ++ later))) (λ q. (event s d (r, i)).given q ++ left q) end = record {
+        long = t.long;
+        paired_at = λ q x g a b. subst (λ (items : List OwnerItem). IsPaired s.header x g (own_items q ((r, i) ∷ (first ++ later))) items (end q))
+            (ap (λ (xs : List OwnerItem). xs ++ replicate (n q) Stop) (given_on s d (r, i) first q f)
+            ∙ append_assoc ((event s d (r, i)).given q) (given_along s (event s d (r, i)).owner first q) (replicate (n q) Stop)) (t.paired_at q x g a b);
+        held = t.held;
+        counted = t.counted;
+        small = t.small;
+      } in
+      let step = arrival_stands s d goings r (first ++ later) client.0 going.0 end client.1 going.1 i left f whole in
+      let after = ran s first later (event s d (r, i)).owner step.after n end (sym on.stranger ∙ none)
+      (ap (λ (k : ℕ). list_all (λ (a : Arrival). nat_lt a.0 k) first) step.ranks ∙ and_second (nat_lt r (length d.clients)) (list_all (λ (a : Arrival). nat_lt a.0 (length d.clients)) first) low) step.stands in
+      record {
+        last = after.last;
+        folded = ap (λ (ms : List Mark). fold (after_mark s) (d.state, goings) ms) on.marks
+            ∙ fold_two s (d.state, goings) (event s d (r, i)).marks (served s (event s d (r, i)).owner first).marks
+            ∙ ap (λ (st : Counted × List Going). fold (after_mark s) st (served s (event s d (r, i)).owner first).marks) step.folded ∙ after.folded
+            ∙ ap (λ (e : Owner). (e.state, after.last)) (sym on.owner);
+        told = tells_more s d goings step.after (r, i) first f step.folded after.told;
+        long = after.long ∙ step.ranks;
+        stands = subst (λ (e : Owner). Stands s e after.last (λ q. own_items q later) (λ q. replicate (n q) Stop) end) (sym on.owner) after.stands;
+      })
+]
 
 -- ---- the ranks of a script
 
