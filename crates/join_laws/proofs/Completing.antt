@@ -1,6 +1,7 @@
 -- An order that a script's ranks have begun can be gone on with to one of its histories: the ranks meet as often, one as the other.
 use Rattle.join_laws.proofs.Words.{and_from, ◌≡◌, ℕ, zero, suc, ◌+◌, ◌-◌, ◌<◌, ◌≤◌, refl, sym, ◌∙◌, ap, inl, inr, ◌⊎◌, subst, eqb_tells, List, [], ◌∷◌, ◌++◌, length, Bool, true, false, cond, ◌&&◌, Option, Some, None, arith, append_assoc, filter-append, sum_by-cons, nat_tests, ◌==◌, filter, is_some, nat_lt, list_all, cons_option, Call, Script, Mark, Meet, Solo, MeetKind, kinds, marks, marks_from, concerns, is_of_rank_below, kind_of_call, mode_after, is_collective, is_data, IsLegal, is_meeting, is_lawful, is_solo_of, meetings, kinds_of, own_lawful, ranks_lawful, and_first, and_second, equal_itself, others_filter, all_joined, append-nil, entry_below}
 use borrow.Author.Tests.{ltb-true, ltb-false, eqb-true}
+use Rattle.list_laws.proofs.Truth.{either}
 
 -- ---- what is left to a rank: its own steps, and n meetings from the k-th on
 
@@ -142,11 +143,9 @@ last_of (suc n) k ranks rests h =
 meetings_kept : (r : ℕ) (order : List Mark) → meetings (filter (concerns r) order) ≡ meetings order
 meetings_kept r [] = refl
 meetings_kept r (Meet k ∷ order) = meetings_meet k (filter (concerns r) order) ∙ ap (λ (n : ℕ). 1 + n) (meetings_kept r order) ∙ sym (meetings_meet k order)
-meetings_kept r (Solo q c ∷ order) = by_own (q == r) ∙ meetings_kept r order
-  where
-    by_own : (t : Bool) → meetings (cond t (Solo q c ∷ filter (concerns r) order) (filter (concerns r) order)) ≡ meetings (filter (concerns r) order)
-    by_own true = refl
-    by_own false = refl
+meetings_kept r (Solo q c ∷ order) =
+    either (λ (u : List Mark). meetings u ≡ meetings (filter (concerns r) order)) (q == r) (Solo q c ∷ filter (concerns r) order) (filter (concerns r) order) (λ e. refl) (λ e. refl)
+    ∙ meetings_kept r order
 
 -- as many meetings, and nothing else
 filler : ℕ → ℕ → List Mark
