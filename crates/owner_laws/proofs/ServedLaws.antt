@@ -1,6 +1,7 @@
 -- A run of the owner: its first strange arrival, and its order by the arrivals before that one.
-use Rattle.owner_laws.proofs.Words.{◌≡◌, ℕ, ◌<◌, refl, sym, ◌∙◌, ap, subst, List, [], ◌∷◌, ◌++◌, replicate, max, Bool, true, false, ◌&&◌, Option, Some, None, arith, length-replicate, list_all-append, slice_get, nat_lt, list_all, entry_below, and_first, and_second, Mark, Client, Owner, event, first_owner, free_client, is_strange, needed_now, served, Counted, Setting, Arrival, done, served_on, stranger_on, none_marked, entry_replicate, done_is, IsCutByArrivals, IsDoneByArrivals, before_stranger, before_stranger_from, first_stranger, first_stranger_from, is_strange_after, puts_brought}
+use Rattle.owner_laws.proofs.Words.{◌≡◌, ℕ, ◌<◌, refl, sym, ◌∙◌, ap, subst, List, [], ◌∷◌, ◌++◌, replicate, max, true, ◌&&◌, Option, None, arith, length-replicate, list_all-append, nat_lt, list_all, entry_below, and_first, and_second, Mark, Client, Owner, event, first_owner, free_client, is_strange, needed_now, served, Counted, Setting, Arrival, done, served_on, stranger_on, none_marked, entry_replicate, done_is, IsCutByArrivals, IsDoneByArrivals, before_stranger, before_stranger_from, first_stranger, first_stranger_from, is_strange_after, puts_brought, inl, inr}
 use borrow.Author.Tests.{ltb-true}
+use Rattle.list_laws.proofs.Truth.{holds_or_not}
 use Rattle.owner_laws.proofs.HeldClients.{Kept, OfNumber}
 use Rattle.owner_laws.proofs.StrangerLaws.{event_next, not_taken, same_strange}
 
@@ -20,50 +21,32 @@ found : (s : Setting) (ranks reached : ℕ) (before : List Arrival) (d : Owner) 
     → Found s ranks reached before d arrivals
 found s ranks reached before d [] n kept e = record { stranger = refl; front = record { none_strange = refl; marks = refl; numbers = refl } }
 found s ranks reached before d ((r, i) ∷ rest) n kept e =
-    by (is_strange s d (r, i)) refl (λ reached' before' d' kept' e'. found s ranks reached' before' d' rest (and_second (nat_lt r ranks) _ n) kept' e')
-  where
-    low : nat_lt r ranks ≡ true
-    low = and_first (nat_lt r ranks) _ n
-
-    client : (y : Client) × (slice_get d.clients r ≡ Some y)
-    client =
-        let below : r < ranks = ltb-true r ranks low in
-        let long = kept.long in
-        entry_below d.clients r (omega arith)
-
-    told_so : is_strange s d (r, i) ≡ is_strange_after s ranks reached before (r, i)
-    told_so = same_strange s ranks before d kept r client.0 client.1 i ∙ ap (λ (m : ℕ). is_strange_after s ranks m before (r, i)) e
-
-    reached_now : ℕ
-    reached_now = max reached (needed_now s (puts_brought ranks before (r, i)))
-
-    more : List Arrival
-    more = before_stranger_from s ranks reached_now (before ++ (r, i) ∷ []) rest
-
-    goes : Bool → Option ℕ
-    goes t = elim t as (λ z. Option ℕ) [ true ↦ Some r | false ↦ first_stranger_from s ranks reached_now (before ++ (r, i) ∷ []) rest ]
-
-    front_by : Bool → List Arrival
-    front_by t = elim t as (λ z. List Arrival) [ true ↦ [] | false ↦ (r, i) ∷ more ]
-
-    ends : (t : Bool) → is_strange s d (r, i) ≡ t → (served s d ((r, i) ∷ rest)).stranger ≡ goes t → IsFront s d ranks (front_by t) ((r, i) ∷ rest) → Found s ranks reached before d ((r, i) ∷ rest)
-    ends t f stranger front = let told = sym f ∙ told_so in record { stranger = stranger ∙ ap goes told; front = subst (λ (xs : List Arrival). IsFront s d ranks xs ((r, i) ∷ rest)) (ap front_by told) front }
-
-    by : (t : Bool) → is_strange s d (r, i) ≡ t
-        → ((reached' : ℕ) (before' : List Arrival) (d' : Owner) → Kept ranks before' d' → d'.reached ≡ reached' → Found s ranks reached' before' d' rest)
-        → Found s ranks reached before d ((r, i) ∷ rest)
-    by true f again = ends true f (stranger_on s d (r, i) rest f) (record { none_strange = refl; marks = sym (none_marked s d (r, i) rest f); numbers = refl })
-    by false f again =
-        let next = event_next s ranks before d kept r client.0 client.1 i (not_taken s ranks before d kept r client.0 client.1 i f) in
-        let later = again reached_now (before ++ (r, i) ∷ []) (event s d (r, i)).owner next.kept
-        (next.reached ∙ ap (λ (m : ℕ). max m (needed_now s (puts_brought ranks before (r, i)))) e) in
-        let on = served_on s d (r, i) more f in
-        let front = later.front in
-        ends false f ((served_on s d (r, i) rest f).stranger ∙ later.stranger) (record {
-          none_strange = on.stranger ∙ front.none_strange;
-          marks = on.marks ∙ ap (λ (ms : List Mark). (event s d (r, i)).marks ++ ms) front.marks ∙ sym (served_on s d (r, i) rest f).marks;
-          numbers = let numbers = front.numbers in λ j. (low j && numbers j);
-        })
+    let low = and_first (nat_lt r ranks) _ n in
+    let below : r < ranks = ltb-true r ranks low in
+    let long = kept.long in
+    let client = entry_below d.clients r (omega arith) in
+    let told_so = same_strange s ranks before d kept r client.0 client.1 i ∙ ap (λ (m : ℕ). is_strange_after s ranks m before (r, i)) e in
+    elim (holds_or_not (is_strange s d (r, i))) [
+      | inl f ↦
+          (let told = sym told_so ∙ f in
+          record { stranger = rw (told, first_stranger_from) (stranger_on s d (r, i) rest f); front = rw (told, before_stranger_from) (record { none_strange = refl; marks = sym (none_marked s d (r, i) rest f); numbers = refl }) })
+      | inr f ↦
+          (let told = sym told_so ∙ f in
+          let reached_now = max reached (needed_now s (puts_brought ranks before (r, i))) in
+          let next = event_next s ranks before d kept r client.0 client.1 i (not_taken s ranks before d kept r client.0 client.1 i f) in
+          let later = found s ranks reached_now (before ++ (r, i) ∷ []) (event s d (r, i)).owner rest (and_second (nat_lt r ranks) _ n) next.kept
+          (next.reached ∙ ap (λ (m : ℕ). max m (needed_now s (puts_brought ranks before (r, i)))) e) in
+          let on = served_on s d (r, i) (before_stranger_from s ranks reached_now (before ++ (r, i) ∷ []) rest) f in
+          let numbers = later.front.numbers in
+          record {
+            stranger = rw (told, first_stranger_from) ((served_on s d (r, i) rest f).stranger ∙ later.stranger);
+            front = rw (told, before_stranger_from) (record {
+              none_strange = on.stranger ∙ later.front.none_strange;
+              marks = on.marks ∙ ap (λ (ms : List Mark). (event s d (r, i)).marks ++ ms) later.front.marks ∙ sym (served_on s d (r, i) rest f).marks;
+              numbers = λ j. (low j && numbers j);
+            });
+          })
+    ]
 
 -- ---- from the opening
 
