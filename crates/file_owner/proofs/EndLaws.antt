@@ -11,18 +11,6 @@ use Rattle.file_owner.proofs.GainedLaws.{gained_is, have_put, arrived_is, Stoppe
 
 -- ---- stops alone
 
-stops_are : (xs : List RankItem) → map (λ (i : RankItem). Stop) xs ≡ replicate (length xs) Stop
-stops_are [] = refl
-stops_are (x ∷ xs) = ap (λ (items : List OwnerItem). Stop ∷ items) (stops_are xs)
-
-pub only_stops : (m : Option Client) (xs : List RankItem) → (k : ℕ) × (stop_held m ++ map (λ (i : RankItem). Stop) xs ≡ replicate k Stop)
-only_stops None xs = (length xs, stops_are xs)
-only_stops (Some x) xs = by_held x.held x.ended
-  where
-    by_held : (held : Option Offer) (ended : Option Bool) → (k : ℕ) × (stop_held (Some (record { held = held; ended = ended })) ++ map (λ (i : RankItem). Stop) xs ≡ replicate k Stop)
-    by_held None ended = (length xs, stops_are xs)
-    by_held (Some p) ended = (suc (length xs), ap (λ (items : List OwnerItem). Stop ∷ items) (stops_are xs))
-
 -- ---- the clauses
 
 module _ (hints : Hints) (s : Setting) (old now : Receiver RankItem) (left : List Bool) (before : Standing) (n : ℕ) (held : Option (List ℕ)) (made : Option (List DiskCall)) (marks : List Mark)
