@@ -1,5 +1,5 @@
 -- The bytes of a file with zeros in a gap, and the windows of a gap.
-use Rattle.redef_mover.proofs.Words.{◌≡◌, ℕ, zero, suc, ◌+◌, ◌-◌, ◌*◌, ◌<◌, ◌≤◌, min, inl, inr, refl, sym, ◌∙◌, ap, List, [], ◌∷◌, ◌++◌, length, map, take, drop, get_or, Option, Some, None, arith, flat_map, replicate, flat_map-append, fold-append, range_with_len, drop_of_length-le, drop_more, length-replicate, take-replicate, same_file, DiskCall, Slab, stores, at, written, at-written_before, at-written_after, length-written_inside, at-written_inside, after, with_end, after-after, after-same, with_end-with_end, with_end-nil, gaps, Shift, Slabs, all_cleared, behind, cleared, further, gap_calls, gaps_before, listed, slab_of, slabs_at, AreClearable, AreSpaced, windows_of, count_is, stores_before, cases_lt, nat_tests}
+use Rattle.redef_mover.proofs.Words.{◌≡◌, ℕ, zero, suc, ◌+◌, ◌-◌, ◌*◌, ◌<◌, ◌≤◌, min, inl, inr, refl, sym, ◌∙◌, ap, List, [], ◌∷◌, ◌++◌, length, map, take, drop, get_or, arith, flat_map, replicate, range_with_len, drop_of_length-le, drop_more, length-replicate, take-replicate, same_file, Slab, stores, at, written, at-written_before, at-written_after, length-written_inside, at-written_inside, gaps, Shift, Slabs, behind, cleared, further, gaps_before, listed, slab_of, slabs_at, AreClearable, AreSpaced, windows_of, count_is, stores_before, cases_lt, nat_tests}
 use Rattle.redef_mover.proofs.MovesLaws.{map_id, no_further}
 
 -- ---- one gap
@@ -63,23 +63,6 @@ window_cleared file bytes x len z j n place from h l k b f e =
 pub all_stored : (z x len j count : ℕ) → 0 < z → j ≡ count → count ≡ windows_of z len → stores_before z x len j ≡ stores z x len
 all_stored z x len j count h e k = ap (λ (i : ℕ). stores_before z x len i) (e ∙ k ∙ count_is z len h)
 
--- ---- gaps that are left
-
-pub left_cleared : (whole mid now : Option (List ℕ)) (g : ℕ × ℕ) (rest all : List (ℕ × ℕ)) → all ≡ g ∷ rest → after (λ file. all_cleared file all) mid ≡ whole
-    → now ≡ after (λ file. cleared file g) mid → after (λ file. all_cleared file rest) now ≡ whole
-left_cleared whole mid now g rest all e w k = grind (arith, nat_tests, after-after)
-
-pub left_stored : (whole mid now : Option (List DiskCall)) (z : ℕ) (g : ℕ × ℕ) (rest all : List (ℕ × ℕ)) → all ≡ g ∷ rest → with_end mid (gap_calls z all) ≡ whole
-    → now ≡ with_end mid (stores z g.0 g.1) → with_end now (gap_calls z rest) ≡ whole
-left_stored whole mid now z g rest all e w k = grind (arith, nat_tests, with_end-with_end mid (stores z g.0 g.1) (gap_calls z rest))
-
-pub none_uncleared : (whole now : Option (List ℕ)) (rest : List (ℕ × ℕ)) → rest ≡ [] → after (λ file. all_cleared file rest) now ≡ whole → now ≡ whole
-none_uncleared whole None rest e w = w
-none_uncleared whole (Some file) rest e w = ap (λ gaps. Some (all_cleared file gaps)) (sym e) ∙ w
-
-pub none_unstored : (whole now : Option (List DiskCall)) (z : ℕ) (rest : List (ℕ × ℕ)) → rest ≡ [] → with_end now (gap_calls z rest) ≡ whole → now ≡ whole
-none_unstored whole now z rest e w = sym (with_end-nil now) ∙ ap (λ gaps. with_end now (gap_calls z gaps)) (sym e) ∙ w
-
 -- ---- slabs that are left, from the first one on
 
 pub none_behind : (at whole : ℕ) (ss : List Slab) → ss ≡ [] → behind at ss ≡ whole → at ≡ whole
@@ -126,14 +109,6 @@ spaced_front at end (s ∷ ss) others h = (h.0, spaced_front (s.to + s.len) end 
 pub spaced_rest : (at end : ℕ) (ss others : List Slab) → AreSpaced at end (ss ++ others) → AreSpaced (behind at ss) end others
 spaced_rest at end [] others h = h
 spaced_rest at end (s ∷ ss) others h = spaced_rest (s.to + s.len) end ss others h.1
-
-pub all_left_cleared : (whole mid now : Option (List ℕ)) (part rest all : List (ℕ × ℕ)) → all ≡ part ++ rest → after (λ file. all_cleared file all) mid ≡ whole
-    → now ≡ after (λ file. all_cleared file part) mid → after (λ file. all_cleared file rest) now ≡ whole
-all_left_cleared whole mid now part rest all e w k = grind (arith, nat_tests, after-after, after-same, fold-append)
-
-pub all_left_stored : (whole mid now : Option (List DiskCall)) (z : ℕ) (part rest all : List (ℕ × ℕ)) → all ≡ part ++ rest → with_end mid (gap_calls z all) ≡ whole
-    → now ≡ with_end mid (gap_calls z part) → with_end now (gap_calls z rest) ≡ whole
-all_left_stored whole mid now z part rest all e w k = grind (arith, nat_tests, with_end-with_end mid (gap_calls z part) (gap_calls z rest), flat_map-append)
 
 -- the slabs of the records from this one on
 abbrev pub above : Slabs → ℕ → List Slab

@@ -1,7 +1,7 @@
 -- What the moves and the zeros keep of a file.
-use Rattle.redef_mover.proofs.Words.{◌≡◌, ℕ, ◌+◌, ◌-◌, ◌≤◌, inl, inr, refl, sym, ◌∙◌, ap, subst, List, [], ◌∷◌, ◌++◌, length, Option, Some, None, Result, Ok, Err, arith, flat_map, IfSome, OnOk, OnErr, IsTrue, range_with_len, PartlyWritten, after, BothTold, In, in_left, in_right, changes, gaps, Slab, at, written, at-written_before, at-written_after, length-written_inside, IsBeside, IsKept, IsOutside, IsUnmoved, Slabs, cleared, slab_moved, slabs_at, window, nat_tests}
+use Rattle.redef_mover.proofs.Words.{◌≡◌, ℕ, ◌+◌, ◌-◌, ◌≤◌, inl, inr, refl, sym, ◌∙◌, subst, List, [], ◌∷◌, ◌++◌, length, Option, Some, None, Result, Ok, Err, arith, IfSome, OnOk, OnErr, IsTrue, PartlyWritten, after, BothTold, In, in_left, changes, Slab, at, written, at-written_before, at-written_after, length-written_inside, IsBeside, IsKept, IsOutside, IsUnmoved, cleared, slab_moved, window, nat_tests}
 use borrow.Author.Tests.{eqb-true}
-use Rattle.redef_mover.proofs.ClearLaws.{above, cleared_after, cleared_before, cleared_long}
+use Rattle.redef_mover.proofs.ClearLaws.{cleared_after, cleared_before, cleared_long}
 use Rattle.redef_mover.proofs.SlabLaws.{moved_after, moved_before, moved_long}
 use Rattle.redef_mover.proofs.WindowLaws.{upper}
 
@@ -85,14 +85,6 @@ changed s differ = grind (arith, nat_tests, eqb-true)
 pub outside_one : (s : Slab) (x : ℕ) → (s.from ≡ s.to → ⊥) → IsUnmoved (s ∷ []) x → IsOutside s.to s.len x
 outside_one s x differ h = h s (inl refl) (changed s differ)
 
-pub unmoved_of : (some all : List Slab) (x : ℕ) → ((s : Slab) → In some s → In all s) → IsUnmoved all x → IsUnmoved some x
-unmoved_of some all x f h s i c = h s (f s i) c
-
--- one of the slabs
-pub unmoved_one : (s : Slab) (all : List Slab) (x : ℕ) → In all s → IsUnmoved all x → IsUnmoved (s ∷ []) x
-unmoved_one s all x i h t (inl e) c = h t (subst (λ (u : Slab). In all u) e i) c
-unmoved_one s all x i h t (inr k) c = absurd k
-
 -- the upper windows of a slab
 pub upper_kept : (held now : Option (List ℕ)) (z j size : ℕ) (s : Slab) → IfSome held (λ file. length file ≡ size) → s.to + s.len ≤ size
     → now ≡ after (λ file. slab_moved file (upper z s j)) held → BothTold (IsKept (IsOutside s.to s.len)) held now
@@ -115,24 +107,5 @@ pub first_kept : (held now : Option (List ℕ)) (place n len size : ℕ) → IfS
     → now ≡ after (λ file. cleared file (place, n)) held → BothTold (IsKept (IsOutside place len)) held now
 first_kept held now place n len size long few room e = grind (arith, nat_tests, cleared_long, cleared_before, cleared_after)
 
-pub beside_first : (g : ℕ × ℕ) (rest all : List (ℕ × ℕ)) (x : ℕ) → all ≡ g ∷ rest → IsBeside all x → IsOutside g.0 g.1 x
-beside_first g rest all x e h = h g (subst (λ (gs : List (ℕ × ℕ)). In gs g) (sym e) (inl refl))
-
-pub beside_rest : (g : ℕ × ℕ) (rest all : List (ℕ × ℕ)) (x : ℕ) → all ≡ g ∷ rest → IsBeside all x → IsBeside rest x
-beside_rest g rest all x e h f i = h f (subst (λ (gs : List (ℕ × ℕ)). In gs f) (sym e) (inr i))
-
 pub beside_front : (front rest all : List (ℕ × ℕ)) (x : ℕ) → all ≡ front ++ rest → IsBeside all x → IsBeside front x
 beside_front front rest all x e h g i = h g (subst (λ (gs : List (ℕ × ℕ)). In gs g) (sym e) (in_left front rest g i))
-
-pub beside_back : (front rest all : List (ℕ × ℕ)) (x : ℕ) → all ≡ front ++ rest → IsBeside all x → IsBeside rest x
-beside_back front rest all x e h g i = h g (subst (λ (gs : List (ℕ × ℕ)). In gs g) (sym e) (in_right front rest g i))
-
-pub beside_last : (place n : ℕ) (all : List (ℕ × ℕ)) (x : ℕ) → all ≡ (place, n) ∷ [] → IsBeside all x → IsOutside place n x
-beside_last place n all x e h = beside_first (place, n) [] all x e h
-
--- the gap behind the slabs of the last record
-pub last_beside : (slabs : Slabs) (r place end x : ℕ) → slabs.count ≤ r → IsBeside (gaps place end (above slabs r)) x → IsOutside place (end - place) x
-last_beside slabs r place end x h b =
-    let none : slabs.count - r ≡ 0 = omega arith in
-    beside_last place (end - place) (gaps place end (above slabs r)) x
-    (ap (λ (n : ℕ). gaps place end (flat_map (slabs_at slabs.step slabs.records.items) (range_with_len r n))) none) b

@@ -17,4 +17,5 @@ pub mod CarryLaws
 pub mod CallsLaws
 pub mod AppliedLaws
 pub mod KeptLaws
+pub mod LeftLaws
 pub mod CutLaws

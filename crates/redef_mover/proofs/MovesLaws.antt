@@ -1,5 +1,5 @@
 -- Slabs moved one after another: what is left to be moved gives the whole.
-use Rattle.redef_mover.proofs.Words.{◌≡◌, ℕ, ◌+◌, ◌*◌, ◌<◌, refl, sym, ◌∙◌, ap, List, [], ◌∷◌, ◌++◌, length, map, take, get_or, Option, Some, None, append_assoc, arith, filter, flat_map, reverse, range_with_len, fold-append, flat_map-append, append-nil, map-append, reverse-append, take_more, filter-append, entry_in, in_map, map_map, range_append, DiskCall, after, with_end, after-after, after-same, with_end-with_end, with_end-nil, Slab, In, in_flat, in_left, in_range, in_right, changes, Shift, Slabs, all_calls, all_moved, further, listed, slab_calls, slab_moved, slab_of, slabs_at, nat_tests}
+use Rattle.redef_mover.proofs.Words.{◌≡◌, ℕ, ◌+◌, ◌*◌, ◌<◌, refl, ◌∙◌, ap, List, [], ◌∷◌, ◌++◌, length, map, take, get_or, append_assoc, arith, filter, flat_map, reverse, range_with_len, fold-append, flat_map-append, append-nil, map-append, reverse-append, take_more, filter-append, entry_in, in_map, map_map, range_append, Slab, In, in_flat, in_left, in_range, in_right, changes, Shift, Slabs, all_calls, all_moved, further, listed, slab_calls, slab_moved, slab_of, slabs_at, nat_tests}
 use Rattle.std.specs.Prelude.{fold}
 
 -- ---- two lists of slabs
@@ -9,32 +9,6 @@ moved_append file a b = ap (λ ss. fold slab_moved file ss) (filter-append chang
 
 pub called_append : (z : ℕ) (a b : List Slab) → all_calls z (a ++ b) ≡ all_calls z a ++ all_calls z b
 called_append z a b = ap (λ ss. flat_map (slab_calls z) ss) (filter-append changes a b) ∙ flat_map-append (slab_calls z) (filter changes a) (filter changes b)
-
--- ---- what is left
-
-pub left_moved : (whole mid now : Option (List ℕ)) (part rest all : List Slab) → all ≡ part ++ rest → after (λ file. all_moved file all) mid ≡ whole
-    → now ≡ after (λ file. all_moved file part) mid → after (λ file. all_moved file rest) now ≡ whole
-left_moved whole mid now part rest all e w k = grind (arith, nat_tests, after-after, after-same, moved_append)
-
-pub left_called : (whole mid now : Option (List DiskCall)) (z : ℕ) (part rest all : List Slab) → all ≡ part ++ rest → with_end mid (all_calls z all) ≡ whole
-    → now ≡ with_end mid (all_calls z part) → with_end now (all_calls z rest) ≡ whole
-left_called whole mid now z part rest all e w k = grind (arith, nat_tests, with_end-with_end mid (all_calls z part) (all_calls z rest), called_append z part rest)
-
-pub none_left : (whole now : Option (List ℕ)) (rest : List Slab) → rest ≡ [] → after (λ file. all_moved file rest) now ≡ whole → now ≡ whole
-none_left whole None rest e w = w
-none_left whole (Some file) rest e w = ap (λ ss. Some (all_moved file ss)) (sym e) ∙ w
-
-pub none_uncalled : (whole now : Option (List DiskCall)) (z : ℕ) (rest : List Slab) → rest ≡ [] → with_end now (all_calls z rest) ≡ whole → now ≡ whole
-none_uncalled whole now z rest e w = sym (with_end-nil now) ∙ ap (λ ss. with_end now (all_calls z ss)) (sym e) ∙ w
-
--- the last part
-pub last_moved : (whole mid now : Option (List ℕ)) (part all : List Slab) → all ≡ part → after (λ file. all_moved file all) mid ≡ whole
-    → now ≡ after (λ file. all_moved file part) mid → now ≡ whole
-last_moved whole mid now part all e w k = k ∙ ap (λ ss. after (λ file. all_moved file ss) mid) (sym e) ∙ w
-
-pub last_called : (whole mid now : Option (List DiskCall)) (z : ℕ) (part all : List Slab) → all ≡ part → with_end mid (all_calls z all) ≡ whole
-    → now ≡ with_end mid (all_calls z part) → now ≡ whole
-last_called whole mid now z part all e w k = k ∙ ap (λ ss. with_end mid (all_calls z ss)) (sym e) ∙ w
 
 -- ---- a list from its end
 

@@ -20,7 +20,7 @@ pub use Rattle.redef_laws.specs.Shifted.{AreShifted, IsMoved, new_end}
 pub use Rattle.redef_mover.specs.Carried.{IsCarriable, IsPartlyCarried, carried, carry_calls}
 pub use Rattle.redef_mover.specs.Indexed.{IsIndexOf, attrs_among, attrs_at, given, has_name, is_same, place_of}
 pub use Rattle.redef_mover.specs.Kept.{IsBeside, IsKept, IsOutside, IsUnmoved}
-pub use Rattle.redef_mover.specs.Moves.{AreClearable, AreSpaced, AreSteps, IsMovable, all_calls, all_cleared, all_moved, behind, cleared, first_slabs, further, gap_calls, gaps_before, is_kind, listed, slab_calls, slab_moved, slab_of, slabs_at, window, window_calls}
+pub use Rattle.redef_mover.specs.Moves.{AreClearable, AreMovable, AreSpaced, AreSteps, IsMovable, all_calls, all_cleared, all_moved, behind, cleared, first_slabs, further, gap_calls, gaps_before, is_kind, listed, slab_calls, slab_moved, slab_of, slabs_at, window, window_calls}
 pub use Rattle.redef_mover.specs.NewBegins.{HasOneEach, capped_pairs, fixed_at, fixed_var, in_order, on_side, pairs, record_var, records_at}
 pub use Rattle.redef_mover.specs.Ranges.{is_bad, is_bad_var}
 pub use Rattle.redef_mover.specs.Relocation.{KeepsPlaces, relocation_calls}
