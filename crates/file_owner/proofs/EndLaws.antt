@@ -9,8 +9,6 @@ use Rattle.file_owner.proofs.RefusedSteps.{stood_later}
 use Rattle.file_owner.proofs.StopLaws.{filter_joined, only_stops}
 use Rattle.file_owner.proofs.GainedLaws.{gained_is, have_put, arrived_is, StoppedAt, stopped_at, left_at}
 
--- ---- stops alone
-
 -- ---- the clauses
 
 module _ (hints : Hints) (s : Setting) (old now : Receiver RankItem) (left : List Bool) (before : Standing) (n : ℕ) (held : Option (List ℕ)) (made : Option (List DiskCall)) (marks : List Mark)

@@ -4,7 +4,7 @@
 --     Numbers vars list      each variable of the list stands with its number
 --     fixed_begin, map_begin, record_begin      what is found for a variable of the list
 --     fixed_apart, record_apart                 two variables of the list stand apart
-use Rattle.redef_laws.proofs.Words.{◌≡◌, ℕ, zero, suc, ◌+◌, ◌≤◌, List, [], ◌∷◌, map, Bool, true, false, cond, Option, Some, None, refl, sym, ap, subst, ◌∙◌, inl, inr, arith, ◌==◌, filter, find, sum_by, slice_get, enumerate_from, AllByRecursion, sum_by-cons, leb-true, eqb-true, ne_eqb, equal_true, Header, Var, slab, vsize, AreApart, inserted_by, Numbered, begins_before, by_begin, begin_at, fixed_begins, front_after, record_begins, In, nat_tests}
+use Rattle.redef_laws.proofs.Words.{◌≡◌, ℕ, zero, suc, ◌+◌, ◌≤◌, List, [], ◌∷◌, map, Bool, true, false, cond, Option, Some, None, refl, sym, ap, subst, ◌∙◌, inl, inr, arith, ◌==◌, filter, find, sum_by, slice_get, enumerate_from, AllByRecursion, sum_by-cons, leb-true, eqb-true, eqb_tells, ne_eqb, equal_true, Header, Var, slab, vsize, AreApart, inserted_by, Numbered, begins_before, by_begin, begin_at, fixed_begins, front_after, record_begins, In, nat_tests}
 use Rattle.redef_laws.proofs.Orders.{in_sorted}
 
 -- ---- members and numbers
@@ -110,59 +110,57 @@ module _ (begins : ℕ → List Numbered → List (ℕ × ℕ)) (place : ℕ →
 
   placed : (x : ℕ) (list : List Numbered) (k : ℕ) (v : Var) → Numbers vars list → slice_get vars k ≡ Some v → In list (k, v) → (b : ℕ) × IsBegin begins size floor end x list k v b
   placed x [] k v all g h = absurd h
-  placed x (p ∷ list) k v all g h = by_test (λ i. placed (place x p.1 + size p.1) list k v all.1 g i) (p.0 == k) refl
-    where
-      by_test : (In list (k, v) → (b : ℕ) × IsBegin begins size floor end (place x p.1 + size p.1) list k v b)
-          → (t : Bool) → (p.0 == k) ≡ t → (b : ℕ) × IsBegin begins size floor end x (p ∷ list) k v b
-      by_test rest true e =
-          let same : p.1 ≡ v = same_var vars k p.0 v p.1 g all.0 (eqb-true p.0 k e) in
-          let own = ap size same in (
-            place x p.1,
-            record {
-              at = found_at x p list k ∙ found_if p.0 k (place x p.1) (begins (place x p.1 + size p.1) list) e;
-              low = past x p.1;
-              high = omega (arith, own, ends x p list, grows (place x p.1 + size p.1) list);
-              up = subst (λ (w : Var). floor w ≤ place x p.1) same (rises x p.1);
-            },
-          )
-      by_test rest false e =
-          let later = rest (in_tail p list k v e h) in (
-            later.0,
-            record {
-              at = found_at x p list k ∙ found_on p.0 k (place x p.1) (begins (place x p.1 + size p.1) list) e ∙ later.1.at;
-              low = omega (arith, past x p.1, later.1.low);
-              high = omega (arith, later.1.high, ends x p list);
-              up = later.1.up;
-            },
-          )
+  placed x (p ∷ list) k v all g h = elim (eqb_tells p.0 k) [
+    | inl e ↦
+        (let same : p.1 ≡ v = same_var vars k p.0 v p.1 g all.0 e.1 in (
+          place x p.1,
+          record {
+            at = found_at x p list k ∙ found_if p.0 k (place x p.1) (begins (place x p.1 + size p.1) list) e.0;
+            low = past x p.1;
+            high = omega (arith, ap size same, ends x p list, grows (place x p.1 + size p.1) list);
+            up = subst (λ (w : Var). floor w ≤ place x p.1) same (rises x p.1);
+          },
+        ))
+    | inr e ↦
+        (let later = placed (place x p.1 + size p.1) list k v all.1 g (in_tail p list k v e.0 h) in (
+          later.0,
+          record {
+            at = found_at x p list k ∙ found_on p.0 k (place x p.1) (begins (place x p.1 + size p.1) list) e.0 ∙ later.1.at;
+            low = omega (arith, past x p.1, later.1.low);
+            high = omega (arith, later.1.high, ends x p list);
+            up = later.1.up;
+          },
+        ))
+  ]
 
   two_placed : (x : ℕ) (list : List Numbered) (k m : ℕ) (v w : Var) (b c : ℕ) → Numbers vars list
       → slice_get vars k ≡ Some v → slice_get vars m ≡ Some w → In list (k, v) → In list (m, w) → (k ≡ m → ⊥)
       → at_number (begins x list) k ≡ Some (k, b) → at_number (begins x list) m ≡ Some (m, c) → AreApart b (size v) c (size w)
   two_placed x [] k m v w b c all g f h i other e d = absurd h
-  two_placed x (p ∷ list) k m v w b c all g f h i other e d =
-      by_tests (λ h' i' e' d'. two_placed (place x p.1 + size p.1) list k m v w b c all.1 g f h' i' other e' d') (sym (found_at x p list k) ∙ e) (sym (found_at x p list m) ∙ d)
-      (p.0 == k) (p.0 == m) refl refl
+  two_placed x (p ∷ list) k m v w b c all g f h i other e d = elim (eqb_tells p.0 k) [
+    | inl y ↦ elim (eqb_tells p.0 m) [
+      | inl z ↦ absurd (other (sym y.1 ∙ z.1))
+      | inr z ↦
+          inl (lower m v w b c f (in_tail p list m w z.0 i) (tail_begin p (place x p.1) m c _ z.0 (there m c d)) (same_var vars k p.0 v p.1 g all.0 y.1) (head_begin p (place x p.1) k b _ y.0 (there k b e)))
+    ]
+    | inr y ↦ elim (eqb_tells p.0 m) [
+      | inl z ↦
+          inr (lower k w v c b g (in_tail p list k v y.0 h) (tail_begin p (place x p.1) k b _ y.0 (there k b e)) (same_var vars m p.0 w p.1 f all.0 z.1) (head_begin p (place x p.1) m c _ z.0 (there m c d)))
+      | inr z ↦
+          two_placed (place x p.1 + size p.1) list k m v w b c all.1 g f (in_tail p list k v y.0 h) (in_tail p list m w z.0 i) other
+          (tail_begin p (place x p.1) k b _ y.0 (there k b e)) (tail_begin p (place x p.1) m c _ z.0 (there m c d))
+    ]
+  ]
     where
+      there : (n a : ℕ) → at_number (begins x (p ∷ list)) n ≡ Some (n, a) → at_number ((p.0, place x p.1) ∷ begins (place x p.1 + size p.1) list) n ≡ Some (n, a)
+      there n a o = sym (found_at x p list n) ∙ o
+
       lower : (n : ℕ) (u y : Var) (a z : ℕ) → slice_get vars n ≡ Some y → In list (n, y) → at_number (begins (place x p.1 + size p.1) list) n ≡ Some (n, z)
           → p.1 ≡ u → a ≡ place x p.1 → a + size u ≤ z
       lower n u y a z there in_list at same begin =
           let later = placed (place x p.1 + size p.1) list n y all.1 there in_list in
           let is = found_is (begins (place x p.1 + size p.1) list) n z later.0 at later.1.at in
           omega (arith, begin, is, later.1.low, ap size same)
-
-      by_tests : (In list (k, v) → In list (m, w) → at_number (begins (place x p.1 + size p.1) list) k ≡ Some (k, b)
-          → at_number (begins (place x p.1 + size p.1) list) m ≡ Some (m, c) → AreApart b (size v) c (size w))
-          → at_number ((p.0, place x p.1) ∷ begins (place x p.1 + size p.1) list) k ≡ Some (k, b)
-          → at_number ((p.0, place x p.1) ∷ begins (place x p.1 + size p.1) list) m ≡ Some (m, c)
-          → (s t : Bool) → (p.0 == k) ≡ s → (p.0 == m) ≡ t → AreApart b (size v) c (size w)
-      by_tests rest e d true true y z = absurd (other (sym (eqb-true p.0 k y) ∙ eqb-true p.0 m z))
-      by_tests rest e d true false y z =
-          inl (lower m v w b c f (in_tail p list m w z i) (tail_begin p (place x p.1) m c _ z d) (same_var vars k p.0 v p.1 g all.0 (eqb-true p.0 k y)) (head_begin p (place x p.1) k b _ y e))
-      by_tests rest e d false true y z =
-          inr (lower k w v c b g (in_tail p list k v y h) (tail_begin p (place x p.1) k b _ y e) (same_var vars m p.0 w p.1 f all.0 (eqb-true p.0 m z)) (head_begin p (place x p.1) m c _ z d))
-      by_tests rest e d false false y z =
-          rest (in_tail p list k v y h) (in_tail p list m w z i) (tail_begin p (place x p.1) k b _ y e) (tail_begin p (place x p.1) m c _ z d)
 
 pub fixed_begin : (header : Header) (vars : List Var) (front : ℕ) (list : List Numbered) (k : ℕ) (v : Var) → Numbers vars list → slice_get vars k ≡ Some v → In list (k, v)
     → (b : ℕ) × IsBegin (fixed_begins header) (slab header) (λ w. w.begin) (front_after header) front list k v b

@@ -1,5 +1,5 @@
 -- Lists of slabs that stand one behind another.
-use Rattle.redef_laws.proofs.Words.{◌≡◌, ℕ, ◌+◌, ◌<◌, ◌≤◌, refl, subst, inl, inr, List, [], ◌∷◌, arith, Slab, In, IsRisen, AreShifted, nat_tests}
+use Rattle.redef_laws.proofs.Words.{ℕ, ◌+◌, ◌<◌, ◌≤◌, refl, subst, inl, inr, List, [], ◌∷◌, arith, Slab, In, IsRisen, AreShifted, nat_tests}
 use Rattle.redef_laws.proofs.Orders.{Pairwise}
 
 -- the first begins below the second

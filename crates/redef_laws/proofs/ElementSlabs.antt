@@ -1,7 +1,7 @@
 -- Each element of an old variable lies in one of its slabs, as far from the slab's beginning in the new file as in the old one;
 -- and each byte of a slab is a byte of an element.
-use Rattle.redef_laws.proofs.Words.{◌≡◌, ℕ, zero, suc, ◌+◌, ◌*◌, ◌/◌, ◌%◌, ◌<◌, ◌≤◌, refl, sym, ◌∙◌, ap, subst, inl, inr, List, [], ◌∷◌, map, Bool, true, false, cond, Some, arith, row_fits, div-add-mod', div_below, mod_below, nat_tests, zip, slice_get, MatchBool, ◌==◌, range_with_len, some_factor, Header, Var, Slab, slabs, slabs_of, size_of, is_sound, product, lengths, starts_with_zero, without_record, is_record, slab, inner_lengths, recsize, place, row, record_of, within_record, HasRecord, IsIndex, IsElementBelow, known_lengths, KeepsVars, Moves, row_below, known_of, index_is_element, In, in_flat, flat_in, in_range, range_high, first_slab, in_record, in_map, map_in, in_zip, zip_in}
-use Rattle.redef_laws.proofs.SlabLaws.{slab_in, slabs_fixed, slabs_record}
+use Rattle.redef_laws.proofs.Words.{◌≡◌, ℕ, zero, suc, ◌+◌, ◌*◌, ◌/◌, ◌%◌, ◌<◌, ◌≤◌, refl, sym, ◌∙◌, ap, subst, inl, inr, List, [], ◌∷◌, map, Bool, true, false, true≢false, holds_or_not, cond, Some, arith, row_fits, div-add-mod', div_below, mod_below, nat_tests, zip, slice_get, MatchBool, ◌==◌, some_factor, Header, Var, Slab, slabs, slabs_of, size_of, is_sound, product, lengths, starts_with_zero, without_record, is_record, slab, inner_lengths, recsize, place, row, record_of, within_record, HasRecord, IsIndex, IsElementBelow, known_lengths, KeepsVars, Moves, row_below, known_of, index_is_element, In, in_flat, first_slab, in_record, in_zip}
+use Rattle.redef_laws.proofs.SlabLaws.{in_row, slab_in}
 
 -- ---- places
 
@@ -38,60 +38,56 @@ pub record LiesIn (s : Slab) (from to size : ℕ) : Type 0 where
   pub new : to ≡ s.to + off
   pub inside : off + size ≤ s.len
 
-row_inside : (lens index : List ℕ) (size : ℕ) → IsIndex lens index → row lens index * size + size ≤ product lens * size
-row_inside lens index size h = row_fits (row lens index) size (product lens) size (row_below lens index h) (omega arith)
-
 abbrev pub HasSlab : Header → Header → ℕ → ℕ → ℕ → Type 0
 HasSlab old new from to size = (s : Slab) × In (slabs old new) s × LiesIn s from to size
 
-in_slabs : (old new : Header) (k : ℕ) (v w : Var) (s : Slab) → slice_get old.vars k ≡ Some v → slice_get new.vars k ≡ Some w
-    → In (slabs_of old new (v, w)) s → In (slabs old new) s
-in_slabs old new k v w s h g i = in_flat (slabs_of old new) (zip old.vars new.vars) (v, w) s (in_zip old.vars new.vars k v w h g) i
+-- the row of an element, and where it stands there
+record HasRow (lens : List ℕ) (known : ℕ) (index : List ℕ) : Type 0 where
+  of : ℕ
+  at : ℕ
+  once : starts_with_zero lens ≡ false → of ≡ 0
+  below : starts_with_zero lens ≡ true → of < known
+  inside : at < product (without_record lens)
+  place : (begin step size : ℕ) → place_by lens begin step size index ≡ begin + of * step + at * size
 
-fixed_in : (old new : Header) (k : ℕ) (v w : Var) (index : List ℕ) → slice_get old.vars k ≡ Some v → slice_get new.vars k ≡ Some w → IsKept old new v w
-    → is_record old v ≡ false → IsIndex (inner_lengths old v) index → HasSlab old new (place old v index) (place new w index) (size_of v.kind)
-fixed_in old new k v w index h g a e i = (
-  first_slab old (v, w),
-  in_slabs old new k v w (first_slab old (v, w)) h g (subst (λ (ss : List Slab). In ss (first_slab old (v, w))) (sym (slabs_fixed old new (v, w) e)) (inl refl)),
-  record {
-    off = row (inner_lengths old v) index * size_of v.kind;
-    old = fixed_place (lengths old v) v.begin (recsize old) (size_of v.kind) index e;
-    new = new_place old new v w index a ∙ fixed_place (lengths old v) w.begin (recsize new) (size_of v.kind) index e;
-    inside = row_inside (inner_lengths old v) index (size_of v.kind) i;
-  },
-)
-
-record_in : (old new : Header) (k : ℕ) (v w : Var) (index : List ℕ) → slice_get old.vars k ≡ Some v → slice_get new.vars k ≡ Some w → IsKept old new v w
-    → is_record old v ≡ true → IsIndex (inner_lengths old v) (within_record index) → record_of index < old.records
-    → HasSlab old new (place old v index) (place new w index) (size_of v.kind)
-record_in old new k v w index h g a e i l =
-    let each : ℕ → Slab = λ r. in_record (recsize old) (recsize new) r (first_slab old (v, w)) in (
-      each (record_of index),
-      in_slabs old new k v w (each (record_of index)) h g
-          (subst (λ (ss : List Slab). In ss (each (record_of index))) (sym (slabs_record old new (v, w) e))
-          (in_map each (range_with_len 0 old.records) (record_of index) (in_range 0 old.records (record_of index) (omega arith) (omega arith)))),
+has_row : (header : Header) (v : Var) (n : ℕ) (index : List ℕ) → IsElementBelow header v n index → HasRow (lengths header v) n index
+has_row header v n index own = elim (holds_or_not (is_record header v)) [
+  | inr e ↦
+      (let inner = subst (λ (t : Bool). MatchBool t (HasRecord index × IsIndex (inner_lengths header v) (within_record index)) (IsIndex (inner_lengths header v) index)) e own.0 in
       record {
-        off = row (inner_lengths old v) (within_record index) * size_of v.kind;
-        old = record_place (lengths old v) v.begin (recsize old) (size_of v.kind) index e;
-        new = new_place old new v w index a ∙ record_place (lengths old v) w.begin (recsize new) (size_of v.kind) index e;
-        inside = row_inside (inner_lengths old v) (within_record index) (size_of v.kind) i;
-      },
-    )
+        of = 0;
+        at = row (inner_lengths header v) index;
+        once = λ f. refl;
+        below = λ f. absurd (true≢false (sym f ∙ e));
+        inside = row_below (inner_lengths header v) index inner;
+        place = λ begin step size. fixed_place (lengths header v) begin step size index e ∙ omega arith;
+      })
+  | inl e ↦
+      (let inner = subst (λ (t : Bool). MatchBool t (HasRecord index × IsIndex (inner_lengths header v) (within_record index)) (IsIndex (inner_lengths header v) index)) e own.0 in
+      record {
+        of = record_of index;
+        at = row (inner_lengths header v) (within_record index);
+        once = λ f. absurd (true≢false (sym e ∙ f));
+        below = λ f. subst (λ (t : Bool). MatchBool t (record_of index < n) (Unit {0})) e own.1;
+        inside = row_below (inner_lengths header v) (within_record index) inner.1;
+        place = λ begin step size. record_place (lengths header v) begin step size index e;
+      })
+]
 
 element_in : (old new : Header) → is_sound old ≡ true → KeepsVars old new → (k : ℕ) (v w : Var) (index : List ℕ) → slice_get old.vars k ≡ Some v → slice_get new.vars k ≡ Some w
     → IsIndex (known_lengths old v old.records) index → HasSlab old new (place old v index) (place new w index) (size_of v.kind)
-element_in old new sound keeps k v w index h g i = by_kind (is_record old v) refl
-  where
-    own : IsElementBelow old v old.records index
-    own = index_is_element old k v old.records index sound h i
-
-    by_kind : (t : Bool) → is_record old v ≡ t → HasSlab old new (place old v index) (place new w index) (size_of v.kind)
-    by_kind false e =
-        fixed_in old new k v w index h g (kept old new keeps k v w h g) e
-        (subst (λ (t : Bool). MatchBool t (HasRecord index × IsIndex (inner_lengths old v) (within_record index)) (IsIndex (inner_lengths old v) index)) e own.0)
-    by_kind true e =
-        let inner = subst (λ (t : Bool). MatchBool t (HasRecord index × IsIndex (inner_lengths old v) (within_record index)) (IsIndex (inner_lengths old v) index)) e own.0 in
-        record_in old new k v w index h g (kept old new keeps k v w h g) e inner.1 (subst (λ (t : Bool). MatchBool t (record_of index < old.records) (Unit {0})) e own.1)
+element_in old new sound keeps k v w index h g i =
+    let r = has_row old v old.records index (index_is_element old k v old.records index sound h i) in
+    let s : Slab = in_record (recsize old) (recsize new) r.of (first_slab old (v, w)) in (
+      s,
+      in_flat (slabs_of old new) (zip old.vars new.vars) (v, w) s (in_zip old.vars new.vars k v w h g) (in_row old new (v, w) s (record { row = r.of; once = r.once; below = r.below; is = refl })),
+      record {
+        off = r.at * size_of v.kind;
+        old = r.place v.begin (recsize old) (size_of v.kind);
+        new = new_place old new v w index (kept old new keeps k v w h g) ∙ r.place w.begin (recsize new) (size_of v.kind);
+        inside = row_fits r.at (size_of v.kind) (product (inner_lengths old v)) (size_of v.kind) r.inside (omega arith);
+      },
+    )
 
 pub element_in_slab : (old new : Header) → is_sound old ≡ true → KeepsVars old new → (from to size : ℕ) → Moves old new from to size → HasSlab old new from to size
 element_in_slab old new sound keeps from to size (k, v, w, index, h, g, i, f, t, s) = grind (arith, nat_tests, element_in old new sound keeps k v w index h g i)
@@ -156,22 +152,22 @@ record IsAtRow (lens : List ℕ) (known r q : ℕ) : Type 0 where
   place : (begin step size : ℕ) → place_by lens begin step size index ≡ begin + r * step + q * size
 
 at_row : (lens : List ℕ) (known r q : ℕ) → (starts_with_zero lens ≡ false → r ≡ 0) → (starts_with_zero lens ≡ true → r < known) → q < product (without_record lens) → IsAtRow lens known r q
-at_row lens known r q once below l = by_kind (starts_with_zero lens) refl
-  where
-    found : (index : List ℕ) × IsIndex (without_record lens) index × (row (without_record lens) index ≡ q)
-    found = index_of_row (without_record lens) q l
-
-    by_kind : (t : Bool) → starts_with_zero lens ≡ t → IsAtRow lens known r q
-    by_kind false e = record {
-      index = found.0;
-      within = known_fixed known lens found.0 e found.1;
-      place = λ begin step size. omega (arith, fixed_place lens begin step size found.0 e, ap (λ (x : ℕ). x * step) (once e), ap (λ (x : ℕ). x * size) found.2);
-    }
-    by_kind true e = record {
-      index = r ∷ found.0;
-      within = known_record known lens found.0 r e (below e) found.1;
-      place = λ begin step size. record_place lens begin step size (r ∷ found.0) e ∙ ap (λ (x : ℕ). begin + r * step + x * size) found.2;
-    }
+at_row lens known r q once below l =
+    let found = index_of_row (without_record lens) q l in
+    elim (holds_or_not (starts_with_zero lens)) [
+      | inr e ↦
+          record {
+            index = found.0;
+            within = known_fixed known lens found.0 e found.1;
+            place = λ begin step size. omega (arith, fixed_place lens begin step size found.0 e, ap (λ (x : ℕ). x * step) (once e), ap (λ (x : ℕ). x * size) found.2);
+          }
+      | inl e ↦
+          record {
+            index = r ∷ found.0;
+            within = known_record known lens found.0 r e (below e) found.1;
+            place = λ begin step size. record_place lens begin step size (r ∷ found.0) e ∙ ap (λ (x : ℕ). begin + r * step + x * size) found.2;
+          }
+    ]
 
 pub slab_bytes : (old new : Header) → KeepsVars old new → (s : Slab) → In (slabs old new) s → HasBytes old new s
 slab_bytes old new keeps s h d l =

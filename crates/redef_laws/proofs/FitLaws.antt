@@ -1,6 +1,5 @@
 -- A header that can be redefined has the facts that extras keep, and so has the new header.
 use Rattle.redef_laws.proofs.Words.{◌≡◌, ℕ, ◌+◌, ◌<◌, ◌≤◌, List, [], ◌∷◌, length, drop, Bool, true, false, cond, Some, None, refl, sym, ap, ◌∙◌, arith, nat_le, ◌==◌, count_by, position, list_all, position_from, AllByRecursion, position_from-zero, length-filter, or_parts, not-false, leb-true, ltb-false, leb-false, eqb-true, passes_each, fails_each, each_weaker, and_first, and_second, both_none, none_of_test, none_before_map, neither_some, Header, Dim, Attr, Var, most_dims, most_dims_of_var, record_limit, sharing, is_version, header_len, all_ones, first_check, two_record_dims, record_later, is_record_id, bad_id, measure, is_sound, counts_are_small, fits_count, is_writable_dim, is_writable_attr, is_writable_list, is_redefinable, is_redefinable_var, no_fault, nat_tests}
-use Rattle.nc_base.specs.declared.errors.HeaderErr.TheVariants as fault
 use Rattle.redef_laws.proofs.GrownLaws.{IsTyped, HasFitLength, IsFitVar, IsFit, is_record_dim}
 
 -- ---- the checks of a sound header

@@ -1,5 +1,5 @@
 -- The bytes between slabs.
-use Rattle.redef_laws.proofs.Words.{◌≡◌, ℕ, zero, suc, ◌+◌, ◌-◌, ◌<◌, ◌≤◌, refl, ◌∙◌, ap, inl, inr, List, [], ◌∷◌, ◌++◌, length, Bool, true, false, cond, ◌&&◌, ◌||◌, arith, append-nil, div_below, filter, flat_map, nat_le, nat_lt, ◌==◌, range_with_len, list_any, length-range_with_len, or_left, or_cases, lt-ltb, le-ltb, le-leb, lt-leb, and_right, equal_above, equal_true, range_append, DiskCall, Slab, run_before, runs, stores, first_of, In, HaveSame, range_low, range_high, in_either, filter_same, filter_none, filter_all, gaps, IsRisen, filter-append, any_member, nat_tests}
+use Rattle.redef_laws.proofs.Words.{◌≡◌, ℕ, zero, suc, ◌+◌, ◌-◌, ◌<◌, ◌≤◌, refl, ◌∙◌, ap, inl, inr, List, [], ◌∷◌, ◌++◌, length, Bool, true, false, cond, ◌&&◌, ◌||◌, arith, append-nil, div_below, filter, flat_map, nat_le, nat_lt, ◌==◌, range_with_len, list_any, length-range_with_len, or_left, or_cases, lt-ltb, le-ltb, le-leb, lt-leb, and_right, equal_above, equal_true, range_append, DiskCall, Slab, run_before, runs, stores, first_of, In, HaveSame, range_low, range_high, in_either, filter_same, filter_none, filter_all, gaps, IsRisen, filter-append, any_member, nat_tests, either}
 use Rattle.std.proofs.Common.{not}
 use Rattle.redef_laws.proofs.ChainLaws.{risen_past}
 
@@ -91,11 +91,8 @@ bare_gaps a b end (s ∷ ss) h k l =
 run_starts : (x : ℕ) (others : List (List ℕ)) → (ys : List ℕ) × (rest : List (List ℕ)) × (run_before x others ≡ (x ∷ ys) ∷ rest)
 run_starts x [] = ([], [], refl)
 run_starts x ([] ∷ others) = ([], [] ∷ others, refl)
-run_starts x ((y ∷ ys) ∷ others) = by_test (y == x + 1)
-  where
-    by_test : (b : Bool) → (zs : List ℕ) × (rest : List (List ℕ)) × (cond b ((x ∷ y ∷ ys) ∷ others) ((x ∷ []) ∷ (y ∷ ys) ∷ others) ≡ (x ∷ zs) ∷ rest)
-    by_test true = (y ∷ ys, others, refl)
-    by_test false = ([], (y ∷ ys) ∷ others, refl)
+run_starts x ((y ∷ ys) ∷ others) =
+    either (λ (ls : List (List ℕ)). (zs : List ℕ) × (rest : List (List ℕ)) × (ls ≡ (x ∷ zs) ∷ rest)) (y == x + 1) _ _ (λ e. (y ∷ ys, others, refl)) (λ e. ([], (y ∷ ys) ∷ others, refl))
 
 run_apart : (x y : ℕ) (ys : List ℕ) (others : List (List ℕ)) → x + 1 < y → run_before x ((y ∷ ys) ∷ others) ≡ (x ∷ []) ∷ (y ∷ ys) ∷ others
 run_apart x y ys others h = ap (λ b. cond b ((x ∷ y ∷ ys) ∷ others) ((x ∷ []) ∷ (y ∷ ys) ∷ others)) (equal_above y (x + 1) h)

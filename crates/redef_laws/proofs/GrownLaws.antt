@@ -1,5 +1,5 @@
 -- What a header keeps while extras are added to it.
-use Rattle.redef_laws.proofs.Words.{◌≡◌, ℕ, suc, ◌+◌, ◌*◌, ◌<◌, ◌≤◌, List, [], ◌∷◌, ◌++◌, length, drop, map, Bool, true, false, cond, ◌&&◌, Option, Some, None, refl, sym, ap, subst, ◌∙◌, arith, length-append, not, nat_lt, nat_le, ◌==◌, is_none, unwrap_or, filter, slice_get, bytes_eq, list_any, list_all, position_from, AllByRecursion, position_from-zero, length-map, filter-append, le-leb, leb-true, ltb-true, ltb-false, leb-false, eqb-true, slice_get_within, fails_each, each_weaker, each_push, each_later, each_map, and_first, and_second, Header, Dim, Attr, Var, NcType, Extra, RedefErr, most_dims, most_vars, file_limit, record_limit, size_of, length_of, is_record_id, fits_count, is_type, find_dim, is_lawful_extra, is_whole_extra, with_var_attr, with_extra, added, dim_id, is_taken, is_unknown, has_bad_shape, is_one_too_many, has_bad_kind, extra_fault, extras_from, get_left, nat_tests}
+use Rattle.redef_laws.proofs.Words.{◌≡◌, ℕ, suc, ◌*◌, ◌<◌, ◌≤◌, List, [], ◌∷◌, ◌++◌, length, drop, map, Bool, true, false, ◌&&◌, Option, Some, None, refl, sym, ap, subst, arith, length-append, not, nat_lt, nat_le, ◌==◌, is_none, unwrap_or, filter, slice_get, bytes_eq, list_any, list_all, AllByRecursion, length-map, filter-append, le-leb, leb-true, ltb-true, ltb-false, leb-false, eqb-true, slice_get_within, fails_each, each_weaker, each_push, each_later, each_map, and_first, and_second, Header, Dim, Attr, Var, NcType, Extra, RedefErr, most_dims, most_vars, file_limit, record_limit, size_of, length_of, is_record_id, fits_count, is_type, find_dim, is_lawful_extra, is_whole_extra, with_var_attr, with_extra, added, dim_id, is_taken, is_unknown, has_bad_shape, is_one_too_many, has_bad_kind, extra_fault, extras_from, get_left, nat_tests, told_else, some_or_none, no_both, entry_below, position_below, inl, inr}
 use Rattle.nc_base.specs.declared.script.Extra.TheVariants as extra
 use Rattle.nc_base.specs.declared.errors.RedefErr.TheVariants as redef
 use Rattle.redef_laws.proofs.FieldLaws.{not_both, each_both, count_fits}
@@ -40,28 +40,6 @@ pub record IsFit (h : Header) : Type 0 where
   pub attrs : AllByRecursion (IsTyped h.version) h.attrs
   pub vars : AllByRecursion (IsFitVar h.version h.dims) h.vars
 
--- ---- lists
-
--- where the first item is that passes
-record IsFirst {A : Type 0} (test : A → Bool) (xs : List A) (n k : ℕ) : Type 0 where
-  at : ℕ
-  place : k ≡ n + at
-  item : A
-  there : slice_get xs at ≡ Some item
-  passes : test item ≡ true
-
-first_at : {A : Type 0} (test : A → Bool) (n k : ℕ) (xs : List A) → position_from test n xs ≡ Some k → IsFirst test xs n k
-first_at test n k [] h = absurd cc
-first_at {A} test n k (x ∷ xs) h = by_test (first_at test (n + 1) k xs) (test x) refl h
-  where
-    by_test : (position_from test (n + 1) xs ≡ Some k → IsFirst test xs (n + 1) k)
-        → (t : Bool) → test x ≡ t → cond t (Some n) (position_from test (n + 1) xs) ≡ Some k → IsFirst test (x ∷ xs) n k
-    by_test later true e g = let same : n ≡ k = cc in record { at = 0; place = omega arith; item = x; there = refl; passes = e }
-    by_test later false e g =
-        let rest = later g in
-        let place = rest.place in
-        record { at = suc rest.at; place = omega arith; item = rest.item; there = rest.there; passes = rest.passes }
-
 -- ---- no fault of one extra
 
 pub record HasNoFault (h : Header) (e : Extra) : Type 0 where
@@ -71,17 +49,12 @@ pub record HasNoFault (h : Header) (e : Extra) : Type 0 where
   pub kind : has_bad_kind h e ≡ false
 
 no_fault_of : (h : Header) (k : ℕ) (e : Extra) → extra_fault h k e ≡ None → HasNoFault h e
-no_fault_of h k e none = by_tests (is_taken h e) (is_unknown h e) (has_bad_shape h e) (is_one_too_many h e) (has_bad_kind h e) refl refl refl refl none
-  where
-    by_tests : (a b c d f : Bool) → is_unknown h e ≡ b → has_bad_shape h e ≡ c → is_one_too_many h e ≡ d → has_bad_kind h e ≡ f
-        → cond a (Some (redef.Taken k)) (cond b (Some (redef.Unknown k)) (cond c (Some (redef.Shape k)) (cond d (Some (redef.TooMany k)) (cond f (Some (redef.Kind k)) None)))) ≡ None
-        → HasNoFault h e
-    by_tests true b c d f p q r s g = absurd cc
-    by_tests false true c d f p q r s g = absurd cc
-    by_tests false false true d f p q r s g = absurd cc
-    by_tests false false false true f p q r s g = absurd cc
-    by_tests false false false false true p q r s g = absurd cc
-    by_tests false false false false false p q r s g = record { known = p; shape = q; room = r; kind = s }
+no_fault_of h k e none =
+    let a = told_else (is_taken h e) (redef.Taken k) _ none in
+    let b = told_else (is_unknown h e) (redef.Unknown k) _ a.1 in
+    let c = told_else (has_bad_shape h e) (redef.Shape k) _ b.1 in
+    let d = told_else (is_one_too_many h e) (redef.TooMany k) _ c.1 in
+    record { known = b.0; shape = c.0; room = d.0; kind = (told_else (has_bad_kind h e) (redef.Kind k) _ d.1).0 }
 
 -- ---- one more dimension
 
@@ -125,15 +98,12 @@ record IsKnownDim (dims : List Dim) (name : List ℕ) (id : ℕ) : Type 0 where
   there : slice_get dims id ≡ Some dim
 
 known_dim : (h : Header) (name : List ℕ) → is_none (find_dim h name) ≡ false → IsKnownDim h.dims name (dim_id h name)
-known_dim h name e = by_found (find_dim h name) refl e
-  where
-    by_found : (o : Option ℕ) → find_dim h name ≡ o → is_none o ≡ false → IsKnownDim h.dims name (dim_id h name)
-    by_found None g f = absurd cc
-    by_found (Some k) g f =
-        let found = first_at (λ (d : Dim). bytes_eq d.name name) 0 k h.dims (sym (position_from-zero (λ (d : Dim). bytes_eq d.name name) h.dims) ∙ g) in
-        let place = found.place in
-        let same : found.at ≡ unwrap_or (find_dim h name) 0 = (let e' : found.at ≡ k = omega arith in e') ∙ sym (ap (λ (o : Option ℕ). unwrap_or o 0) g) in
-        subst (λ (n : ℕ). IsKnownDim h.dims name n) same (record { dim = found.item; there = found.there })
+known_dim h name e = elim (some_or_none (find_dim h name)) [
+  | inl none ↦ no_both (is_none (find_dim h name)) (ap is_none none) e
+  | inr found ↦
+      (let there = entry_below h.dims found.0 (position_below (λ (d : Dim). bytes_eq d.name name) h.dims found.0 found.1) in
+      subst (IsKnownDim h.dims name) (sym (ap (λ (o : Option ℕ). unwrap_or o 0) found.1)) (record { dim = there.0; there = there.1 }))
+]
 
 ids_known : (h : Header) (names : List (List ℕ)) → AllByRecursion (λ n. is_none (find_dim h n) ≡ false) names → AllByRecursion (λ n. dim_id h n < length h.dims) names
 ids_known h names all = grind (arith, nat_tests, each_weaker, known_dim, slice_get_within)

@@ -1,6 +1,6 @@
 -- A file in which each slab stands at its new place is the redefined one: the redefined file is such a file, and there is no other.
-use Rattle.redef_laws.proofs.Words.{◌≡◌, ℕ, ◌+◌, ◌-◌, ◌<◌, ◌≤◌, refl, sym, ◌∙◌, ap, subst, inl, inr, ◌⊎◌, List, [], ◌∷◌, get_or, true, arith, cases_lt, same_number_lists, get_or-take, and_first, Header, Extra, Slab, slabs, at, header_len, is_sound, is_writable, AreApart, redefined, KeepsVars, Moves, IsRedefined, redefined_keeps, read_at, redefined_is, In, IsApplied, new_end, IsMoved, nat_tests}
-use Rattle.redef_laws.proofs.ElementSlabs.{HasSlab, element_in_slab, slab_bytes}
+use Rattle.redef_laws.proofs.Words.{◌≡◌, ℕ, ◌+◌, ◌-◌, ◌<◌, ◌≤◌, refl, sym, ◌∙◌, ap, subst, inl, inr, ◌⊎◌, List, [], ◌∷◌, get_or, true, arith, cases_lt, same_number_lists, get_or-take, and_first, Header, Extra, Slab, slabs, at, header_len, is_sound, is_writable, redefined, KeepsVars, IsRedefined, redefined_keeps, read_at, redefined_is, In, IsApplied, new_end, IsMoved, nat_tests, AreApart, Moves}
+use Rattle.redef_laws.proofs.ElementSlabs.{element_in_slab, slab_bytes}
 pub use Rattle.serial_spec.proofs.SpellingLaws.{writable_is_sound}
 
 -- ---- a byte lies in a slab, or apart from all
@@ -13,23 +13,17 @@ IsBare ss x = (s : Slab) → In ss s → (x < s.to) ⊎ (s.to + s.len ≤ x)
 
 in_or_bare : (ss : List Slab) (x : ℕ) → IsIn ss x ⊎ IsBare ss x
 in_or_bare [] x = inr (λ s h. absurd h)
-in_or_bare (t ∷ ss) x = by_first (cases_lt x t.to) (cases_lt x (t.to + t.len)) (in_or_bare ss x)
+in_or_bare (t ∷ ss) x = elim (in_or_bare ss x) [
+  | inl i ↦ inl (i.0, inr i.1, i.2, i.3)
+  | inr rest ↦ elim (cases_lt x t.to) [
+    | inl low ↦ inr (both (inl low) rest)
+    | inr low ↦ elim (cases_lt x (t.to + t.len)) [ inl high ↦ inl (t, inl refl, low, high) | inr high ↦ inr (both (inr high) rest) ]
+  ]
+]
   where
-    later : IsIn ss x → IsIn (t ∷ ss) x
-    later (s, h, low, high) = (s, inr h, low, high)
-
     both : (x < t.to) ⊎ (t.to + t.len ≤ x) → IsBare ss x → IsBare (t ∷ ss) x
     both h rest s (inl e) = subst (λ (u : Slab). (x < u.to) ⊎ (u.to + u.len ≤ x)) e h
     both h rest s (inr i) = rest s i
-
-    by_rest : (x < t.to) ⊎ (t.to + t.len ≤ x) → IsIn ss x ⊎ IsBare ss x → IsIn (t ∷ ss) x ⊎ IsBare (t ∷ ss) x
-    by_rest h (inl i) = inl (later i)
-    by_rest h (inr rest) = inr (both h rest)
-
-    by_first : (x < t.to) ⊎ (t.to ≤ x) → (x < t.to + t.len) ⊎ (t.to + t.len ≤ x) → IsIn ss x ⊎ IsBare ss x → IsIn (t ∷ ss) x ⊎ IsBare (t ∷ ss) x
-    by_first (inl low) q rest = by_rest (inl low) rest
-    by_first (inr low) (inr high) rest = by_rest (inr high) rest
-    by_first (inr low) (inl high) rest = inl (t, inl refl, low, high)
 
 -- ---- there is one such file
 
@@ -37,19 +31,16 @@ at_moved : (old new : Header) (file left : List ℕ) → IsMoved old new file le
 at_moved old new file left m x i = grind (arith, nat_tests)
 
 same_byte : (old new : Header) (file a b : List ℕ) → IsMoved old new file a → IsMoved old new file b → (x : ℕ) → at a x ≡ at b x
-same_byte old new file a b m n x = by_head (cases_lt x (header_len new)) (cases_lt x (new_end old new))
-  where
-    by_slab : header_len new ≤ x → x < new_end old new → IsIn (slabs old new) x ⊎ IsBare (slabs old new) x → at a x ≡ at b x
-    by_slab low high (inl i) = at_moved old new file a m x i ∙ sym (at_moved old new file b n x i)
-    by_slab low high (inr f) = m.bare x low high f ∙ sym (n.bare x low high f)
-
-    by_head : (x < header_len new) ⊎ (header_len new ≤ x) → (x < new_end old new) ⊎ (new_end old new ≤ x) → at a x ≡ at b x
-    by_head (inl l) q =
-        sym (get_or-take (header_len new) a x 0 l)
-        ∙ ap (λ (f : List ℕ). get_or f x 0) (m.head ∙ sym n.head)
-        ∙ get_or-take (header_len new) b x 0 l
-    by_head (inr l) (inl high) = by_slab l high (in_or_bare (slabs old new) x)
-    by_head (inr l) (inr high) = m.past x high ∙ sym (n.past x high)
+same_byte old new file a b m n x = elim (cases_lt x (header_len new)) [
+  | inl l ↦ sym (get_or-take (header_len new) a x 0 l) ∙ ap (λ (f : List ℕ). get_or f x 0) (m.head ∙ sym n.head) ∙ get_or-take (header_len new) b x 0 l
+  | inr low ↦ elim (cases_lt x (new_end old new)) [
+    | inl high ↦ elim (in_or_bare (slabs old new) x) [
+      | inl i ↦ at_moved old new file a m x i ∙ sym (at_moved old new file b n x i)
+      | inr f ↦ m.bare x low high f ∙ sym (n.bare x low high f)
+    ]
+    | inr high ↦ m.past x high ∙ sym (n.past x high)
+  ]
+]
 
 pub moved_once : (old new : Header) (file a b : List ℕ) → IsMoved old new file a → IsMoved old new file b → a ≡ b
 moved_once old new file a b m n = same_number_lists a b (m.long ∙ sym n.long) (λ x l. same_byte old new file a b m n x)
@@ -69,17 +60,10 @@ redefined_moved old new file left sound keeps r = record { long = r.long; head =
         ∙ ap (λ (y : ℕ). at file y) e.before
 
     bare : (x : ℕ) → header_len new ≤ x → x < new_end old new → IsBare (slabs old new) x → at left x ≡ 0
-    bare x low high f = r.bare x low high each
-      where
-        each : (from to size : ℕ) → Moves old new from to size → AreApart to size x 1
-        each from to size m = apart (f found.0 found.1)
-          where
-            found : HasSlab old new from to size
-            found = element_in_slab old new sound keeps from to size m
-
-            apart : (x < found.0.to) ⊎ (found.0.to + found.0.len ≤ x) → AreApart to size x 1
-            apart (inl h) = let lies = found.2 in inr (omega arith)
-            apart (inr h) = let lies = found.2 in inl (omega arith)
+    bare x low high f = r.bare x low high (λ from to size m.
+        let found = element_in_slab old new sound keeps from to size m in
+        let lies = found.2 in
+        elim (f found.0 found.1) [ inl h ↦ inr (omega arith) | inr h ↦ inl (omega arith) ])
 
 -- ---- the law
 

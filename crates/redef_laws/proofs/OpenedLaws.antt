@@ -1,5 +1,5 @@
 -- A sound header that was read can be redefined: what is spelled fits its field, and the reader bounds the lengths.
-use Rattle.redef_laws.proofs.Words.{◌≡◌, ℕ, ◌+◌, ◌-◌, ◌*◌, ◌^◌, ◌<◌, List, [], ◌∷◌, ◌++◌, length, take, drop, Bool, true, false, cond, ◌&&◌, Option, Some, None, refl, sym, ap, subst, ◌∙◌, inl, inr, arith, append_assoc, length-append, nat_le, ◌==◌, list_all, AllByRecursion, Width, w32, w64, byte_len, to_be_bytes, take-append_seam, take-append-drop, and_from, or_parts, lt-ltb, le-leb, ltb-false, width_long, drop_on, back_4, back_8, each_passes, passes_each, and_first, and_second, equal_true, Header, Dim, Attr, Var, HeaderErr, file_limit, size_of, round_up, count_width, begin_width, tag, magic, Joined, ◌▹◌, Exactly, Each, Number, Padded, NameOf, ListOf, DimensionOf, AttributeOf, VariableOf, RecordsOf, all_ones, Field, Magic, Records, Tag, Count, NameLength, Block, DimLength, Dimensions, Attributes, Variables, Ask, One, Many, stands, asked, the_header, many, block, wrong, wrong_at, after_field, field_number, field_len, field_fault, version_of, big_endian, fits_field, fits_count, is_type, is_sound, is_writable_dim, is_writable_attr, is_writable_list, is_redefinable, is_redefinable_var, EndsWrong, ends_later, fault_only, BeginsWith, right_number, no_fault}
+use Rattle.redef_laws.proofs.Words.{◌≡◌, ℕ, ◌+◌, ◌*◌, ◌^◌, ◌<◌, List, [], ◌∷◌, ◌++◌, length, take, drop, Bool, true, false, cond, ◌&&◌, Some, None, refl, sym, ap, subst, ◌∙◌, inl, inr, arith, append_assoc, length-append, nat_le, ◌==◌, list_all, AllByRecursion, Width, w32, w64, byte_len, to_be_bytes, take-append_seam, take-append-drop, and_from, or_parts, lt-ltb, le-leb, ltb-false, width_long, drop_on, back_4, back_8, each_passes, passes_each, and_first, and_second, equal_true, Header, Dim, Attr, Var, HeaderErr, file_limit, size_of, round_up, count_width, begin_width, tag, magic, Joined, ◌▹◌, Exactly, Each, Number, Padded, NameOf, ListOf, DimensionOf, AttributeOf, VariableOf, RecordsOf, all_ones, Field, Magic, Records, Tag, Count, NameLength, Block, DimLength, Dimensions, Attributes, Variables, Ask, One, Many, stands, asked, the_header, many, block, wrong, wrong_at, after_field, field_number, field_len, field_fault, version_of, big_endian, fits_field, fits_count, is_type, is_sound, is_writable_dim, is_writable_attr, is_writable_list, is_redefinable, is_redefinable_var, EndsWrong, ends_later, fault_only, BeginsWith, right_number, no_fault, some_or_none}
 use Rattle.nc_base.specs.declared.errors.HeaderErr.TheVariants as fault
 use Rattle.redef_laws.proofs.FitLaws.{checked}
 use Rattle.redef_laws.proofs.FieldLaws.{each_both}
@@ -72,11 +72,10 @@ Clean v b asks x = (e : HeaderErr) → EndsWrong v b asks x e → ⊥
 
 clean_field : (v : ℕ) (b : List ℕ) (asks rest : List Ask) (f : Field) (x : ℕ) → asked asks ≡ Some (f, rest) → Clean v b asks x
     → (wrong_at v f b x ≡ None) × Clean v b (after_field f (field_number v f b x) ++ rest) (x + field_len v f)
-clean_field v b asks rest f x a clean = by_fault (wrong_at v f b x) refl
-  where
-    by_fault : (o : Option HeaderErr) → wrong_at v f b x ≡ o → (wrong_at v f b x ≡ None) × Clean v b (after_field f (field_number v f b x) ++ rest) (x + field_len v f)
-    by_fault (Some e) w = absurd (clean e (asks, x, f, rest, stands, a, w))
-    by_fault None w = (w, λ e t. clean e (ends_later v b asks x e f rest a w t))
+clean_field v b asks rest f x a clean = elim (some_or_none (wrong_at v f b x)) [
+  | inl w ↦ (w, λ e t. clean e (ends_later v b asks x e f rest a w t))
+  | inr found ↦ absurd (clean found.0 (asks, x, f, rest, stands, a, found.1))
+]
 
 -- Where a string of the set stands, the fields are right from what is asked to what is asked later, and so the fact holds.
 abbrev Passes : ℕ → List Ask → List Ask → (List ℕ → Type 0) → Type 0 → Type 0

@@ -3,7 +3,7 @@
 --     Orders before D R   items that stand to each other as D says stand as R says where the test puts them
 --     sorted_in, in_sorted, sorted_sum, sorted_pairs      what a sorted list has, and how its items stand
 --     same_pairs          there is one order of the same items
-use Rattle.redef_laws.proofs.Words.{◌≡◌, ℕ, zero, suc, ◌+◌, ◌<◌, refl, sym, ap, ◌∙◌, inl, inr, ◌⊎◌, List, [], ◌∷◌, ◌++◌, map, flat_map, reverse, Bool, true, false, Some, arith, nat_tests, subst, filter, sum_by, slice_get, reverse_onto, sum_by-cons, range_with_len, inserted_by, in_either, in_left, in_right, flat_in, range_low, filter_in, map_in, In, HaveSame}
+use Rattle.redef_laws.proofs.Words.{◌≡◌, ℕ, zero, suc, ◌+◌, ◌<◌, refl, sym, ap, ◌∙◌, inl, inr, List, [], ◌∷◌, ◌++◌, map, flat_map, reverse, Bool, true, false, Some, arith, nat_tests, subst, filter, sum_by, slice_get, reverse_onto, sum_by-cons, range_with_len, inserted_by, in_either, in_left, in_right, flat_in, range_low, filter_in, map_in, In, HaveSame}
 use Rattle.serial_spec.proofs.MemberLaws.{in_at}
 use Rattle.serial_spec.specs.Lists.{sorted_by}
 
@@ -115,12 +115,10 @@ same_pairs R turn (x ∷ xs) [] h k m = absurd (m.0 x (inl refl))
 same_pairs {X} R turn (x ∷ xs) (y ∷ ys) h k m = λ i. heads i ∷ same_pairs R turn xs ys h.1 k.1 (tail x y xs ys h.0 heads m.0, tail y x ys xs k.0 (sym heads) m.1) i
   where
     heads : x ≡ y
-    heads = by_two (m.0 x (inl refl)) (m.1 y (inl refl))
-      where
-        by_two : In (y ∷ ys) x → In (x ∷ xs) y → x ≡ y
-        by_two (inl e) g = sym e
-        by_two (inr n) (inl e) = e
-        by_two (inr n) (inr g) = absurd (turn x y (h.0 y g) (k.0 x n))
+    heads = elim (m.0 x (inl refl)) [
+      | inl e ↦ sym e
+      | inr n ↦ elim (m.1 y (inl refl)) [ inl e ↦ e | inr g ↦ absurd (turn x y (h.0 y g) (k.0 x n)) ]
+    ]
 
     tail : (u v : X) (us vs : List X) → ((w : X) → In us w → R u w) → u ≡ v → ((w : X) → In (u ∷ us) w → In (v ∷ vs) w) → (w : X) → In us w → In vs w
     tail u v us vs past e into w n = elim (into w (inr n)) [

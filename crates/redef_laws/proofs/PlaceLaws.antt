@@ -1,10 +1,9 @@
 -- Where each variable of a redefined header begins.
 --     fixed_place, old_place, new_place     of a fixed variable, an old record variable, a new one
---     fixed_places_apart, new_places_apart  of two
 --     any_place                             each number has a begin
-use Rattle.redef_laws.proofs.Words.{◌≡◌, ℕ, ◌+◌, ◌-◌, ◌<◌, ◌≤◌, min, List, [], ◌∷◌, ◌++◌, map, Bool, true, false, Option, Some, None, refl, sym, ap, subst, ◌∙◌, inl, inr, ◌⊎◌, arith, not, nat_lt, nat_le, fold, slice_get, unwrap_or, enumerate_from, AllByRecursion, find-append, not-true, lt-ltb, le-leb, leb-true, ltb-true, ltb-false, leb-false, each_append, each_weaker, in_filter, in_map, map_in, Header, Var, slab, vsize, is_record, header_len, least, AreApart, Numbered, fixed_of, records_in, old_of, new_of, by_begin, fixed_order, fixed_begins, front_after, first_record, record_begins, begins_by_number, begin_of_number, In, in_left, in_right, nat_tests}
+use Rattle.redef_laws.proofs.Words.{◌≡◌, ℕ, ◌+◌, ◌-◌, ◌<◌, ◌≤◌, min, List, [], ◌∷◌, ◌++◌, map, true, false, Option, Some, None, refl, sym, ap, subst, ◌∙◌, inl, inr, ◌⊎◌, arith, cases_lt, holds_or_not, not, nat_lt, nat_le, fold, slice_get, unwrap_or, enumerate_from, AllByRecursion, find-append, not-true, lt-ltb, le-leb, leb-true, ltb-true, ltb-false, each_append, each_weaker, in_filter, in_map, map_in, Header, Var, slab, vsize, is_record, header_len, least, Numbered, fixed_of, records_in, old_of, new_of, by_begin, fixed_order, fixed_begins, front_after, first_record, record_begins, begins_by_number, begin_of_number, In, in_left, in_right, nat_tests}
 use Rattle.redef_laws.proofs.FieldLaws.{each_both}
-use Rattle.redef_laws.proofs.BeginLaws.{in_numbered, each_filter, each_filtered, each_by_begin, in_by_begin, Numbers, numbers_of, at_number, fixed_begin, fixed_apart, HasNone, fixed_none, mapped_begins, map_begin, map_none, vsizes, record_begin, record_apart}
+use Rattle.redef_laws.proofs.BeginLaws.{in_numbered, each_filter, each_filtered, each_by_begin, in_by_begin, Numbers, numbers_of, at_number, fixed_begin, HasNone, fixed_none, mapped_begins, map_begin, map_none, vsizes, record_begin}
 
 -- ---- the parts of the begins
 
@@ -46,7 +45,7 @@ first_up header n = grind (arith, nat_tests, leb-true)
 in_whole : (header : Header) (k : ℕ) (v : Var) → slice_get header.vars k ≡ Some v → In (numbered header) (k, v)
 in_whole header k v g = let plain : 0 + k ≡ k = omega arith in subst (λ (m : ℕ). In (numbered header) (m, v)) plain (in_numbered 0 header.vars k v g)
 
-in_fixed : (header : Header) (n k : ℕ) (v : Var) → slice_get header.vars k ≡ Some v → is_record header v ≡ false → In (fixed_order header n) (k, v)
+pub in_fixed : (header : Header) (n k : ℕ) (v : Var) → slice_get header.vars k ≡ Some v → is_record header v ≡ false → In (fixed_order header n) (k, v)
 in_fixed header n k v g e = grind (arith, nat_tests, in_filter, in_whole, in_left, in_by_begin, in_right, le-leb, ltb-false)
 
 pub in_old : (header : Header) (n k : ℕ) (v : Var) → slice_get header.vars k ≡ Some v → is_record header v ≡ true → k < n → In (old_records header n) (k, v)
@@ -59,7 +58,7 @@ in_new header n k v g e l = grind (arith, nat_tests, in_filter, in_whole, le-leb
 each_fixed : (P : Numbered → Type 0) (header : Header) (n : ℕ) → AllByRecursion P (fixed_of header (numbered header)) → AllByRecursion P (fixed_order header n)
 each_fixed xs header n all = grind (arith, nat_tests, each_append, each_by_begin, each_filter)
 
-fixed_numbers : (header : Header) (n : ℕ) → Numbers header.vars (fixed_order header n)
+pub fixed_numbers : (header : Header) (n : ℕ) → Numbers header.vars (fixed_order header n)
 fixed_numbers header n =
     each_fixed (λ p. slice_get header.vars p.0 ≡ Some p.1) header n
     (each_filter (λ (p : Numbered). slice_get header.vars p.0 ≡ Some p.1) (λ p. not (is_record header p.1)) (numbered header) (numbers_of header.vars))
@@ -123,13 +122,6 @@ fixed_place header n k v g e =
       },
     )
 
-pub fixed_places_apart : (header : Header) (n k m : ℕ) (v w : Var) (b c : ℕ) → slice_get header.vars k ≡ Some v → slice_get header.vars m ≡ Some w
-    → is_record header v ≡ false → is_record header w ≡ false → (k ≡ m → ⊥) → IsFixedPlace header n k v b → IsFixedPlace header n m w c
-    → AreApart b (slab header v) c (slab header w)
-fixed_places_apart header n k m v w b c g f d e other p q =
-    fixed_apart header header.vars (header_len header) (fixed_order header n) k m v w b c (fixed_numbers header n) g f (in_fixed header n k v g d) (in_fixed header n m w f e) other
-    p.inner q.inner
-
 pub old_place : (header : Header) (n k : ℕ) (v : Var) → slice_get header.vars k ≡ Some v → is_record header v ≡ true → k < n
     → at_number (begins_by_number header n) k ≡ Some (k, old_place_of header n v)
 old_place header n k v g e l =
@@ -161,18 +153,14 @@ new_place header n k v g e l =
       },
     )
 
-pub new_places_apart : (header : Header) (n k m : ℕ) (v w : Var) (b c : ℕ) → slice_get header.vars k ≡ Some v → slice_get header.vars m ≡ Some w
-    → is_record header v ≡ true → is_record header w ≡ true → n ≤ k → n ≤ m → (k ≡ m → ⊥) → IsNewPlace header n k v b → IsNewPlace header n m w c
-    → AreApart b (vsize header v) c (vsize header w)
-new_places_apart header n k m v w b c g f d e l l' other p q = grind (arith, nat_tests, record_apart, new_numbers, in_new)
-
 pub any_place : (header : Header) (n k : ℕ) (v : Var) → slice_get header.vars k ≡ Some v → (b : ℕ) × (at_number (begins_by_number header n) k ≡ Some (k, b))
-any_place header n k v g = by_kind (is_record header v) (nat_lt k n) refl refl
-  where
-    by_kind : (t u : Bool) → is_record header v ≡ t → nat_lt k n ≡ u → (b : ℕ) × (at_number (begins_by_number header n) k ≡ Some (k, b))
-    by_kind false u e l = let found = fixed_place header n k v g e in (found.0, found.1.at)
-    by_kind true true e l = (old_place_of header n v, old_place header n k v g e (ltb-true k n l))
-    by_kind true false e l = let found = new_place header n k v g e (ltb-false k n l) in (found.0, found.1.at)
+any_place header n k v g = elim (holds_or_not (is_record header v)) [
+  | inr e ↦ (let found = fixed_place header n k v g e in (found.0, found.1.at))
+  | inl e ↦ elim (cases_lt k n) [
+    | inl l ↦ (old_place_of header n v, old_place header n k v g e l)
+    | inr l ↦ (let found = new_place header n k v g e l in (found.0, found.1.at))
+  ]
+]
 
 pub begin_is : (found : List (ℕ × ℕ)) (k b : ℕ) → at_number found k ≡ Some (k, b) → begin_of_number found k ≡ b
 begin_is found k b e = ap (λ (o : Option (ℕ × ℕ)). elim o as (λ q. ℕ) [ None ↦ 0 | Some p ↦ p.1 ]) e
@@ -190,13 +178,10 @@ min_each (x ∷ xs) a y (inr h) = min_each xs (min a x) y h
 
 min_is : (xs : List ℕ) (a : ℕ) → (fold (λ x y. min x y) a xs ≡ a) ⊎ In xs (fold (λ x y. min x y) a xs)
 min_is [] a = inl refl
-min_is (x ∷ xs) a = by_rest (min_is xs (min a x)) (nat_le a x) refl
-  where
-    by_rest : (fold (λ x y. min x y) (min a x) xs ≡ min a x) ⊎ In xs (fold (λ x y. min x y) (min a x) xs) → (t : Bool) → nat_le a x ≡ t
-        → (fold (λ x y. min x y) (min a x) xs ≡ a) ⊎ In (x ∷ xs) (fold (λ x y. min x y) (min a x) xs)
-    by_rest (inr h) t e = inr (inr h)
-    by_rest (inl s) true e = let l = leb-true a x e in inl (s ∙ (let m : min a x ≡ a = omega arith in m))
-    by_rest (inl s) false e = let l = leb-false a x e in inr (inl (sym (s ∙ (let m : min a x ≡ x = omega arith in m))))
+min_is (x ∷ xs) a = elim (min_is xs (min a x)) [
+  | inr h ↦ inr (inr h)
+  | inl s ↦ elim (cases_lt x a) [ inl l ↦ inr (inl (sym (s ∙ omega arith))) | inr l ↦ inl (s ∙ omega arith) ]
+]
 
 pub least_low : (xs : List ℕ) (y : ℕ) → In xs y → unwrap_or (least xs) 0 ≤ y
 least_low [] y h = absurd h

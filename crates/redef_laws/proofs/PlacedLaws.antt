@@ -1,6 +1,5 @@
 -- Where the old variables begin in a redefined header: no lower than before, and in the same order.
-use Rattle.redef_laws.proofs.Words.{◌≡◌, ℕ, ◌+◌, ◌-◌, ◌<◌, ◌≤◌, refl, sym, ◌∙◌, ap, List, [], ◌∷◌, ◌++◌, map, Bool, true, false, Option, Some, arith, nat_tests, find-append, leb-true, leb-false, begins_before, slice_get, find, not, nat_lt, ◌==◌, unwrap_or, enumerate_from, option_or, lt-ltb, Header, Var, is_record, slab, header_len, least, Numbered, fixed_of, old_of, new_of, by_begin, fixed_order, begin_at, fixed_begins, front_after, first_record, record_begins, begins_by_number, begin_of_number, In, in_filter, in_numbered}
-use borrow.Author.Tests.{eqb-true}
+use Rattle.redef_laws.proofs.Words.{◌≡◌, ℕ, ◌+◌, ◌-◌, ◌<◌, ◌≤◌, refl, sym, ◌∙◌, ap, List, [], ◌∷◌, ◌++◌, map, Bool, true, false, Option, Some, arith, nat_tests, find-append, leb-true, leb-false, begins_before, slice_get, find, not, nat_lt, ◌==◌, unwrap_or, enumerate_from, option_or, lt-ltb, eqb_tells, holds_or_not, inl, inr, Header, Var, is_record, slab, header_len, least, Numbered, fixed_of, old_of, new_of, by_begin, fixed_order, begin_at, fixed_begins, front_after, first_record, record_begins, begins_by_number, begin_of_number, In, in_filter, in_numbered}
 use Rattle.redef_laws.proofs.BeginLaws.{at_number, in_by_begin, each_by_begin, each_filter, fixed_begin, found_is, head_begin, in_tail, mapped_begins, Numbers, numbers_of, same_var, tail_begin}
 use Rattle.redef_laws.proofs.PlaceLaws.{begin_is, first_of, first_place, fixed_end, fixed_place, in_old, new_from, new_records, numbered, old_first, old_first_low, old_place, old_place_of, old_records, placed_records}
 use Rattle.redef_laws.proofs.Orders.{Orders, Pairwise, pairs_by_place, sorted_pairs}
@@ -23,28 +22,23 @@ fixed_rise : (header : Header) (vars : List Var) (front : ℕ) (list : List Numb
     → at_number (fixed_begins header front list) k ≡ Some (k, b) → at_number (fixed_begins header front list) m ≡ Some (m, c) → b ≤ c
 fixed_rise header vars front [] k m u x b c all ordered at at' h g l e f = absurd h
 fixed_rise header vars front (p ∷ list) k m u x b c all ordered at at' h g l e f =
-    by_test (λ i j d q. fixed_rise header vars (begin_at front p.1 + slab header p.1) list k m u x b c all.1 ordered.1 at at' i j l d q) (p.0 == k) refl (p.0 == m) refl
-  where
-    by_test : (In list (k, u) → In list (m, x)
-        → at_number (fixed_begins header (begin_at front p.1 + slab header p.1) list) k ≡ Some (k, b)
-        → at_number (fixed_begins header (begin_at front p.1 + slab header p.1) list) m ≡ Some (m, c) → b ≤ c)
-        → (s : Bool) → (p.0 == k) ≡ s → (t : Bool) → (p.0 == m) ≡ t → b ≤ c
-    by_test rest true i true j =
-        let one = same_var vars k p.0 u p.1 at all.0 (eqb-true _ _ i) in
-        let two = same_var vars m p.0 x p.1 at' all.0 (eqb-true _ _ j) in
-        absurd (omega (arith, ap (λ (v : Var). v.begin) (sym one ∙ two)))
-    by_test rest true i false j =
-        let first : b ≡ begin_at front p.1 = head_begin p (begin_at front p.1) k b (fixed_begins header (begin_at front p.1 + slab header p.1) list) i e in
-        let found = fixed_begin header vars (begin_at front p.1 + slab header p.1) list m x all.1 at' (in_tail p list m x j g) in
-        let there = tail_begin p (begin_at front p.1) m c (fixed_begins header (begin_at front p.1 + slab header p.1) list) j f in
-        let second : c ≡ found.0 = found_is (fixed_begins header (begin_at front p.1 + slab header p.1) list) m c found.0 there found.1.at in
-        let past = found.1.low in
-        omega arith
-    by_test rest false i true j =
-        absurd (omega (arith, ordered.0 (k, u) (in_tail p list k u i h), ap (λ (v : Var). v.begin) (same_var vars m p.0 x p.1 at' all.0 (eqb-true _ _ j))))
-    by_test rest false i false j =
-        rest (in_tail p list k u i h) (in_tail p list m x j g) (tail_begin p (begin_at front p.1) k b (fixed_begins header (begin_at front p.1 + slab header p.1) list) i e)
-        (tail_begin p (begin_at front p.1) m c (fixed_begins header (begin_at front p.1 + slab header p.1) list) j f)
+    let here = begin_at front p.1 in
+    let next = here + slab header p.1 in
+    let rest = fixed_begins header next list in
+    elim (eqb_tells p.0 k) [
+      | inl i ↦ elim (eqb_tells p.0 m) [
+        | inl j ↦ absurd (omega (arith, ap (λ (v : Var). v.begin) (sym (same_var vars k p.0 u p.1 at all.0 i.1) ∙ same_var vars m p.0 x p.1 at' all.0 j.1)))
+        | inr j ↦
+            (let found = fixed_begin header vars next list m x all.1 at' (in_tail p list m x j.0 g) in
+            omega (arith, head_begin p here k b rest i.0 e, found_is rest m c found.0 (tail_begin p here m c rest j.0 f) found.1.at, found.1.low))
+      ]
+      | inr i ↦ elim (eqb_tells p.0 m) [
+        | inl j ↦ absurd (omega (arith, ordered.0 (k, u) (in_tail p list k u i.0 h), ap (λ (v : Var). v.begin) (same_var vars m p.0 x p.1 at' all.0 j.1)))
+        | inr j ↦
+            fixed_rise header vars next list k m u x b c all.1 ordered.1 at at' (in_tail p list k u i.0 h) (in_tail p list m x j.0 g) l
+            (tail_begin p here k b rest i.0 e) (tail_begin p here m c rest j.0 f)
+      ]
+    ]
 
 fixed_begins-append : (header : Header) (front : ℕ) (vars others : List Numbered)
     → fixed_begins header front (vars ++ others) ≡ fixed_begins header front vars ++ fixed_begins header (front_after header front vars) others
@@ -104,15 +98,16 @@ first_past front before = grind (arith, nat_tests)
 
 -- an old variable begins no lower than before
 pub begin_rises : (header : Header) (n k : ℕ) (v : Var) → slice_get header.vars k ≡ Some v → k < n → v.begin ≤ begin_of_number (begins_by_number header n) k
-begin_rises header n k v h l = by_kind (is_record header v) refl
-  where
-    by_kind : (t : Bool) → is_record header v ≡ t → v.begin ≤ begin_of_number (begins_by_number header n) k
-    by_kind false e = let found = fixed_place header n k v h e in omega (arith, begin_is (begins_by_number header n) k found.0 found.1.at, found.1.up)
-    by_kind true e =
-        let found = record_begin_is header n k v h l e in
-        let low = old_first_low header n (k, v) (in_old header n k v h e l) in
-        let past = first_past (fixed_end header n) (least (map (λ w. w.1.begin) (old_records header n))) in
-        omega (arith, found, low, past)
+begin_rises header n k v h l = elim (holds_or_not (is_record header v)) [
+  | inr e ↦ (let found = fixed_place header n k v h e in omega (arith, begin_is (begins_by_number header n) k found.0 found.1.at, found.1.up))
+  | inl e ↦
+      omega (
+        arith,
+        record_begin_is header n k v h l e,
+        old_first_low header n (k, v) (in_old header n k v h e l),
+        first_past (fixed_end header n) (least (map (λ w. w.1.begin) (old_records header n))),
+      )
+]
 
 -- old record variables keep their distances
 record_begins_rise : (header : Header) (n k m : ℕ) (v w : Var) → slice_get header.vars k ≡ Some v → slice_get header.vars m ≡ Some w → k < n → m < n
@@ -122,8 +117,7 @@ record_begins_rise header n k m v w h g i j e f l = grind (arith, nat_tests, rec
 
 pub begins_rise : (header : Header) (n k m : ℕ) (v w : Var) → slice_get header.vars k ≡ Some v → slice_get header.vars m ≡ Some w → k < n → m < n
     → is_record header v ≡ is_record header w → v.begin < w.begin → begin_of_number (begins_by_number header n) k ≤ begin_of_number (begins_by_number header n) m
-begins_rise header n k m v w h g i j same l = by_kind (is_record header v) refl
-  where
-    by_kind : (t : Bool) → is_record header v ≡ t → begin_of_number (begins_by_number header n) k ≤ begin_of_number (begins_by_number header n) m
-    by_kind false e = fixed_begins_rise header n k m v w h g i j e (sym same ∙ e) l
-    by_kind true e = record_begins_rise header n k m v w h g i j e (sym same ∙ e) l
+begins_rise header n k m v w h g i j same l = elim (holds_or_not (is_record header v)) [
+  | inr e ↦ fixed_begins_rise header n k m v w h g i j e (sym same ∙ e) l
+  | inl e ↦ record_begins_rise header n k m v w h g i j e (sym same ∙ e) l
+]

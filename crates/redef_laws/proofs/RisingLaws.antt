@@ -1,9 +1,9 @@
 -- The slabs of the old variables as they rise: they are all slabs, and each begins above those before it.
-use Rattle.redef_laws.proofs.Words.{◌≡◌, ℕ, ◌+◌, ◌*◌, ◌<◌, ◌≤◌, refl, sym, ◌∙◌, ap, subst, inl, inr, ◌⊎◌, ◌↔◌, List, [], ◌∷◌, map, Bool, true, false, true≢false, Some, reverse, arith, cases_eq, row_fits, filter, flat_map, zip, slice_get, not, range_with_len, not-true, leb-true, leb-false, Header, Var, Slab, highest_first, slabs, slabs_of, stands_above, stands_below, stores, zero_calls, header_len, is_sound, is_record, recsize, slab, slab_fits, In, filter_in, in_filter, in_left, in_right, in_either, in_flat, flat_in, first_slab, fixed_slabs, record_slabs, in_record, slabs_of_record, rising, changes, gaps, IsRisen, new_end, AreShifted, in_map, map_in, zip_in, nat_tests}
+use Rattle.redef_laws.proofs.Words.{◌≡◌, ℕ, ◌+◌, ◌<◌, ◌≤◌, refl, sym, ◌∙◌, ap, subst, inl, inr, ◌↔◌, List, map, Bool, true, false, true≢false, holds_or_not, in_range, range_high, Some, reverse, arith, cases_eq, row_fits, filter, flat_map, zip, slice_get, not, range_with_len, not-true, leb-true, leb-false, Header, Var, Slab, highest_first, slabs, slabs_of, stands_above, stands_below, stores, zero_calls, header_len, is_sound, is_record, recsize, slab, slab_fits, In, filter_in, in_filter, in_left, in_right, in_either, in_flat, flat_in, first_slab, fixed_slabs, record_slabs, in_record, slabs_of_record, rising, changes, gaps, IsRisen, new_end, in_map, map_in, zip_in, nat_tests, Option}
 use Rattle.serial_spec.specs.Lists.{sorted_by}
 use Rattle.redef_laws.proofs.Orders.{Orders, Pairwise, pairs_append, pairs_by_place, pairs_filter, pairs_flat, pairs_map, pairs_range, pairs_reverse, pairs_weaker, reverse_in, in_reverse, same_pairs, sorted_in, in_sorted, sorted_pairs}
 use Rattle.redef_laws.proofs.SoundVars.{slab_holds, vars_apart}
-use Rattle.redef_laws.proofs.SlabLaws.{IsRaised, slabs_fixed, slabs_record}
+use Rattle.redef_laws.proofs.SlabLaws.{IsInRow, IsRaised, in_place, in_row as in_row_of, row_of}
 use Rattle.redef_laws.proofs.SlabOrder.{Differ, begins_differ, raised_shifts, slabs_differ, zip_at}
 use Rattle.redef_laws.proofs.ChainLaws.{Below, shifted_risen}
 use Rattle.redef_laws.proofs.GapLaws.{zeros_between}
@@ -32,9 +32,6 @@ record IsOf (old new : Header) (t : Bool) (row : ℕ) (s : Slab) : Type 0 where
   kind : is_record old var.0 ≡ t
   is : in_row old new row (first_slab old var) ≡ s
 
-in_place : (s : Slab) (old_step step : ℕ) → in_record old_step step 0 s ≡ s
-in_place s old_step step = let from : s.from + 0 * old_step ≡ s.from = omega arith in let to : s.to + 0 * step ≡ s.to = omega arith in λ i. record { from = from i; to = to i; len = s.len }
-
 fixed_of : (old new : Header) (s : Slab) → In (fixed_slabs old new) s → IsOf old new false 0 s
 fixed_of old new s m =
     let at = map_in (first_slab old) (fixed_pairs old new) s (sorted_in stands_below (map (first_slab old) (fixed_pairs old new)) s m) in
@@ -52,42 +49,35 @@ record_of old new r s m =
 
 rising_in : (old new : Header) (s : Slab) → In (rising old new) s → In (slabs old new) s
 rising_in old new s h = elim (in_either (fixed_slabs old new) (flat_map (slabs_of_record old new) (records old)) s h) [
-  | inl m ↦
-      let f = fixed_of old new s m in
-      in_flat (slabs_of old new) (pairs old new) f.var s f.there
-      (subst (λ (ss : List Slab). In ss s) (sym (slabs_fixed old new f.var f.kind)) (inl (sym (in_place (first_slab old f.var) (recsize old) (recsize new)) ∙ f.is)))
+  | inl m ↦ let f = fixed_of old new s m in of_var f.var f.there (record { row = 0; once = λ e. refl; below = λ e. absurd (true≢false (sym e ∙ f.kind)); is = f.is })
   | inr m ↦
       let r = flat_in (slabs_of_record old new) (records old) s m in
       let f = record_of old new r.0 s r.2 in
-      in_flat (slabs_of old new) (pairs old new) f.var s f.there
-      (subst (λ (ss : List Slab). In ss s) (sym (slabs_record old new f.var f.kind))
-      (subst (In (map (λ q. in_row old new q (first_slab old f.var)) (records old))) f.is (in_map (λ q. in_row old new q (first_slab old f.var)) (records old) r.0 r.1)))
+      of_var f.var f.there (record { row = r.0; once = λ e. absurd (true≢false (sym f.kind ∙ e)); below = λ e. omega (arith, range_high 0 old.records r.0 r.1); is = f.is })
 ]
+  where
+    of_var : (p : Var × Var) → In (pairs old new) p → IsInRow old new p s → In (slabs old new) s
+    of_var p m r = in_flat (slabs_of old new) (pairs old new) p s m (in_row_of old new p s r)
 
 in_rising : (old new : Header) (s : Slab) → In (slabs old new) s → In (rising old new) s
-in_rising old new s h = by_var found.0 found.1 found.2 (is_record old found.0.0) refl
-  where
-    found : (p : Var × Var) × In (pairs old new) p × In (slabs_of old new p) s
-    found = flat_in (slabs_of old new) (pairs old new) s h
-
-    by_var : (p : Var × Var) → In (pairs old new) p → In (slabs_of old new p) s → (t : Bool) → is_record old p.0 ≡ t → In (rising old new) s
-    by_var p m n false e = only (subst (λ (ss : List Slab). In ss s) (slabs_fixed old new p e) n)
-      where
-        only : In (first_slab old p ∷ []) s → In (rising old new) s
-        only (inr g) = absurd g
-        only (inl g) =
-            in_left (fixed_slabs old new) (flat_map (slabs_of_record old new) (records old)) s
-            (in_sorted stands_below (map (first_slab old) (fixed_pairs old new)) s
-            (subst (In (map (first_slab old) (fixed_pairs old new))) g
-            (in_map (first_slab old) (fixed_pairs old new) p (in_filter (λ q. not (is_record old q.0)) (pairs old new) p m (ap not e)))))
-    by_var p m n true e =
-        let one = map_in (λ r. in_row old new r (first_slab old p)) (records old) s (subst (λ (ss : List Slab). In ss s) (slabs_record old new p e) n) in
-        in_right (fixed_slabs old new) (flat_map (slabs_of_record old new) (records old)) s
-        (in_flat (slabs_of_record old new) (records old) one.0 s one.1
-        (subst (In (slabs_of_record old new one.0)) one.2
-        (in_map (in_row old new one.0) (record_slabs old new) (first_slab old p)
-        (in_sorted stands_below (map (first_slab old) (record_pairs old new)) (first_slab old p)
-        (in_map (first_slab old) (record_pairs old new) p (in_filter (λ q. is_record old q.0) (pairs old new) p m e))))))
+in_rising old new s h =
+    let found = flat_in (slabs_of old new) (pairs old new) s h in
+    let p = found.0 in
+    let r = row_of old new p s found.2 in
+    elim (holds_or_not (is_record old p.0)) [
+      | inr e ↦
+          in_left (fixed_slabs old new) (flat_map (slabs_of_record old new) (records old)) s
+          (in_sorted stands_below (map (first_slab old) (fixed_pairs old new)) s
+          (subst (In (map (first_slab old) (fixed_pairs old new))) (sym (in_place (first_slab old p) (recsize old) (recsize new)) ∙ ap (λ q. in_row old new q (first_slab old p)) (sym (r.once e)) ∙ r.is)
+          (in_map (first_slab old) (fixed_pairs old new) p (in_filter (λ q. not (is_record old q.0)) (pairs old new) p found.1 (ap not e)))))
+      | inl e ↦
+          in_right (fixed_slabs old new) (flat_map (slabs_of_record old new) (records old)) s
+          (in_flat (slabs_of_record old new) (records old) r.row s (in_range 0 old.records r.row (omega arith) (omega (arith, r.below e)))
+          (subst (In (slabs_of_record old new r.row)) r.is
+          (in_map (in_row old new r.row) (record_slabs old new) (first_slab old p)
+          (in_sorted stands_below (map (first_slab old) (record_pairs old new)) (first_slab old p)
+          (in_map (first_slab old) (record_pairs old new) p (in_filter (λ q. is_record old q.0) (pairs old new) p found.1 e))))))
+    ]
 
 -- both lists of slabs have the same members
 pub rising_all : (old new : Header) (s : Slab) → In (rising old new) s ↔ In (slabs old new) s
@@ -122,24 +112,21 @@ module _ (old new : Header) (sound : is_sound old ≡ true) where
 
   -- a record begins above those before it, and a record variable above the fixed ones
   next_below : (p q : Var × Var) → In (pairs old new) p → In (pairs old new) q → is_record old q.0 ≡ true → p.0.begin < q.0.begin + recsize old
-  next_below p q m n e = by_place (zip_in old.vars new.vars p m) (zip_in old.vars new.vars q n) (is_record old p.0) refl
+  next_below p q m n e =
+      let a = zip_in old.vars new.vars p m in
+      let b = zip_in old.vars new.vars q n in
+      let some = slab_holds old b.0 q.0 sound b.1 in
+      let fits = slab_fits old b.0 q.0 b.1 e in
+      elim (cases_eq a.0 b.0) [
+        | inl g ↦ omega (arith, some, fits, ap (λ (v : Var). v.begin) (one_var (slice_get old.vars a.0) p.0 q.0 a.1 (ap (λ (i : ℕ). slice_get old.vars i) g ∙ b.1)))
+        | inr g ↦ elim (holds_or_not (is_record old p.0)) [
+          | inl f ↦ omega (arith, (vars_apart old a.0 b.0 p.0 q.0 sound a.1 b.1 g).both_records f e, some, fits, slab_holds old a.0 p.0 sound a.1)
+          | inr f ↦ omega (arith, (vars_apart old a.0 b.0 p.0 q.0 sound a.1 b.1 g).record_last f e, some, fits)
+        ]
+      ]
     where
-      by_place : (k : ℕ) × (slice_get old.vars k ≡ Some p.0) × (slice_get new.vars k ≡ Some p.1) → (j : ℕ) × (slice_get old.vars j ≡ Some q.0) × (slice_get new.vars j ≡ Some q.1)
-          → (t : Bool) → is_record old p.0 ≡ t → p.0.begin < q.0.begin + recsize old
-      by_place (k, a, x) (j, b, y) t f = by_number (cases_eq k j) t f
-        where
-          size : 0 < recsize old
-          size = let some = slab_holds old j q.0 sound b in let fits = slab_fits old j q.0 b e in omega arith
-
-          by_number : (k ≡ j) ⊎ (k ≡ j → ⊥) → (t : Bool) → is_record old p.0 ≡ t → p.0.begin < q.0.begin + recsize old
-          by_number (inl g) t f =
-              let same = ap (λ (i : ℕ). slice_get old.vars i) g in
-              let var : p.0 ≡ q.0 = cc in
-              omega (arith, size, ap (λ (v : Var). v.begin) var)
-          by_number (inr g) true f =
-              let turns = (vars_apart old k j p.0 q.0 sound a b g).both_records f e in
-              omega (arith, turns, size, slab_holds old k p.0 sound a)
-          by_number (inr g) false f = omega (arith, (vars_apart old k j p.0 q.0 sound a b g).record_last f e, size)
+      one_var : (o : Option Var) (v w : Var) → o ≡ Some v → o ≡ Some w → v ≡ w
+      one_var o v w x y = cc
 
   fixed_low : (p q : Var × Var) → In (pairs old new) p → In (pairs old new) q → is_record old p.0 ≡ false → is_record old q.0 ≡ true → p.0.begin < q.0.begin
   fixed_low p q m n f e =

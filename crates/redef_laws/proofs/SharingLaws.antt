@@ -1,5 +1,5 @@
 -- No two variables of a redefined header share a byte, and none has one of the header.
-use Rattle.redef_laws.proofs.Words.{lengths, cases_eq, size_pos, mul-le, ◌≡◌, ℕ, zero, suc, ◌+◌, ◌<◌, ◌≤◌, List, [], ◌∷◌, length, drop, map, Bool, true, false, cond, Some, refl, sym, ap, ◌∙◌, inl, inr, ◌⊎◌, arith, nat_lt, ◌==◌, sum_by, slice_get, AllByRecursion, mul-pos, nat_tests, length-map, sum_by-cons, ltb-true, ltb-false, eqb-true, slab_below, each_in, equal_true, no_both, equal_suc, Header, Dim, Var, NcType, Extra, size_of, product, length_of, without_record, is_record, slab, vsize, recsize, record_variables, share, header_len, is_sound, Numbered, added, none_from, recsize_shared, shares_by, count_two, In, filter_in}
+use Rattle.redef_laws.proofs.Words.{lengths, cases_eq, size_pos, mul-le, ◌≡◌, ℕ, ◌+◌, ◌<◌, ◌≤◌, List, [], ◌∷◌, length, drop, map, Bool, true, false, cond, Some, sym, ap, ◌∙◌, inl, inr, ◌⊎◌, arith, ◌==◌, sum_by, slice_get, AllByRecursion, nat_tests, length-map, sum_by-cons, ltb-true, slab_below, each_in, Header, Dim, Var, Extra, size_of, product, length_of, without_record, is_record, slab, vsize, recsize, record_variables, is_sound, Numbered, added, recsize_shared, shares_by, count_two, In, filter_in}
 use Rattle.serial_spec.specs.Layout.{record_slabs}
 use Rattle.redef_laws.proofs.GrownLaws.{IsFitVar, is_record_at}
 use Rattle.redef_laws.proofs.SoundVars.{inner_holds, vars_apart}

@@ -1,5 +1,5 @@
 -- A redefinition moves the slabs of the old variables up, or lets them stay, and none passes another.
-use Rattle.redef_laws.proofs.Words.{subst, ◌≡◌, ℕ, zero, suc, ◌<◌, ◌≤◌, refl, sym, ◌∙◌, ap, List, [], ◌∷◌, ◌++◌, length, Bool, true, false, cond, Some, arith, slice_get_within, slice_get, bytes_eq, enumerate_from, and_first, Header, Var, Attr, Extra, slabs, header_len, is_sound, is_redefinable, is_record, with_var_attr, with_extra, added, begins_by_number, begin_of_number, with_begins, redefined_header, redefined_keeps, IsApplied, AreShifted, new_end, numbered_at, entry_map, nat_tests}
+use Rattle.redef_laws.proofs.Words.{subst, ◌≡◌, ℕ, ◌<◌, ◌≤◌, sym, ◌∙◌, ap, List, length, true, Some, arith, slice_get_within, slice_get, enumerate_from, and_first, Header, Var, Extra, is_sound, is_redefinable, is_record, added, begins_by_number, begin_of_number, with_begins, redefined_header, redefined_keeps, IsApplied, numbered_at, entry_map}
 use Rattle.redef_laws.proofs.PlacedLaws.{begin_rises, begins_rise}
 use Rattle.redef_laws.proofs.KeptLaws.{kept_var}
 use Rattle.redef_laws.proofs.SlabLaws.{IsRaised}

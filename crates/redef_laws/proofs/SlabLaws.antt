@@ -1,5 +1,5 @@
 -- The slabs of the old variables: what they are, and where each lies.
-use Rattle.redef_laws.proofs.Words.{subst, ◌≡◌, ℕ, ◌+◌, ◌*◌, ◌<◌, ◌≤◌, refl, sym, ◌∙◌, ap, inl, inr, List, [], ◌∷◌, map, Bool, true, false, true≢false, Some, arith, mul-le, slice_get, zip, range_with_len, Header, Var, Slab, slabs, slabs_of, header_len, is_sound, is_record, slab, recsize, end_of_var, lengths, KeepsVars, end_holds, slab_below, slab_shared, some_record, In, flat_in, range_high, IsShifted, new_end, map_in, zip_in, first_slab, in_record, nat_tests}
+use Rattle.redef_laws.proofs.Words.{subst, ◌≡◌, ℕ, ◌+◌, ◌*◌, ◌<◌, ◌≤◌, refl, sym, ◌∙◌, ap, inl, inr, List, [], ◌∷◌, map, true, false, true≢false, Some, arith, mul-le, slice_get, zip, range_with_len, Header, Var, Slab, slabs, slabs_of, header_len, is_sound, is_record, slab, recsize, end_of_var, KeepsVars, end_holds, slab_below, slab_shared, some_record, In, flat_in, in_map, in_range, holds_or_not, Option, range_high, IsShifted, new_end, map_in, zip_in, first_slab, in_record, nat_tests}
 use Rattle.redef_laws.proofs.RecordSizes.{same_slab, same_record, record_grows}
 use Rattle.redef_laws.proofs.SoundVars.{slab_holds, past_front}
 
@@ -35,18 +35,18 @@ pub record IsSlab (old new : Header) (s : Slab) : Type 0 where
   pub len : s.len ≡ slab old was
 
 pub pair_at : (old new : Header) (k : ℕ) (v w : Var) → KeepsVars old new → slice_get old.vars k ≡ Some v → slice_get new.vars k ≡ Some w → IsPair old new k v w
-pair_at old new k v w keeps h g = by_found (keeps k v h)
+pair_at old new k v w keeps h g =
+    let found = keeps k v h in
+    let same : found.0 ≡ w = one_var (slice_get new.vars k) found.0 w found.1 g in
+    record {
+      at_old = h;
+      at_new = g;
+      size = ap (λ (x : Var). slab new x) (sym same) ∙ same_slab old new v found.0 found.2 found.3;
+      kind = ap (λ (x : Var). is_record new x) (sym same) ∙ same_record old new v found.0 found.3;
+    }
   where
-    by_found : (y : Var) × (slice_get new.vars k ≡ Some y) × (y.kind ≡ v.kind) × (lengths new y ≡ lengths old v) → IsPair old new k v w
-    by_found (y, there, kind, lens) =
-        let one : Some y ≡ Some w = sym there ∙ g in
-        let same : y ≡ w = cc in
-        record {
-          at_old = h;
-          at_new = g;
-          size = ap (λ (x : Var). slab new x) (sym same) ∙ same_slab old new v y kind lens;
-          kind = ap (λ (x : Var). is_record new x) (sym same) ∙ same_record old new v y lens;
-        }
+    one_var : (o : Option Var) (x y : Var) → o ≡ Some x → o ≡ Some y → x ≡ y
+    one_var o x y e f = cc
 
 pub slabs_fixed : (old new : Header) (p : Var × Var) → is_record old p.0 ≡ false → slabs_of old new p ≡ first_slab old p ∷ []
 slabs_fixed old new p e = rw (e, slabs_of) refl
@@ -55,49 +55,62 @@ pub slabs_record : (old new : Header) (p : Var × Var) → is_record old p.0 ≡
     → slabs_of old new p ≡ map (λ r. in_record (recsize old) (recsize new) r (first_slab old p)) (range_with_len 0 old.records)
 slabs_record old new p e = rw (e, slabs_of) refl
 
+pub in_place : (s : Slab) (old_step step : ℕ) → in_record old_step step 0 s ≡ s
+in_place s old_step step = let from : s.from + 0 * old_step ≡ s.from = omega arith in let to : s.to + 0 * step ≡ s.to = omega arith in λ i. record { from = from i; to = to i; len = s.len }
+
+-- a slab of a variable is its first one in some row, which is row 0 where the variable is fixed
+pub record IsInRow (old new : Header) (p : Var × Var) (s : Slab) : Type 0 where
+  pub row : ℕ
+  pub once : is_record old p.0 ≡ false → row ≡ 0
+  pub below : is_record old p.0 ≡ true → row < old.records
+  pub is : in_record (recsize old) (recsize new) row (first_slab old p) ≡ s
+
+abbrev each_row : Header → Header → Var × Var → ℕ → Slab
+each_row old new p r = in_record (recsize old) (recsize new) r (first_slab old p)
+
+module _ (old new : Header) (p : Var × Var) (s : Slab) where
+  pub row_of : In (slabs_of old new p) s → IsInRow old new p s
+  row_of h = elim (holds_or_not (is_record old p.0)) [
+    | inl e ↦
+        (let at = map_in (each_row old new p) (range_with_len 0 old.records) s (subst (λ (ss : List Slab). In ss s) (slabs_record old new p e) h) in
+        record { row = at.0; once = λ f. absurd (true≢false (sym e ∙ f)); below = λ f. omega (arith, range_high 0 old.records at.0 at.1); is = at.2 })
+    | inr e ↦
+        record {
+          row = 0;
+          once = λ f. refl;
+          below = λ f. absurd (true≢false (sym f ∙ e));
+          is = elim (subst (λ (ss : List Slab). In ss s) (slabs_fixed old new p e) h) [ inl g ↦ in_place (first_slab old p) (recsize old) (recsize new) ∙ g | inr g ↦ absurd g ];
+        }
+  ]
+
+  pub in_row : IsInRow old new p s → In (slabs_of old new p) s
+  in_row r = elim (holds_or_not (is_record old p.0)) [
+    | inl e ↦
+        subst (λ (ss : List Slab). In ss s) (sym (slabs_record old new p e))
+        (subst (In (map (each_row old new p) (range_with_len 0 old.records))) r.is
+        (in_map (each_row old new p) (range_with_len 0 old.records) r.row (in_range 0 old.records r.row (omega arith) (omega (arith, r.below e)))))
+    | inr e ↦
+        subst (λ (ss : List Slab). In ss s) (sym (slabs_fixed old new p e))
+        (inl (sym (in_place (first_slab old p) (recsize old) (recsize new)) ∙ ap (each_row old new p) (sym (r.once e)) ∙ r.is))
+  ]
+
 pub slab_of_pair : (old new : Header) (k : ℕ) (v w : Var) (s : Slab) → IsPair old new k v w → In (slabs_of old new (v, w)) s → (p : IsSlab old new s) × (p.number ≡ k)
-slab_of_pair old new k v w s pair h = by_kind (is_record old v) refl
-  where
-    by_kind : (t : Bool) → is_record old v ≡ t → (p : IsSlab old new s) × (p.number ≡ k)
-    by_kind false e = only (subst (λ (ss : List Slab). In ss s) (slabs_fixed old new (v, w) e) h)
-      where
-        only : In (first_slab old (v, w) ∷ []) s → (p : IsSlab old new s) × (p.number ≡ k)
-        only (inr g) = absurd g
-        only (inl g) =
-            let from = ap (λ (x : Slab). x.from) g in
-            let to = ap (λ (x : Slab). x.to) g in (
-              record {
-                number = k;
-                was = v;
-                now = w;
-                pair = pair;
-                row = 0;
-                once = λ f. refl;
-                below = λ f. absurd (true≢false (sym f ∙ e));
-                from = omega arith;
-                to = omega arith;
-                len = ap (λ (x : Slab). x.len) (sym g);
-              },
-              refl,
-            )
-    by_kind true e =
-        let each : ℕ → Slab = λ r. in_record (recsize old) (recsize new) r (first_slab old (v, w)) in
-        let at = map_in each (range_with_len 0 old.records) s (subst (λ (ss : List Slab). In ss s) (slabs_record old new (v, w) e) h) in
-        let high = range_high 0 old.records at.0 at.1 in (
-          record {
-            number = k;
-            was = v;
-            now = w;
-            pair = pair;
-            row = at.0;
-            once = λ f. absurd (true≢false (sym e ∙ f));
-            below = λ f. (let l : at.0 < old.records = omega arith in l);
-            from = ap (λ (x : Slab). x.from) (sym at.2);
-            to = ap (λ (x : Slab). x.to) (sym at.2);
-            len = ap (λ (x : Slab). x.len) (sym at.2);
-          },
-          refl,
-        )
+slab_of_pair old new k v w s pair h =
+    let r = row_of old new (v, w) s h in (
+      record {
+        number = k;
+        was = v;
+        now = w;
+        pair = pair;
+        row = r.row;
+        once = r.once;
+        below = r.below;
+        from = ap (λ (x : Slab). x.from) (sym r.is);
+        to = ap (λ (x : Slab). x.to) (sym r.is);
+        len = ap (λ (x : Slab). x.len) (sym r.is);
+      },
+      refl,
+    )
 
 pub slab_in : (old new : Header) (s : Slab) → KeepsVars old new → In (slabs old new) s → IsSlab old new s
 slab_in old new s keeps h =
@@ -114,13 +127,10 @@ record_ends : (header : Header) (n r : ℕ) (v : Var) → is_record header v ≡
 record_ends header n r v e h = grind (arith, nat_tests, some_record, mul-le, slab_shared)
 
 ends_in : (header : Header) (n r : ℕ) (v : Var) → (is_record header v ≡ false → r ≡ 0) → (is_record header v ≡ true → r < n) → v.begin + r * recsize header + slab header v ≤ end_of_var header n v
-ends_in header n r v once below = by_kind (is_record header v) refl
-  where
-    by_kind : (t : Bool) → is_record header v ≡ t → v.begin + r * recsize header + slab header v ≤ end_of_var header n v
-    by_kind true e = record_ends header n r v e (below e)
-    by_kind false e =
-        let first : r * recsize header ≡ 0 * recsize header = ap (λ (x : ℕ). x * recsize header) (once e) in
-        omega (arith, first, fixed_ends header n v e)
+ends_in header n r v once below = elim (holds_or_not (is_record header v)) [
+  | inl e ↦ record_ends header n r v e (below e)
+  | inr e ↦ omega (arith, ap (λ (x : ℕ). x * recsize header) (once e), fixed_ends header n v e)
+]
 
 pub slab_lies : (old new : Header) → IsRaised old new → (s : Slab) → In (slabs old new) s → IsShifted (header_len old) (header_len new) (new_end old new) s
 slab_lies old new raised s h =

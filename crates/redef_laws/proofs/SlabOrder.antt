@@ -1,7 +1,7 @@
 -- No slab of an old variable passes another, and none begins where another one does.
-use Rattle.redef_laws.proofs.Words.{◌≡◌, ℕ, zero, suc, ◌+◌, ◌*◌, ◌<◌, ◌≤◌, refl, sym, ◌∙◌, ap, inl, inr, ◌⊎◌, Bool, true, false, Some, subst, List, [], ◌∷◌, slice_get, zip, arith, cases_lt, cases_eq, row_fits, mul-le, range_with_len, Header, Var, Slab, slabs, slabs_of, header_len, is_sound, is_record, slab, recsize, slab_fits, IsLower, AreShifted, new_end, In, zip_in, first_slab, in_record, nat_tests}
+use Rattle.redef_laws.proofs.Words.{◌≡◌, ℕ, zero, suc, ◌+◌, ◌*◌, ◌<◌, ◌≤◌, refl, sym, ◌∙◌, ap, inl, inr, ◌⊎◌, Bool, true, false, Some, subst, List, [], ◌∷◌, slice_get, zip, arith, cases_lt, cases_eq, row_fits, range_with_len, Header, Var, Slab, slabs, slabs_of, header_len, is_sound, is_record, slab, recsize, slab_fits, IsLower, AreShifted, new_end, In, zip_in, first_slab, in_record, nat_tests}
 use Rattle.redef_laws.proofs.RecordSizes.{record_grows}
-use Rattle.redef_laws.proofs.SoundVars.{slab_holds, vars_apart, IsApart, InTurn}
+use Rattle.redef_laws.proofs.SoundVars.{slab_holds, vars_apart, IsApart}
 use Rattle.redef_laws.proofs.SlabLaws.{IsRaised, IsPair, IsSlab, slabs_fixed, slabs_record, pair_at, slab_of_pair, slab_in, slab_lies}
 use Rattle.redef_laws.proofs.Orders.{Pairwise, pairs_weaker, pairs_map, pairs_range, pairs_flat, pairs_by_place}
 
@@ -12,12 +12,13 @@ abbrev Rows : ℕ → ℕ → ℕ → ℕ → ℕ → ℕ → Type 0
 Rows size size' x y x' y' = ((x + size ≤ y) × (x' + size' ≤ y')) ⊎ (((x ≡ y) × (x' ≡ y')) ⊎ ((y + size ≤ x) × (y' + size' ≤ x')))
 
 rows_of : (size size' r u : ℕ) → Rows size size' (r * size) (u * size) (r * size') (u * size')
-rows_of size size' r u = by_order (cases_lt r u) (cases_lt u r)
-  where
-    by_order : (r < u) ⊎ (u ≤ r) → (u < r) ⊎ (r ≤ u) → Rows size size' (r * size) (u * size) (r * size') (u * size')
-    by_order (inl l) o = inl (row_fits r size u size l (omega arith), row_fits r size' u size' l (omega arith))
-    by_order (inr l) (inl k) = inr (inr (row_fits u size r size k (omega arith), row_fits u size' r size' k (omega arith)))
-    by_order (inr l) (inr k) = let e : r ≡ u = omega arith in inr (inl (ap (λ (z : ℕ). z * size) e, ap (λ (z : ℕ). z * size') e))
+rows_of size size' r u = elim (cases_lt r u) [
+  | inl l ↦ inl (row_fits r size u size l (omega arith), row_fits r size' u size' l (omega arith))
+  | inr l ↦ elim (cases_lt u r) [
+    | inl k ↦ inr (inr (row_fits u size r size k (omega arith), row_fits u size' r size' k (omega arith)))
+    | inr k ↦ (let e : r ≡ u = omega arith in inr (inl (ap (λ (z : ℕ). z * size) e, ap (λ (z : ℕ). z * size') e)))
+  ]
+]
 
 -- what is in no record is in the first one
 abbrev Once : Bool → ℕ → ℕ → Type 0

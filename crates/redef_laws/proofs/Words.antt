@@ -1,11 +1,11 @@
 -- The words of this crate's proofs, from where they stand.
-pub use Rattle.list_laws.proofs.Std.{AllByRecursion, Bool, List, MatchBool, None, Option, Some, Width, [], and_from, and_right, ap, append_assoc, arith, byte_len, cases_eq, cases_lt, cond, count_by, div-add-mod', div_below, drop, enumerate_from, eqb-true, false, filter, filter-append, find, find-append, flat_map, fold, get_or, get_or-take, inl, inr, is_none, le-leb, le-ltb, leb-false, leb-true, length, length-append, length-filter, length-map, length-range_with_len, list_all, list_any, lt-leb, lt-ltb, ltb-false, ltb-true, map, min, mod_below, mul-le, mul-pos, nat_le, nat_lt, nat_tests, ne_eqb, not-false, not-true, option_or, or_cases, or_left, or_parts, position, position_from, position_from-zero, range_with_len, refl, reverse_onto, row_fits, same_number_lists, slice_get, slice_get_within, subst, suc, sum_by, sum_by-cons, sum_by-filter_both, sym, take, take-append-drop, take-append_seam, to_be_bytes, true, true≢false, unwrap_or, w32, w64, zero, zip, ℕ, ◌%◌, ◌&&◌, ◌*◌, ◌++◌, ◌+◌, ◌-◌, ◌/◌, ◌<◌, ◌==◌, ◌^◌, ◌||◌, ◌↔◌, ◌∙◌, ◌∷◌, ◌≡◌, ◌≤◌, ◌⊎◌}
+pub use Rattle.list_laws.proofs.Std.{AllByRecursion, Bool, List, MatchBool, None, Option, Some, Width, [], and_from, and_right, ap, append_assoc, arith, byte_len, cases_eq, cases_lt, cond, eqb_tells, count_by, div-add-mod', div_below, drop, enumerate_from, eqb-true, false, filter, filter-append, find, find-append, flat_map, fold, get_or, get_or-take, inl, inr, is_none, le-leb, le-ltb, leb-false, leb-true, length, length-append, length-filter, length-map, length-range_with_len, list_all, list_any, lt-leb, lt-ltb, ltb-false, ltb-true, map, min, mod_below, mul-le, mul-pos, nat_le, nat_lt, nat_tests, ne_eqb, not-false, not-true, option_or, or_cases, or_left, or_parts, position, position_from, position_from-zero, range_with_len, refl, reverse_onto, row_fits, same_number_lists, slice_get, slice_get_within, subst, suc, sum_by, sum_by-cons, sum_by-filter_both, sym, take, take-append-drop, take-append_seam, to_be_bytes, true, true≢false, unwrap_or, w32, w64, zero, zip, ℕ, ◌%◌, ◌&&◌, ◌*◌, ◌++◌, ◌+◌, ◌-◌, ◌/◌, ◌<◌, ◌==◌, ◌^◌, ◌||◌, ◌↔◌, ◌∙◌, ◌∷◌, ◌≡◌, ◌≤◌, ◌⊎◌}
 pub use Rattle.std.proofs.Common.{append-nil, reverse}
 pub use Rattle.std.specs.Prelude.{bytes_eq, not, replicate}
 pub use Rattle.cdf_header.proofs.Pieces.{no_fault, right_number}
 pub use Rattle.cdf_header.proofs.Walks.{back_4, back_8, drop_on}
 pub use Rattle.cdf_header.specs.Decoded.{BeginsWith}
-pub use Rattle.list_laws.proofs.Common.{and_first, and_second, both_none, each_append, each_at, each_fails, each_later, each_map, each_passes, each_push, each_weaker, entry_below, entry_map, equal_above, equal_suc, equal_true, fails_each, get_left, neither_some, no_both, none_before_map, none_of_test, not_zero, passes_each, range_append, some_factor, untold}
+pub use Rattle.list_laws.proofs.Common.{told_else, some_or_none, position_below, holds_or_not, either, and_first, and_second, both_none, each_append, each_at, each_fails, each_later, each_map, each_passes, each_push, each_weaker, entry_below, entry_map, equal_above, equal_suc, equal_true, fails_each, get_left, neither_some, no_both, none_before_map, none_of_test, not_zero, passes_each, range_append, some_factor, untold}
 pub use Rattle.list_laws.proofs.Types.{Attr, Dim, DiskCall, Extra, Header, HeaderErr, NcType, RedefErr, Var}
 pub use Rattle.overlay_laws.proofs.Common.{HaveSame, In, each_in, filter_all, filter_none, filter_same, flat_in, in_either, in_flat, in_left, in_map, in_numbered, in_range, in_right, in_zip, map_in, numbered_at, range_high, range_low, zip_in}
 pub use Rattle.redef_laws.specs.Applied.{IsApplied}

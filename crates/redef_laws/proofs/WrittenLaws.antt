@@ -1,7 +1,5 @@
 -- The header of an accepted redefinition is sound, and each of its numbers fits its field.
-use Rattle.redef_laws.proofs.Words.{◌≡◌, ℕ, suc, ◌+◌, ◌-◌, ◌^◌, ◌<◌, ◌≤◌, List, [], ◌∷◌, length, take, drop, Bool, true, false, ◌&&◌, Some, None, refl, sym, ap, subst, ◌∙◌, arith, not, nat_lt, nat_le, ◌==◌, count_by, filter, find, position, slice_get, sum_by, AllByRecursion, nat_tests, length-filter, and_from, not-true, not-false, le-leb, ltb-true, ltb-false, leb-false, past_none, small_count, vsize_fits, each_passes, each_fails, each_weaker, each_at, and_first, and_second, both_none, none_before_map, untold, Header, Dim, Var, Extra, file_limit, record_limit, record_share, sharing, attribute, list_of, header_len, all_ones, record_later, is_record_id, bad_id, measure, keeps_bound, is_sound, counts_are_small, fits_count, is_writable, is_writable_dim, is_writable_list, is_writable_var, added, extras_fault, begins_by_number, with_begins, redefined_header, redefined_fault, is_large_var, is_far_begin, is_bad_begin, IsApplied}
-use Rattle.nc_base.specs.declared.errors.LayoutErr.TheVariants as layout
-use Rattle.nc_base.specs.declared.errors.RedefErr.TheVariants as redef
+use Rattle.redef_laws.proofs.Words.{◌≡◌, ℕ, suc, ◌+◌, ◌^◌, ◌<◌, ◌≤◌, List, [], ◌∷◌, length, take, drop, Bool, true, false, ◌&&◌, Some, None, refl, sym, ap, subst, ◌∙◌, arith, nat_lt, nat_le, ◌==◌, count_by, filter, find, position, slice_get, sum_by, AllByRecursion, nat_tests, length-filter, and_from, not-true, not-false, le-leb, ltb-true, ltb-false, leb-false, past_none, small_count, vsize_fits, each_passes, each_fails, each_weaker, each_at, and_first, and_second, both_none, none_before_map, untold, Header, Dim, Var, Extra, file_limit, record_limit, record_share, sharing, attribute, list_of, header_len, all_ones, record_later, is_record_id, bad_id, measure, keeps_bound, is_sound, counts_are_small, fits_count, is_writable, is_writable_dim, is_writable_list, is_writable_var, added, extras_fault, begins_by_number, with_begins, redefined_header, redefined_fault, is_large_var, is_far_begin, is_bad_begin, IsApplied}
 use Rattle.redef_laws.proofs.FieldLaws.{not_both, each_both, begin_fits}
 use Rattle.redef_laws.proofs.GrownLaws.{HasFitLength, IsFitVar, IsFit, is_record_dim, all_more, all_same, HasVersionOf}
 use Rattle.redef_laws.proofs.ShortLaws.{is_short, attrs_written}
