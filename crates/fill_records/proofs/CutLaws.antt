@@ -134,48 +134,35 @@ front_few (n ∷ lengths) to =
 -- the numbers from `from` to the last one
 back_few : (lengths : List ℕ) (from : ℕ) → from ≤ product lengths → length (boxes lengths from (product lengths)) ≤ length lengths + 1
 back_few [] from h = grind (arith, nat_tests)
-back_few (n ∷ lengths) from h = by_cases (back_few lengths (from % product lengths)) (less_or_same from (n * product lengths) h)
-  where
-    by_cases : (from % product lengths ≤ product lengths → length (boxes lengths (from % product lengths) (product lengths)) ≤ length lengths + 1)
-        → (from ≡ n * product lengths) ⊎ (from < n * product lengths) → length (boxes (n ∷ lengths) from (n * product lengths)) ≤ suc (length lengths) + 1
-    by_cases ih (inl e) = none_few (n ∷ lengths) from (n * product lengths) (suc (length lengths) + 1) e
-    by_cases ih (inr l) =
-        let some = some_factor n (product lengths) from l in
-        let last : n * product lengths / product lengths ≡ n = mul-div_cancel n some in
-        let below : from / product lengths < n = div_below from (product lengths) n some l in
-        let r = mod_below from (product lengths) some in
-        let first = ih (omega arith) in
-        let whole : n * product lengths % product lengths ≡ 0 = mul-mod_left n (product lengths) in
-        rows_few n lengths from (n * product lengths) (suc (length lengths) + 1) (length lengths + 1 + 1) 0 (λ e. absurd (omega arith))
-        (before_few lengths from (n * product lengths / product lengths) (length lengths + 1) first)
-        (none_few lengths 0 (n * product lengths % product lengths) 0 (sym whole)) (omega arith)
+back_few (n ∷ lengths) from h = elim (less_or_same from (n * product lengths) h) [
+  | inl e ↦ none_few (n ∷ lengths) from (n * product lengths) (suc (length lengths) + 1) e
+  | inr l ↦
+      (let some = some_factor n (product lengths) from l in
+      let last : n * product lengths / product lengths ≡ n = mul-div_cancel n some in
+      let below : from / product lengths < n = div_below from (product lengths) n some l in
+      let r = mod_below from (product lengths) some in
+      let first = back_few lengths (from % product lengths) (omega arith) in
+      let whole : n * product lengths % product lengths ≡ 0 = mul-mod_left n (product lengths) in
+      rows_few n lengths from (n * product lengths) (suc (length lengths) + 1) (length lengths + 1 + 1) 0 (λ e. absurd (omega arith))
+      (before_few lengths from (n * product lengths / product lengths) (length lengths + 1) first)
+      (none_few lengths 0 (n * product lengths % product lengths) 0 (sym whole)) (omega arith))
+]
 
 pub boxes_few : (lengths : List ℕ) (from to : ℕ) → from ≤ to → to ≤ product lengths → length (boxes lengths from to) ≤ 2 * length lengths + 1
 boxes_few [] from to h k = grind (arith, nat_tests)
-boxes_few (n ∷ lengths) from to h k = by_cases (boxes_few lengths (from % product lengths) (to % product lengths)) (less_or_same from to h)
-  where
-    IH : Type 0
-    IH =
-        from % product lengths ≤ to % product lengths → to % product lengths ≤ product lengths
-        → length (boxes lengths (from % product lengths) (to % product lengths)) ≤ 2 * length lengths + 1
-
-    by_cases : IH → (from ≡ to) ⊎ (from < to) → length (boxes (n ∷ lengths) from to) ≤ 2 * suc (length lengths) + 1
-    by_cases ih (inl e) = none_few (n ∷ lengths) from to (2 * suc (length lengths) + 1) e
-    by_cases ih (inr l) =
-        let some = some_factor n (product lengths) from (omega arith) in
-        let r = mod_below from (product lengths) some in
-        let s = mod_below to (product lengths) some in
-        rows_few n lengths from to (2 * suc (length lengths) + 1) (length lengths + 1 + 1) (length lengths + 1)
-        (λ e. same_row e)
-        (before_few lengths from (to / product lengths) (length lengths + 1) (back_few lengths (from % product lengths) (omega arith)))
-        (front_few lengths (to % product lengths)) (omega arith)
-      where
-        same_row : from / product lengths ≡ to / product lengths → length (boxes lengths (from % product lengths) (to % product lengths)) ≤ 2 * suc (length lengths) + 1
-        same_row e =
-            let some = some_factor n (product lengths) from (omega arith) in
-            let s = mod_below to (product lengths) some in
-            let a = div-add-mod' from (product lengths) in
-            let b = div-add-mod' to (product lengths) in
-            let q = ap (λ (x : ℕ). x * product lengths) e in
-            let few = ih (omega arith) (omega arith) in
-            omega arith
+boxes_few (n ∷ lengths) from to h k = elim (less_or_same from to h) [
+  | inl e ↦ none_few (n ∷ lengths) from to (2 * suc (length lengths) + 1) e
+  | inr l ↦
+      (let some = some_factor n (product lengths) from (omega arith) in
+      let r = mod_below from (product lengths) some in
+      let s = mod_below to (product lengths) some in
+      rows_few n lengths from to (2 * suc (length lengths) + 1) (length lengths + 1 + 1) (length lengths + 1)
+      (λ e.
+      let a = div-add-mod' from (product lengths) in
+      let b = div-add-mod' to (product lengths) in
+      let q = ap (λ (x : ℕ). x * product lengths) e in
+      let few = boxes_few lengths (from % product lengths) (to % product lengths) (omega arith) (omega arith) in
+      omega arith)
+      (before_few lengths from (to / product lengths) (length lengths + 1) (back_few lengths (from % product lengths) (omega arith)))
+      (front_few lengths (to % product lengths)) (omega arith))
+]

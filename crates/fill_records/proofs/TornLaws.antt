@@ -1,5 +1,5 @@
 -- What a filling that was refused leaves: each byte is old, or that of the filled file.
-use Rattle.fill_records.proofs.Words.{◌≡◌, ℕ, zero, suc, ◌+◌, ◌-◌, ◌<◌, ◌≤◌, ◌⊎◌, inl, inr, refl, sym, ◌∙◌, ap, subst, List, [], ◌∷◌, ◌++◌, length, take, Bool, true, false, not, cond, Option, Some, None, arith, fold, nat_lt, slice_get, IfSome, cases_lt, nat_tests, told_else, both_none, Header, Var, PartlyWritten, after, BothTold, at, written, fill_bytes, fill_var, filled, header_len, is_sound, end_of, fixed_variables, is_record, share, sharing_from, sharing_with, slab, none_shared, none_with, length-written_inside, get_or-written_below, get_or-written_within, get_or-written_above, IsBetween, repeated, filled_variable, found_long, between_next}
+use Rattle.fill_records.proofs.Words.{◌≡◌, ℕ, suc, ◌+◌, ◌<◌, ◌≤◌, ◌⊎◌, inl, inr, refl, sym, ◌∙◌, ap, subst, in_left, filter_in, in_at, either, not-true, filter-append, take-append-drop, drop, In, List, [], ◌∷◌, ◌++◌, length, take, true, false, not, Option, Some, None, arith, fold, nat_lt, IfSome, cases_lt, nat_tests, told_else, both_none, Header, Var, PartlyWritten, after, BothTold, at, written, fill_bytes, fill_var, filled, header_len, is_sound, end_of, fixed_variables, is_record, share, sharing_from, sharing_with, slab, none_shared, none_with, length-written_inside, get_or-written_below, get_or-written_within, get_or-written_above, IsBetween, repeated, filled_variable, found_long, between_next}
 use Rattle.fill_records.proofs.RepeatedLaws.{repeated_long, at_repeated}
 use Rattle.fill_records.proofs.VariableLaws.{filled_more, fixed_end}
 use Rattle.fill_records.proofs.WindowLaws.{for_told}
@@ -69,140 +69,118 @@ pub whole_same : (held now : Option (List ℕ)) (f g : List ℕ → List ℕ) �
 whole_same None now f g same b = b
 whole_same (Some file) now f g same b = (b.0, b.1, subst (λ (w : List ℕ). IsBetween file w b.0) same b.2)
 
--- ---- one variable
-
--- what the filling of a fixed variable writes
-fill_written : (header : Header) (v : Var) (file : List ℕ) → is_record header v ≡ false → v.begin + slab header v ≤ length file
-    → fill_var header file v ≡ written file v.begin (repeated (fill_bytes v) 0 (slab header v))
-fill_written header v file fixed room = var_filled header v (fill_bytes v) file fixed refl (found_long v.kind v.attrs) room
-
-fill_long : (header : Header) (v : Var) (file : List ℕ) → is_record header v ≡ false → v.begin + slab header v ≤ length file
-    → length (fill_var header file v) ≡ length file
-fill_long header v file fixed room = grind (arith, nat_tests, repeated_long, fill_written, length-written_inside)
-
--- bytes beside the variable stay
-fill_beside : (header : Header) (v : Var) (file : List ℕ) (x : ℕ) → is_record header v ≡ false → v.begin + slab header v ≤ length file
-    → (x < v.begin) ⊎ (v.begin + slab header v ≤ x) → at (fill_var header file v) x ≡ at file x
-fill_beside header v file x fixed room xs = grind (arith, nat_tests, repeated_long, fill_written, get_or-written_below, get_or-written_above)
-
 -- ---- some of the variables
 
--- the fixed ones of these end inside a file so long
-abbrev AreInside : Header → ℕ → List Var → Type 0
-AreInside header long vars = (j : ℕ) (w : Var) → slice_get vars j ≡ Some w → is_record header w ≡ false → w.begin + slab header w ≤ long
-
--- the byte is in none of the fixed ones
-abbrev IsBeside : Header → ℕ → List Var → Type 0
-IsBeside header x vars = (j : ℕ) (w : Var) → slice_get vars j ≡ Some w → is_record header w ≡ false → (x < w.begin) ⊎ (w.begin + slab header w ≤ x)
-
-fixed_first : (header : Header) (v : Var) (vars : List Var) (b : Bool) → is_record header v ≡ b
-    → fixed_variables header (v ∷ vars) ≡ cond b (fixed_variables header vars) (v ∷ fixed_variables header vars)
-fixed_first header v vars true e = ap (λ (b : Bool). cond (not b) (v ∷ fixed_variables header vars) (fixed_variables header vars)) e
-fixed_first header v vars false e = ap (λ (b : Bool). cond (not b) (v ∷ fixed_variables header vars) (fixed_variables header vars)) e
-
+-- what fills these variables
 abbrev fill_all : Header → List Var → List ℕ → List ℕ
-fill_all header vars file = fold (fill_var header) file (fixed_variables header vars)
+fill_all header vars file = fold (fill_var header) file vars
 
-all_long : (header : Header) (vars : List Var) (file : List ℕ) → AreInside header (length file) vars → length (fill_all header vars file) ≡ length file
-all_long header [] file room = refl
-all_long header (v ∷ vars) file room = by_kind (λ f. all_long header vars f) (is_record header v) refl
-  where
-    by_kind : ((f : List ℕ) → AreInside header (length f) vars → length (fill_all header vars f) ≡ length f)
-        → (b : Bool) → is_record header v ≡ b → length (fill_all header (v ∷ vars) file) ≡ length file
-    by_kind rest true e = ap (λ (vs : List Var). length (fold (fill_var header) file vs)) (fixed_first header v vars true e) ∙ rest file (λ j w h. room (suc j) w h)
-    by_kind rest false e =
-        let long = fill_long header v file e (room zero v refl e) in
-        ap (λ (vs : List Var). length (fold (fill_var header) file vs)) (fixed_first header v vars false e)
-        ∙ rest (fill_var header file v) (λ j w h k. let r = room (suc j) w h k in omega arith)
-        ∙ long
+-- the byte is not in the variable
+abbrev IsBeside : Header → ℕ → Var → Type 0
+IsBeside header x v = (x < v.begin) ⊎ (v.begin + slab header v ≤ x)
 
-all_beside : (header : Header) (vars : List Var) (file : List ℕ) (x : ℕ) → AreInside header (length file) vars → IsBeside header x vars
-    → at (fill_all header vars file) x ≡ at file x
-all_beside header [] file x room beside = refl
-all_beside header (v ∷ vars) file x room beside = by_kind (λ f inside. all_beside header vars f x inside (λ j w h. beside (suc j) w h)) (is_record header v) refl
-  where
-    by_kind : ((f : List ℕ) → AreInside header (length f) vars → at (fill_all header vars f) x ≡ at f x)
-        → (b : Bool) → is_record header v ≡ b → at (fill_all header (v ∷ vars) file) x ≡ at file x
-    by_kind rest true e = ap (λ (vs : List Var). at (fold (fill_var header) file vs) x) (fixed_first header v vars true e) ∙ rest file (λ j w h. room (suc j) w h)
-    by_kind rest false e =
-        let long = fill_long header v file e (room zero v refl e) in
-        ap (λ (vs : List Var). at (fold (fill_var header) file vs) x) (fixed_first header v vars false e)
-        ∙ rest (fill_var header file v) (λ j w h k. let r = room (suc j) w h k in omega arith)
-        ∙ fill_beside header v file x e (room zero v refl e) (beside zero v refl e)
+-- these are fixed variables that end inside a file so long
+abbrev AreInside : Header → ℕ → List Var → Type 0
+AreInside header long vars = (w : Var) → In vars w → (is_record header w ≡ false) × (w.begin + slab header w ≤ long)
 
--- two fixed variables that share no byte
-two_apart : (header : Header) (v w : Var) (x : ℕ) → is_record header v ≡ false → is_record header w ≡ false → share header v w ≡ false
-    → v.begin ≤ x → x < v.begin + slab header v → (x < w.begin) ⊎ (w.begin + slab header w ≤ x)
-two_apart header v w x e f apart low high = by_low (cases_lt x w.begin)
-  where
-    by_high : w.begin ≤ x → (x < w.begin + slab header w) ⊎ (w.begin + slab header w ≤ x) → (x < w.begin) ⊎ (w.begin + slab header w ≤ x)
-    by_high l (inr h) = inr h
-    by_high l (inl h) = absurd (grind (arith, nat_tests))
+-- no two of these share a byte
+abbrev AreApart : Header → List Var → Type 0
+AreApart header [] = Unit {0}
+AreApart header (v ∷ vars) = ((w : Var) → In vars w → share header v w ≡ false) × AreApart header vars
 
-    by_low : (x < w.begin) ⊎ (w.begin ≤ x) → (x < w.begin) ⊎ (w.begin + slab header w ≤ x)
-    by_low (inl h) = inl h
-    by_low (inr h) = by_high h (cases_lt x (w.begin + slab header w))
+module _ (header : Header) where
+  -- what the filling of a fixed variable writes
+  fill_written : (v : Var) (file : List ℕ) → is_record header v ≡ false → v.begin + slab header v ≤ length file
+      → fill_var header file v ≡ written file v.begin (repeated (fill_bytes v) 0 (slab header v))
+  fill_written v file fixed room = var_filled header v (fill_bytes v) file fixed refl (found_long v.kind v.attrs) room
 
--- a byte of the first of them has its last value already, or is old
-some_of : (header : Header) (first n k : ℕ) (vars : List Var) (file : List ℕ) (x : ℕ) → sharing_from header first n vars ≡ None → AreInside header (length file) vars
-    → (at (fill_all header (take k vars) file) x ≡ at file x) ⊎ (at (fill_all header (take k vars) file) x ≡ at (fill_all header vars file) x)
-some_of header first n zero vars file x alone room = inl refl
-some_of header first n (suc k) [] file x alone room = inl refl
-some_of header first n (suc k) (v ∷ vars) file x alone room = by_kind (λ f inside. some_of header first (suc n) k vars f x apart.1 inside) (is_record header v) refl
-  where
-    apart : sharing_with header v n (suc n) vars ≡ None × sharing_from header first (suc n) vars ≡ None
-    apart = both_none (sharing_with header v n (suc n) vars) (sharing_from header first (suc n) vars) (told_else (nat_lt v.begin first) (n, n) _ alone).1
+  fill_long : (v : Var) (file : List ℕ) → is_record header v ≡ false → v.begin + slab header v ≤ length file → length (fill_var header file v) ≡ length file
+  fill_long v file fixed room = grind (arith, nat_tests, repeated_long, fill_written, length-written_inside)
 
-    after_first : is_record header v ≡ false → AreInside header (length (fill_var header file v)) vars → (v.begin ≤ x) → (x < v.begin + slab header v) → at (fill_all header vars (fill_var header file v)) x ≡ at (fill_var header file v) x
-    after_first e inside low high = all_beside header vars (fill_var header file v) x inside (λ j w h k. two_apart header v w x e k (none_with header v n (suc n) vars j w apart.0 h) low high)
+  -- bytes beside the variable stay
+  fill_beside : (v : Var) (file : List ℕ) (x : ℕ) → is_record header v ≡ false → v.begin + slab header v ≤ length file → IsBeside header x v
+      → at (fill_var header file v) x ≡ at file x
+  fill_beside v file x fixed room xs = grind (arith, nat_tests, repeated_long, fill_written, get_or-written_below, get_or-written_above)
 
-    by_place : is_record header v ≡ false → AreInside header (length (fill_var header file v)) vars → at (fill_all header (take k vars) (fill_var header file v)) x ≡ at (fill_var header file v) x
-        → (x < v.begin) ⊎ (v.begin ≤ x) → (x < v.begin + slab header v) ⊎ (v.begin + slab header v ≤ x)
-        → (at (fill_all header (take k vars) (fill_var header file v)) x ≡ at file x) ⊎ (at (fill_all header (take k vars) (fill_var header file v)) x ≡ at (fill_all header vars (fill_var header file v)) x)
-    by_place e inside g (inl l) h = inl (g ∙ fill_beside header v file x e (room zero v refl e) (inl l))
-    by_place e inside g (inr l) (inr h) = inl (g ∙ fill_beside header v file x e (room zero v refl e) (inr h))
-    by_place e inside g (inr l) (inl h) = inr (g ∙ sym (after_first e inside l h))
+  inside_next : (v : Var) (vars : List Var) (file : List ℕ) → AreInside header (length file) (v ∷ vars) → AreInside header (length (fill_var header file v)) vars
+  inside_next v vars file inside w i =
+      let own = inside v (inl refl) in
+      let other = inside w (inr i) in
+      (other.0, omega (arith, fill_long v file own.0 own.1, other.1))
 
-    by_rest : is_record header v ≡ false → AreInside header (length (fill_var header file v)) vars
-        → (at (fill_all header (take k vars) (fill_var header file v)) x ≡ at (fill_var header file v) x) ⊎ (at (fill_all header (take k vars) (fill_var header file v)) x ≡ at (fill_all header vars (fill_var header file v)) x)
-        → (at (fill_all header (take k vars) (fill_var header file v)) x ≡ at file x) ⊎ (at (fill_all header (take k vars) (fill_var header file v)) x ≡ at (fill_all header vars (fill_var header file v)) x)
-    by_rest e inside (inr g) = inr g
-    by_rest e inside (inl g) = by_place e inside g (cases_lt x v.begin) (cases_lt x (v.begin + slab header v))
+  all_long : (vars : List Var) (file : List ℕ) → AreInside header (length file) vars → length (fill_all header vars file) ≡ length file
+  all_long [] file inside = refl
+  all_long (v ∷ vars) file inside =
+      let own = inside v (inl refl) in
+      all_long vars (fill_var header file v) (inside_next v vars file inside) ∙ fill_long v file own.0 own.1
 
-    by_kind : ((f : List ℕ) → AreInside header (length f) vars
-        → (at (fill_all header (take k vars) f) x ≡ at f x) ⊎ (at (fill_all header (take k vars) f) x ≡ at (fill_all header vars f) x))
-        → (b : Bool) → is_record header v ≡ b
-        → (at (fill_all header (v ∷ take k vars) file) x ≡ at file x) ⊎ (at (fill_all header (v ∷ take k vars) file) x ≡ at (fill_all header (v ∷ vars) file) x)
-    by_kind rest true e =
-        subst (λ (vs : List Var). (at (fold (fill_var header) file vs) x ≡ at file x) ⊎ (at (fold (fill_var header) file vs) x ≡ at (fill_all header (v ∷ vars) file) x)) (sym (fixed_first header v (take k vars) true e))
-        (subst (λ (vs : List Var). (at (fill_all header (take k vars) file) x ≡ at file x) ⊎ (at (fill_all header (take k vars) file) x ≡ at (fold (fill_var header) file vs) x)) (sym (fixed_first header v vars true e))
-        (rest file (λ j w h. room (suc j) w h)))
-    by_kind rest false e =
-        let long = fill_long header v file e (room zero v refl e) in
-        let inside : AreInside header (length (fill_var header file v)) vars = λ j w h k. let r = room (suc j) w h k in omega arith in
-        subst (λ (vs : List Var). (at (fold (fill_var header) file vs) x ≡ at file x) ⊎ (at (fold (fill_var header) file vs) x ≡ at (fill_all header (v ∷ vars) file) x)) (sym (fixed_first header v (take k vars) false e))
-        (subst (λ (vs : List Var). (at (fill_all header (take k vars) (fill_var header file v)) x ≡ at file x) ⊎ (at (fill_all header (take k vars) (fill_var header file v)) x ≡ at (fold (fill_var header) file vs) x)) (sym (fixed_first header v vars false e))
-        (by_rest e inside (rest (fill_var header file v) inside)))
+  all_beside : (vars : List Var) (file : List ℕ) (x : ℕ) → AreInside header (length file) vars → ((w : Var) → In vars w → IsBeside header x w)
+      → at (fill_all header vars file) x ≡ at file x
+  all_beside [] file x inside beside = refl
+  all_beside (v ∷ vars) file x inside beside =
+      let own = inside v (inl refl) in
+      all_beside vars (fill_var header file v) x (inside_next v vars file inside) (λ w i. beside w (inr i)) ∙ fill_beside v file x own.0 own.1 (beside v (inl refl))
 
--- the first of the variables are filled
-pub some_filled : (header : Header) (k : ℕ) (file : List ℕ) → is_sound header ≡ true → end_of header (header_len header) 0 ≤ length file
-    → IsBetween file (filled header file) (fold (fill_var header) file (fixed_variables header (take k header.vars)))
-some_filled header k file sound room = record {
-  len = all_long header (take k header.vars) file (λ j w h e. inside j w (taken header.vars k j w h) e);
-  each = λ x. some_of header (header_len header) 0 k header.vars file x (none_shared header sound) inside;
-}
-  where
-    inside : AreInside header (length file) header.vars
-    inside j w h e = let end = fixed_end header (header_len header) j w h e in omega arith
+  in_or_beside : (v : Var) (x : ℕ) → IsBeside header x v ⊎ ((v.begin ≤ x) × (x < v.begin + slab header v))
+  in_or_beside v x = elim (cases_lt x v.begin) [
+    | inl l ↦ inl (inl l)
+    | inr l ↦ elim (cases_lt x (v.begin + slab header v)) [ inl m ↦ inr (l, m) | inr m ↦ inl (inr m) ]
+  ]
 
-    taken : (vars : List Var) (n j : ℕ) (w : Var) → slice_get (take n vars) j ≡ Some w → slice_get vars j ≡ Some w
-    taken vars zero j w h = cc
-    taken [] (suc n) j w h = cc
-    taken (v ∷ vars) (suc n) zero w h = h
-    taken (v ∷ vars) (suc n) (suc j) w h = taken vars n j w h
+  -- a byte of one of two fixed variables that share none
+  two_apart : (v w : Var) (x : ℕ) → is_record header v ≡ false → is_record header w ≡ false → share header v w ≡ false → v.begin ≤ x → x < v.begin + slab header v
+      → IsBeside header x w
+  two_apart v w x e f apart low high = elim (in_or_beside w x) [ inl b ↦ b | inr t ↦ absurd (grind (arith, nat_tests)) ]
 
-pub filled_long : (header : Header) (file : List ℕ) → end_of header (header_len header) 0 ≤ length file → length (filled header file) ≡ length file
-filled_long header file room = all_long header header.vars file (λ j w h e. let end = fixed_end header (header_len header) j w h e in omega arith)
+  -- when the first of them are filled, a byte has its last value already, or is old
+  some_of : (first rest : List Var) (file : List ℕ) (x : ℕ) → AreInside header (length file) (first ++ rest) → AreApart header (first ++ rest)
+      → (at (fill_all header first file) x ≡ at file x) ⊎ (at (fill_all header first file) x ≡ at (fill_all header (first ++ rest) file) x)
+  some_of [] rest file x inside apart = inl refl
+  some_of (v ∷ first) rest file x inside apart =
+      let own = inside v (inl refl) in
+      let next = inside_next v (first ++ rest) file inside in
+      elim (some_of first rest (fill_var header file v) x next apart.1) [
+        | inr e ↦ inr e
+        | inl e ↦ elim (in_or_beside v x) [
+          | inl b ↦ inl (e ∙ fill_beside v file x own.0 own.1 b)
+          | inr t ↦
+              inr (e ∙ sym (all_beside (first ++ rest) (fill_var header file v) x next (λ w i. two_apart v w x own.0 (inside w (inr i)).0 (apart.0 w i) t.0 t.1)))
+        ]
+      ]
+
+  -- of a header of which no variables share a byte
+  fixed_apart : (first n : ℕ) (vars : List Var) → sharing_from header first n vars ≡ None → AreApart header (fixed_variables header vars)
+  fixed_apart first n [] alone = tt
+  fixed_apart first n (v ∷ vars) alone =
+      let both = both_none (sharing_with header v n (suc n) vars) (sharing_from header first (suc n) vars) (told_else (nat_lt v.begin first) (n, n) _ alone).1 in
+      let rest = fixed_apart first (suc n) vars both.1 in
+      either (AreApart header) (not (is_record header v)) (v ∷ fixed_variables header vars) (fixed_variables header vars)
+      (λ e. ((λ w i. let there = in_at vars w (filter_in (λ (u : Var). not (is_record header u)) vars w i).0 in none_with header v n (suc n) vars there.0 w both.0 there.1), rest))
+      (λ e. rest)
+
+  fixed_inside : (long : ℕ) → end_of header (header_len header) 0 ≤ long → AreInside header long (fixed_variables header header.vars)
+  fixed_inside long room w i =
+      let found = filter_in (λ (u : Var). not (is_record header u)) header.vars w i in
+      let there = in_at header.vars w found.0 in
+      let fixed = not-true (is_record header w) found.1 in
+      (fixed, omega (arith, fixed_end header (header_len header) there.0 w there.1 fixed, room))
+
+  -- the first of the variables are filled
+  pub some_filled : (k : ℕ) (file : List ℕ) → is_sound header ≡ true → end_of header (header_len header) 0 ≤ length file
+      → IsBetween file (filled header file) (fold (fill_var header) file (fixed_variables header (take k header.vars)))
+  some_filled k file sound room =
+      by_parts (fixed_variables header (take k header.vars)) (fixed_variables header (drop k header.vars))
+      (sym (ap (fixed_variables header) (sym (take-append-drop k header.vars)) ∙ filter-append (λ (u : Var). not (is_record header u)) (take k header.vars) (drop k header.vars)))
+    where
+      by_parts : (first rest : List Var) → first ++ rest ≡ fixed_variables header header.vars → IsBetween file (filled header file) (fill_all header first file)
+      by_parts first rest e =
+          let inside = subst (AreInside header (length file)) (sym e) (fixed_inside (length file) room) in
+          let apart = subst (AreApart header) (sym e) (fixed_apart (header_len header) 0 header.vars (none_shared header sound)) in
+          subst (λ (vs : List Var). IsBetween file (fill_all header vs file) (fill_all header first file)) e
+          (record { len = all_long first file (λ w i. inside w (in_left first rest w i)); each = λ x. some_of first rest file x inside apart })
+
+  pub filled_long : (file : List ℕ) → end_of header (header_len header) 0 ≤ length file → length (filled header file) ≡ length file
+  filled_long file room = all_long (fixed_variables header header.vars) file (fixed_inside (length file) room)
 
 -- one variable more was cut off
 pub variable_refused : (header : Header) (held mid now : Option (List ℕ)) (k size : ℕ) (v : Var) → take (k + 1) header.vars ≡ take k header.vars ++ v ∷ []

@@ -1,5 +1,5 @@
 -- A variable more is filled.
-use Rattle.fill_records.proofs.Words.{◌≡◌, ◌∙◌, ◌+◌, ◌≤◌, ap, take, length, List, arith, fold, flat_map, take_all, Var, after, with_end, BothTold, IsBetween, stores, fill_var, slab, fixed_variables, filled_variable, variable_stores, on_err, calls_more}
+use Rattle.fill_records.proofs.Words.{◌≡◌, ◌∙◌, ◌≤◌, ap, length, List, arith, fold, take_all, Var, after, with_end, BothTold, IsBetween, fill_var, fixed_variables, filled_variable, variable_stores, on_err, calls_more}
 use Rattle.fill_records.proofs.TornLaws.{variable_refused}
 use Rattle.fill_records.proofs.VariableLaws.{known_at, filled_more, fill_stores_more}
 use Rattle.fill_records.proofs.WindowLaws.{told_more, always_told}
@@ -17,18 +17,10 @@ loop-var-preserved g c =
     record {
       from = c.in_ok-fill_variable.ensures.from;
       len = c.in_ok-fill_variable.ensures.len ∙ c.loop-var.invariant.len;
-      bytes = told_more (g.D.Disk.held c.args.disk.now) (g.D.Disk.held c.loop-var.disk) (g.D.Disk.held c.fill_variable.new.disk)
-          (λ file. fold (fill_var c.args.header.now) file (fixed_variables c.args.header.now (take c.loop-var.var c.args.header.now.vars)))
-          (filled_variable c.args.header.now bytes.0)
-          (λ file. fold (fill_var c.args.header.now) file (fixed_variables c.args.header.now (take (c.loop-var.var + 1) c.args.header.now.vars)))
+      bytes = told_more _ _ _ _ (filled_variable c.args.header.now bytes.0) _
           (always_told (g.D.Disk.held c.args.disk.now) (λ file. filled_more c.args.header.now c.loop-var.var bytes.0 file bytes.1))
           c.loop-var.invariant.bytes bytes.2;
-      calls = calls_more (g.D.Disk.calls c.args.disk.now) (g.D.Disk.calls c.loop-var.disk) (g.D.Disk.calls c.fill_variable.new.disk)
-          (flat_map (λ v. stores c.args.size v.begin (slab c.args.header.now v)) (fixed_variables c.args.header.now (take c.loop-var.var c.args.header.now.vars)))
-          (variable_stores c.args.size c.args.header.now calls.0)
-          (flat_map (λ v. stores c.args.size v.begin (slab c.args.header.now v)) (fixed_variables c.args.header.now (take (c.loop-var.var + 1) c.args.header.now.vars)))
-          (fill_stores_more c.args.size c.args.header.now c.loop-var.var calls.0 calls.1)
-          c.loop-var.invariant.calls calls.2;
+      calls = calls_more _ _ _ _ _ _ (fill_stores_more c.args.size c.args.header.now c.loop-var.var calls.0 calls.1) c.loop-var.invariant.calls calls.2;
       faults = omega arith;
     }
 

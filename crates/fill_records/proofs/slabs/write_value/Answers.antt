@@ -1,5 +1,5 @@
 -- Each window goes on where the one before it ended.
-use Rattle.fill_records.proofs.Words.{◌≡◌, ◌∙◌, ◌+◌, ◌-◌, ◌*◌, ◌<◌, min, sym, ap, refl, length, List, [], ◌∷◌, ℕ, arith, Store, after, written, repeated, on_err, calls_more, window_inside, windows_reach, stores_before, stores_more}
+use Rattle.fill_records.proofs.Words.{◌≡◌, ◌∙◌, ◌+◌, ◌-◌, ◌*◌, ◌<◌, min, sym, ap, refl, length, List, ℕ, arith, after, written, repeated, on_err, calls_more, window_inside, windows_reach, stores_more}
 use Rattle.fill_records.proofs.TornLaws.{part_refused}
 use Rattle.fill_records.proofs.WindowLaws.{stores_all, told_more, for_told, window_written}
 use Rattle.fill_records.proofs.slabs.write_value.Goals as goal
@@ -26,21 +26,12 @@ loop-number-preserved g c =
     record {
       from = c.in_ok-write_at.ensures.from ∙ c.loop-number.invariant.from;
       len = c.in_ok-write_at.ensures.len ∙ c.loop-number.invariant.len;
-      bytes = told_more (g.D.Disk.held c.args.disk.now) (g.D.Disk.held c.loop-number.disk) (g.D.Disk.held c.write_at.new.self)
-          (λ file. written file c.args.begin (repeated c.args.value.now 0 (min c.args.len done)))
-          (λ file. written file (c.args.begin + c.window_of-window.result.at - g.D.Disk.from c.loop-number.disk) c.window_of-window.result.bytes.now)
-          (λ file. written file c.args.begin (repeated c.args.value.now 0 (min c.args.len ((c.loop-number.number + 1) * c.args.size))))
+      bytes = told_more _ _ _ _ _ _
           (for_told (g.D.Disk.held c.args.disk.now) (λ file e.
           let room = c.requires.long in
-          window_written c.args.value.now c.window_of-window.result.bytes.now file c.args.begin c.args.len c.args.size c.loop-number.number (min c.args.size (c.args.len - done))
-          (c.args.begin + c.window_of-window.result.at) (g.D.Disk.from c.loop-number.disk) (omega arith) inside refl window.bytes c.loop-number.invariant.from place) c.size-length.ensures.told)
+          window_written _ _ file _ _ _ _ _ _ _ (omega arith) inside refl window.bytes c.loop-number.invariant.from place) c.size-length.ensures.told)
           c.loop-number.invariant.bytes c.in_ok-write_at.ensures.bytes;
-      calls = calls_more (g.D.Disk.calls c.args.disk.now) (g.D.Disk.calls c.loop-number.disk) (g.D.Disk.calls c.write_at.new.self)
-          (stores_before c.args.size c.args.begin c.args.len c.loop-number.number) (Store (c.args.begin + c.window_of-window.result.at) (length c.window_of-window.result.bytes.now) ∷ [])
-          (stores_before c.args.size c.args.begin c.args.len (c.loop-number.number + 1))
-          (stores_more c.args.size c.args.begin c.args.len c.loop-number.number (c.args.begin + c.window_of-window.result.at) (min c.args.size (c.args.len - done)) c.window_of-window.result.bytes.now
-          place refl window.long)
-          c.loop-number.invariant.calls c.in_ok-write_at.ensures.calls;
+      calls = calls_more _ _ _ _ _ _ (stores_more _ _ _ _ _ _ _ place refl window.long) c.loop-number.invariant.calls c.in_ok-write_at.ensures.calls;
       faults = omega arith;
     }
 
@@ -53,8 +44,7 @@ returns-clause-bytes g c =
 
 pub returns-clause-calls : goal.returns-clause-calls
 returns-clause-calls g c =
-    stores_all c.args.size c.args.begin c.args.len c.loop-number.number c.div_ceil-number-end.result (g.D.Disk.calls c.args.disk.now) (g.D.Disk.calls c.loop-number.disk)
-    c.requires.some (omega arith) c.div_ceil-number-end.ensures c.loop-number.invariant.calls
+    stores_all _ _ _ _ _ _ _ c.requires.some (omega arith) c.div_ceil-number-end.ensures c.loop-number.invariant.calls
 
 pub returns-in_err-write_at-clause-refused : goal.returns-in_err-write_at-clause-refused
 returns-in_err-write_at-clause-refused g c =
@@ -69,7 +59,5 @@ returns-in_err-write_at-clause-refused g c =
     (part_refused (g.D.Disk.held c.args.disk.now) (g.D.Disk.held c.loop-number.disk) (g.D.Disk.held c.write_at.new.self) c.args.value.now c.window_of-window.result.bytes.now c.args.begin c.args.len
     (min c.args.len done) (min c.args.len ((c.loop-number.number + 1) * c.args.size))
     (c.args.begin + c.window_of-window.result.at - g.D.Disk.from c.loop-number.disk) (g.D.Disk.len c.args.disk.now) c.size-length.ensures.told (omega arith) (omega arith) (omega arith) (omega arith)
-    (λ file e.
-    window_written c.args.value.now c.window_of-window.result.bytes.now file c.args.begin c.args.len c.args.size c.loop-number.number (min c.args.size (c.args.len - done))
-    (c.args.begin + c.window_of-window.result.at) (g.D.Disk.from c.loop-number.disk) (omega arith) inside refl window.bytes c.loop-number.invariant.from place)
+    (λ file e. window_written _ _ file _ _ _ _ _ _ _ (omega arith) inside refl window.bytes c.loop-number.invariant.from place)
     c.loop-number.invariant.bytes c.in_err-write_at.ensures.refused)
