@@ -4,7 +4,7 @@
 --     Numbers vars list      each variable of the list stands with its number
 --     fixed_begin, map_begin, record_begin      what is found for a variable of the list
 --     fixed_apart, record_apart                 two variables of the list stand apart
-use Rattle.redef_laws.proofs.Words.{◌≡◌, ℕ, zero, suc, ◌+◌, ◌≤◌, List, [], ◌∷◌, map, Bool, true, false, cond, Option, Some, None, refl, sym, ap, subst, ◌∙◌, inl, inr, arith, ◌==◌, filter, find, sum_by, slice_get, enumerate_from, AllByRecursion, sum_by-cons, leb-true, eqb-true, eqb_tells, ne_eqb, equal_true, Header, Var, slab, vsize, AreApart, inserted_by, Numbered, begins_before, by_begin, begin_at, fixed_begins, front_after, record_begins, In, nat_tests}
+use Rattle.redef_laws.proofs.Words.{◌≡◌, ℕ, zero, suc, ◌+◌, ◌≤◌, List, [], ◌∷◌, map, Bool, true, false, cond, Option, Some, None, refl, sym, ap, subst, ◌∙◌, inl, inr, arith, ◌==◌, filter, find, sum_by, slice_get, enumerate_from, AllByRecursion, sum_by-cons, leb-true, eqb-true, eqb_tells, ne_eqb, equal_true, Header, Var, slab, vsize, AreApart, inserted_by, Numbered, begins_before, by_begin, begin_at, fixed_begins, front_after, record_begins, In, nat_tests, no_both}
 use Rattle.redef_laws.proofs.Orders.{in_sorted}
 
 -- ---- members and numbers
@@ -55,14 +55,8 @@ at_number found k = find (λ b. b.0 == k) found
 pub same_var : (vars : List Var) (k m : ℕ) (v w : Var) → slice_get vars k ≡ Some v → slice_get vars m ≡ Some w → m ≡ k → w ≡ v
 same_var vars k m v w g f e = let there = ap (λ (n : ℕ). slice_get vars n) e in cc
 
-same_begin : (x y : ℕ × ℕ) → Some x ≡ Some y → x.1 ≡ y.1
-same_begin x y e = let same : x ≡ y = cc in ap (λ (p : ℕ × ℕ). p.1) same
-
-not_head : (p : Numbered) (k : ℕ) (v : Var) → (p.0 == k) ≡ false → p ≡ (k, v) → ⊥
-not_head p k v e h = let yes = equal_true p.0 k (ap (λ (q : Numbered). q.0) h) in absurd cc
-
 pub in_tail : (p : Numbered) (list : List Numbered) (k : ℕ) (v : Var) → (p.0 == k) ≡ false → In (p ∷ list) (k, v) → In list (k, v)
-in_tail p list k v e (inl h) = absurd (not_head p k v e h)
+in_tail p list k v e (inl h) = no_both (p.0 == k) (equal_true p.0 k (ap (λ (q : Numbered). q.0) h)) e
 in_tail p list k v e (inr h) = h
 
 found_if : (m k b : ℕ) (rest : List (ℕ × ℕ)) → (m == k) ≡ true → at_number ((m, b) ∷ rest) k ≡ Some (k, b)
@@ -85,7 +79,7 @@ front_grows header front (p ∷ list) = let one = begin_past front p.1 in let re
 
 -- what is found is what was found
 pub found_is : (found : List (ℕ × ℕ)) (k b c : ℕ) → at_number found k ≡ Some (k, b) → at_number found k ≡ Some (k, c) → b ≡ c
-found_is found k b c e f = same_begin (k, b) (k, c) (sym e ∙ f)
+found_is found k b c e f = let same : (k, b) ≡ (k, c) = cc in ap (λ (p : ℕ × ℕ). p.1) same
 
 pub head_begin : (p : Numbered) (at k b : ℕ) (rest : List (ℕ × ℕ)) → (p.0 == k) ≡ true → at_number ((p.0, at) ∷ rest) k ≡ Some (k, b) → b ≡ at
 head_begin p at k b rest e h = found_is ((p.0, at) ∷ rest) k b at h (found_if p.0 k at rest e)

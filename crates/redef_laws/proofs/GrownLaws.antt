@@ -1,5 +1,5 @@
 -- What a header keeps while extras are added to it.
-use Rattle.redef_laws.proofs.Words.{◌≡◌, ℕ, suc, ◌*◌, ◌<◌, ◌≤◌, List, [], ◌∷◌, ◌++◌, length, drop, map, Bool, true, false, ◌&&◌, Option, Some, None, refl, sym, ap, subst, arith, length-append, not, nat_lt, nat_le, ◌==◌, is_none, unwrap_or, filter, slice_get, bytes_eq, list_any, list_all, AllByRecursion, length-map, filter-append, le-leb, leb-true, ltb-true, ltb-false, leb-false, eqb-true, slice_get_within, fails_each, each_weaker, each_push, each_later, each_map, and_first, and_second, Header, Dim, Attr, Var, NcType, Extra, RedefErr, most_dims, most_vars, file_limit, record_limit, size_of, length_of, is_record_id, fits_count, is_type, find_dim, is_lawful_extra, is_whole_extra, with_var_attr, with_extra, added, dim_id, is_taken, is_unknown, has_bad_shape, is_one_too_many, has_bad_kind, extra_fault, extras_from, get_left, nat_tests, told_else, some_or_none, no_both, entry_below, position_below, inl, inr}
+use Rattle.redef_laws.proofs.Words.{◌≡◌, ℕ, suc, ◌*◌, ◌<◌, ◌≤◌, List, [], ◌∷◌, ◌++◌, length, drop, map, Bool, true, false, ◌&&◌, Option, Some, None, refl, sym, ap, subst, arith, length-append, not, nat_lt, nat_le, ◌==◌, is_none, unwrap_or, filter, slice_get, bytes_eq, list_any, list_all, AllByRecursion, length-map, filter-append, le-leb, leb-true, ltb-true, ltb-false, leb-false, eqb-true, slice_get_within, fails_each, each_weaker, each_push, each_later, each_map, and_first, and_second, Header, Dim, Attr, Var, NcType, Extra, RedefErr, most_dims, most_vars, file_limit, record_limit, size_of, length_of, is_record_id, fits_count, is_type, find_dim, is_lawful_extra, is_whole_extra, with_var_attr, with_extra, added, dim_id, is_taken, is_unknown, has_bad_shape, is_one_too_many, has_bad_kind, extra_fault, extras_from, get_left, nat_tests, told_else, some_or_none, no_both, entry_below, position_below, inl, inr, both_none}
 use Rattle.nc_base.specs.declared.script.Extra.TheVariants as extra
 use Rattle.nc_base.specs.declared.errors.RedefErr.TheVariants as redef
 use Rattle.redef_laws.proofs.FieldLaws.{not_both, each_both, count_fits}
@@ -152,19 +152,13 @@ fit_with_attr : (version : ℕ) (dims : List Dim) (a : Attr) (ids : List ℕ) (k
     → IsFitShape version dims ids kind attrs → IsFitShape version dims ids kind (attrs ++ a ∷ [])
 fit_with_attr version dims a ids kind attrs t fit = grind (arith, nat_tests, typed, each_push)
 
-with_file_attr : (h : Header) (a : Attr) → IsFit h → IsTyped h.version a → IsFit (with_extra h (extra.Att None a))
-with_file_attr h a fit t = grind (arith, nat_tests, each_push)
-
-with_owned_attr : (h : Header) (owner : List ℕ) (a : Attr) → IsFit h → IsTyped h.version a → IsFit (with_extra h (extra.Att (Some owner) a))
-with_owned_attr h owner a fit t = grind (arith, nat_tests, attr_long, attr_pushed, fit_with_attr)
-
 -- ---- all extras
 
 one_more : (h : Header) (e : Extra) → IsFit h → HasNoFault h e → is_lawful_extra e ≡ true → is_whole_extra e ≡ true → IsFit (with_extra h e)
 one_more h (extra.Dim d) fit none lawful whole = with_dim h d fit none lawful
 one_more h (extra.Var kind name names) fit none lawful whole = with_var h kind name names fit none lawful
-one_more h (extra.Att None a) fit none lawful whole = with_file_attr h a fit (typed h None a none whole)
-one_more h (extra.Att (Some owner) a) fit none lawful whole = with_owned_attr h owner a fit (typed h (Some owner) a none whole)
+one_more h (extra.Att None a) fit none lawful whole = grind (arith, nat_tests, each_push, typed h None a none whole)
+one_more h (extra.Att (Some owner) a) fit none lawful whole = grind (arith, nat_tests, attr_long, attr_pushed, fit_with_attr, typed h (Some owner) a none whole)
 
 no_first : (h : Header) (k : ℕ) (e : Extra) (extras : List Extra) → extras_from h k (e ∷ extras) ≡ None
     → (extra_fault h k e ≡ None) × (extras_from (with_extra h e) (suc k) extras ≡ None)

@@ -1,5 +1,5 @@
 -- The old variables in the header with what is added: their begins, slabs and records.
-use Rattle.redef_laws.proofs.Words.{◌≡◌, ℕ, zero, suc, ◌+◌, ◌*◌, ◌<◌, ◌≤◌, List, [], ◌∷◌, ◌++◌, length, Bool, true, false, cond, Some, None, refl, sym, ap, subst, ◌∙◌, arith, nat_lt, sum_by, slice_get, bytes_eq, enumerate_from, nat_tests, sum_by-cons, sum_by-filter_both, lt-ltb, entry_below, Header, Attr, Var, NcType, Extra, size_of, product, lengths, starts_with_zero, without_record, is_record, round_up, slab, vsize, recsize, record_share, record_variables, is_sound, Numbered, with_var_attr, with_extra, added, records_in, old_of, begins_by_number, redefined_keeps, in_front, recsize_below}
+use Rattle.redef_laws.proofs.Words.{◌≡◌, ℕ, zero, suc, ◌+◌, ◌*◌, ◌<◌, ◌≤◌, List, [], ◌∷◌, ◌++◌, length, Bool, true, false, cond, Some, None, refl, sym, ap, subst, ◌∙◌, arith, nat_lt, sum_by, slice_get, bytes_eq, enumerate_from, nat_tests, sum_by-cons, sum_by-filter_both, lt-ltb, entry_below, Header, Attr, Var, NcType, Extra, size_of, product, lengths, starts_with_zero, without_record, is_record, round_up, slab, vsize, recsize, record_share, record_variables, is_sound, Numbered, with_var_attr, with_extra, added, records_in, old_of, begins_by_number, redefined_keeps, in_front, recsize_below, either}
 use Rattle.nc_base.specs.declared.script.Extra.TheVariants as extra
 use Rattle.redef_laws.proofs.RebegunLaws.{rebegun_at}
 use Rattle.redef_laws.proofs.BeginLaws.{vsizes}
@@ -12,14 +12,11 @@ BeginsAt vs k b = (w : Var) × (slice_get vs k ≡ Some w) × (w.begin ≡ b)
 
 attr_begin : (name : List ℕ) (a : Attr) (vs : List Var) (k : ℕ) (v : Var) → slice_get vs k ≡ Some v → BeginsAt (with_var_attr name a vs) k v.begin
 attr_begin name a [] k v h = absurd cc
-attr_begin name a (x ∷ vs) k v h = by_name (λ j y g. attr_begin name a vs j y g) (bytes_eq x.name name) k h
-  where
-    by_name : ((j : ℕ) (y : Var) → slice_get vs j ≡ Some y → BeginsAt (with_var_attr name a vs) j y.begin)
-        → (t : Bool) (k : ℕ) → slice_get (x ∷ vs) k ≡ Some v → BeginsAt (cond t (record x { attrs = x.attrs ++ a ∷ [] } ∷ vs) (x ∷ with_var_attr name a vs)) k v.begin
-    by_name rest true zero h = let same : x ≡ v = cc in (record x { attrs = x.attrs ++ a ∷ [] }, refl, ap (λ (y : Var). y.begin) same)
-    by_name rest true (suc k) h = (v, h, refl)
-    by_name rest false zero h = (v, h, refl)
-    by_name rest false (suc k) h = rest k v h
+attr_begin name a (x ∷ vs) zero v h =
+    let same : x ≡ v = cc in
+    either (λ (ws : List Var). BeginsAt ws zero v.begin) (bytes_eq x.name name) _ _ (λ e. (record x { attrs = x.attrs ++ a ∷ [] }, refl, ap (λ (y : Var). y.begin) same)) (λ e. (v, h, refl))
+attr_begin name a (x ∷ vs) (suc k) v h =
+    either (λ (ws : List Var). BeginsAt ws (suc k) v.begin) (bytes_eq x.name name) _ _ (λ e. (v, h, refl)) (λ e. attr_begin name a vs k v h)
 
 one_begin : (h : Header) (e : Extra) (k : ℕ) (v : Var) → slice_get h.vars k ≡ Some v → BeginsAt (with_extra h e).vars k v.begin
 one_begin h (extra.Var kind name dims) k v g = (v, in_front h.vars _ k v g, refl)

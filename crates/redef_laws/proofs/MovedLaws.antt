@@ -1,5 +1,6 @@
 -- A file in which each slab stands at its new place is the redefined one: the redefined file is such a file, and there is no other.
 use Rattle.redef_laws.proofs.Words.{◌≡◌, ℕ, ◌+◌, ◌-◌, ◌<◌, ◌≤◌, refl, sym, ◌∙◌, ap, subst, inl, inr, ◌⊎◌, List, [], ◌∷◌, get_or, true, arith, cases_lt, same_number_lists, get_or-take, and_first, Header, Extra, Slab, slabs, at, header_len, is_sound, is_writable, redefined, KeepsVars, IsRedefined, redefined_keeps, read_at, redefined_is, In, IsApplied, new_end, IsMoved, nat_tests, AreApart, Moves}
+use Rattle.redef_laws.proofs.ShiftLaws.{sound_before}
 use Rattle.redef_laws.proofs.ElementSlabs.{element_in_slab, slab_bytes}
 pub use Rattle.serial_spec.proofs.SpellingLaws.{writable_is_sound}
 
@@ -71,10 +72,7 @@ pub moved_is_redefined : (old new : Header) (extras : List Extra) (file left : L
     → left ≡ redefined file old new
 moved_is_redefined old new extras file left sound a m =
     moved_once old new file left (redefined file old new) m
-    (redefined_moved old new file (redefined file old new) old_sound keeps (redefined_is file old new sound keeps))
+    (redefined_moved old new file (redefined file old new) (sound_before old a.redefinable) keeps (redefined_is file old new sound keeps))
   where
-    old_sound : is_sound old ≡ true
-    old_sound = and_first _ _ (and_first _ _ (and_first _ _ (and_first _ _ a.redefinable)))
-
     keeps : KeepsVars old new
-    keeps = subst (KeepsVars old) (sym a.made) (redefined_keeps old extras old_sound)
+    keeps = subst (KeepsVars old) (sym a.made) (redefined_keeps old extras (sound_before old a.redefinable))

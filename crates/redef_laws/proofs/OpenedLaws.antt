@@ -1,5 +1,5 @@
 -- A sound header that was read can be redefined: what is spelled fits its field, and the reader bounds the lengths.
-use Rattle.redef_laws.proofs.Words.{◌≡◌, ℕ, ◌+◌, ◌*◌, ◌^◌, ◌<◌, List, [], ◌∷◌, ◌++◌, length, take, drop, Bool, true, false, cond, ◌&&◌, Some, None, refl, sym, ap, subst, ◌∙◌, inl, inr, arith, append_assoc, length-append, nat_le, ◌==◌, list_all, AllByRecursion, Width, w32, w64, byte_len, to_be_bytes, take-append_seam, take-append-drop, and_from, or_parts, lt-ltb, le-leb, ltb-false, width_long, drop_on, back_4, back_8, each_passes, passes_each, and_first, and_second, equal_true, Header, Dim, Attr, Var, HeaderErr, file_limit, size_of, round_up, count_width, begin_width, tag, magic, Joined, ◌▹◌, Exactly, Each, Number, Padded, NameOf, ListOf, DimensionOf, AttributeOf, VariableOf, RecordsOf, all_ones, Field, Magic, Records, Tag, Count, NameLength, Block, DimLength, Dimensions, Attributes, Variables, Ask, One, Many, stands, asked, the_header, many, block, wrong, wrong_at, after_field, field_number, field_len, field_fault, version_of, big_endian, fits_field, fits_count, is_type, is_sound, is_writable_dim, is_writable_attr, is_writable_list, is_redefinable, is_redefinable_var, EndsWrong, ends_later, fault_only, BeginsWith, right_number, no_fault, some_or_none}
+use Rattle.redef_laws.proofs.Words.{◌≡◌, ℕ, ◌+◌, ◌*◌, ◌^◌, ◌<◌, List, [], ◌∷◌, ◌++◌, length, take, drop, Bool, true, false, cond, ◌&&◌, Some, None, refl, sym, ap, subst, ◌∙◌, inl, inr, arith, append_assoc, length-append, nat_le, ◌==◌, list_all, AllByRecursion, Width, w32, w64, byte_len, to_be_bytes, take-append_seam, take-append-drop, and_from, or_parts, lt-ltb, le-leb, ltb-false, width_long, drop_on, back_4, back_8, each_passes, passes_each, and_first, and_second, equal_true, Header, Dim, Attr, Var, HeaderErr, file_limit, size_of, round_up, count_width, begin_width, tag, magic, Joined, ◌▹◌, Exactly, Each, Number, Padded, NameOf, ListOf, DimensionOf, AttributeOf, VariableOf, RecordsOf, all_ones, Field, Magic, Records, Tag, Count, NameLength, Block, DimLength, Dimensions, Attributes, Variables, Ask, One, Many, stands, asked, the_header, many, block, wrong, wrong_at, after_field, field_number, field_len, field_fault, version_of, big_endian, fits_field, fits_count, is_type, is_sound, is_writable_dim, is_writable_attr, is_writable_list, is_redefinable, is_redefinable_var, EndsWrong, ends_later, fault_only, BeginsWith, right_number, no_fault, some_or_none, nat_tests, small_count}
 use Rattle.nc_base.specs.declared.errors.HeaderErr.TheVariants as fault
 use Rattle.redef_laws.proofs.FitLaws.{checked}
 use Rattle.redef_laws.proofs.FieldLaws.{each_both}
@@ -19,22 +19,18 @@ each_fits P test f (x ∷ xs) bytes h = and_from (test x) (list_all test xs) (f 
 
 list_fits : {A : Type 0} (version t : ℕ) (P : A → List ℕ → Type 0) (test : A → Bool) → ((x : A) (bytes : List ℕ) → P x bytes → test x ≡ true)
     → (xs : List A) (bytes : List ℕ) → ListOf version t P xs bytes → is_writable_list version test xs ≡ true
-list_fits {A} version t P test f xs bytes (inl (e, g)) = subst (λ (ys : List A). is_writable_list version test ys ≡ true) (sym e) (and_from (fits_count version 0) true (none (version == 5)) refl)
-  where
-    none : (u : Bool) → fits_field (cond u w64 w32) 0 ≡ true
-    none true = refl
-    none false = refl
+list_fits {A} version t P test f xs bytes (inl (e, g)) =
+    subst (λ (ys : List A). is_writable_list version test ys ≡ true) (sym e) (and_from (fits_count version 0) true (small_count version 0 (omega arith)) refl)
 list_fits version t P test f xs bytes (inr h) =
     and_from (fits_count version (length xs)) (list_all test xs) (number_fits (count_width version) (length xs) h.first.rest h.first.second) (each_fits P test f xs h.rest h.second)
 
 attr_fits : (version : ℕ) (a : Attr) (bytes : List ℕ) → AttributeOf version a bytes → is_writable_attr version a ≡ true
 attr_fits version a bytes (whole, h) =
     let named = h.first.first in
-    and_from (fits_count version (length a.name) && is_type version a.kind && fits_count version a.count) _
-    (and_from (fits_count version (length a.name) && is_type version a.kind) _
-    (and_from (fits_count version (length a.name)) (is_type version a.kind) (name_fits version a.name named.front named.first) named.second.0)
-    (number_fits (count_width version) a.count h.first.rest h.first.second))
-    (equal_true (length a.bytes) (a.count * size_of a.kind) whole)
+    let name = name_fits version a.name named.front named.first in
+    let kind = named.second.0 in
+    let count = number_fits (count_width version) a.count h.first.rest h.first.second in
+    grind (arith, nat_tests, and_from, name, kind, count, equal_true (length a.bytes) (a.count * size_of a.kind) whole)
 
 var_fits : (header : Header) (v : Var) (bytes : List ℕ) → VariableOf header.version v bytes → is_redefinable_var header v ≡ true
 var_fits header v bytes h =
@@ -43,18 +39,12 @@ var_fits header v bytes h =
     let listed = typed.first in
     let shaped = listed.first in
     let counted = shaped.first in
-    let names = fits_count version (length v.name) in
-    let dims = is_writable_list version (λ id. fits_count version id) v.dims in
-    let attrs = is_writable_list version (is_writable_attr version) v.attrs in
-    and_from (names && dims && attrs && is_type version v.kind) _
-    (and_from (names && dims && attrs) _
-    (and_from (names && dims) _
-    (and_from names _ (name_fits version v.name counted.front counted.first)
-    (and_from (fits_count version (length v.dims)) _ (number_fits (count_width version) (length v.dims) counted.rest counted.second)
-    (each_fits (λ id. Number (count_width version) id) (λ id. fits_count version id) (λ id part p. number_fits (count_width version) id part p) v.dims shaped.rest shaped.second)))
-    (list_fits version 12 (AttributeOf version) (is_writable_attr version) (attr_fits version) v.attrs listed.rest listed.second))
-    typed.second.0)
-    (number_fits (begin_width version) v.begin h.rest h.second)
+    let name = name_fits version v.name counted.front counted.first in
+    let few = number_fits (count_width version) (length v.dims) counted.rest counted.second in
+    let dims = each_fits (λ id. Number (count_width version) id) (λ id. fits_count version id) (λ id part p. number_fits (count_width version) id part p) v.dims shaped.rest shaped.second in
+    let attrs = list_fits version 12 (AttributeOf version) (is_writable_attr version) (attr_fits version) v.attrs listed.rest listed.second in
+    let kind = typed.second.0 in
+    grind (arith, nat_tests, and_from, name, few, dims, attrs, kind, number_fits (begin_width version) v.begin h.rest h.second)
 
 records_fit : (version n : ℕ) (bytes : List ℕ) → RecordsOf version n bytes → (n == all_ones version) ≡ false → fits_count version n ≡ true
 records_fit version n bytes (inl h) e = number_fits (count_width version) n bytes h
@@ -241,13 +231,8 @@ opened header bytes len h sound =
     let described = whole.first in
     let shaped = described.first in
     let counted = shaped.first in
-    let records = fits_count version header.records in
-    let dims = is_writable_list version (is_writable_dim version) header.dims in
-    let attrs = is_writable_list version (is_writable_attr version) header.attrs in
-    and_from (is_sound header && records && dims && attrs) _
-    (and_from (is_sound header && records && dims) _
-    (and_from (is_sound header && records) _
-    (and_from (is_sound header) _ sound (records_fit version header.records counted.rest counted.second (checked header sound).counted))
-    (dims_fit version header.dims shaped.rest shaped.second (dims_within header bytes len h)))
-    (list_fits version 12 (AttributeOf version) (is_writable_attr version) (attr_fits version) header.attrs described.rest described.second))
-    (list_fits version 11 (VariableOf version) (is_redefinable_var header) (var_fits header) header.vars whole.rest whole.second)
+    let records = records_fit version header.records counted.rest counted.second (checked header sound).counted in
+    let dims = dims_fit version header.dims shaped.rest shaped.second (dims_within header bytes len h) in
+    let attrs = list_fits version 12 (AttributeOf version) (is_writable_attr version) (attr_fits version) header.attrs described.rest described.second in
+    let vars = list_fits version 11 (VariableOf version) (is_redefinable_var header) (var_fits header) header.vars whole.rest whole.second in
+    grind (arith, nat_tests, and_from, sound, records, dims, attrs, vars)

@@ -59,9 +59,6 @@ fixed_numbers header n =
     (each_filter (λ (p : Numbered). slice_get header.vars p.0 ≡ Some p.1) (λ p. nat_lt p.0 n) (fixed_of header (numbered header))
     (each_filter (λ (p : Numbered). slice_get header.vars p.0 ≡ Some p.1) (λ p. not (is_record header p.1)) (numbered header) (numbers_of header.vars)))
 
-with_more : (test : ℕ × ℕ → Bool) (xs ys : List (ℕ × ℕ)) (x : ℕ × ℕ) → find test xs ≡ Some x → find test (xs ++ ys) ≡ Some x
-with_more test xs ys x h = find-append test xs ys ∙ ap (λ o. option_or o (find test ys)) h
-
 fixed_found : (header : Header) (n k b : ℕ) → at_number (fixed_begins header (header_len header) (by_begin (old_fixed header n))) k ≡ Some (k, b)
     → begin_of_number (begins_by_number header n) k ≡ b
 fixed_found header n k b h =
@@ -69,7 +66,8 @@ fixed_found header n k b h =
     let others = new_of n (fixed_of header (enumerate_from 0 header.vars)) in
     let fixed : at_number (fixed_begins header (header_len header) (fixed_order header n)) k ≡ Some (k, b) =
     ap (λ (bs : List (ℕ × ℕ)). at_number bs k) (fixed_begins-append header (header_len header) old others)
-    ∙ with_more (λ q. q.0 == k) (fixed_begins header (header_len header) old) (fixed_begins header (front_after header (header_len header) old) others) (k, b) h in
+    ∙ find-append (λ q. q.0 == k) (fixed_begins header (header_len header) old) (fixed_begins header (front_after header (header_len header) old) others)
+    ∙ ap (λ o. option_or o (at_number (fixed_begins header (front_after header (header_len header) old) others) k)) h in
     begin_is (begins_by_number header n) k b
     (first_of (fixed_begins header (header_len header) (fixed_order header n)) (mapped_begins (old_place_of header n) (placed_records header n))
     (record_begins header (new_from header n) (new_records header n)) k (k, b) fixed)

@@ -1,5 +1,5 @@
 -- No two variables of a redefined header share a byte, and none has one of the header.
-use Rattle.redef_laws.proofs.Words.{lengths, cases_eq, size_pos, mul-le, ◌≡◌, ℕ, ◌+◌, ◌<◌, ◌≤◌, List, [], ◌∷◌, length, drop, map, Bool, true, false, cond, Some, sym, ap, ◌∙◌, inl, inr, ◌⊎◌, arith, ◌==◌, sum_by, slice_get, AllByRecursion, nat_tests, length-map, sum_by-cons, ltb-true, slab_below, each_in, Header, Dim, Var, Extra, size_of, product, length_of, without_record, is_record, slab, vsize, recsize, record_variables, is_sound, Numbered, added, recsize_shared, shares_by, count_two, In, filter_in}
+use Rattle.redef_laws.proofs.Words.{lengths, cases_eq, size_pos, mul-le, ◌≡◌, ℕ, ◌+◌, ◌<◌, ◌≤◌, List, [], ◌∷◌, length, drop, map, Bool, true, false, cond, Some, sym, ap, ◌∙◌, inl, inr, ◌⊎◌, arith, ◌==◌, sum_by, slice_get, AllByRecursion, nat_tests, length-map, sum_by-cons, ltb-true, slab_below, each_in, Header, Dim, Var, Extra, size_of, product, length_of, without_record, is_record, slab, vsize, recsize, record_variables, is_sound, Numbered, added, recsize_shared, shares_by, count_two, In, filter_in, each_map}
 use Rattle.serial_spec.specs.Layout.{record_slabs}
 use Rattle.redef_laws.proofs.GrownLaws.{IsFitVar, is_record_at}
 use Rattle.redef_laws.proofs.SoundVars.{inner_holds, vars_apart}
@@ -12,11 +12,7 @@ use Rattle.redef_laws.proofs.KeptLaws.{old_var, old_recsize, all_sizes}
 lengths_later : (dims : List Dim) (ids : List ℕ) → AllByRecursion (λ id. is_record_at dims id ≡ false) (drop 1 ids)
     → AllByRecursion (λ n. (n == 0) ≡ false) (drop 1 (map (λ id. length_of (slice_get dims id)) ids))
 lengths_later dims [] h = tt
-lengths_later dims (id ∷ ids) h = each ids h
-  where
-    each : (ids : List ℕ) → AllByRecursion (λ id. is_record_at dims id ≡ false) ids → AllByRecursion (λ n. (n == 0) ≡ false) (map (λ id. length_of (slice_get dims id)) ids)
-    each [] h = tt
-    each (id ∷ ids) h = (h.0, each ids h.1)
+lengths_later dims (id ∷ ids) h = each_map (λ n. (n == 0) ≡ false) (λ id. length_of (slice_get dims id)) ids h
 
 pub slab_some : (header : Header) (v : Var) → IsFitVar header.version header.dims v → 0 < slab header v
 slab_some header v fit =

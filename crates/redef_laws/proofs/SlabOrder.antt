@@ -1,5 +1,5 @@
 -- No slab of an old variable passes another, and none begins where another one does.
-use Rattle.redef_laws.proofs.Words.{◌≡◌, ℕ, zero, suc, ◌+◌, ◌*◌, ◌<◌, ◌≤◌, refl, sym, ◌∙◌, ap, inl, inr, ◌⊎◌, Bool, true, false, Some, subst, List, [], ◌∷◌, slice_get, zip, arith, cases_lt, cases_eq, row_fits, range_with_len, Header, Var, Slab, slabs, slabs_of, header_len, is_sound, is_record, slab, recsize, slab_fits, IsLower, AreShifted, new_end, In, zip_in, first_slab, in_record, nat_tests}
+use Rattle.redef_laws.proofs.Words.{◌≡◌, ℕ, zero, suc, ◌+◌, ◌*◌, ◌<◌, ◌≤◌, refl, sym, ◌∙◌, ap, inl, inr, ◌⊎◌, Bool, true, false, Some, subst, List, [], ◌∷◌, slice_get, zip, arith, cases_lt, cases_eq, row_fits, range_with_len, Header, Var, Slab, slabs, slabs_of, header_len, is_sound, is_record, slab, recsize, slab_fits, IsLower, AreShifted, new_end, In, zip_in, first_slab, in_record, nat_tests, holds_or_not}
 use Rattle.redef_laws.proofs.RecordSizes.{record_grows}
 use Rattle.redef_laws.proofs.SoundVars.{slab_holds, vars_apart, IsApart}
 use Rattle.redef_laws.proofs.SlabLaws.{IsRaised, IsPair, IsSlab, slabs_fixed, slabs_record, pair_at, slab_of_pair, slab_in, slab_lies}
@@ -154,16 +154,15 @@ abbrev pub Differ : Slab → Slab → Type 0
 Differ s t = s.from ≡ t.from → ⊥
 
 rows_differ : (old new : Header) (v w : Var) → 0 < slab old v → (is_record old v ≡ true → slab old v ≤ recsize old) → Pairwise Differ (slabs_of old new (v, w))
-rows_differ old new v w some fits = by_kind (is_record old v) refl
-  where
-    by_kind : (t : Bool) → is_record old v ≡ t → Pairwise Differ (slabs_of old new (v, w))
-    by_kind false e = subst (Pairwise Differ) (sym (slabs_fixed old new (v, w) e)) ((λ s m. absurd m), tt)
-    by_kind true e =
-        let each : ℕ → Slab = λ r. in_record (recsize old) (recsize new) r (first_slab old (v, w)) in
-        subst (Pairwise Differ) (sym (slabs_record old new (v, w) e))
-        (pairs_map Differ each (range_with_len 0 old.records)
-        (pairs_weaker (λ r q. r < q) (λ r q. Differ (each r) (each q)) (range_with_len 0 old.records)
-        (λ r q m n l h. let long = fits e in let row = row_fits r (recsize old) q (recsize old) l (omega arith) in absurd (omega arith)) (pairs_range 0 old.records)))
+rows_differ old new v w some fits = elim (holds_or_not (is_record old v)) [
+  | inr e ↦ subst (Pairwise Differ) (sym (slabs_fixed old new (v, w) e)) ((λ s m. absurd m), tt)
+  | inl e ↦
+      (let each : ℕ → Slab = λ r. in_record (recsize old) (recsize new) r (first_slab old (v, w)) in
+      subst (Pairwise Differ) (sym (slabs_record old new (v, w) e))
+      (pairs_map Differ each (range_with_len 0 old.records)
+      (pairs_weaker (λ r q. r < q) (λ r q. Differ (each r) (each q)) (range_with_len 0 old.records)
+      (λ r q m n l h. let long = fits e in let row = row_fits r (recsize old) q (recsize old) l (omega arith) in absurd (omega arith)) (pairs_range 0 old.records))))
+]
 
 pub slabs_differ : (old new : Header) → IsRaised old new → Pairwise Differ (slabs old new)
 slabs_differ old new raised =

@@ -67,16 +67,16 @@ turned size a n b m s t h = grind (arith, nat_tests, swapped)
 
 pub vars_apart : (header : Header) (k m : ℕ) (v w : Var) → is_sound header ≡ true → slice_get header.vars k ≡ Some v → slice_get header.vars m ≡ Some w
     → (k ≡ m → ⊥) → IsApart (recsize header) v.begin (slab header v) w.begin (slab header w) (is_record header v) (is_record header w)
-vars_apart header k m v w sound h g differ = by_order (cases_lt k m) (cases_lt m k)
+vars_apart header k m v w sound h g differ = elim (cases_lt k m) [
+  | inl l ↦ alone k m v w h g l
+  | inr l ↦ elim (cases_lt m k) [
+    | inl o ↦ turned (recsize header) w.begin (slab header w) v.begin (slab header v) (is_record header w) (is_record header v) (alone m k w v g h o)
+    | inr o ↦ absurd (differ (omega arith))
+  ]
+]
   where
     alone : (i j : ℕ) (x y : Var) → slice_get header.vars i ≡ Some x → slice_get header.vars j ≡ Some y → i < j
         → IsApart (recsize header) x.begin (slab header x) y.begin (slab header y) (is_record header x) (is_record header y)
     alone i j x y e f l =
         unshared (recsize header) x.begin (slab header x) y.begin (slab header y) (is_record header x) (is_record header y) (slab_holds header i x sound e) (slab_holds header j y sound f)
         (none_from header (header_len header) 0 header.vars i j x y (none_shared header sound) e f l)
-
-    by_order : (k < m) ⊎ (m ≤ k) → (m < k) ⊎ (k ≤ m) → IsApart (recsize header) v.begin (slab header v) w.begin (slab header w) (is_record header v) (is_record header w)
-    by_order (inl l) o = alone k m v w h g l
-    by_order (inr l) (inl o) =
-        turned (recsize header) w.begin (slab header w) v.begin (slab header v) (is_record header w) (is_record header v) (alone m k w v g h o)
-    by_order (inr l) (inr o) = absurd (differ (let e : k ≡ m = omega arith in e))
