@@ -18,24 +18,24 @@ pub record IsFound (header : Header) (n k : ℕ) (v : Var) (t : Bool) (b : ℕ) 
 module _ (header : Header) (n : ℕ) where
   fixed_at : (k : ℕ) (v : Var) (b : ℕ) → IsFound header n k v false b → IsFixedPlace header n k v b
   fixed_at k v b p =
-      let f = fixed_place header n k v p.there p.kind in subst (IsFixedPlace header n k v) (found_is (begins_by_number header n) k f.0 b f.1.at p.found) f.1
+      let f = fixed_place header n k v p.there p.kind in subst (IsFixedPlace header n k v) (found_is (begins_by_number header n) k f.0 b f.2 p.found) f.1
 
   fixed_two : (i j : ℕ) (v w : Var) (b c : ℕ) → IsFound header n i v false b → IsFound header n j w false c → (i ≡ j → ⊥) → AreApart b (slab header v) c (slab header w)
   fixed_two i j v w b c p q other =
       fixed_apart header header.vars (header_len header) (fixed_order header n) i j v w b c (fixed_numbers header n) p.there q.there
-      (in_fixed header n i v p.there p.kind) (in_fixed header n j w q.there q.kind) other (fixed_at i v b p).inner (fixed_at j w c q).inner
+      (in_fixed header n i v p.there p.kind) (in_fixed header n j w q.there q.kind) other (fixed_at i v b p).at (fixed_at j w c q).at
 
   old_at : (k : ℕ) (v : Var) (b : ℕ) → IsFound header n k v true b → k < n → b ≡ old_place_of header n v
   old_at k v b p l = found_is (begins_by_number header n) k b (old_place_of header n v) p.found (old_place header n k v p.there p.kind l)
 
   new_at : (k : ℕ) (v : Var) (b : ℕ) → IsFound header n k v true b → n ≤ k → IsNewPlace header n k v b
   new_at k v b p l =
-      let f = new_place header n k v p.there p.kind l in subst (IsNewPlace header n k v) (found_is (begins_by_number header n) k f.0 b f.1.at p.found) f.1
+      let f = new_place header n k v p.there p.kind l in subst (IsNewPlace header n k v) (found_is (begins_by_number header n) k f.0 b f.2 p.found) f.1
 
   new_two : (i j : ℕ) (v w : Var) (b c : ℕ) → IsFound header n i v true b → IsFound header n j w true c → n ≤ i → n ≤ j → (i ≡ j → ⊥) → AreApart b (vsize header v) c (vsize header w)
   new_two i j v w b c p q l m other =
       record_apart header header.vars (new_from header n) (new_records header n) i j v w b c (new_numbers header n) p.there q.there
-      (in_new header n i v p.there p.kind l) (in_new header n j w q.there q.kind m) other (new_at i v b p l).inner (new_at j w c q m).inner
+      (in_new header n i v p.there p.kind l) (in_new header n j w q.there q.kind m) other (new_at i v b p l).at (new_at j w c q m).at
 
   -- record variables begin past the fixed ones
   record_low : (k : ℕ) (v : Var) (b : ℕ) → IsFound header n k v true b → first_place header n ≤ b

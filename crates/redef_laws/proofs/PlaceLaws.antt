@@ -3,7 +3,7 @@
 --     any_place                             each number has a begin
 use Rattle.redef_laws.proofs.Words.{◌≡◌, ℕ, ◌+◌, ◌-◌, ◌<◌, ◌≤◌, min, List, [], ◌∷◌, ◌++◌, map, true, false, Option, Some, None, refl, sym, ap, subst, ◌∙◌, inl, inr, ◌⊎◌, arith, cases_lt, holds_or_not, not, nat_lt, nat_le, fold, slice_get, unwrap_or, enumerate_from, AllByRecursion, find-append, not-true, lt-ltb, le-leb, leb-true, ltb-true, ltb-false, each_append, each_weaker, in_filter, in_map, map_in, Header, Var, slab, vsize, is_record, header_len, least, Numbered, fixed_of, records_in, old_of, new_of, by_begin, fixed_order, fixed_begins, front_after, first_record, record_begins, begins_by_number, begin_of_number, In, in_left, in_right, nat_tests}
 use Rattle.redef_laws.proofs.FieldLaws.{each_both}
-use Rattle.redef_laws.proofs.BeginLaws.{in_numbered, each_filter, each_filtered, each_by_begin, in_by_begin, Numbers, numbers_of, at_number, fixed_begin, HasNone, fixed_none, mapped_begins, map_begin, map_none, vsizes, record_begin}
+use Rattle.redef_laws.proofs.BeginLaws.{IsBegin, record_end, in_numbered, each_filter, each_filtered, each_by_begin, in_by_begin, Numbers, numbers_of, at_number, fixed_begin, HasNone, fixed_none, mapped_begins, map_begin, map_none, vsizes, record_begin}
 
 -- ---- the parts of the begins
 
@@ -100,26 +100,17 @@ second_of a b c k x none e = grind (arith, nat_tests, find-append)
 third_of : (a b c : List (ℕ × ℕ)) (k : ℕ) (x : ℕ × ℕ) → at_number a k ≡ None → at_number b k ≡ None → at_number c k ≡ Some x → at_number (a ++ b ++ c) k ≡ Some x
 third_of a b c k x none none' e = grind (arith, nat_tests, find-append)
 
-pub record IsFixedPlace (header : Header) (n k : ℕ) (v : Var) (b : ℕ) : Type 0 where
-  pub at : at_number (begins_by_number header n) k ≡ Some (k, b)
-  pub inner : at_number (fixed_begins header (header_len header) (fixed_order header n)) k ≡ Some (k, b)
-  pub low : header_len header ≤ b
-  pub high : b + slab header v ≤ fixed_end header n
-  pub up : v.begin ≤ b
+abbrev pub IsFixedPlace : Header → ℕ → ℕ → Var → ℕ → Type 0
+IsFixedPlace header n k v b = IsBegin (fixed_begins header) (slab header) (λ w. w.begin) (front_after header) (header_len header) (fixed_order header n) k v b
 
-pub fixed_place : (header : Header) (n k : ℕ) (v : Var) → slice_get header.vars k ≡ Some v → is_record header v ≡ false → (b : ℕ) × IsFixedPlace header n k v b
+pub fixed_place : (header : Header) (n k : ℕ) (v : Var) → slice_get header.vars k ≡ Some v → is_record header v ≡ false
+    → (b : ℕ) × IsFixedPlace header n k v b × (at_number (begins_by_number header n) k ≡ Some (k, b))
 fixed_place header n k v g e =
     let found = fixed_begin header header.vars (header_len header) (fixed_order header n) k v (fixed_numbers header n) g (in_fixed header n k v g e) in (
       found.0,
-      record {
-        at =
-            first_of (fixed_begins header (header_len header) (fixed_order header n)) (mapped_begins (old_place_of header n) (placed_records header n))
-            (record_begins header (new_from header n) (new_records header n)) k (k, found.0) found.1.at;
-        inner = found.1.at;
-        low = found.1.low;
-        high = found.1.high;
-        up = found.1.up;
-      },
+      found.1,
+      first_of (fixed_begins header (header_len header) (fixed_order header n)) (mapped_begins (old_place_of header n) (placed_records header n))
+          (record_begins header (new_from header n) (new_records header n)) k (k, found.0) found.1.at,
     )
 
 pub old_place : (header : Header) (n k : ℕ) (v : Var) → slice_get header.vars k ≡ Some v → is_record header v ≡ true → k < n
@@ -131,34 +122,27 @@ old_place header n k v g e l =
     (map_begin (old_place_of header n) header.vars (placed_records header n) k v (each_by_begin (λ p. slice_get header.vars p.0 ≡ Some p.1) (old_records header n) (old_numbers header n)) g
     (in_by_begin (old_records header n) (k, v) (in_old header n k v g e l)))
 
-pub record IsNewPlace (header : Header) (n k : ℕ) (v : Var) (b : ℕ) : Type 0 where
-  pub at : at_number (begins_by_number header n) k ≡ Some (k, b)
-  pub inner : at_number (record_begins header (new_from header n) (new_records header n)) k ≡ Some (k, b)
-  pub low : new_from header n ≤ b
-  pub high : b + vsize header v ≤ new_from header n + vsizes header (new_records header n)
+abbrev pub IsNewPlace : Header → ℕ → ℕ → Var → ℕ → Type 0
+IsNewPlace header n k v b = IsBegin (record_begins header) (vsize header) (λ w. 0) (record_end header) (new_from header n) (new_records header n) k v b
 
-pub new_place : (header : Header) (n k : ℕ) (v : Var) → slice_get header.vars k ≡ Some v → is_record header v ≡ true → n ≤ k → (b : ℕ) × IsNewPlace header n k v b
+pub new_place : (header : Header) (n k : ℕ) (v : Var) → slice_get header.vars k ≡ Some v → is_record header v ≡ true → n ≤ k
+    → (b : ℕ) × IsNewPlace header n k v b × (at_number (begins_by_number header n) k ≡ Some (k, b))
 new_place header n k v g e l =
     let found = record_begin header header.vars (new_from header n) (new_records header n) k v (new_numbers header n) g (in_new header n k v g e l) in (
       found.0,
-      record {
-        at =
-            third_of (fixed_begins header (header_len header) (fixed_order header n)) (mapped_begins (old_place_of header n) (placed_records header n))
-            (record_begins header (new_from header n) (new_records header n)) k (k, found.0)
-            (fixed_none header (header_len header) (fixed_order header n) k (not_fixed header n k v g e))
-            (map_none (old_place_of header n) (placed_records header n) k (each_by_begin (λ p. p.0 ≡ k → ⊥) (old_records header n) (not_old header n k l))) found.1.at;
-        inner = found.1.at;
-        low = found.1.low;
-        high = found.1.high;
-      },
+      found.1,
+      third_of (fixed_begins header (header_len header) (fixed_order header n)) (mapped_begins (old_place_of header n) (placed_records header n))
+          (record_begins header (new_from header n) (new_records header n)) k (k, found.0)
+          (fixed_none header (header_len header) (fixed_order header n) k (not_fixed header n k v g e))
+          (map_none (old_place_of header n) (placed_records header n) k (each_by_begin (λ p. p.0 ≡ k → ⊥) (old_records header n) (not_old header n k l))) found.1.at,
     )
 
 pub any_place : (header : Header) (n k : ℕ) (v : Var) → slice_get header.vars k ≡ Some v → (b : ℕ) × (at_number (begins_by_number header n) k ≡ Some (k, b))
 any_place header n k v g = elim (holds_or_not (is_record header v)) [
-  | inr e ↦ (let found = fixed_place header n k v g e in (found.0, found.1.at))
+  | inr e ↦ (let found = fixed_place header n k v g e in (found.0, found.2))
   | inl e ↦ elim (cases_lt k n) [
     | inl l ↦ (old_place_of header n v, old_place header n k v g e l)
-    | inr l ↦ (let found = new_place header n k v g e l in (found.0, found.1.at))
+    | inr l ↦ (let found = new_place header n k v g e l in (found.0, found.2))
   ]
 ]
 

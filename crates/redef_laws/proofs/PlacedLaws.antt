@@ -72,18 +72,6 @@ fixed_found header n k b h =
     (first_of (fixed_begins header (header_len header) (fixed_order header n)) (mapped_begins (old_place_of header n) (placed_records header n))
     (record_begins header (new_from header n) (new_records header n)) k (k, b) fixed)
 
--- old fixed variables keep their order
-fixed_begins_rise : (header : Header) (n k m : ℕ) (v w : Var) → slice_get header.vars k ≡ Some v → slice_get header.vars m ≡ Some w → k < n → m < n
-    → is_record header v ≡ false → is_record header w ≡ false → v.begin < w.begin
-    → begin_of_number (begins_by_number header n) k ≤ begin_of_number (begins_by_number header n) m
-fixed_begins_rise header n k m v w h g i j e f l =
-    let list = by_begin (old_fixed header n) in
-    let one = fixed_begin header header.vars (header_len header) list k v (fixed_numbers header n) h (fixed_is_old header n k v h i e) in
-    let two = fixed_begin header header.vars (header_len header) list m w (fixed_numbers header n) g (fixed_is_old header n m w g j f) in
-    let rise = fixed_rise header header.vars (header_len header) list k m v w one.0 two.0 (fixed_numbers header n) (by_begin_ordered (old_fixed header n)) h g
-    (fixed_is_old header n k v h i e) (fixed_is_old header n m w g j f) l one.1.at two.1.at in
-    omega (arith, fixed_found header n k one.0 one.1.at, fixed_found header n m two.0 two.1.at, rise)
-
 -- ---- the laws
 
 -- where an old record variable begins
@@ -97,7 +85,7 @@ first_past front before = grind (arith, nat_tests)
 -- an old variable begins no lower than before
 pub begin_rises : (header : Header) (n k : ℕ) (v : Var) → slice_get header.vars k ≡ Some v → k < n → v.begin ≤ begin_of_number (begins_by_number header n) k
 begin_rises header n k v h l = elim (holds_or_not (is_record header v)) [
-  | inr e ↦ (let found = fixed_place header n k v h e in omega (arith, begin_is (begins_by_number header n) k found.0 found.1.at, found.1.up))
+  | inr e ↦ (let found = fixed_place header n k v h e in omega (arith, begin_is (begins_by_number header n) k found.0 found.2, found.1.up))
   | inl e ↦
       omega (
         arith,
@@ -107,15 +95,22 @@ begin_rises header n k v h l = elim (holds_or_not (is_record header v)) [
       )
 ]
 
--- old record variables keep their distances
-record_begins_rise : (header : Header) (n k m : ℕ) (v w : Var) → slice_get header.vars k ≡ Some v → slice_get header.vars m ≡ Some w → k < n → m < n
-    → is_record header v ≡ true → is_record header w ≡ true → v.begin < w.begin
-    → begin_of_number (begins_by_number header n) k ≤ begin_of_number (begins_by_number header n) m
-record_begins_rise header n k m v w h g i j e f l = grind (arith, nat_tests, record_begin_is header n k v h i e, record_begin_is header n m w g j f)
-
+-- old variables of one kind keep their order
 pub begins_rise : (header : Header) (n k m : ℕ) (v w : Var) → slice_get header.vars k ≡ Some v → slice_get header.vars m ≡ Some w → k < n → m < n
     → is_record header v ≡ is_record header w → v.begin < w.begin → begin_of_number (begins_by_number header n) k ≤ begin_of_number (begins_by_number header n) m
 begins_rise header n k m v w h g i j same l = elim (holds_or_not (is_record header v)) [
-  | inr e ↦ fixed_begins_rise header n k m v w h g i j e (sym same ∙ e) l
-  | inl e ↦ record_begins_rise header n k m v w h g i j e (sym same ∙ e) l
+  | inr e ↦
+      (let list = by_begin (old_fixed header n) in
+      let numbers = fixed_numbers header n in
+      let first = fixed_is_old header n k v h i e in
+      let second = fixed_is_old header n m w g j (sym same ∙ e) in
+      let one = fixed_begin header header.vars (header_len header) list k v numbers h first in
+      let two = fixed_begin header header.vars (header_len header) list m w numbers g second in
+      omega (
+        arith,
+        fixed_found header n k one.0 one.1.at,
+        fixed_found header n m two.0 two.1.at,
+        fixed_rise header header.vars (header_len header) list k m v w one.0 two.0 numbers (by_begin_ordered (old_fixed header n)) h g first second l one.1.at two.1.at,
+      ))
+  | inl e ↦ grind (arith, nat_tests, record_begin_is header n k v h i e, record_begin_is header n m w g j (sym same ∙ e))
 ]
