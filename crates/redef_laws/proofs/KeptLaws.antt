@@ -79,28 +79,19 @@ old_sizes : (old header : Header) (n a : ℕ) (os vs : List Var) → n ≡ a + l
 old_sizes old header n a [] vs e kept = ap (λ (ps : List Numbered). vsizes header ps) (none_old header n a vs (omega arith))
 old_sizes old header n a (o ∷ os) [] e kept = let found = kept 0 o refl in absurd (let f : None ≡ Some found.0 = found.1 in cc)
 old_sizes old header n a (o ∷ os) (w ∷ vs) e kept =
-    by_kind (is_record header w) refl (old_sizes old header n (a + 1) os vs (omega arith) (λ k v g. kept (suc k) v g))
-  where
-    inside : nat_lt a n ≡ true
-    inside = lt-ltb a n (omega arith)
-
-    own : IsKept old header o w
-    own =
-        let found = kept 0 o refl in
-        let there : Some w ≡ Some found.0 = found.1 in
-        let same : found.0 ≡ w = cc in
-        subst (λ (y : Var). IsKept old header o y) same found.2
-
-    by_kind : (t : Bool) → is_record header w ≡ t → vsizes header (old_of n (records_in header (enumerate_from (a + 1) vs))) ≡ sum_by (λ v. record_share old v) os
-        → vsizes header (old_of n (cond t ((a, w) ∷ records_in header (enumerate_from (a + 1) vs)) (records_in header (enumerate_from (a + 1) vs)))) ≡ sum_by (λ v. record_share old v) (o ∷ os)
-    by_kind true f rest =
-        let more = ap (λ (t : Bool). vsizes header (cond t ((a, w) ∷ old_of n (records_in header (enumerate_from (a + 1) vs))) (old_of n (records_in header (enumerate_from (a + 1) vs))))) inside in
-        let here = sum_by-cons (λ (p : Numbered). vsize header p.1) (a, w) (old_of n (records_in header (enumerate_from (a + 1) vs))) in
-        let there = sum_by-cons (λ v. record_share old v) o os in
-        let share = ap (λ (t : Bool). cond t (vsize old o) 0) (sym own.kind ∙ f) in
-        let size = ap (λ (m : ℕ). round_up 4 m) own.slab in
-        omega arith
-    by_kind false f rest = omega (arith, sum_by-cons (λ v. record_share old v) o os, ap (λ (t : Bool). cond t (vsize old o) 0) (sym own.kind ∙ f))
+    let rest = old_sizes old header n (a + 1) os vs (omega arith) (λ k v g. kept (suc k) v g) in
+    let found = kept 0 o refl in
+    let there : Some w ≡ Some found.0 = found.1 in
+    let same : found.0 ≡ w = cc in
+    let own = subst (λ (y : Var). IsKept old header o y) same found.2 in
+    let later = records_in header (enumerate_from (a + 1) vs) in
+    let whole = sum_by-cons (λ v. record_share old v) o os in
+    either (λ (ps : List Numbered). vsizes header (old_of n ps) ≡ sum_by (λ v. record_share old v) (o ∷ os)) (is_record header w) ((a, w) ∷ later) later
+    (λ f.
+    let more = ap (λ (t : Bool). vsizes header (cond t ((a, w) ∷ old_of n later) (old_of n later))) (lt-ltb a n (omega arith)) in
+    let here = sum_by-cons (λ (p : Numbered). vsize header p.1) (a, w) (old_of n later) in
+    omega (arith, rest, whole, more, here, ap (λ (t : Bool). cond t (vsize old o) 0) (sym own.kind ∙ f), ap (λ (m : ℕ). round_up 4 m) own.slab))
+    (λ f. omega (arith, rest, whole, ap (λ (t : Bool). cond t (vsize old o) 0) (sym own.kind ∙ f)))
 
 pub old_recsize : (old : Header) (extras : List Extra) → is_sound old ≡ true → recsize old ≤ vsizes (added old extras) (old_records (added old extras) (length old.vars))
 old_recsize old extras sound = grind (arith, nat_tests, old_sizes, kept_var, recsize_below)

@@ -22,23 +22,19 @@ sizes_more old new (v ∷ vs) [] h = absurd (let e : None ≡ Some (h 0 v refl).
 sizes_more old new (v ∷ vs) (y ∷ ws) h =
     let rest = sizes_more old new vs ws (λ k x e. h (suc k) x e) in
     let found = h 0 v refl in
-    (rest.0, joined found.0 found.1 found.2 found.3 rest.0 rest.1)
+    let there : Some y ≡ Some found.0 = found.1 in
+    let same : y ≡ found.0 = cc in
+    let lens = ap (λ (x : Var). lengths new x) same ∙ found.3 in (
+      rest.0,
+      ap (λ (t : Bool). map (λ x. slab new x) (cond t (y ∷ filter (λ x. is_record new x) ws) (filter (λ x. is_record new x) ws))) (same_record old new v y lens)
+          ∙ by_kind rest.0 (same_slab old new v y (ap (λ (x : Var). x.kind) same ∙ found.2) lens) rest.1 (is_record old v),
+    )
   where
-    by_kind : (more : List ℕ) → slab new y ≡ slab old v → sizes_in new ws ≡ sizes_in old vs ++ more → (s t : Bool) → s ≡ t
-        → map (λ x. slab new x) (cond s (y ∷ filter (λ x. is_record new x) ws) (filter (λ x. is_record new x) ws))
+    by_kind : (more : List ℕ) → slab new y ≡ slab old v → sizes_in new ws ≡ sizes_in old vs ++ more → (t : Bool)
+        → map (λ x. slab new x) (cond t (y ∷ filter (λ x. is_record new x) ws) (filter (λ x. is_record new x) ws))
         ≡ map (λ x. slab old x) (cond t (v ∷ filter (λ x. is_record old x) vs) (filter (λ x. is_record old x) vs)) ++ more
-    by_kind more size e true true s = λ t. size t ∷ e t
-    by_kind more size e true false s = cc
-    by_kind more size e false true s = cc
-    by_kind more size e false false s = e
-
-    joined : (w : Var) → Some y ≡ Some w → w.kind ≡ v.kind → lengths new w ≡ lengths old v → (more : List ℕ) → sizes_in new ws ≡ sizes_in old vs ++ more
-        → sizes_in new (y ∷ ws) ≡ sizes_in old (v ∷ vs) ++ more
-    joined w there kind lens more e =
-        let same : y ≡ w = cc in
-        let own = ap (λ (x : Var). x.kind) same ∙ kind in
-        let all = ap (λ (x : Var). lengths new x) same ∙ lens in
-        by_kind more (same_slab old new v y own all) e (is_record new y) (is_record old v) (same_record old new v y all)
+    by_kind more size e true = λ i. size i ∷ e i
+    by_kind more size e false = e
 
 -- ---- their sum
 

@@ -1,5 +1,5 @@
 -- No two variables of a redefined header share a byte, and none has one of the header.
-use Rattle.redef_laws.proofs.Words.{lengths, cases_eq, size_pos, mul-le, ◌≡◌, ℕ, ◌+◌, ◌<◌, ◌≤◌, List, [], ◌∷◌, length, drop, map, Bool, true, false, cond, Some, sym, ap, ◌∙◌, inl, inr, ◌⊎◌, arith, ◌==◌, sum_by, slice_get, AllByRecursion, nat_tests, length-map, sum_by-cons, ltb-true, slab_below, each_in, Header, Dim, Var, Extra, size_of, product, length_of, without_record, is_record, slab, vsize, recsize, record_variables, is_sound, Numbered, added, recsize_shared, shares_by, count_two, In, filter_in, each_map}
+use Rattle.redef_laws.proofs.Words.{lengths, cases_eq, size_pos, mul-le, ◌≡◌, ℕ, ◌+◌, ◌<◌, ◌≤◌, List, [], ◌∷◌, length, drop, map, Bool, true, false, cond, Some, sym, ap, ◌∙◌, inl, inr, ◌⊎◌, arith, ◌==◌, sum_by, slice_get, AllByRecursion, nat_tests, length-map, sum_by-cons, ltb-true, slab_below, each_in, Header, Dim, Var, Extra, size_of, product, length_of, without_record, is_record, slab, vsize, recsize, record_variables, is_sound, Numbered, added, recsize_shared, shares_by, count_two, In, filter_in, each_map, equal_above}
 use Rattle.serial_spec.specs.Layout.{record_slabs}
 use Rattle.redef_laws.proofs.GrownLaws.{IsFitVar, is_record_at}
 use Rattle.redef_laws.proofs.SoundVars.{inner_holds, vars_apart}
@@ -45,11 +45,8 @@ recsize_of_two header n i j v w l g f d e =
     let two = count_two (λ x. is_record header x) header.vars i j v w l g f d e in
     let long = length-map (record_variables header header.vars) (λ x. slab header x) in
     recsize_shared header
-    ∙ ap (λ (t : Bool). sum_by (λ x. cond t (slab header x) (vsize header x)) (record_variables header header.vars)) (not_one (length (record_slabs header)) (omega arith))
+    ∙ ap (λ (t : Bool). sum_by (λ x. cond t (slab header x) (vsize header x)) (record_variables header header.vars)) (equal_above (length (record_slabs header)) 1 (omega arith))
     ∙ sym (all_sizes header n)
-  where
-    not_one : (n : ℕ) → 2 ≤ n → (n == 1) ≡ false
-    not_one n l = grind (arith, nat_tests)
 
 -- ---- old record variables end before the new ones begin
 
