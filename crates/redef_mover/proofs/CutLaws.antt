@@ -58,61 +58,6 @@ spared_beside b end ss x h (before l) g i = let low = gap_low b end ss g h i in 
 spared_beside b end ss x h (past l) g i = let high = gap_high b end ss g h i in inr (omega arith)
 spared_beside b end ss x h (in_place s i e l k) g j = gap_beside b end ss s g x h i j l k
 
--- ---- a file on the way
-
--- as far as it was carried before its header is written
-pub record IsOnWay (old new : Header) (file left : List ℕ) : Type 0 where
-  pub long : length file ≤ length left
-  pub short : length left ≤ max (length file) (new_end old new)
-  pub spared : (x : ℕ) → Spared (header_len new) (new_end old new) (rising old new) x → at left x ≡ at file x
-
-way_grown : (old new : Header) (file left : List ℕ) (end : ℕ) → end ≡ new_end old new → IsLengthened end file left → IsOnWay old new file left
-way_grown old new file left end e l = grind (arith, nat_tests, at-longer)
-
-way_kept : (old new : Header) (P : ℕ → Type 0) (file mid left : List ℕ) → ((x : ℕ) → Spared (header_len new) (new_end old new) (rising old new) x → P x)
-    → IsOnWay old new file mid → IsKept P mid left → IsOnWay old new file left
-way_kept old new P file mid left f w k =
-    let same = k.len in
-    let long = w.long in
-    let short = w.short in
-    record { long = omega arith; short = omega arith; spared = λ x h. k.kept x (f x h) ∙ w.spared x h }
-
-way_end : (old new : Header) (file left : List ℕ) → IsOnWay old new file left → IsPartlyCarried old new file left
-way_end old new file left w = record {
-  long = w.long;
-  short = w.short;
-  head = λ x l. inl (w.spared x (before l));
-  past = λ x l. w.spared x (past l);
-  stays = λ s i e x l k. w.spared x (in_place s i e l k);
-}
-
--- the header was cut off
-way_headed : (old new : Header) (file mid left bytes : List ℕ) (place : ℕ) → bytes ≡ canon new → place ≡ 0 → AreSpaced (header_len new) (new_end old new) (rising old new)
-    → header_len new ≤ length mid → IsOnWay old new file mid → PartlyWritten place bytes mid left → IsPartlyCarried old new file left
-way_headed old new file mid left bytes place b p spaced room w q = record {
-  long = (let same = length_same in let long = w.long in omega arith);
-  short = (let same = length_same in let short = w.short in omega arith);
-  head = λ x l. by_head x l (plain.each x);
-  past = λ x l. by_rest x (let low = spaced_low (header_len new) (new_end old new) (rising old new) spaced in omega arith) (plain.each x) ∙ w.spared x (past l);
-  stays = λ s i e x l k. by_rest x (let low = spaced_from (header_len new) (new_end old new) (rising old new) s spaced i in omega arith) (plain.each x) ∙ w.spared x (in_place s i e l k);
-}
-  where
-    plain : PartlyWritten 0 (canon new) mid left
-    plain = subst (λ (y : ℕ). PartlyWritten y (canon new) mid left) p (subst (λ (c : List ℕ). PartlyWritten place c mid left) b q)
-
-    length_same : length left ≡ length mid
-    length_same = plain.len ∙ length-written_inside mid 0 (canon new) (omega arith)
-
-    by_head : (x : ℕ) → x < header_len new → (at left x ≡ at mid x) ⊎ (at left x ≡ at (written mid 0 (canon new)) x) → (at left x ≡ at file x) ⊎ (at left x ≡ at (canon new) x)
-    by_head x l (inl e) = inl (e ∙ w.spared x (before l))
-    by_head x l (inr e) =
-        let same : x - 0 ≡ x = omega arith in
-        inr (e ∙ get_or-written_within mid 0 (canon new) x (omega arith) (omega arith) (omega arith) ∙ ap (λ (y : ℕ). get_or (canon new) y 0) same)
-
-    by_rest : (x : ℕ) → header_len new ≤ x → (at left x ≡ at mid x) ⊎ (at left x ≡ at (written mid 0 (canon new)) x) → at left x ≡ at mid x
-    by_rest x l (inl e) = e
-    by_rest x l (inr e) = e ∙ at-written_after mid (canon new) 0 x (omega arith)
-
 -- ---- files that may be told
 
 told_twice : {A : Type 0} (R S T : A → A → Type 0) (held mid now : Option A) → ((old one two : A) → R old one → S one two → T old two)
@@ -123,31 +68,6 @@ told_twice xs ys n held mid now f a b = grind (arith, nat_tests)
 pub not_begun : (old new : Header) (held now : Option (List ℕ)) → now ≡ held → BothTold (IsPartlyCarried old new) held now
 not_begun old new held now e = grind (arith, nat_tests)
 
-pub on_way_grown : (old new : Header) (held now : Option (List ℕ)) (end : ℕ) → end ≡ new_end old new → BothTold (IsLengthened end) held now
-    → BothTold (IsOnWay old new) held now
-on_way_grown old new held now end e b = told_as (IsLengthened end) (IsOnWay old new) held now (λ file left l. way_grown old new file left end e l) b
-
-pub on_way_moved : (old new : Header) (held mid now : Option (List ℕ)) (ss : List Slab) → IsCarriable old new → ss ≡ rising old new
-    → BothTold (IsOnWay old new) held mid → BothTold (IsKept (IsUnmoved ss)) mid now → BothTold (IsOnWay old new) held now
-on_way_moved old new held mid now ss h e a b =
-    told_twice (IsOnWay old new) (IsKept (IsUnmoved (rising old new))) (IsOnWay old new) held mid now
-    (λ file one two w k. way_kept old new (IsUnmoved (rising old new)) file one two
-    (λ x s. spared_unmoved (header_len new) (new_end old new) (rising old new) x (carriable_spaced old new (rising old new) (header_len new) (new_end old new) h refl refl refl) s) w k)
-    a (subst (λ (xs : List Slab). BothTold (IsKept (IsUnmoved xs)) mid now) e b)
-
-pub on_way_cleared : (old new : Header) (held mid now : Option (List ℕ)) (ss : List Slab) (b end : ℕ) → IsCarriable old new → ss ≡ rising old new → b ≡ header_len new
-    → end ≡ new_end old new → BothTold (IsOnWay old new) held mid → BothTold (IsKept (IsBeside (gaps b end ss))) mid now → BothTold (IsOnWay old new) held now
-on_way_cleared old new held mid now ss b end h e f g a c =
-    told_twice (IsOnWay old new) (IsKept (IsBeside (gaps (header_len new) (new_end old new) (rising old new)))) (IsOnWay old new) held mid now
-    (λ file one two w k. way_kept old new (IsBeside (gaps (header_len new) (new_end old new) (rising old new))) file one two
-    (λ x s. spared_beside (header_len new) (new_end old new) (rising old new) x (carriable_spaced old new (rising old new) (header_len new) (new_end old new) h refl refl refl) s) w k)
-    a (subst (λ (xs : List Slab). BothTold (IsKept (IsBeside (gaps (header_len new) (new_end old new) xs))) mid now) e
-    (subst (λ (y : ℕ). BothTold (IsKept (IsBeside (gaps (header_len new) y ss))) mid now) g
-    (subst (λ (y : ℕ). BothTold (IsKept (IsBeside (gaps y end ss))) mid now) f c)))
-
-pub on_way_end : (old new : Header) (held now : Option (List ℕ)) → BothTold (IsOnWay old new) held now → BothTold (IsPartlyCarried old new) held now
-on_way_end old new held now b = told_as (IsOnWay old new) (IsPartlyCarried old new) held now (λ file left w. way_end old new file left w) b
-
 -- there is room up to the end
 pub room_grown : (held now : Option (List ℕ)) (end : ℕ) → now ≡ after (λ file. longer file end) held → IfSome now (λ file. end ≤ length file)
 room_grown held now end e = grind (arith, nat_tests, longer_long)
@@ -156,21 +76,102 @@ pub room_kept : (P : ℕ → Type 0) (mid now : Option (List ℕ)) (end : ℕ) �
     → IfSome now (λ file. end ≤ length file)
 room_kept xs mid now end h k = grind (arith, nat_tests)
 
-pub on_way_headed : (old new : Header) (held mid now : Option (List ℕ)) (bytes : List ℕ) (place end : ℕ) → IsCarriable old new → bytes ≡ canon new → place ≡ 0
-    → IfSome mid (λ file. end ≤ length file) → header_len new ≤ end → BothTold (IsOnWay old new) held mid → BothTold (PartlyWritten place bytes) mid now
-    → BothTold (IsPartlyCarried old new) held now
-on_way_headed old new held mid now bytes place end h b p room fits w q =
-    by_held held w
-  where
-    spaced : AreSpaced (header_len new) (new_end old new) (rising old new)
-    spaced = carriable_spaced old new (rising old new) (header_len new) (new_end old new) h refl refl refl
+-- ---- a file on the way
 
-    by_held : (t : Option (List ℕ)) → BothTold (IsOnWay old new) t mid → BothTold (IsPartlyCarried old new) t now
-    by_held None a = subst (λ (m : Option (List ℕ)). BothTold (PartlyWritten place bytes) m now) a q
-    by_held (Some file) a =
-        let c : BothTold (PartlyWritten place bytes) (Some a.0) now = subst (λ (m : Option (List ℕ)). BothTold (PartlyWritten place bytes) m now) a.1 q in
-        let l : end ≤ length a.0 = subst (λ (m : Option (List ℕ)). IfSome m (λ f. end ≤ length f)) a.1 room in
-        (c.0, c.1, way_headed old new file a.0 c.0 bytes place b p spaced (omega arith) a.2 c.2)
+-- as far as it was carried before its header is written
+pub record IsOnWay (b end : ℕ) (ss : List Slab) (file left : List ℕ) : Type 0 where
+  pub long : length file ≤ length left
+  pub short : length left ≤ max (length file) end
+  pub spared : (x : ℕ) → Spared b end ss x → at left x ≡ at file x
+
+way_grown : (b end : ℕ) (ss : List Slab) (file left : List ℕ) → IsLengthened end file left → IsOnWay b end ss file left
+way_grown b end ss file left l = grind (arith, nat_tests, at-longer)
+
+way_kept : (b end : ℕ) (ss : List Slab) (P : ℕ → Type 0) (file mid left : List ℕ) → ((x : ℕ) → Spared b end ss x → P x) → IsOnWay b end ss file mid → IsKept P mid left
+    → IsOnWay b end ss file left
+way_kept b end ss P file mid left f w k =
+    let same = k.len in
+    let long = w.long in
+    let short = w.short in
+    record { long = omega arith; short = omega arith; spared = λ x h. k.kept x (f x h) ∙ w.spared x h }
+
+-- what the code's numbers and list stand for
+pub record StandFor (old new : Header) (b end : ℕ) (ss : List Slab) : Type 0 where
+  pub carriable : IsCarriable old new
+  pub first : b ≡ header_len new
+  pub last : end ≡ new_end old new
+  pub all : ss ≡ rising old new
+
+module _ (old new : Header) (b end : ℕ) (ss : List Slab) (k : StandFor old new b end ss) where
+  pub spaced : AreSpaced b end ss
+  spaced = carriable_spaced old new ss b end k.carriable k.all k.first k.last
+
+  member : (s : Slab) → In (rising old new) s → In ss s
+  member s i = subst (λ (rs : List Slab). In rs s) (sym k.all) i
+
+  way_end : (file left : List ℕ) → IsOnWay b end ss file left → IsPartlyCarried old new file left
+  way_end file left w = record {
+    long = w.long;
+    short = omega (arith, w.short, k.last);
+    head = λ x l. inl (w.spared x (before (omega (arith, l, k.first))));
+    past = λ x l. w.spared x (past (omega (arith, l, k.last)));
+    stays = λ s i e x l m. w.spared x (in_place s (member s i) e l m);
+  }
+
+  -- the header was cut off
+  way_headed : (file mid left bytes : List ℕ) (place : ℕ) → bytes ≡ canon new → place ≡ 0 → header_len new ≤ length mid → IsOnWay b end ss file mid
+      → PartlyWritten place bytes mid left → IsPartlyCarried old new file left
+  way_headed file mid left bytes place c p room w q = record {
+    long = omega (arith, length_same, w.long);
+    short = omega (arith, length_same, w.short, k.last);
+    head = λ x l. by_head x l (plain.each x);
+    past = λ x l. by_rest x (omega (arith, spaced_low b end ss spaced, k.first, k.last, l)) (plain.each x) ∙ w.spared x (past (omega (arith, l, k.last)));
+    stays = λ s i e x l m. by_rest x (omega (arith, spaced_from b end ss s spaced (member s i), k.first, l)) (plain.each x) ∙ w.spared x (in_place s (member s i) e l m);
+  }
+    where
+      plain : PartlyWritten 0 (canon new) mid left
+      plain = subst (λ (y : ℕ). PartlyWritten y (canon new) mid left) p (subst (λ (d : List ℕ). PartlyWritten place d mid left) c q)
+
+      length_same : length left ≡ length mid
+      length_same = plain.len ∙ length-written_inside mid 0 (canon new) (omega arith)
+
+      by_head : (x : ℕ) → x < header_len new → (at left x ≡ at mid x) ⊎ (at left x ≡ at (written mid 0 (canon new)) x) → (at left x ≡ at file x) ⊎ (at left x ≡ at (canon new) x)
+      by_head x l (inl e) = inl (e ∙ w.spared x (before (omega (arith, l, k.first))))
+      by_head x l (inr e) =
+          let same : x - 0 ≡ x = omega arith in
+          inr (e ∙ get_or-written_within mid 0 (canon new) x (omega arith) (omega arith) (omega arith) ∙ ap (λ (y : ℕ). get_or (canon new) y 0) same)
+
+      by_rest : (x : ℕ) → header_len new ≤ x → (at left x ≡ at mid x) ⊎ (at left x ≡ at (written mid 0 (canon new)) x) → at left x ≡ at mid x
+      by_rest x l (inl e) = e
+      by_rest x l (inr e) = e ∙ at-written_after mid (canon new) 0 x (omega arith)
+
+  -- ---- one call more
+
+  pub on_way_grown : (held now : Option (List ℕ)) → BothTold (IsLengthened end) held now → BothTold (IsOnWay b end ss) held now
+  on_way_grown held now t = told_as (IsLengthened end) (IsOnWay b end ss) held now (λ file left l. way_grown b end ss file left l) t
+
+  on_way_kept : (P : ℕ → Type 0) (held mid now : Option (List ℕ)) → ((x : ℕ) → Spared b end ss x → P x) → BothTold (IsOnWay b end ss) held mid → BothTold (IsKept P) mid now
+      → BothTold (IsOnWay b end ss) held now
+  on_way_kept P held mid now f t u =
+      told_twice (IsOnWay b end ss) (IsKept P) (IsOnWay b end ss) held mid now (λ file one two w q. way_kept b end ss P file one two f w q) t u
+
+  pub on_way_moved : (held mid now : Option (List ℕ)) → BothTold (IsOnWay b end ss) held mid → BothTold (IsKept (IsUnmoved ss)) mid now → BothTold (IsOnWay b end ss) held now
+  on_way_moved held mid now t u = on_way_kept (IsUnmoved ss) held mid now (λ x s. spared_unmoved b end ss x spaced s) t u
+
+  pub on_way_cleared : (held mid now : Option (List ℕ)) → BothTold (IsOnWay b end ss) held mid → BothTold (IsKept (IsBeside (gaps b end ss))) mid now
+      → BothTold (IsOnWay b end ss) held now
+  on_way_cleared held mid now t u = on_way_kept (IsBeside (gaps b end ss)) held mid now (λ x s. spared_beside b end ss x spaced s) t u
+
+  pub on_way_end : (held now : Option (List ℕ)) → BothTold (IsOnWay b end ss) held now → BothTold (IsPartlyCarried old new) held now
+  on_way_end held now t = told_as (IsOnWay b end ss) (IsPartlyCarried old new) held now (λ file left w. way_end file left w) t
+
+  pub on_way_headed : (held mid now : Option (List ℕ)) (bytes : List ℕ) (place : ℕ) → bytes ≡ canon new → place ≡ 0 → IfSome mid (λ file. end ≤ length file)
+      → BothTold (IsOnWay b end ss) held mid → BothTold (PartlyWritten place bytes) mid now → BothTold (IsPartlyCarried old new) held now
+  on_way_headed None mid now bytes place c p room w q = subst (λ (m : Option (List ℕ)). BothTold (PartlyWritten place bytes) m now) w q
+  on_way_headed (Some file) mid now bytes place c p room w q =
+      let t : BothTold (PartlyWritten place bytes) (Some w.0) now = subst (λ (m : Option (List ℕ)). BothTold (PartlyWritten place bytes) m now) w.1 q in
+      let l : end ≤ length w.0 = subst (λ (m : Option (List ℕ)). IfSome m (λ f. end ≤ length f)) w.1 room in
+      (t.0, t.1, way_headed file w.0 t.0 bytes place c p (omega (arith, l, spaced_low b end ss spaced, k.first)) w.2 t.2)
 
 -- ---- what a relocation promises
 

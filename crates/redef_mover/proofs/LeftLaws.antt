@@ -2,7 +2,7 @@
 --     Work A          what items do to a file, the device calls that do it, and which bytes they spare
 --     moves z, zeros z        slabs that are moved, and gaps that are cleared, in windows of z bytes
 --     IsLeft          these items are left of all: done as well, they give the whole, and so far only bytes that they do not spare have changed
-use Rattle.redef_mover.proofs.Words.{◌≡◌, ℕ, refl, sym, ◌∙◌, ap, map, subst, List, [], ◌∷◌, ◌++◌, Option, Some, None, inl, flat_map-append, fold-append, append-nil, reverse, DiskCall, after, with_end, with_end-nil, with_end-with_end, BothTold, Slab, in_left, in_right, stores, all_calls, all_cleared, all_moved, cleared, gap_calls, IsBeside, IsKept, IsOutside, IsUnmoved, Shift, further, slab_of}
+use Rattle.redef_mover.proofs.Words.{◌≡◌, ℕ, refl, sym, ◌∙◌, ap, map, subst, List, [], ◌∷◌, ◌++◌, Option, Some, None, inl, flat_map-append, fold-append, append-nil, reverse, DiskCall, after, with_end, after-after, after-same, with_end-nil, with_end-with_end, BothTold, Slab, in_left, in_right, stores, all_calls, all_cleared, all_moved, cleared, gap_calls, IsBeside, IsKept, IsOutside, IsUnmoved, Shift, further, slab_of}
 use Rattle.redef_laws.proofs.Orders.{in_reverse, reverse_in}
 use Rattle.redef_mover.proofs.KeptLaws.{kept_more, kept_still}
 use Rattle.redef_mover.proofs.MovesLaws.{called_append, moved_append}
@@ -55,11 +55,11 @@ pub record IsLeft {A : Type 0} (w : Work A) (P : ℕ → Type 0) (all left : Lis
   pub kept : BothTold (IsKept P) held now
 
 module _ {A : Type 0} {w : Work A} {P : ℕ → Type 0} {all left : List A} where
-  pub none_done : (held : Option (List ℕ)) (told : Option (List DiskCall)) → left ≡ all → ((x : ℕ) → P x → w.Spares left x) → IsLeft w P all left held held told told
+  pub none_done : (held : Option (List ℕ)) (told : Option (List DiskCall)) → left ≡ all → ((x : ℕ) → P x → w.Spares all x) → IsLeft w P all left held held told told
   none_done held told e others = record {
     bytes = ap (λ xs. after (λ file. w.done file xs) held) e;
     calls = ap (λ xs. with_end told (w.calls xs)) e;
-    others = others;
+    others = λ x h. subst (λ (xs : List A). w.Spares xs x) (sym e) (others x h);
     kept = kept_still P held;
   }
 
@@ -74,16 +74,13 @@ module _ {A : Type 0} {w : Work A} {P : ℕ → Type 0} {all left : List A} wher
         → IsLeft w P all left held mid told last → now ≡ after (λ file. w.done file part) mid → next ≡ with_end last (w.calls part) → BothTold (IsKept Q) mid now
         → IsLeft w P all rest held now told next
     part_done Q part rest now next e spares l bytes calls kept = record {
-      bytes = by_mid mid bytes ∙ l.bytes;
+      bytes = ap (λ f. after (λ file. w.done file rest) f) bytes ∙ after-after (λ file. w.done file rest) (λ file. w.done file part) mid
+          ∙ after-same _ _ mid (λ file. sym (ap (λ xs. w.done file xs) e ∙ w.both file part rest)) ∙ l.bytes;
       calls = ap (λ cs. with_end cs (w.calls rest)) calls ∙ with_end-with_end last (w.calls part) (w.calls rest)
           ∙ ap (λ cs. with_end last cs) (sym (ap (λ xs. w.calls xs) e ∙ w.called part rest)) ∙ l.calls;
       others = λ x h. w.rest part rest x (subst (λ (xs : List A). w.Spares xs x) e (l.others x h));
       kept = part_kept Q part rest now e spares l kept;
     }
-      where
-        by_mid : (m : Option (List ℕ)) → now ≡ after (λ file. w.done file part) m → after (λ file. w.done file rest) now ≡ after (λ file. w.done file left) m
-        by_mid None k = ap (λ f. after (λ file. w.done file rest) f) k
-        by_mid (Some file) k = ap (λ f. after (λ file. w.done file rest) f) k ∙ ap Some (sym (ap (λ xs. w.done file xs) e ∙ w.both file part rest))
 
     -- those that are left are done by the last call
     pub last_bytes : (part : List A) (now : Option (List ℕ)) → left ≡ part → IsLeft w P all left held mid told last → now ≡ after (λ file. w.done file part) mid

@@ -181,63 +181,58 @@ none_left f order vars k past e = let long = ap (λ (vs : List NumberedVar). len
 
 -- ---- the loops
 
-pub record PlacedSoFar (order : List NumberedVar) (first k : ℕ) (old now : List Place) (front : ℕ) : Type 0 where
-  pub small : front ≤ 2 ^ 62
-  pub placed : (header : Header) (vars : List Numbered) (n : ℕ) → order ≡ map (fixed_var header) vars → first ≡ capped n
-      → AreLeft (fixed_placing header) (drop k vars) (pairs old ++ capped_pairs (fixed_begins header n vars)) (front_after header n vars) now front
+-- the places of the first k of an order that rises as the code asks, whatever header it is of
+pub record IsSoFar (c : Header → ℕ → Placing) (f : Header → Numbered → NumberedVar) (order : List NumberedVar) (first k : ℕ) (old now : List Place) (front : ℕ) : Type 0 where
+  pub placed : (header : Header) (vars : List Numbered) (n : ℕ) → order ≡ map (f header) vars → first ≡ capped n
+      → AreLeft (c header n) (drop k vars) (pairs old ++ capped_pairs ((c header n).begins n vars)) ((c header n).end n vars) now front
 
-pub placed_none : (order : List NumberedVar) (first : ℕ) (old : List Place) → first ≤ 2 ^ 62 → PlacedSoFar order first 0 old old first
-placed_none order first old h = record { small = h; placed = λ header vars n e f. record { at = n; is = f; places = refl; ends = refl } }
+module _ (c : Header → ℕ → Placing) (f : Header → Numbered → NumberedVar) (order : List NumberedVar) (first : ℕ) (old : List Place) where
+  pub none_so_far : IsSoFar c f order first 0 old old first
+  none_so_far = record { placed = λ header vars n e g. record { at = n; is = g; places = refl; ends = refl } }
 
-pub placed_next : (order : List NumberedVar) (first k : ℕ) (old now after : List Place) (front begin next : ℕ) (item : NumberedVar) → k < length order → item ≡ get_or order k item
+  next_so_far : (k : ℕ) (now after : List Place) (front begin next : ℕ) (item : NumberedVar) → k < length order → item ≡ get_or order k item
+      → after ≡ now ++ record { number = item.number; begin = begin } ∷ [] → ((header : Header) (v : Numbered) → (f header v).number ≡ v.0)
+      → ((header : Header) (v : Numbered) (n m : ℕ) → item ≡ f header v → first ≡ capped n → front ≡ capped m
+      → (begin ≡ capped ((c header n).begin m v)) × (next ≡ capped ((c header n).step m v)))
+      → IsSoFar c f order first k old now front → IsSoFar c f order first (k + 1) old after next
+  next_so_far k now after front begin next item within there push number told so_far = record {
+    placed = λ header vars n e g.
+        let v = get_or vars k nobody in
+        let one = next_of (f header) order vars k item within there e in
+        place_next (c header n) (drop k vars) (drop (k + 1) vars) v _ _ now after (record { number = item.number; begin = begin }) front next one.left push
+        (ap (λ (i : NumberedVar). i.number) one.is ∙ number header v) (λ m h. told header v n m one.is g h) (so_far.placed header vars n e g);
+  }
+
+  pub whole_so_far : (k : ℕ) (now : List Place) (front : ℕ) → length order ≤ k → IsSoFar c f order first k old now front → (header : Header) (vars : List Numbered) (n : ℕ)
+      → order ≡ map (f header) vars → first ≡ capped n → (pairs now ≡ pairs old ++ capped_pairs ((c header n).begins n vars)) × (front ≡ capped ((c header n).end n vars))
+  whole_so_far k now front past so_far header vars n e g =
+      place_whole (c header n) (drop k vars) _ _ now front (none_left (f header) order vars k past e) (so_far.placed header vars n e g)
+
+abbrev pub FixedSoFar : List NumberedVar → ℕ → ℕ → List Place → List Place → ℕ → Type 0
+FixedSoFar order first k old now front = IsSoFar (λ header n. fixed_placing header) fixed_var order first k old now front
+
+pub fixed_next : (order : List NumberedVar) (first k : ℕ) (old now after : List Place) (front begin next : ℕ) (item : NumberedVar) → k < length order → item ≡ get_or order k item
     → ((m : ℕ) → front ≡ capped m → begin ≡ capped (first_record m (Some item.begin))) → next ≡ capped (begin + item.len)
     → after ≡ now ++ record { number = item.number; begin = begin } ∷ []
-    → PlacedSoFar order first k old now front → PlacedSoFar order first (k + 1) old after next
-placed_next order first k old now after front begin next item within there at to push so_far = record {
-  small = omega arith;
-  placed = λ header vars n e f.
-      let v = get_or vars k nobody in
-      let one = next_of (fixed_var header) order vars k item within there e in
-      place_next (fixed_placing header) (drop k vars) (drop (k + 1) vars) v _ _ now after (record { number = item.number; begin = begin }) front next one.left push
-      (ap (λ (i : NumberedVar). i.number) one.is)
-      (λ m g.
-      let begun : begin ≡ capped (begin_at m v.1) = at m g ∙ ap (λ (i : NumberedVar). capped (first_record m (Some i.begin))) one.is in
-      (begun, to ∙ (λ i. capped (begun i + (one.is i).len)) ∙ capped_both (begin_at m v.1) (slab header v.1)))
-      (so_far.placed header vars n e f);
-}
+    → FixedSoFar order first k old now front → FixedSoFar order first (k + 1) old after next
+fixed_next order first k old now after front begin next item within there at to push so_far =
+    next_so_far (λ header n. fixed_placing header) fixed_var order first old k now after front begin next item within there push (λ header v. refl)
+    (λ header v n m is e g.
+    let begun : begin ≡ capped (begin_at m v.1) = at m g ∙ ap (λ (i : NumberedVar). capped (first_record m (Some i.begin))) is in
+    (begun, to ∙ (λ i. capped (begun i + (is i).len)) ∙ capped_both (begin_at m v.1) (slab header v.1)))
+    so_far
 
-pub placed_whole : (order : List NumberedVar) (first k : ℕ) (old now : List Place) (front : ℕ) → length order ≤ k → PlacedSoFar order first k old now front
-    → (header : Header) (vars : List Numbered) (n : ℕ) → order ≡ map (fixed_var header) vars → first ≡ capped n
-    → (pairs now ≡ pairs old ++ capped_pairs (fixed_begins header n vars)) × (front ≡ capped (front_after header n vars))
-placed_whole order first k old now front past so_far header vars n e f =
-    place_whole (fixed_placing header) (drop k vars) _ _ now front (none_left (fixed_var header) order vars k past e) (so_far.placed header vars n e f)
-
-pub record OldSoFar (order : List NumberedVar) (first least k : ℕ) (old now : List Place) (end : ℕ) : Type 0 where
-  pub placed : (header : Header) (vars : List Numbered) (m : ℕ) → order ≡ map (record_var header) vars → first ≡ capped m
-      → AreLeft (old_placing header m least) (drop k vars) (pairs old ++ capped_pairs (kept_apart m least vars)) (m + vsizes header vars) now end
-
-pub old_none : (order : List NumberedVar) (first least : ℕ) (old : List Place) → OldSoFar order first least 0 old old first
-old_none order first least old = record { placed = λ header vars m e f. record { at = m; is = f; places = refl; ends = refl } }
+abbrev pub OldSoFar : List NumberedVar → ℕ → ℕ → ℕ → List Place → List Place → ℕ → Type 0
+OldSoFar order first least k old now end = IsSoFar (λ header m. old_placing header m least) record_var order first k old now end
 
 pub old_next : (order : List NumberedVar) (first least k : ℕ) (old now after : List Place) (end begin next : ℕ) (item : NumberedVar) → k < length order → item ≡ get_or order k item
     → begin ≡ capped (first + (item.begin - least)) → next ≡ capped (end + item.len)
     → after ≡ now ++ record { number = item.number; begin = begin } ∷ []
     → OldSoFar order first least k old now end → OldSoFar order first least (k + 1) old after next
-old_next order first least k old now after end begin next item within there at to push so_far = record {
-  placed = λ header vars m e f.
-      let v = get_or vars k nobody in
-      let one = next_of (record_var header) order vars k item within there e in
-      place_next (old_placing header m least) (drop k vars) (drop (k + 1) vars) v _ _ now after (record { number = item.number; begin = begin }) end next one.left push
-      (ap (λ (i : NumberedVar). i.number) one.is)
-      (λ x g. (at ∙ (λ i. capped (f i + ((one.is i).begin - least))) ∙ capped_sum m (v.1.begin - least), to ∙ (λ i. capped (g i + (one.is i).len)) ∙ capped_both x (vsize header v.1)))
-      (so_far.placed header vars m e f);
-}
-
-pub old_whole : (order : List NumberedVar) (first least k : ℕ) (old now : List Place) (end : ℕ) → length order ≤ k → OldSoFar order first least k old now end
-    → (header : Header) (vars : List Numbered) (m : ℕ) → order ≡ map (record_var header) vars → first ≡ capped m
-    → (pairs now ≡ pairs old ++ capped_pairs (kept_apart m least vars)) × (end ≡ capped (m + vsizes header vars))
-old_whole order first least k old now end past so_far header vars m e f =
-    place_whole (old_placing header m least) (drop k vars) _ _ now end (none_left (record_var header) order vars k past e) (so_far.placed header vars m e f)
+old_next order first least k old now after end begin next item within there at to push so_far =
+    next_so_far (λ header m. old_placing header m least) record_var order first old k now after end begin next item within there push (λ header v. refl)
+    (λ header v n m is e g. (at ∙ (λ i. capped (e i + ((is i).begin - least))) ∙ capped_sum n (v.1.begin - least), to ∙ (λ i. capped (g i + (is i).len)) ∙ capped_both m (vsize header v.1)))
+    so_far
 
 pub record NewSoFar (header : Header) (n first k : ℕ) (old now : List Place) (begin : ℕ) : Type 0 where
   pub placed : (m : ℕ) → first ≡ capped m

@@ -109,21 +109,18 @@ same_bad header found b =
 
 -- ---- the first that is out of range
 
+under_test : {A B : Type 0} (f : A → B) (t : Bool) (x y : A) (o p : Option A) → f x ≡ f y → option_map f o ≡ option_map f p
+    → option_map f (cond t (Some x) o) ≡ option_map f (cond t (Some y) p)
+under_test f true x y o p e rest = ap (λ z. Some z) e
+under_test f false x y o p e rest = rest
+
 pub same_first : (header : Header) (all found : List (ℕ × ℕ)) (f : ℕ → RedefErr)
     → option_map (λ (b : ℕ × ℕ). f b.0) (find (is_bad_begin (with_begins header (capped_pairs all))) (capped_pairs found))
     ≡ option_map (λ (b : ℕ × ℕ). f b.0) (find (is_bad_begin (with_begins header all)) found)
 same_first header all [] f = refl
 same_first header all (b ∷ found) f =
     ap (λ (t : Bool). option_map (λ (x : ℕ × ℕ). f x.0) (cond t (Some (b.0, capped b.1)) (find (is_bad_begin (with_begins header (capped_pairs all))) (capped_pairs found)))) (same_bad header all b)
-    ∙ by_test (is_bad_begin (with_begins header all) b) (same_first header all found f)
-  where
-    by_test : (t : Bool)
-        → option_map (λ (x : ℕ × ℕ). f x.0) (find (is_bad_begin (with_begins header (capped_pairs all))) (capped_pairs found))
-        ≡ option_map (λ (x : ℕ × ℕ). f x.0) (find (is_bad_begin (with_begins header all)) found)
-        → option_map (λ (x : ℕ × ℕ). f x.0) (cond t (Some (b.0, capped b.1)) (find (is_bad_begin (with_begins header (capped_pairs all))) (capped_pairs found)))
-        ≡ option_map (λ (x : ℕ × ℕ). f x.0) (cond t (Some b) (find (is_bad_begin (with_begins header all)) found))
-    by_test true rest = refl
-    by_test false rest = rest
+    ∙ under_test (λ (x : ℕ × ℕ). f x.0) (is_bad_begin (with_begins header all) b) (b.0, capped b.1) b _ _ refl (same_first header all found f)
 
 pub none_first : (header : Header) (found : List (ℕ × ℕ)) → find (is_bad_begin (with_begins header (capped_pairs found))) (capped_pairs found) ≡ None
     → find (is_bad_begin (with_begins header found)) found ≡ None

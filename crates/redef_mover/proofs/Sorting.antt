@@ -1,5 +1,5 @@
 -- A stable sort by a number leaves just one list: the one that insertion leaves.
-use Rattle.redef_mover.proofs.Words.{◌≡◌, ℕ, ◌≤◌, List, [], ◌∷◌, map, Bool, true, false, cond, refl, sym, ap, subst, ◌∙◌, arith, inl, inr, filter, nat_le, not, ◌==◌, ◌&&◌, IsNonDecreasingBy, IsStableByKey, ties, nat_cmp, is_lt, nat_tests, filter_agree, get_or_from_slice_get, In}
+use Rattle.redef_mover.proofs.Words.{◌≡◌, ℕ, ◌≤◌, List, [], ◌∷◌, map, Bool, true, false, cond, refl, sym, ap, subst, ◌∙◌, arith, inl, inr, filter, nat_le, not, ◌==◌, ◌&&◌, eqb_tells, IsNonDecreasingBy, IsStableByKey, ties, nat_cmp, is_lt, nat_tests, filter_agree, get_or_from_slice_get, In}
 use Rattle.std.proofs.lemmas.Bool.{eqb-true, leb-true, leb-false}
 use Rattle.std.proofs.lemmas.Option.{slice_get_within}
 use Rattle.serial_spec.proofs.MemberLaws.{filter_in}
@@ -70,13 +70,10 @@ one_sorted {A} key (x ∷ xs) (y ∷ ys) r s same = whole (first equal) (one_sor
         (cc, cc)
 
     rest : x ≡ y → of_key key (key x) xs ≡ of_key key (key x) ys → (n : ℕ) → of_key key n xs ≡ of_key key n ys
-    rest e here n = by_test (key x == n) refl
-      where
-        by_test : (t : Bool) → (key x == n) ≡ t → of_key key n xs ≡ of_key key n ys
-        by_test true f =
-            let same_key : key x ≡ n = grind (arith, nat_tests) in
-            ap (λ (m : ℕ). of_key key m xs) (sym same_key) ∙ here ∙ ap (λ (m : ℕ). of_key key m ys) same_key
-        by_test false f = sym (other_key key n x xs f) ∙ same n ∙ other_key key n y ys (ap (λ z. key z == n) (sym e) ∙ f)
+    rest e here n = elim (eqb_tells (key x) n) [
+      | inl f ↦ ap (λ (m : ℕ). of_key key m xs) (sym f.1) ∙ here ∙ ap (λ (m : ℕ). of_key key m ys) f.1
+      | inr f ↦ sym (other_key key n x xs f.0) ∙ same n ∙ other_key key n y ys (ap (λ z. key z == n) (sym e) ∙ f.0)
+    ]
 
     whole : (x ≡ y) × (of_key key (key x) xs ≡ of_key key (key x) ys) → (((n : ℕ) → of_key key n xs ≡ of_key key n ys) → xs ≡ ys) → (x ∷ xs) ≡ (y ∷ ys)
     whole h tails = ap (λ z. z ∷ xs) h.0 ∙ ap (λ zs. y ∷ zs) (tails (rest h.0 h.1))

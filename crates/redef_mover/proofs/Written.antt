@@ -1,8 +1,9 @@
 -- The begins that are written, and the numbers of those that are found.
-use Rattle.redef_mover.proofs.Words.{◌≡◌, ℕ, zero, suc, ◌+◌, ◌-◌, ◌<◌, ◌≤◌, List, [], ◌∷◌, ◌++◌, length, take, get_or, map, Bool, true, false, cond, Some, None, refl, sym, ap, ◌∙◌, arith, filter, sum_by, find, nat_lt, nat_le, not, ◌==◌, unwrap_or, enumerate_from, nat_tests, take_more, take_all, map-append, sum_by-cons, sum_by-append, Header, Var, header_len, is_record, slab, vsize, least, Numbered, fixed_of, records_in, old_of, new_of, begins_before, by_begin, begin_at, fixed_begins, fixed_order, record_begins, front_after, first_record, begins_by_number, begin_of_number, capped, Place, pairs, capped_pairs, HasOneEach}
+use Rattle.redef_mover.proofs.Words.{◌≡◌, ℕ, zero, suc, ◌+◌, ◌-◌, ◌<◌, ◌≤◌, List, [], ◌∷◌, ◌++◌, length, take, get_or, map, Bool, true, false, cond, Some, None, refl, sym, ap, ◌∙◌, arith, filter, sum_by, find, nat_lt, nat_le, not, ◌==◌, unwrap_or, enumerate_from, inl, inr, eqb_tells, nat_tests, take_more, take_all, map-append, sum_by-cons, sum_by-append, Header, Var, header_len, is_record, slab, vsize, least, Numbered, fixed_of, records_in, old_of, new_of, begins_before, by_begin, begin_at, fixed_begins, fixed_order, record_begins, front_after, first_record, begins_by_number, begin_of_number, capped, Place, pairs, capped_pairs, HasOneEach}
 use Rattle.std.specs.Prelude.{◌&&◌}
 use Rattle.std.proofs.Math.ListN.{set}
 use Rattle.redef_laws.proofs.Orders.{sorted_sum}
+use Rattle.redef_mover.proofs.Places.{Placing, fixed_placing, new_placing, old_placing}
 use Rattle.redef_mover.proofs.Ranges.{times}
 
 -- ---- the last begin of a number wins
@@ -39,28 +40,30 @@ last_none n (v ∷ vars) = ap (λ ws. v ∷ ws) (last_none (n + 1) vars)
 
 -- ---- of each number once
 
+times_cons : (k : ℕ) (b : ℕ × ℕ) (found : List (ℕ × ℕ)) → times k (b ∷ found) ≡ cond (b.0 == k) 1 0 + times k found
+times_cons k b found = sum_by-cons (λ (x : ℕ × ℕ). cond (x.0 == k) 1 0) b found
+
 not_there : (found : List (ℕ × ℕ)) (k begin : ℕ) → times k found ≡ 0 → last_begin found k begin ≡ begin
 not_there [] k begin h = refl
-not_there (b ∷ found) k begin h = by_test (b.0 == k) refl (λ g. not_there found k begin g)
-  where
-    one : times k (b ∷ found) ≡ cond (b.0 == k) 1 0 + times k found
-    one = sum_by-cons (λ (x : ℕ × ℕ). cond (x.0 == k) 1 0) b found
-
-    by_test : (t : Bool) → (b.0 == k) ≡ t → (times k found ≡ 0 → last_begin found k begin ≡ begin) → last_begin found k (cond t b.1 begin) ≡ begin
-    by_test true e rest = absurd (omega (arith, one, ap {B = ℕ} (λ (u : Bool). cond u 1 0) e, h))
-    by_test false e rest = rest (omega (arith, one, ap {B = ℕ} (λ (u : Bool). cond u 1 0) e, h))
+not_there (b ∷ found) k begin h =
+    let one = times_cons k b found in
+    elim (eqb_tells b.0 k) [
+      | inl e ↦ absurd (omega (arith, one, ap {B = ℕ} (λ (u : Bool). cond u 1 0) e.0, h))
+      | inr e ↦
+          ap (λ (u : Bool). last_begin found k (cond u b.1 begin)) e.0
+          ∙ not_there found k begin (omega (arith, one, ap {B = ℕ} (λ (u : Bool). cond u 1 0) e.0, h))
+    ]
 
 once : (found : List (ℕ × ℕ)) (k begin : ℕ) → times k found ≡ 1 → last_begin found k begin ≡ begin_of_number found k
 once [] k begin h = absurd (omega arith)
-once (b ∷ found) k begin h = by_test (b.0 == k) refl (λ g. once found k begin g)
-  where
-    one : times k (b ∷ found) ≡ cond (b.0 == k) 1 0 + times k found
-    one = sum_by-cons (λ (x : ℕ × ℕ). cond (x.0 == k) 1 0) b found
-
-    by_test : (t : Bool) → (b.0 == k) ≡ t → (times k found ≡ 1 → last_begin found k begin ≡ begin_of_number found k)
-        → last_begin found k (cond t b.1 begin) ≡ elim (cond t (Some b) (find (λ (x : ℕ × ℕ). x.0 == k) found)) [ None ↦ 0 | Some x ↦ x.1 ]
-    by_test true e rest = not_there found k b.1 (omega (arith, one, ap {B = ℕ} (λ (u : Bool). cond u 1 0) e, h))
-    by_test false e rest = rest (omega (arith, one, ap {B = ℕ} (λ (u : Bool). cond u 1 0) e, h))
+once (b ∷ found) k begin h =
+    let one = times_cons k b found in
+    elim (eqb_tells b.0 k) [
+      | inl e ↦
+          grind (arith, nat_tests, e.0, not_there found k b.1 (omega (arith, one, ap {B = ℕ} (λ (u : Bool). cond u 1 0) e.0, h)))
+      | inr e ↦
+          grind (arith, nat_tests, e.0, once found k begin (omega (arith, one, ap {B = ℕ} (λ (u : Bool). cond u 1 0) e.0, h)))
+    ]
 
 each_once : (n count : ℕ) (found : List (ℕ × ℕ)) (vars : List Var) → HasOneEach count found → n + length vars ≤ count
     → with_last n found vars ≡ map (λ (v : Numbered). record v.1 { begin = begin_of_number found v.0 }) (enumerate_from n vars)
@@ -95,9 +98,6 @@ numbered_cons : (k : ℕ) (v : Numbered) (vars : List Numbered) → numbered k (
 unfolding numbered
 numbered_cons k v vars = sum_by-cons (λ (x : Numbered). cond (x.0 == k) 1 0) v vars
 
-times_cons : (k : ℕ) (b : ℕ × ℕ) (found : List (ℕ × ℕ)) → times k (b ∷ found) ≡ cond (b.0 == k) 1 0 + times k found
-times_cons k b found = sum_by-cons (λ (x : ℕ × ℕ). cond (x.0 == k) 1 0) b found
-
 numbered_append : (k : ℕ) (vars more : List Numbered) → numbered k (vars ++ more) ≡ numbered k vars + numbered k more
 unfolding numbered
 numbered_append k vars more = sum_by-append (λ (x : Numbered). cond (x.0 == k) 1 0) vars more
@@ -105,27 +105,12 @@ numbered_append k vars more = sum_by-append (λ (x : Numbered). cond (x.0 == k) 
 times_append : (k : ℕ) (found more : List (ℕ × ℕ)) → times k (found ++ more) ≡ times k found + times k more
 times_append k found more = sum_by-append (λ (x : ℕ × ℕ). cond (x.0 == k) 1 0) found more
 
-times_fixed : (k : ℕ) (header : Header) (front : ℕ) (vars : List Numbered) → times k (fixed_begins header front vars) ≡ numbered k vars
+times_placed : (k : ℕ) (c : Placing) (m : ℕ) (vars : List Numbered) → times k (c.begins m vars) ≡ numbered k vars
 unfolding numbered
-times_fixed k header front [] = refl
-times_fixed k header front (v ∷ vars) =
-    let rest = times_fixed k header (begin_at front v.1 + slab header v.1) vars in
-    let a = times_cons k (v.0, begin_at front v.1) (fixed_begins header (begin_at front v.1 + slab header v.1) vars) in
-    a ∙ ap (λ (n : ℕ). cond (v.0 == k) 1 0 + n) rest ∙ sym (numbered_cons k v vars)
-
-times_kept : (k m low : ℕ) (vars : List Numbered) → times k (map (λ (v : Numbered). (v.0, m + (v.1.begin - low))) vars) ≡ numbered k vars
-unfolding numbered
-times_kept k m low [] = refl
-times_kept k m low (v ∷ vars) =
-    times_cons k (v.0, m + (v.1.begin - low)) (map (λ (w : Numbered). (w.0, m + (w.1.begin - low))) vars)
-    ∙ ap (λ (n : ℕ). cond (v.0 == k) 1 0 + n) (times_kept k m low vars) ∙ sym (numbered_cons k v vars)
-
-times_records : (k : ℕ) (header : Header) (at : ℕ) (vars : List Numbered) → times k (record_begins header at vars) ≡ numbered k vars
-unfolding numbered
-times_records k header at [] = refl
-times_records k header at (v ∷ vars) =
-    times_cons k (v.0, at) (record_begins header (at + vsize header v.1) vars)
-    ∙ ap (λ (n : ℕ). cond (v.0 == k) 1 0 + n) (times_records k header (at + vsize header v.1) vars) ∙ sym (numbered_cons k v vars)
+times_placed k c m [] = ap (times k) (c.none m)
+times_placed k c m (v ∷ vars) =
+    ap (times k) (c.next m v vars) ∙ times_cons k (v.0, c.begin m v) (c.begins (c.step m v) vars)
+    ∙ ap (λ (n : ℕ). cond (v.0 == k) 1 0 + n) (times_placed k c (c.step m v) vars) ∙ sym (numbered_cons k v vars)
 
 times_capped : (k : ℕ) (found : List (ℕ × ℕ)) → times k (capped_pairs found) ≡ times k found
 times_capped k [] = refl
@@ -164,14 +149,14 @@ times_all k header n m low at =
     let b = map (λ (v : Numbered). (v.0, m + (v.1.begin - low))) (by_begin (old_of n records)) in
     let c = record_begins header at (new_of n records) in
     let in_a : times k a ≡ numbered k (old_of n fixed) + numbered k (new_of n fixed) =
-    times_fixed k header (header_len header) (fixed_order header n) ∙ numbered_append k (by_begin (old_of n fixed)) (new_of n fixed)
+    times_placed k (fixed_placing header) (header_len header) (fixed_order header n) ∙ numbered_append k (by_begin (old_of n fixed)) (new_of n fixed)
     ∙ ap (λ (i : ℕ). i + numbered k (new_of n fixed)) (numbered_sorted k (old_of n fixed)) in
     let kinds : numbered k records + numbered k fixed ≡ numbered k all =
     numbered_parts k (λ (v : Numbered). is_record header v.1) (λ (v : Numbered). not (is_record header v.1)) (λ v. refl) all in
     times_append k (a ++ b) c
     ∙ ap (λ (i : ℕ). i + times k c) (times_append k a b ∙ ap (λ (i : ℕ). i + times k b) (in_a ∙ sides k n fixed))
-    ∙ ap (λ (i : ℕ). numbered k fixed + i + times k c) (times_kept k m low (by_begin (old_of n records)) ∙ numbered_sorted k (old_of n records))
-    ∙ ap (λ (i : ℕ). numbered k fixed + numbered k (old_of n records) + i) (times_records k header at (new_of n records))
+    ∙ ap (λ (i : ℕ). numbered k fixed + i + times k c) (times_placed k (old_placing header m low) m (by_begin (old_of n records)) ∙ numbered_sorted k (old_of n records))
+    ∙ ap (λ (i : ℕ). numbered k fixed + numbered k (old_of n records) + i) (times_placed k (new_placing header) at (new_of n records))
     ∙ omega (arith, sides k n records, kinds)
 
 pub each_placed : (header : Header) (n : ℕ) → HasOneEach (length header.vars) (capped_pairs (begins_by_number header n))
@@ -184,11 +169,4 @@ each_placed header n k =
     ∙ numbered_all k 0 header.vars ∙ from_zero k (length header.vars)
   where
     from_zero : (i m : ℕ) → ◌≡◌ {A = ℕ} (cond (nat_le 0 i && nat_lt i (0 + m)) 1 0) (cond (nat_lt i m) 1 0)
-    from_zero i m = by_tests (nat_le 0 i) (nat_lt i (0 + m)) (nat_lt i m) refl refl refl
-      where
-        by_tests : (t u v : Bool) → nat_le 0 i ≡ t → nat_lt i (0 + m) ≡ u → nat_lt i m ≡ v → ◌≡◌ {A = ℕ} (cond (t && u) 1 0) (cond v 1 0)
-        by_tests true true true e f g = refl
-        by_tests true true false e f g = absurd (grind (arith, nat_tests))
-        by_tests true false true e f g = absurd (grind (arith, nat_tests))
-        by_tests true false false e f g = refl
-        by_tests false u v e f g = absurd (grind (arith, nat_tests))
+    from_zero i m = grind (arith, nat_tests)

@@ -1,9 +1,9 @@
-use Rattle.redef_mover.proofs.Words.{ℕ, ◌+◌, ◌<◌, length, get_or, ap, ◌∙◌, arith, get_or_default, capped, NumberedVar}
-use Rattle.redef_mover.proofs.Places.{old_none, old_next, old_whole}
+use Rattle.redef_mover.proofs.Words.{ℕ, ◌+◌, ◌<◌, length, get_or, ap, ◌∙◌, arith, get_or_default, capped, NumberedVar, record_var}
+use Rattle.redef_mover.proofs.Places.{none_so_far, old_next, old_placing, whole_so_far}
 use Rattle.redef_mover.proofs.new_begins.place_old_records.Goals as goal
 
 pub loop-var-init : goal.loop-var-init
-loop-var-init c = old_none c.args.order.now c.args.first c.args.least c.args.places.now
+loop-var-init c = none_so_far (λ header m. old_placing header m c.args.least) record_var c.args.order.now c.args.first c.args.places.now
 
 pub loop-var-preserved : goal.loop-var-preserved
 loop-var-preserved c =
@@ -17,4 +17,6 @@ loop-var-preserved c =
     (c.sum-begin.ensures ∙ ap (λ (n : ℕ). capped (c.args.first + n)) c.saturating_sub.ensures) c.sum-end.ensures c.in_ok-push.ensures.ok c.loop-var.invariant
 
 pub returns : goal.returns
-returns c = old_whole c.args.order.now c.args.first c.args.least c.loop-var.var-index c.args.places.now c.loop-var.places c.loop-var.end (omega arith) c.loop-var.invariant
+returns c =
+    whole_so_far (λ header m. old_placing header m c.args.least) record_var c.args.order.now c.args.first c.args.places.now c.loop-var.var-index c.loop-var.places c.loop-var.end (omega arith)
+    c.loop-var.invariant
