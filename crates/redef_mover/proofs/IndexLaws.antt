@@ -1,7 +1,6 @@
 -- The index of a header's names, and what an addition makes of it.
-use Rattle.redef_mover.proofs.Words.{◌≡◌, ◌∙◌, ℕ, zero, suc, ◌+◌, ◌<◌, ◌≤◌, List, [], ◌∷◌, ◌++◌, length, get_or, map, position, set, Bool, true, false, cond, ◌&&◌, ◌||◌, Option, Some, None, is_some, bytes_eq, refl, sym, ap, subst, arith, nat_eq, Bor, BTreeMap, BTreeSet, tied_then, slice_cmp, position_from, prefix_len, option_or, option_cmp, is_eq, nat_cmp, ordering_then, ltb-false, nat_tests, same_from_decides, position_from-zero, list_any-append, find_at, position-Some, btree_map_updates_str, is_eq-slice_cmp, get_or_from_slice_get, slice_get_past, bytes_eq-Decides, position_map, second_counts, none_last, no_false, equal_below, equal_suc, entry_below, entry_set, entry_set_other, position_below, AllByRecursion, Attr, Dim, Header, Var, find_var, attrs_of_var, has_attr, with_var_attr, place_of, has_name, is_same, attrs_among, attrs_at, given, IsIndexOf, NameIndex}
+use Rattle.redef_mover.proofs.Words.{◌≡◌, ◌∙◌, ℕ, zero, suc, ◌+◌, ◌<◌, ◌≤◌, List, [], ◌∷◌, ◌++◌, length, get_or, map, position, set, Bool, true, false, cond, ◌&&◌, ◌||◌, Option, Some, None, is_some, bytes_eq, refl, sym, ap, subst, arith, nat_eq, Bor, BTreeMap, BTreeSet, tied_then, slice_cmp, position_from, prefix_len, option_or, option_cmp, is_eq, nat_cmp, ordering_then, ltb-false, nat_tests, same_from_decides, position_from-zero, list_any-append, find_at, position-Some, btree_map_updates_str, is_eq-slice_cmp, get_or_from_slice_get, slice_get_past, bytes_eq-Decides, position_map, second_counts, none_last, no_false, equal_below, equal_suc, entry_below, entry_set, entry_set_other, position_below, Attr, Dim, Header, Var, find_var, attrs_of_var, has_attr, with_var_attr, place_of, has_name, is_same, attrs_among, attrs_at, given, IsIndexOf, NameIndex}
 use Rattle.std.proofs.Common.{not, nat_lt, slice_get}
-use Rattle.redef_laws.proofs.FitLaws.{none_found}
 use Rattle.std.specs.BTreeMap as tree
 use Rattle.std.specs.BTreeSet as sorted
 
@@ -193,12 +192,24 @@ attr_there name a vs k e =
     ∙ sym (given_is vs k there.0 a there.1)
 
 pub attr_nowhere : (name : List ℕ) (a : Attr) (vs : List Var) → position (λ (v : Var). bytes_eq v.name name) vs ≡ None → with_var_attr name a vs ≡ vs
-attr_nowhere name a vs e = all_other vs (none_found (λ (v : Var). bytes_eq v.name name) vs e)
+attr_nowhere name a vs e = all_other vs (fewer _ _ e)
   where
-    all_other : (ws : List Var) → AllByRecursion (λ (v : Var). bytes_eq v.name name ≡ false) ws → with_var_attr name a ws ≡ ws
+    fewer : (n m : ℕ) → cond (nat_lt n m) (Some n) None ≡ None → m ≤ n
+    fewer n m g = by_test (nat_lt n m) refl g
+      where
+        by_test : (t : Bool) → nat_lt n m ≡ t → cond t (Some n) None ≡ None → m ≤ n
+        by_test true f g = cc
+        by_test false f g = grind (arith, nat_tests)
+
+    all_other : (ws : List Var) → length ws ≤ prefix_len (λ (v : Var). not (bytes_eq v.name name)) ws → with_var_attr name a ws ≡ ws
     all_other [] h = refl
-    all_other (w ∷ ws) h =
-        ap (λ (t : Bool). cond t (record w { attrs = w.attrs ++ a ∷ [] } ∷ ws) (w ∷ with_var_attr name a ws)) h.0 ∙ ap (λ vs. w ∷ vs) (all_other ws h.1)
+    all_other (w ∷ ws) h = by_name (bytes_eq w.name name) h (all_other ws)
+      where
+        by_name : (t : Bool) → length (w ∷ ws) ≤ cond (not t) (1 + prefix_len (λ (v : Var). not (bytes_eq v.name name)) ws) 0
+            → (length ws ≤ prefix_len (λ (v : Var). not (bytes_eq v.name name)) ws → with_var_attr name a ws ≡ ws)
+            → cond t (record w { attrs = w.attrs ++ a ∷ [] } ∷ ws) (w ∷ with_var_attr name a ws) ≡ w ∷ ws
+        by_name true g rest = absurd (omega arith)
+        by_name false g rest = ap (λ vs. w ∷ vs) (rest (omega arith))
 
 -- what the header has under an owner's name
 found_attrs : (header : Header) (owner : List ℕ) → attrs_of_var header owner ≡ elim (find_var header owner) [ None ↦ [] | Some k ↦ attrs_at header (Some k) ]
