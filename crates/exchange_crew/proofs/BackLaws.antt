@@ -1,11 +1,7 @@
 -- Parts that come back one after another.
-use Rattle.exchange_crew.proofs.Words.{◌≡◌, ℕ, zero, suc, ◌+◌, ◌<◌, ◌≤◌, ◌⊎◌, min, get_or, inl, inr, refl, sym, ◌∙◌, ap, subst, List, [], ◌∷◌, ◌++◌, length, map, take, drop, Some, Result, Ok, Err, arith, length-append, take_more, slice_get_within, slice_get-get_or, all_zipped_more, slice_get, zip, OnOk, IsErr, IsErrOf, IsOk, AllZip, result_and, entry_below, refilled, Extent, StepErr, Disk, In, in_either, in_right, at_in, in_at, SomeZip, zip_weaker, nat_tests}
+use Rattle.exchange_crew.proofs.Words.{◌≡◌, ℕ, zero, suc, ◌+◌, ◌<◌, ◌≤◌, ◌⊎◌, min, get_or, inl, inr, refl, ◌∙◌, ap, subst, List, [], ◌∷◌, ◌++◌, length, map, take, drop, Some, Result, Ok, Err, arith, length-append, take_more, slice_get_within, all_zipped_more, slice_get, zip, OnOk, IsErr, IsErrOf, IsOk, AllZip, result_and, entry_below, refilled, Extent, StepErr, Disk, In, in_either, in_right, at_in, in_at, SomeZip, zip_weaker, nat_tests}
 
 -- ---- two lists, place by place
-
-pub zip_more : {A B : Type 0} (R Q : A → B → Type 0) (xs : List A) (ys : List B) (x : A) (y : B) → ((a : A) (b : B) → R a b → Q a b) → AllZip R xs ys → Q x y
-    → AllZip Q (xs ++ x ∷ []) (ys ++ y ∷ [])
-zip_more R Q xs ys x y f h q = all_zipped_more Q xs ys x y (zip_weaker R Q xs ys f h) q
 
 -- each beside what was found at its place
 pub zip_push : {A B : Type 0} (xs : List A) (ys : List B) (x : A) (y : B) → slice_get ys (length xs) ≡ Some y → zip (xs ++ x ∷ []) ys ≡ zip xs ys ++ (x, y) ∷ []
@@ -42,21 +38,22 @@ middle_in {A} xs rest whole x e = subst (λ (v : List A). In v x) e (in_right xs
 
 -- ---- an end, and one that came later
 
-pub and_first_ok : {T E : Type 0} (end came : Result T E) → OnOk (result_and end came) (IsOk end)
-and_first_ok end came = grind (arith, nat_tests)
+pub and_first_ok : {T E : Type 0} (end came both : Result T E) → both ≡ result_and end came → OnOk both (IsOk end)
+and_first_ok end came both is = grind (arith, nat_tests)
 
-pub and_second_ok : {T E : Type 0} (end came : Result T E) → OnOk (result_and end came) (IsOk came)
-and_second_ok end came = grind (arith, nat_tests)
+pub and_second_ok : {T E : Type 0} (end came both : Result T E) → both ≡ result_and end came → OnOk both (IsOk came)
+and_second_ok end came both is = grind (arith, nat_tests)
+
+pub and_failed : {T : Type 0} (end came both : Result T StepErr) → both ≡ result_and end came → IsErrOf both Disk → IsErrOf end Disk ⊎ IsErrOf came Disk
+and_failed (Ok x) came both is f = inr (subst (λ (r : Result _ StepErr). IsErrOf r Disk) is f)
+and_failed (Err x) came both is f = inl (subst (λ (r : Result _ StepErr). IsErrOf r Disk) is f)
+
+-- ---- a vector whose slice was lent, and came back as long
+
+pub slice_kept : {X : Type 0} (n : ℕ) (new old : List X) → n ≡ length old → length new ≡ length old → take n (new ++ drop (length new) old) ≡ new
+slice_kept {X} n new old e l = ap (λ (m : ℕ). take m (new ++ drop (length new) old)) e ∙ refilled old new l
 
 -- ---- workers that were lent, and came back changed
-
-pub each_new : {X : Type 0} (P Q : X → Type 0) (R : X → X → Type 0) (old new : List X) → length new ≡ length old
-    → ((k : ℕ) (x y : X) → slice_get old k ≡ Some x → slice_get new k ≡ Some y → R x y) → ((x : X) → In old x → P x) → ((x y : X) → R x y → P x → Q y) → (y : X) → In new y → Q y
-each_new P Q R old new long each all f y m =
-    let k = in_at new y m in
-    let l = slice_get_within new k.0 y k.1 in
-    let x = entry_below old k.0 (omega arith) in
-    f x.0 y (each k.0 x.0 y x.1 k.1) (all x.0 (at_in old k.0 x.0 x.1))
 
 pub map_new : {X Y : Type 0} (f : X → Y) (R : X → X → Type 0) (old new : List X) → length new ≡ length old
     → ((k : ℕ) (x y : X) → slice_get old k ≡ Some x → slice_get new k ≡ Some y → R x y) → ((x y : X) → R x y → f y ≡ f x) → map f new ≡ map f old
@@ -64,6 +61,31 @@ map_new f R [] [] long each same = refl
 map_new f R (x ∷ old) (y ∷ new) long each same =
     (λ i. same x y (each zero x y refl refl) i ∷ map f new) ∙ ap (λ r. f x ∷ r) (map_new f R old new (omega arith) (λ k a b e g. each (suc k) a b e g) same)
 map_new f _ _ _ long each same = absurd (omega arith)
+
+-- each is as one that was lent, and the vector whose slice was lent has them
+pub record AreKept {S : Type 0} (Kept : S → S → Type 0) (first last whole : List S) : Type 0 where
+  pub long : length last ≡ length first
+  pub each : (k : ℕ) (a b : S) → slice_get first k ≡ Some a → slice_get last k ≡ Some b → Kept a b
+  pub same : whole ≡ last
+
+pub lent_kept : {S : Type 0} (Kept : S → S → Type 0) (count : ℕ) (first lent last : List S) → lent ≡ first → count ≡ length first → length last ≡ length lent
+    → ((k : ℕ) (a b : S) → slice_get lent k ≡ Some a → slice_get last k ≡ Some b → Kept a b) → AreKept Kept first last (take count (last ++ drop (length last) first))
+lent_kept {S} Kept count first lent last is many long each =
+    let same = long ∙ ap (λ (ws : List S). length ws) is in
+    record {
+      long = same;
+      each = subst (λ (ws : List S). (k : ℕ) (a b : S) → slice_get ws k ≡ Some a → slice_get last k ≡ Some b → Kept a b) is each;
+      same = slice_kept count last first many same;
+    }
+
+pub kept_all : {S : Type 0} (Kept : S → S → Type 0) (P Q : S → Type 0) {first last whole : List S} → AreKept Kept first last whole → ((x y : S) → Kept x y → P x → Q y)
+    → ((x : S) → In first x → P x) → (y : S) → In whole y → Q y
+kept_all {S} Kept P Q {first} {last} kept f all y m =
+    let k = in_at last y (subst (λ (ws : List S). In ws y) kept.same m) in
+    let l = slice_get_within last k.0 y k.1 in
+    let long = kept.long in
+    let x = entry_below first k.0 (omega arith) in
+    f x.0 y (kept.each k.0 x.0 y x.1 k.1) (all x.0 (at_in first k.0 x.0 x.1))
 
 -- ---- the longest window of domains
 
@@ -73,21 +95,32 @@ longest_more size i list d old new l each here grown e m = grind (arith, nat_tes
 
 -- ---- one part more came back
 
-pub back_more : {A B T E : Type 0} (R : Result T E → A → B → Type 0) (xs : List A) (ys now : List B) (x : A) (y : B) (end came : Result T E)
-    → ((a : A) (b : B) → R end a b → R came a b) → AllZip (R end) xs ys → R came x y → now ≡ ys ++ y ∷ [] → AllZip (R came) (xs ++ x ∷ []) now
-back_more {A} {B} R xs ys now x y end came later h r e = subst (λ (v : List B). AllZip (R came) (xs ++ x ∷ []) v) (sym e) (zip_more (R end) (R came) xs ys x y later h r)
+-- what was done on the parts that came back, and a fault among them
+pub record IsBack {A B D T : Type 0} (Done : Result T StepErr → A → D → Type 0) (Failing : B → D → Type 0) (pairs : List A) (xs : List B) (back : List D) (end : Result T StepErr) : Type 0 where
+  pub long : length back ≡ length xs
+  pub done : AllZip (Done end) pairs back
+  pub failed : IsErrOf end Disk → SomeZip Failing xs back
 
-pub failed_more : {A B T : Type 0} (R : A → B → Type 0) (xs : List A) (ys now : List B) (x : A) (y : B) (end came : Result T StepErr) → length ys ≡ length xs
-    → (IsErrOf end Disk → SomeZip R xs ys) → (IsErrOf came Disk → IsErrOf end Disk ⊎ R x y) → now ≡ ys ++ y ∷ [] → IsErrOf came Disk → SomeZip R (xs ++ x ∷ []) now
-failed_more {A} {B} R xs ys now x y end came long before own e f =
-    subst (λ (v : List B). SomeZip R (xs ++ x ∷ []) v) (sym e) (elim (own f) [ inl g ↦ some_more R xs ys x y (before g) | inr r ↦ some_last R xs ys x y long r ])
+-- what was done stays so where the end is no better
+abbrev pub IsLater : {A D T : Type 0} → (Result T StepErr → A → D → Type 0) → Type 0
+IsLater {A} {D} {T} Done = (r q : Result T StepErr) (p : A) (d : D) → OnOk q (IsOk r) → Done r p d → Done q p d
 
-pub and_failed : {T : Type 0} (end came : Result T StepErr) → IsErrOf (result_and end came) Disk → IsErrOf end Disk ⊎ IsErrOf came Disk
-and_failed (Ok x) came f = inr f
-and_failed (Err x) came f = inl f
+pub one_back : {A B D T : Type 0} (Done : Result T StepErr → A → D → Type 0) (Failing : B → D → Type 0) (pairs more : List A) (pair : A) (xs : List B) (x : B) (back now : List D) (y : D)
+    (end came : Result T StepErr) → IsLater Done → more ≡ pairs ++ pair ∷ [] → now ≡ back ++ y ∷ [] → OnOk came (IsOk end) → IsBack Done Failing pairs xs back end → Done came pair y
+    → (IsErrOf came Disk → IsErrOf end Disk ⊎ Failing x y) → IsBack Done Failing more (xs ++ x ∷ []) now came
+one_back Done Failing pairs more pair xs x back now y end came later e pushed ok s own fault = rw (e, pushed) (record {
+  long = omega (arith, length-append xs (x ∷ []), length-append back (y ∷ []), s.long);
+  done = all_zipped_more (Done came) pairs back pair y (zip_weaker (Done end) (Done came) pairs back (λ p d h. later end came p d ok h) s.done) own;
+  failed = λ f. elim (fault f) [ inl g ↦ some_more Failing xs back x y (s.failed g) | inr r ↦ some_last Failing xs back x y s.long r ];
+})
 
-pub both_long : {A B : Type 0} (xs : List A) (x : A) (ys now : List B) (y : B) → now ≡ ys ++ y ∷ [] → length ys ≡ length xs → length now ≡ length (xs ++ x ∷ [])
-both_long {A} {B} xs x ys now y e long = grind (arith, nat_tests, length-append xs (x ∷ []), length-append ys (y ∷ []))
+-- one of a helper that was joined
+pub joined_back : {S D T : Type 0} (Done : Result T StepErr → S → D → Type 0) (Failing : S → D → Type 0) (xs : List S) (x : S) (back now : List D) (y : D) (end came both : Result T StepErr)
+    → IsLater Done → both ≡ result_and end came → now ≡ back ++ y ∷ [] → IsBack Done Failing xs xs back end → Done came x y → (IsErrOf came Disk → Failing x y)
+    → IsBack Done Failing (xs ++ x ∷ []) (xs ++ x ∷ []) now both
+joined_back Done Failing xs x back now y end came both later is pushed s own fault =
+    one_back Done Failing xs (xs ++ x ∷ []) x xs x back now y end both later refl pushed (and_first_ok end came both is) s (later came both x y (and_second_ok end came both is) own)
+    (λ f. elim (and_failed end came both is f) [ inl g ↦ inl g | inr r ↦ inr (fault r) ])
 
 pub err_not_ok : {T E : Type 0} (P : Type 0) (r : Result T E) → IsErr r → OnOk r P
 err_not_ok P (Ok x) e = absurd cc
@@ -95,15 +128,7 @@ err_not_ok P (Err x) e = tt
 
 -- ---- parts and domains at one place
 
-pub at_index : {X : Type 0} (xs : List X) (i k : ℕ) (d : X) → i < length xs → k ≡ i → slice_get xs k ≡ Some (get_or xs i d)
-at_index xs i k d l e = ap (λ (n : ℕ). slice_get xs n) e ∙ slice_get-get_or xs i d l
-
 pub zip_same : {A B : Type 0} (Q : A × B → A → Type 0) (xs : List A) (ds : List B) → length ds ≡ length xs → ((x : A) (d : B) → Q (x, d) x) → AllZip Q (zip xs ds) xs
 zip_same Q (x ∷ xs) [] long f = absurd (omega arith)
 zip_same Q (x ∷ xs) (d ∷ ds) long f = (f x d, zip_same Q xs ds (omega arith) f)
 zip_same _ _ _ long f = tt
-
--- ---- a vector whose slice was lent, and came back as long
-
-pub slice_kept : {X : Type 0} (n : ℕ) (new old : List X) → n ≡ length old → length new ≡ length old → take n (new ++ drop (length new) old) ≡ new
-slice_kept {X} n new old e l = ap (λ (m : ℕ). take m (new ++ drop (length new) old)) e ∙ refilled old new l

@@ -1,6 +1,7 @@
 -- Helpers that were handed parts one after another, each the next part.
-use Rattle.exchange_crew.proofs.Words.{ℕ, ◌≡◌, ◌+◌, ◌∙◌, List, [], ◌∷◌, ◌++◌, length, map, take, Option, None, Some, Result, Ok, Err, refl, sym, ap, subst, arith, append-nil, append_assoc, length-append, length-map, map-append, same_Some, slice_get, zip, ForSome, IfErr, IfOk, IsOk, OnOk, AllZip, middle_at, take_next, Aggregator, AreHanded, Extent, HasAdded, In, IsDomainOf, IsNext, Owned, Shares, SomeZip, domain_in, in_either, nat_tests}
-use Rattle.exchange_crew.proofs.BackLaws.{some_mapped, zip_mapped}
+use Rattle.exchange_crew.proofs.Words.{ℕ, ◌≡◌, ◌+◌, ◌∙◌, List, [], ◌∷◌, ◌++◌, length, map, take, Option, None, Some, Result, Ok, Err, refl, sym, ap, subst, arith, append-nil, append_assoc, length-append, length-map, map-append, same_Some, slice_get, zip, ForSome, IfErr, IfOk, OnOk, AllZip, middle_at, take_next, Aggregator, AreHanded, Extent, HasAdded, In, IsDomainOf, IsNext, Owned, Shares, SomeZip, domain_in, in_either, nat_tests, ◌<◌, ◌≤◌, slice_get_within, drop, result_and}
+use Rattle.exchange_crew.proofs.SplitLaws.{first_parts, parts_behind}
+use Rattle.exchange_crew.proofs.BackLaws.{some_mapped, zip_mapped, AreKept, map_new}
 
 pub workers_few : {S D : Type 0} (part : S → D) (workers : List S) (rest parts : List D) → map part workers ++ rest ≡ parts → length workers + length rest ≡ length parts
 workers_few {S} {D} part workers rest parts whole = grind (arith, nat_tests, length-map workers part, length-append (map part workers) rest)
@@ -37,6 +38,12 @@ pub part_domain : {D : Type 0} (from len : D → ℕ) (list : List Owned) (domai
 part_domain from len list domains parts yielded more own place domain all whole e at =
     all (length yielded) own domain (middle_at yielded more parts own whole) (subst (λ (k : ℕ). slice_get domains k ≡ Some domain) e at)
 
+-- those handed out are fewer than all parts
+pub handed_few : {W D : Type 0} (part : W → D) (shares : Shares W D) (parts yielded more : List D) (own : D) → yielded ++ own ∷ more ≡ parts → map part shares.workers.items ++ shares.rest.items ≡ yielded
+    → length shares.workers.items + length shares.rest.items < length parts
+handed_few part shares parts yielded more own whole handed =
+    omega (arith, workers_few part shares.workers.items shares.rest.items yielded handed, slice_get_within parts (length yielded) own (middle_at yielded more parts own whole))
+
 -- the domain of the next aggregator
 pub next_domain : {W D : Type 0} (part : W → D) (from len : D → ℕ) (list : List Owned) (domains : List Extent) (parts yielded more : List D) (own : D) (shares : Shares W D) (next : Option Aggregator)
     → ((k : ℕ) (p : D) (d : Extent) → slice_get parts k ≡ Some p → slice_get domains k ≡ Some d → IsDomainOf list (from p) (len p) d) → yielded ++ own ∷ more ≡ parts
@@ -68,21 +75,38 @@ handed_more {W} {D} Fresh part share domains yielded own old new next (Err back)
 -- ---- one part more came back
 
 -- what holds of each worker so far and of the last one, where nothing was refused
-pub each_joined : {S T U V E : Type 0} (P : S → Type 0) (workers : List S) (worker : S) (end : Result T E) (came : Result U E) (both : Result V E) → OnOk both (IsOk end) → OnOk both (IsOk came)
-    → OnOk end ((s : S) → In workers s → P s) → OnOk came (P worker) → OnOk both ((s : S) → In (workers ++ worker ∷ []) s → P s)
-each_joined P workers worker end came (Err e) first second all own = tt
-each_joined P workers worker (Ok u) (Ok v) (Ok w) first second all own = crew_each P workers (workers ++ worker ∷ []) worker (λ i. workers ++ worker ∷ []) all own
-each_joined _ workers worker _ _ _ first second all own = absurd cc
+pub each_joined : {S T E : Type 0} (P : S → Type 0) (workers : List S) (worker : S) (end came both : Result T E) → both ≡ result_and end came → OnOk end ((s : S) → In workers s → P s)
+    → OnOk came (P worker) → OnOk both ((s : S) → In (workers ++ worker ∷ []) s → P s)
+each_joined P workers worker end came (Err e) is all own = tt
+each_joined P workers worker (Ok u) (Ok v) (Ok w) is all own = crew_each P workers (workers ++ worker ∷ []) worker refl all own
+each_joined _ workers worker _ _ _ is all own = absurd cc
 
--- they are of these parts and domains
-pub record AreOf {S D : Type 0} (part : S → D) (share : S → Extent) (workers : List S) (parts : List D) (domains : List Extent) : Type 0 where
-  pub of_parts : map part workers ≡ parts
-  pub of_domains : map share workers ≡ domains
+-- ---- what came back of helpers: their parts are the first ones, and the others are those behind them
 
-pub all_of : {S D : Type 0} (part : S → D) (share : S → Extent) (workers : List S) (parts back : List D) (domains : List Extent) (Q : D × Extent → D → Type 0) → AreOf part share workers parts domains
-    → AllZip (λ worker new. Q (part worker, share worker) new) workers back → AllZip Q (zip parts domains) back
-all_of {S} {D} part share workers parts back domains Q of h = grind (arith, nat_tests, zip_mapped part share Q workers back h)
+pub record HaveServed {S D : Type 0} (part : S → D) (share : S → Extent) (last : List S) (rest back parts : List D) (domains : List Extent) : Type 0 where
+  pub of_parts : map part last ≡ take (length back) parts
+  pub of_domains : map share last ≡ take (length back) domains
+  pub behind : rest ≡ drop (length back) parts
+  pub few : length back ≤ length parts
 
-pub some_of : {S D : Type 0} (part : S → D) (share : S → Extent) (workers : List S) (parts back : List D) (domains : List Extent) (R : D → D → Type 0) → AreOf part share workers parts domains
-    → SomeZip (λ worker new. R (part worker) new) workers back → SomeZip R parts back
-some_of {S} {D} part share workers parts back domains R of h = grind (arith, nat_tests, some_mapped part R workers back h)
+module _ {S D : Type 0} (part : S → D) (share : S → Extent) {first last whole : List S} where
+  pub have_served : (Kept : S → S → Type 0) (rest back parts : List D) (domains : List Extent) → AreKept Kept first last whole → ((a b : S) → Kept a b → (part b ≡ part a) × (share b ≡ share a))
+      → map part first ++ rest ≡ parts → map share first ≡ take (length first) domains → length back ≡ length whole → HaveServed part share last rest back parts domains
+  have_served Kept rest back parts domains kept same handed shares long =
+      let many : length back ≡ length first = long ∙ ap (λ (ws : List S). length ws) kept.same ∙ kept.long in
+      record {
+        of_parts = map_new part Kept first last kept.long kept.each (λ a b k. (same a b k).0) ∙ sym (first_parts part first rest parts (length back) many handed);
+        of_domains = map_new share Kept first last kept.long kept.each (λ a b k. (same a b k).1) ∙ shares ∙ ap (λ (k : ℕ). take k domains) (sym many);
+        behind = parts_behind part first rest parts (length back) many handed;
+        few = omega (arith, workers_few part first rest parts handed, many);
+      }
+
+  pub all_served : {Kept : S → S → Type 0} {rest back parts : List D} {domains : List Extent} (Q : D × Extent → D → Type 0) → AreKept Kept first last whole
+      → HaveServed part share last rest back parts domains → AllZip (λ worker new. Q (part worker, share worker) new) whole back → AllZip Q (zip (take (length back) parts) (take (length back) domains)) back
+  all_served {back = back} Q kept served h =
+      rw (served.of_parts, served.of_domains) at (zip_mapped part share Q last back (subst (λ (ws : List S). AllZip (λ worker new. Q (part worker, share worker) new) ws back) kept.same h))
+
+  pub some_served : {Kept : S → S → Type 0} {rest back parts : List D} {domains : List Extent} (R : D → D → Type 0) → AreKept Kept first last whole
+      → HaveServed part share last rest back parts domains → SomeZip (λ worker new. R (part worker) new) whole back → SomeZip R (take (length back) parts) back
+  some_served {back = back} R kept served h =
+      rw served.of_parts at (some_mapped part R last back (subst (λ (ws : List S). SomeZip (λ worker new. R (part worker) new) ws back) kept.same h))

@@ -1,6 +1,6 @@
 -- The first parts, and those behind them: what holds of both holds of all.
-use Rattle.exchange_crew.proofs.Words.{◌≡◌, ℕ, zero, suc, ◌+◌, inl, inr, ap, ◌∙◌, List, [], ◌∷◌, ◌++◌, length, map, take, drop, Some, Result, arith, drop-append_seam, take-append_seam, length-map, slice_get, zip, IsErrOf, AllZip, result_and, Extent, Owned, StepErr, Disk, IsDomainOf, SomeZip, nat_tests}
-use Rattle.exchange_crew.proofs.BackLaws.{and_failed}
+use Rattle.exchange_crew.proofs.Words.{◌≡◌, ℕ, zero, suc, ◌+◌, inl, inr, ap, ◌∙◌, List, [], ◌∷◌, ◌++◌, length, map, take, drop, Some, Result, arith, drop-append_seam, take-append_seam, length-map, slice_get, zip, IsErrOf, AllZip, result_and, Extent, Owned, StepErr, Disk, IsDomainOf, SomeZip, nat_tests, ◌-◌, length-drop, take_rest, zip_weaker}
+use Rattle.exchange_crew.proofs.BackLaws.{and_failed, and_first_ok, and_second_ok, IsLater}
 
 pub zip_split : {A B : Type 0} (k : ℕ) (xs : List A) (ds : List B) → length ds ≡ length xs → zip xs ds ≡ zip (take k xs) (take k ds) ++ zip (drop k xs) (drop k ds)
 zip_split zero xs ds long = λ i. zip xs ds
@@ -40,13 +40,38 @@ behind_at zero xs k x e = let same : zero + k ≡ k = omega arith in ap (λ (i :
 behind_at (suc n) [] k x e = absurd cc
 behind_at (suc n) (y ∷ xs) k x e = let same : suc n + k ≡ suc (n + k) = omega arith in ap (λ (i : ℕ). slice_get (y ∷ xs) i) same ∙ behind_at n xs k x e
 
-pub domains_behind : {D : Type 0} (from len : D → ℕ) (list : List Owned) (n : ℕ) (parts rest : List D) (domains more : List Extent) → rest ≡ drop n parts → more ≡ drop n domains
-    → ((k : ℕ) (part : D) (domain : Extent) → slice_get parts k ≡ Some part → slice_get domains k ≡ Some domain → IsDomainOf list (from part) (len part) domain)
-    → (k : ℕ) (part : D) (domain : Extent) → slice_get rest k ≡ Some part → slice_get more k ≡ Some domain → IsDomainOf list (from part) (len part) domain
-domains_behind {D} from len list n parts rest domains more behind later each k part domain e f = grind (arith, nat_tests, behind_at)
+-- the parts behind so many, beside their domains
+pub record IsSplit {D : Type 0} (n : ℕ) (parts rest : List D) (domains more : List Extent) : Type 0 where
+  pub long : length domains ≡ length parts
+  pub behind : rest ≡ drop n parts
+  pub later : more ≡ drop n domains
 
--- ---- a fault among them
+pub split_at : {D : Type 0} (count n : ℕ) (parts rest : List D) (domains : List Extent) → count ≡ n → length domains ≡ length parts → rest ≡ drop n parts
+    → IsSplit n parts rest domains (take (length domains - count) (drop count domains))
+split_at count n parts rest domains e long behind = record { long = long; behind = behind; later = take_rest domains count ∙ ap (λ (k : ℕ). drop k domains) e }
 
-pub failed_joined : {D T : Type 0} (R : D → D → Type 0) (parts rest back others whole : List D) (end came : Result T StepErr) → rest ≡ drop (length back) parts → whole ≡ back ++ others
-    → (IsErrOf end Disk → SomeZip R (take (length back) parts) back) → (IsErrOf came Disk → SomeZip R rest others) → IsErrOf (result_and end came) Disk → SomeZip R parts whole
-failed_joined {D} R parts rest back others whole end came behind all first second f = grind (arith, nat_tests, and_failed end came f, some_first, some_second)
+module _ {D : Type 0} {n : ℕ} {parts rest : List D} {domains more : List Extent} (split : IsSplit n parts rest domains more) where
+  pub split_long : length more ≡ length rest
+  split_long =
+      omega (arith, ap (λ (ds : List D). length ds) split.behind, ap (λ (ds : List Extent). length ds) split.later, length-drop n parts, length-drop n domains, split.long)
+
+  pub domains_behind : (from len : D → ℕ) (list : List Owned)
+      → ((k : ℕ) (part : D) (domain : Extent) → slice_get parts k ≡ Some part → slice_get domains k ≡ Some domain → IsDomainOf list (from part) (len part) domain)
+      → (k : ℕ) (part : D) (domain : Extent) → slice_get rest k ≡ Some part → slice_get more k ≡ Some domain → IsDomainOf list (from part) (len part) domain
+  domains_behind from len list each k part domain e f = grind (arith, nat_tests, behind_at, split.behind, split.later)
+
+-- ---- what was done on both, and a fault among them
+
+module _ {D T : Type 0} {parts rest : List D} {domains more : List Extent} (back others whole : List D) (end came both : Result T StepErr) (split : IsSplit (length back) parts rest domains more)
+    (all : whole ≡ back ++ others) (is : both ≡ result_and end came) where
+  pub all_joined : (Done : Result T StepErr → D × Extent → D → Type 0) → IsLater Done → AllZip (Done end) (zip (take (length back) parts) (take (length back) domains)) back
+      → AllZip (Done came) (zip rest more) others → AllZip (Done both) (zip parts domains) whole
+  all_joined Done later first second =
+      rw all (zip_joined (Done both) (length back) parts domains back others split.long (zip_weaker (Done end) (Done both) _ _ (λ p d h. later end both p d (and_first_ok end came both is) h) first)
+      (rw (split.behind, split.later) at (zip_weaker (Done came) (Done both) (zip rest more) others (λ p d h. later came both p d (and_second_ok end came both is) h) second)))
+
+  pub failed_joined : (R : D → D → Type 0) → (IsErrOf end Disk → SomeZip R (take (length back) parts) back) → (IsErrOf came Disk → SomeZip R rest others) → IsErrOf both Disk → SomeZip R parts whole
+  failed_joined R first second f = rw all (elim (and_failed end came both is f) [
+    | inl e ↦ some_first R (length back) parts back others (first e)
+    | inr e ↦ some_second R parts back others (rw split.behind at (second e))
+  ])

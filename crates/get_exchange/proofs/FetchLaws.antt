@@ -1,5 +1,6 @@
 -- A helper that reads window after window: what is left to be read gives the whole.
-use Rattle.get_exchange.proofs.Words.{◌≡◌, ℕ, ◌+◌, ◌-◌, ◌≤◌, inl, inr, refl, sym, ◌∙◌, ap, subst, List, [], ◌∷◌, ◌++◌, length, drop, suc, Option, Some, None, Result, append_assoc, arith, append-nil, length-append, flat_map, slice_get, IfSome, IsOk, OnOk, Extent, Owned, DiskCall, with_end-nil, with_end-with_end, with_end, StepErr, load_calls, In, read, Window, told_window, drop_at, HasFetched, get_turns, reading_of, AreRead, HasGot, IsGetPlan, LieOnPart, IsDomainOf, PartState, domain_of, IsStartedFor, Told, turns_of, Reading, Hull, ReadWorker, GetPlan, domain_part, nat_tests}
+use Rattle.std.proofs.lemmas.List.{drop_more}
+use Rattle.get_exchange.proofs.Words.{◌≡◌, ℕ, ◌+◌, ◌-◌, ◌≤◌, inl, inr, refl, sym, ◌∙◌, ap, subst, List, [], ◌∷◌, ◌++◌, length, drop, Option, None, Result, append_assoc, arith, append-nil, length-append, flat_map, IfSome, IsOk, OnOk, Extent, Owned, DiskCall, with_end-nil, with_end-with_end, with_end, StepErr, load_calls, In, read, Window, told_window, HasFetched, get_turns, reading_of, AreRead, HasGot, IsGetPlan, LieOnPart, IsDomainOf, PartState, domain_of, IsStartedFor, Told, turns_of, Reading, Hull, ReadWorker, GetPlan, domain_part, nat_tests, DiskGhosts, IsLater, part_state, ◌<◌, get_or, Some}
 use Rattle.std.specs.Prelude.{map}
 use mathlib.Core.List.{IsPrefix}
 
@@ -17,28 +18,17 @@ pub get_on : (list : List Owned) (cover : List Extent) (size from len : ℕ) (do
 get_on list cover size from len domain p d = λ t m. domain_part size domain cover from len p.some p.covers d.low d.high t m
 
 -- the window that comes next, and those behind it
-pub windows_left : (windows : List Window) (i : ℕ) (window : Window) → slice_get windows i ≡ Some window
-    → map told_window (drop i windows) ≡ told_window window ∷ map told_window (drop (i + 1) windows)
-windows_left windows i window at =
-    let next : suc i ≡ i + 1 = omega arith in
-    ap (λ (ws : List Window). map told_window ws) (drop_at windows i window at ∙ ap (λ (n : ℕ). window ∷ drop n windows) next)
+pub windows_left : (windows : List Window) (i : ℕ) (d : Window) → i < length windows → map told_window (drop i windows) ≡ told_window (get_or windows i d) ∷ map told_window (drop (i + 1) windows)
+windows_left windows i d l = ap (λ (ws : List Window). map told_window ws) (drop_more windows i d l)
 
 pub fetch_begin : (from len : ℕ) (all : List Told) (put : List Reading) (held : Option (List ℕ)) (calls : Option (List DiskCall)) → LieOnPart from len all → put ≡ []
     → IsFetching from len all all put held calls calls
 fetch_begin from len all put held calls on none = grind (arith, nat_tests)
 
-ahead_on : (from len : ℕ) (all ahead rest : List Told) (t : Told) (put : List Reading) (held : Option (List ℕ)) (calls made : Option (List DiskCall))
-    → IsFetching from len all ahead put held calls made → ahead ≡ t ∷ rest → (from ≤ t.0) × (t.0 + t.1 ≤ from + len)
-ahead_on from len all ahead rest t put held calls made s e = s.on_part t (subst (λ (ts : List Told). In ts t) (sym e) (inl refl))
-
 -- where the next window lies
-pub fetch_low : (from here len : ℕ) (all ahead rest : List Told) (t : Told) (put : List Reading) (held : Option (List ℕ)) (calls made : Option (List DiskCall))
-    → IsFetching from len all ahead put held calls made → ahead ≡ t ∷ rest → here ≡ from → here ≤ t.0
-fetch_low from here len all ahead rest t put held calls made s e same = let on = (ahead_on from len all ahead rest t put held calls made s e).0 in omega arith
-
-pub fetch_high : (from here len long : ℕ) (all ahead rest : List Told) (t : Told) (put : List Reading) (held : Option (List ℕ)) (calls made : Option (List DiskCall))
-    → IsFetching from len all ahead put held calls made → ahead ≡ t ∷ rest → here ≡ from → long ≡ len → t.0 + t.1 ≤ here + long
-fetch_high from here len long all ahead rest t put held calls made s e same last = let on = (ahead_on from len all ahead rest t put held calls made s e).1 in omega arith
+pub fetch_on : {from len : ℕ} {all ahead rest : List Told} {t : Told} {put : List Reading} {held : Option (List ℕ)} {calls made : Option (List DiskCall)} → IsFetching from len all ahead put held calls made
+    → ahead ≡ t ∷ rest → (from ≤ t.0) × (t.0 + t.1 ≤ from + len)
+fetch_on {t = t} s e = s.on_part t (subst (λ (ts : List Told). In ts t) (sym e) (inl refl))
 
 -- one window more
 pub fetch_next : (from here len : ℕ) (all ahead rest : List Told) (t : Told) (put now : List Reading) (hull : List ℕ) (held told : Option (List ℕ)) (calls made drawn : Option (List DiskCall))
@@ -64,9 +54,12 @@ fetch_end from len all ahead put held calls made s none = grind (arith, nat_test
 
 -- ---- a helper that was joined
 
--- reads that were done, or cut off by what came later
-pub got_later : {T E : Type 0} (ts : List Told) (old new : PartState) (end came : Result T E) → OnOk came (IsOk end) → HasGot ts old new end → HasGot ts old new came
-got_later ts old new end came ok h = grind (arith, nat_tests)
+-- reads that were done, or cut off by what came later: those of a plan on a part, beside its domain
+abbrev pub GotBy : {D T : Type 0} → DiskGhosts D → GetPlan → Result T StepErr → D × Extent → D → Type 0
+GotBy disk plan end p new = HasGot (get_turns plan p.1) (part_state disk p.0) (part_state disk new) end
+
+pub got_later : {D T : Type 0} (disk : DiskGhosts D) (plan : GetPlan) → IsLater {T = T} (GotBy disk plan)
+got_later disk plan end came p new ok h = grind (arith, nat_tests)
 
 pub joined_fetched : {D T : Type 0} (plan : GetPlan) (worker : ReadWorker D) (old new : PartState) (put : List Reading) (end : Result T StepErr) → IsStartedFor plan worker
     → HasFetched (map told_window worker.helper.awaited.windows.value.items) old new put end → HasFetched (get_turns plan (domain_of worker)) old new put end

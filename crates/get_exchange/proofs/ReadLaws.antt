@@ -5,34 +5,28 @@ use Rattle.get_exchange.proofs.CollectLaws.{fit_request, in_request, request_in}
 
 -- ---- one hull
 
-meets_served : (list begun : List Owned) (lo hi x : ℕ) (o : Owned) → AreServed list begun lo hi → In list o → lo ≤ x → x < hi → o.extent.at ≤ x → x < o.extent.at + o.extent.len → In begun o
-meets_served list begun lo hi x o s m l h b e = in_served list begun lo hi o s m (omega arith) (omega arith)
-
 from_0 : (list : List Owned) (o : Owned) → In list o → 0 ≤ o.extent.at
 from_0 list o m = omega arith
 
-hull_said : (file : List ℕ) (rank slot lo hi : ℕ) (list begun : List Owned) (y : ℕ) → IsOneValued (places_of (of_request rank slot list)) → AreServed list begun lo hi
-    → said_at (said_by (got_cells 0 file (map (λ o. part_in lo hi o) (of_request rank slot list)))) y ≡ said_at (said_by (got_cells 0 file (map (λ o. part_in lo hi o) (of_request rank slot begun)))) y
-hull_said file rank slot lo hi list begun y once served = said_in_any_order (said_by (got_cells 0 file (map (λ o. part_in lo hi o) (of_request rank slot list))))
-    (said_by (got_cells 0 file (map (λ o. part_in lo hi o) (of_request rank slot begun))))
-    (read_once 0 file lo hi (of_request rank slot list) (from_0 (of_request rank slot list)) once) there back y
-  where
-    there : (x v : ℕ) → Says (said_by (got_cells 0 file (map (λ o. part_in lo hi o) (of_request rank slot list)))) x v
-        → Says (said_by (got_cells 0 file (map (λ o. part_in lo hi o) (of_request rank slot begun)))) x v
-    there x v h =
-        let r = got_says 0 file lo hi (of_request rank slot list) x v (from_0 (of_request rank slot list)) h in
-        let m = in_request rank slot list r.by r.inside in
-        says_got 0 file lo hi (of_request rank slot begun) x v (from_0 (of_request rank slot begun))
-        (read_as 0 file lo hi lo hi (of_request rank slot list) (of_request rank slot begun) x v r r.low r.high
-        (request_in rank slot begun r.by (meets_served list begun lo hi r.place r.by served m.0 r.low r.high r.begin r.end) m.1 m.2))
+abbrev hull_says : List ℕ → ℕ → ℕ → ℕ → ℕ → List Owned → List (ℕ × ℕ)
+hull_says file rank slot lo hi os = said_by (got_cells 0 file (map (λ o. part_in lo hi o) (of_request rank slot os)))
 
-    back : (x v : ℕ) → Says (said_by (got_cells 0 file (map (λ o. part_in lo hi o) (of_request rank slot begun)))) x v
-        → Says (said_by (got_cells 0 file (map (λ o. part_in lo hi o) (of_request rank slot list)))) x v
-    back x v h =
-        let r = got_says 0 file lo hi (of_request rank slot begun) x v (from_0 (of_request rank slot begun)) h in
-        let m = in_request rank slot begun r.by r.inside in
-        says_got 0 file lo hi (of_request rank slot list) x v (from_0 (of_request rank slot list))
-        (read_as 0 file lo hi lo hi (of_request rank slot begun) (of_request rank slot list) x v r r.low r.high (request_in rank slot list r.by (served_in list begun lo hi r.by served m.0) m.1 m.2))
+-- what one list says in a hull, another one says that has the entries with a byte there
+says_too : (file : List ℕ) (rank slot lo hi : ℕ) (one two : List Owned) → ((o : Owned) (x : ℕ) → In one o → lo ≤ x → x < hi → o.extent.at ≤ x → x < o.extent.at + o.extent.len → In two o)
+    → (x v : ℕ) → Says (hull_says file rank slot lo hi one) x v → Says (hull_says file rank slot lo hi two) x v
+says_too file rank slot lo hi one two has x v h =
+    let r = got_says 0 file lo hi (of_request rank slot one) x v (from_0 (of_request rank slot one)) h in
+    let m = in_request rank slot one r.by r.inside in
+    says_got 0 file lo hi (of_request rank slot two) x v (from_0 (of_request rank slot two))
+    (read_as 0 file lo hi lo hi (of_request rank slot one) (of_request rank slot two) x v r r.low r.high
+    (request_in rank slot two r.by (has r.by r.place m.0 r.low r.high r.begin r.end) m.1 m.2))
+
+hull_said : (file : List ℕ) (rank slot lo hi : ℕ) (list begun : List Owned) (y : ℕ) → IsOneValued (places_of (of_request rank slot list)) → AreServed list begun lo hi
+    → said_at (hull_says file rank slot lo hi list) y ≡ said_at (hull_says file rank slot lo hi begun) y
+hull_said file rank slot lo hi list begun y once served =
+    said_in_any_order (hull_says file rank slot lo hi list) (hull_says file rank slot lo hi begun) (read_once 0 file lo hi (of_request rank slot list) (from_0 (of_request rank slot list)) once)
+    (says_too file rank slot lo hi list begun (λ o x m l h b e. in_served list begun lo hi o served m (omega arith) (omega arith)))
+    (says_too file rank slot lo hi begun list (λ o x m l h b e. served_in list begun lo hi o served m)) y
 
 hull_same : (file blob : List ℕ) (rank slot : ℕ) (t : Told) (list begun : List Owned) → IsOneValued (places_of (of_request rank slot list)) → AreServed list begun t.0 (t.0 + t.1)
     → ((o : Owned) → In (of_request rank slot list) o → o.from + o.extent.len ≤ length blob)

@@ -1,6 +1,5 @@
 -- Hulls that are taken off the lines of helpers, one after another.
-use Rattle.get_exchange.proofs.Words.{◌≡◌, ℕ, ◌+◌, ◌-◌, inl, inr, refl, sym, ◌∙◌, ap, subst, List, [], ◌∷◌, ◌++◌, length, map, set, Bool, true, false, Option, Some, Result, Ok, Err, append_assoc, arith, append-nil, length-map, map-append, same_Some, slice_get_within, slice_get, ◌==◌, IfErr, IfSome, OnOk, result_and, entry_below, entry_set, entry_set_other, Owned, StepErr, Memory, read, In, in_either, in_left, in_right, turns_due, IsFresh, IsStartedFor, FitTable, HasCollected, HaveOnePlaces, AreServed, reading_of, AreRead, told_in, HasTaken, HasTakenOf, HasTakenTurn, HaveTakenTurns, IsKept, IsTakenOf, Log, Told, Reading, Hull, Shelf, ReadWorker, GetPlan, each_new, set_each, nat_tests}
-use borrow.Author.Tests.{eqb-true, eqb-false}
+use Rattle.get_exchange.proofs.Words.{◌≡◌, ℕ, ◌+◌, ◌-◌, inl, inr, refl, sym, ◌∙◌, ap, subst, List, [], ◌∷◌, ◌++◌, length, map, set, Option, Some, Result, Ok, Err, append_assoc, arith, append-nil, length-map, map-append, same_Some, slice_get_within, slice_get, IfErr, IfSome, OnOk, result_and, entry_below, entry_set, entry_set_other, Owned, StepErr, Memory, read, In, in_either, in_left, in_right, turns_due, IsFresh, IsStartedFor, FitTable, HasCollected, HaveOnePlaces, AreServed, reading_of, AreRead, told_in, HasTaken, HasTakenOf, HasTakenTurn, HaveTakenTurns, IsKept, IsTakenOf, Log, Told, Reading, Hull, Shelf, ReadWorker, GetPlan, set_each, nat_tests, AreKept, kept_all, eqb_tells}
 use Rattle.get_exchange.proofs.ReadLaws.{hull_collected, log_joined, log_one}
 
 -- ---- hulls of one helper
@@ -34,7 +33,30 @@ taken_more {D} list olds mids k mid new before between now long at h t = record 
   collected = log_joined list h.log t.own before between now h.collected t.collected;
   each = λ j o n e f. set_each (λ r s. (o : ReadWorker D) → slice_get olds r ≡ Some o → HasTakenOf (h.log ++ t.own) o.shelf s.shelf) mids k mid new at
       (λ o e. grown o (h.each k o mid e at)) (λ r s e o f. wider o s (h.each r o s f e)) j n f o e;
-  only = λ e m. elim (in_either h.log t.own e m) [ inl g ↦ by_number e (h.only e g) ((h.only e g).number == k) refl | inr g ↦ newest e g ];
+  only = λ e m. elim (in_either h.log t.own e m) [
+    | inl g ↦
+        let r = h.only e g in
+        elim (eqb_tells r.number k) [
+          | inl s ↦
+              let here : r.new ≡ mid = same_Some r.new mid (sym r.at_new ∙ ap (λ (n : ℕ). slice_get mids n) s.1 ∙ at) in
+              at_it e r.own r.old (ap (λ (n : ℕ). slice_get olds n) (sym s.1) ∙ r.at_old) (subst (λ (w : ReadWorker D). HasTaken r.own r.old.shelf w.shelf) here r.taken) (in_left r.own t.own e r.inside)
+          | inr s ↦ record {
+            number = r.number;
+            old = r.old;
+            new = r.new;
+            at_old = r.at_old;
+            at_new = entry_set_other mids k r.number new s.1 ∙ r.at_new;
+            own = r.own;
+            taken = r.taken;
+            inside = r.inside;
+          }
+        ]
+    | inr g ↦
+        let low = slice_get_within mids k mid at in
+        let first = entry_below olds k (omega arith) in
+        let w = h.each k first.0 mid first.1 at in
+        at_it e w.own first.0 first.1 w.taken (in_right w.own t.own e g)
+  ];
 }
   where
     grown : (o : ReadWorker D) → HasTakenOf h.log o.shelf mid.shelf → HasTakenOf (h.log ++ t.own) o.shelf new.shelf
@@ -47,45 +69,16 @@ taken_more {D} list olds mids k mid new before between now long at h t = record 
     wider : (o s : ReadWorker D) → HasTakenOf h.log o.shelf s.shelf → HasTakenOf (h.log ++ t.own) o.shelf s.shelf
     wider o s w = record { own = w.own; taken = w.taken; inside = λ e m. in_left h.log t.own e (w.inside e m) }
 
-    newest : (e : Told × List ℕ) → In t.own e → IsTakenOf olds (set mids k new) e
-    newest e m =
-        let low = slice_get_within mids k mid at in
-        let first = entry_below olds k (omega arith) in
-        let w = h.each k first.0 mid first.1 at in
-        record {
-          number = k;
-          old = first.0;
-          new = new;
-          at_old = first.1;
-          at_new = entry_set mids k mid new at;
-          own = w.own ++ t.own;
-          taken = taken_twice w.own t.own first.0.shelf mid.shelf new.shelf w.taken t.taken;
-          inside = in_right w.own t.own e m;
-        }
-
-    by_number : (e : Told × List ℕ) (r : IsTakenOf olds mids e) (b : Bool) → (r.number == k) ≡ b → IsTakenOf olds (set mids k new) e
-    by_number e r true f =
-        let same : r.number ≡ k = eqb-true _ _ f in
-        let own : r.new ≡ mid = same_Some r.new mid (sym r.at_new ∙ ap (λ (n : ℕ). slice_get mids n) same ∙ at) in
-        record {
-          number = k;
-          old = r.old;
-          new = new;
-          at_old = ap (λ (n : ℕ). slice_get olds n) (sym same) ∙ r.at_old;
-          at_new = entry_set mids k mid new at;
-          own = r.own ++ t.own;
-          taken = taken_twice r.own t.own r.old.shelf mid.shelf new.shelf (subst (λ (s : ReadWorker D). HasTaken r.own r.old.shelf s.shelf) own r.taken) t.taken;
-          inside = in_left r.own t.own e r.inside;
-        }
-    by_number e r false f = record {
-      number = r.number;
-      old = r.old;
-      new = r.new;
-      at_old = r.at_old;
-      at_new = entry_set_other mids k r.number new (λ s. eqb-false _ _ f s) ∙ r.at_new;
-      own = r.own;
-      taken = r.taken;
-      inside = r.inside;
+    at_it : (e : Told × List ℕ) (own : Log) (old : ReadWorker D) → slice_get olds k ≡ Some old → HasTaken own old.shelf mid.shelf → In (own ++ t.own) e → IsTakenOf olds (set mids k new) e
+    at_it e own old at_old taken m = record {
+      number = k;
+      old = old;
+      new = new;
+      at_old = at_old;
+      at_new = entry_set mids k mid new at;
+      own = own ++ t.own;
+      taken = taken_twice own t.own old.shelf mid.shelf new.shelf taken t.taken;
+      inside = m;
     }
 
 pub taken_on : {D T E : Type 0} (list : List Owned) (olds mids : List (ReadWorker D)) (k : ℕ) (mid new : ReadWorker D) (before between now : List (List (List ℕ))) (end came : Result T E)
@@ -134,8 +127,6 @@ items_read from held own items is taken = grind (arith, nat_tests, length-map, e
 kept_worker : {D : Type 0} (plan : GetPlan) (old new : ReadWorker D) → IsKept old new → IsFresh plan old → IsStartedFor plan new
 kept_worker plan old new k f = grind (arith, nat_tests)
 
-pub kept_workers : {D : Type 0} (plan : GetPlan) (old new : List (ReadWorker D)) → length new ≡ length old
-    → ((k : ℕ) (a b : ReadWorker D) → slice_get old k ≡ Some a → slice_get new k ≡ Some b → IsKept a b) → ((worker : ReadWorker D) → In old worker → IsFresh plan worker)
-    → (worker : ReadWorker D) → In new worker → IsStartedFor plan worker
-kept_workers plan old new long kept fresh =
-    each_new (λ worker. IsFresh plan worker) (λ worker. IsStartedFor plan worker) (λ a b. IsKept a b) old new long kept fresh (λ a b k f. kept_worker plan a b k f)
+pub kept_workers : {D : Type 0} (plan : GetPlan) {first last whole : List (ReadWorker D)} → AreKept IsKept first last whole → ((worker : ReadWorker D) → In first worker → IsFresh plan worker)
+    → (worker : ReadWorker D) → In whole worker → IsStartedFor plan worker
+kept_workers plan kept = kept_all IsKept (IsFresh plan) (IsStartedFor plan) kept (kept_worker plan)

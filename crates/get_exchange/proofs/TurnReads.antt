@@ -1,5 +1,5 @@
 -- Hulls of a part that are read and collected one after another: what was done and what is left to be done are the whole.
-use Rattle.get_exchange.proofs.Words.{◌≡◌, ℕ, ◌+◌, ◌-◌, inr, sym, ◌∙◌, ap, subst, List, [], ◌∷◌, ◌++◌, Option, append_assoc, append-nil, map-append, IfSome, Owned, DiskCall, with_end-nil, with_end-with_end, with_end, read, IsWalk, load_calls, In, in_either, entries_left, IsPast, AreAsLong, FitTable, HaveOnePlaces, AreInFront, IsAt, LieOnPart, told_in, HasCollectedLog, HasReadTurn, HasReadTurns, Log, Told, turns_ahead, ReadWalk, at_next, served_now, arith, nat_tests}
+use Rattle.get_exchange.proofs.Words.{◌≡◌, ℕ, ◌+◌, ◌-◌, inr, sym, ◌∙◌, ap, subst, List, [], ◌∷◌, ◌++◌, Option, append_assoc, append-nil, map-append, IfSome, Owned, DiskCall, with_end-nil, with_end-with_end, with_end, read, IsWalk, load_calls, In, in_either, entries_left, IsPast, AreAsLong, FitTable, HaveOnePlaces, AreInFront, IsAt, LieOnPart, told_in, HasCollectedLog, HasReadTurn, HasReadTurns, Log, Told, turns_ahead, ReadWalk, at_next, served_now, arith, nat_tests, ◌^◌, EndBelow, extents, Window, WindowWalk, told_window, IsDue, due_now}
 use Rattle.std.proofs.Common.{flat_map}
 use Rattle.get_exchange.proofs.CollectLaws.{fit_as_long}
 use Rattle.get_exchange.proofs.ReadLaws.{hull_collected, log_joined, log_one}
@@ -19,6 +19,15 @@ pub record IsReading (list : List Owned) (room from len : ℕ) (all : List Told)
 pub reading_begin : (list : List Owned) (room from len : ℕ) (all : List Told) (w : ReadWalk) (held : Option (List ℕ)) (table : List (List (List ℕ))) (calls : Option (List DiskCall))
     → IsWalk w.windows → IsAt list room (turns_ahead w.windows) (entries_left w.entries) → turns_ahead w.windows ≡ all → LieOnPart from len all → IsReading list room from len all w held table table calls calls
 reading_begin list room from len all w held table calls ready at ahead on = grind (arith, nat_tests, flat_map)
+
+-- the window that is read next, with its entries
+pub reading_due : {list : List Owned} {room from len : ℕ} {all : List Told} {w : ReadWalk} {held : Option (List ℕ)} {old now : List (List (List ℕ))} {calls made : Option (List DiskCall)}
+    (begun : List Owned) (rest : WindowWalk) (window turned : Window) → EndBelow (2 ^ 62) (extents list) → IsReading list room from len all w held old now calls made
+    → turns_ahead w.windows ≡ told_window window ∷ turns_ahead rest → turned ≡ window → AreInFront (turned.hull.at + turned.hull.len) (entries_left w.entries) begun
+    → IsDue list begun room from len (told_window turned)
+reading_due {list} {room = room} {from = from} {len = len} {w = w} begun rest window turned ends s ahead same front =
+    due_now list (entries_left w.entries) begun room from len (turns_ahead w.windows) (turns_ahead rest) (told_window turned) ends s.here s.on_part
+    (ahead ∙ ap (λ (u : Window). told_window u ∷ turns_ahead rest) (sym same)) front
 
 told_more : (held : Option (List ℕ)) (from : ℕ) (log : Log) (t : Told) (bytes : List ℕ)
     → IfSome held (λ file. (e : Told × List ℕ) → In log e → e.1 ≡ read file (e.0.0 - from) e.0.1) → IfSome held (λ file. bytes ≡ read file (t.0 - from) t.1)

@@ -10,4 +10,3 @@ mod RoundLaws
 mod MessageLaws
 mod InTurnLaws
 mod WorkerLaws
-mod SplitPuts

@@ -1,5 +1,9 @@
 -- Packing: one entry more goes into the list of its rank, and one list more into a message.
-use Rattle.put_exchange.proofs.Words.{◌≡◌, ℕ, zero, suc, ◌+◌, ◌<◌, ◌≤◌, inl, inr, refl, sym, ◌∙◌, ap, List, [], ◌∷◌, ◌++◌, length, map, take, set, get_or, Bool, true, false, cond, Some, ◌&&◌, arith, and_parts, and_right, eqb-true, eqb_tells, append-nil, length-map, map-append, take_more, length-range_with_len, filter, filter-append, slice_get-get_or, slice_get, ◌==◌, range_with_len, range_push, equal_true, Batch, Owned, Vec, Global, In, map_in, filter_in, cell_of, clip, part_bytes, slot_in, meets, of_rank, ArePieces, Told, puts_of_some, source_of, AreCuts, binned, bytes_of, cells_in, cells_of, cut_in, cuts_by, has_pieces, hull_of, posts_of, sent, sent_by, Cut, Sent, nat_tests}
+use Rattle.std.proofs.lemmas.List.{map-set}
+use Rattle.std.proofs.lemmas.List.FromFn.{get_or-map-range_with_len, length-map-range_with_len, map-range_with_len_more}
+use Rattle.std.proofs.lemmas.Option.{get_or_from_slice_get}
+use Rattle.list_laws.proofs.Maps.{entry_map}
+use Rattle.put_exchange.proofs.Words.{◌≡◌, ℕ, zero, suc, ◌+◌, ◌<◌, ◌≤◌, inl, inr, refl, sym, ◌∙◌, ap, List, [], ◌∷◌, ◌++◌, length, map, take, set, get_or, Bool, true, false, cond, Some, ◌&&◌, arith, and_parts, and_right, eqb-true, eqb_tells, append-nil, length-map, map-append, take_more, filter, filter-append, slice_get-get_or, slice_get, ◌==◌, range_with_len, equal_true, Batch, Owned, Vec, Global, In, map_in, filter_in, cell_of, clip, part_bytes, slot_in, meets, of_rank, ArePieces, Told, puts_of_some, source_of, AreCuts, binned, bytes_of, cells_in, cells_of, cut_in, cuts_by, has_pieces, hull_of, posts_of, sent, sent_by, Cut, Sent, nat_tests, slice_get_within, length-range_with_len, range_push}
 use Rattle.overlay_laws.proofs.WalkLaws.{map_range}
 
 -- ---- the cuts of a rank's entries
@@ -56,29 +60,15 @@ set_map f g a (suc n) (suc k) y l e h =
 
 -- ---- the lists themselves
 
-bins_set : (bins : List (Vec Cut Global)) (k : ℕ) (bin : Vec Cut Global) → binned (set bins k bin) ≡ set (binned bins) k bin.items
-bins_set (b ∷ bins) (suc k) bin = ap (λ (r : List (List Cut)). b.items ∷ r) (bins_set bins k bin)
-bins_set _ _ bin = refl
-
 pub bins_long : (f : ℕ → List Cut) (n : ℕ) (bins : List (Vec Cut Global)) → binned bins ≡ map f (range_with_len 0 n) → length bins ≡ n
-bins_long f n bins e =
-    sym (length-map bins (λ bin. bin.items)) ∙ ap (λ (bs : List (List Cut)). length bs) e ∙ length-map (range_with_len 0 n) f ∙ length-range_with_len 0 n
-
-bin_at : (f : ℕ → List Cut) (a n k : ℕ) (bins : List (Vec Cut Global)) (bin : Vec Cut Global) → binned bins ≡ map f (range_with_len a n) → slice_get bins k ≡ Some bin → bin.items ≡ f (a + k)
-bin_at f a n k [] bin e at = absurd cc
-bin_at f a zero k (b ∷ bins) bin e at = absurd cc
-bin_at f a (suc n) zero (b ∷ bins) bin e at =
-    let same : b ≡ bin = cc in
-    let first : b.items ≡ f a = cc in
-    let here : a ≡ a + 0 = omega arith in
-    sym (ap (λ (v : Vec Cut Global). v.items) same) ∙ first ∙ ap f here
-bin_at f a (suc n) (suc k) (b ∷ bins) bin e at =
-    let rest : binned bins ≡ map f (range_with_len (a + 1) n) = cc in
-    let next : a + 1 + k ≡ a + suc k = omega arith in
-    bin_at f (a + 1) n k bins bin rest at ∙ ap f next
+bins_long f n bins e = sym (length-map bins (λ bin. bin.items)) ∙ ap (λ (bs : List (List Cut)). length bs) e ∙ length-map-range_with_len f 0 n
 
 pub bin_is : (f : ℕ → List Cut) (n k : ℕ) (bins : List (Vec Cut Global)) (bin : Vec Cut Global) → binned bins ≡ map f (range_with_len 0 n) → slice_get bins k ≡ Some bin → bin.items ≡ f k
-bin_is f n k bins bin e at = let here : 0 + k ≡ k = omega arith in bin_at f 0 n k bins bin e at ∙ ap f here
+bin_is f n k bins bin e at =
+    let low = slice_get_within bins k bin at in
+    let long = bins_long f n bins e in
+    sym (get_or_from_slice_get (binned bins) k bin.items [] (entry_map (λ (b : Vec Cut Global). b.items) bins k bin at))
+    ∙ ap (λ (bs : List (List Cut)). get_or bs k []) e ∙ get_or-map-range_with_len f 0 n k k [] (omega arith) (omega arith)
 
 unequal : (a b : ℕ) → (a ≡ b → ⊥) → (a == b) ≡ false
 unequal a b ne = grind (arith, nat_tests, eqb_tells)
@@ -93,7 +83,7 @@ binned_more n xs o t bins bin d below meet is put =
     let here : 0 + o.rank ≡ o.rank = omega arith in
     let long = bins_long old n bins is in
     let own : (get_or bins o.rank d).items ≡ old o.rank = bin_is old n o.rank bins (get_or bins o.rank d) is (slice_get-get_or bins o.rank d (omega arith)) in
-    bins_set bins o.rank bin
+    map-set (λ (b : Vec Cut Global). b.items) bins o.rank bin
     ∙ ap (λ (bs : List (List Cut)). set bs o.rank bin.items) is
     ∙ set_map old new 0 n o.rank bin.items below
     (put ∙ ap (λ (cs : List Cut). cs ++ cut_in t.0 (t.0 + t.1) o ∷ []) own ∙ cuts_more xs o t meet ∙ ap new (sym here))
@@ -122,12 +112,9 @@ entry_kept n i list e t bins l none is = grind (arith, nat_tests, binned_kept n 
 
 -- ---- one rank more
 
-pub map_push : {X : Type 0} (f : ℕ → X) (k : ℕ) → map f (range_with_len 0 (k + 1)) ≡ map f (range_with_len 0 k) ++ f k ∷ []
-map_push f k = grind (arith, nat_tests, range_push 0 k k (omega arith), map-append f (range_with_len 0 k) (k ∷ []))
-
 -- the messages of so many ranks, and of one more
 pub messages_push : (batches : List Batch) (list : List Owned) (t : Told) (k : ℕ) (now before : List Sent) (cuts : List Cut) → cuts ≡ cuts_by t list k
     → before ≡ filter has_pieces (map (λ r. sent_by (source_of batches) list t r) (range_with_len 0 k))
     → now ≡ before ++ filter has_pieces (sent (hull_of t) k (cells_of (posts_of batches k) cuts) ∷ [])
     → now ≡ filter has_pieces (map (λ r. sent_by (source_of batches) list t r) (range_with_len 0 (k + 1)))
-messages_push batches list t k now before cuts of is put = grind (arith, nat_tests, cuts_cells batches t k list, filter-append, map_push)
+messages_push batches list t k now before cuts of is put = grind (arith, nat_tests, cuts_cells batches t k list, filter-append, map-range_with_len_more (λ r. sent_by (source_of batches) list t r) 0 k k (omega arith))

@@ -1,5 +1,5 @@
 -- A window that is put on a part: each byte is old or new, and once no window is ahead each byte that the entries say is new.
-use Rattle.put_exchange.proofs.Words.{◌≡◌, ℕ, ◌+◌, ◌-◌, ◌<◌, ◌≤◌, ◌⊎◌, inl, inr, refl, sym, ◌∙◌, ap, subst, List, [], ◌∷◌, length, drop, Bool, true, false, Option, Some, None, arith, Result, Err, length-take, ltb-true, ltb-false, nat_lt, IfSome, OnOk, IsOk, enumerate_from, no_none_some, Owned, after, BothTold, at, Cell, byte_or, said_at, said_by, write_cells, moved_down, IsFrom, IsWithin, IsOneValued, Says, cells_said, IsBetween, In, Source, cell_of, clips, IsPart, between_next, says_cases, says_left, says_right, cells_long, one_said, said_is, same_file, clips_from, clips_in, clips_within, moved_said, none_below, none_past, within_lowered, within_more, from_less, put_part, HasPut, cells_in, put_window, Told, HaveWindows, PartState, entry_cells, nat_tests}
+use Rattle.put_exchange.proofs.Words.{◌≡◌, ℕ, ◌+◌, ◌-◌, ◌<◌, ◌≤◌, ◌⊎◌, inl, inr, refl, sym, ◌∙◌, ap, subst, List, [], ◌∷◌, length, drop, Bool, true, false, Option, Some, None, arith, Result, Err, length-take, ltb-true, ltb-false, nat_lt, IfSome, OnOk, IsOk, enumerate_from, no_none_some, Owned, after, BothTold, at, Cell, byte_or, said_at, said_by, write_cells, moved_down, IsFrom, IsWithin, IsOneValued, Says, cells_said, IsBetween, In, Source, cell_of, clips, IsPart, between_next, says_cases, says_left, says_right, cells_long, one_said, said_is, same_file, clips_from, clips_in, clips_within, moved_said, none_below, none_past, within_lowered, within_more, from_less, put_part, HasPut, cells_in, put_window, Told, HaveWindows, PartState, entry_cells, nat_tests, DiskGhosts, PutPlan, Extent, StepErr, IsLater, part_state, planned_turns, source_in, AllZip, zip, zip_same}
 use Rattle.std.specs.Prelude.{map}
 
 -- ---- which entry says a byte
@@ -242,10 +242,15 @@ told_end source list from (Some old) now b = b.1 ∙ ap Some (put_end source lis
 
 -- ---- puts that were done, or cut off by what came later
 
-pub put_later : {T E : Type 0} (source : Source) (list : List Owned) (ts : List Told) (old new : PartState) (end came : Result T E) → OnOk came (IsOk end)
-    → HasPut source list ts old new end → HasPut source list ts old new came
-put_later source list ts old new end came ok h = grind (arith, nat_tests)
+-- those of a plan on a part, beside its domain
+abbrev pub PutBy : {D T : Type 0} → DiskGhosts D → PutPlan → Result T StepErr → D × Extent → D → Type 0
+PutBy disk plan end p new = HasPut (source_in plan) plan.list.now (planned_turns plan p.1) (part_state disk p.0) (part_state disk new) end
+
+pub put_later : {D T : Type 0} (disk : DiskGhosts D) (plan : PutPlan) → IsLater {T = T} (PutBy disk plan)
+put_later disk plan end came p new ok h = grind (arith, nat_tests)
 
 -- nothing was done
-pub put_untouched : {T E : Type 0} (source : Source) (list : List Owned) (ts : List Told) (old : PartState) (e : E) → HasPut {T = T} source list ts old old (Err e)
-put_untouched source list ts old e = record { from = refl; len = refl; bytes = tt; between = told_nothing old.held (put_part source list old.from); device = tt; later = omega arith }
+pub put_none : {D T : Type 0} (disk : DiskGhosts D) (plan : PutPlan) (parts : List D) (domains : List Extent) (e : StepErr) → length domains ≡ length parts
+    → AllZip (PutBy {T = T} disk plan (Err e)) (zip parts domains) parts
+put_none disk plan parts domains e long = zip_same (PutBy disk plan (Err e)) parts domains long (λ p domain.
+    record { from = refl; len = refl; bytes = tt; between = told_nothing (disk.held p) (put_part (source_in plan) plan.list.now (disk.from p)); device = tt; later = omega arith })

@@ -1,5 +1,6 @@
 -- A helper that took the planned messages has served its part.
-use Rattle.put_exchange.proofs.Words.{◌≡◌, ℕ, ◌+◌, ◌<◌, ◌≤◌, refl, sym, ◌∙◌, ap, subst, List, [], ◌∷◌, ◌++◌, length, Option, Some, Result, Ok, Err, append_assoc, arith, append-nil, length-append, flat_map, IfSome, IsOk, IsErr, OnOk, Owned, DiskCall, with_end-nil, after, with_end, BothTold, said_by, IsOneValued, store_calls, IsBetween, In, Source, cell_of, covered_place, in_map, entry_in, drop_at, told_window, pieces_in, ArePieces, put_part, cells_in, messages_in, messages_of, Sent, turn_due, Carry, HasPutTaken, HasTaken, IsFilledBy, Told, AreTurns, HaveWindows, IsTurn, Due, counts_due, turns_due, zero, suc, drop, get_or, slice_get, nat_tests}
+use Rattle.std.proofs.lemmas.List.{drop_more}
+use Rattle.put_exchange.proofs.Words.{◌≡◌, ℕ, ◌+◌, ◌<◌, ◌≤◌, refl, sym, ◌∙◌, ap, subst, List, [], ◌∷◌, ◌++◌, length, Option, Some, Result, Ok, Err, append_assoc, arith, append-nil, length-append, flat_map, IfSome, IsOk, IsErr, OnOk, Owned, DiskCall, with_end-nil, after, with_end, BothTold, said_by, IsOneValued, store_calls, IsBetween, In, Source, cell_of, covered_place, in_map, entry_in, told_window, pieces_in, ArePieces, put_part, cells_in, messages_in, messages_of, Sent, turn_due, Carry, HasPutTaken, HasTaken, IsFilledBy, Told, AreTurns, HaveWindows, IsTurn, Due, counts_due, turns_due, zero, suc, drop, get_or, nat_tests}
 use Rattle.std.specs.Prelude.{map}
 use Rattle.put_exchange.proofs.PieceLaws.{pieces_are, pieces_covered, pieces_found, pieces_picked}
 use Rattle.put_exchange.proofs.PutLaws.{IsPutSoFar, told_begin, told_end, told_more, told_next, told_nothing}
@@ -142,10 +143,8 @@ served_end source from ranks room list all ahead taken held now calls made end s
 
 -- ---- the windows that are due, one after another
 
-pub dues_left : (dues : List Due) (i : ℕ) (due : Due) → slice_get dues i ≡ Some due → turns_due (drop i dues) ≡ told_window due.window ∷ turns_due (drop (i + 1) dues)
-dues_left dues i due at =
-    let next : suc i ≡ i + 1 = omega arith in
-    ap (λ (ds : List Due). turns_due ds) (drop_at dues i due at ∙ ap (λ (n : ℕ). due ∷ drop n dues) next)
+pub dues_left : (dues : List Due) (i : ℕ) (d : Due) → i < length dues → turns_due (drop i dues) ≡ told_window (get_or dues i d).window ∷ turns_due (drop (i + 1) dues)
+dues_left dues i d l = ap (λ (ds : List Due). turns_due ds) (drop_more dues i d l)
 
 pub count_at : (f : Told → ℕ) (dues : List Due) (i : ℕ) (d : Due) → i < length dues → counts_due dues ≡ map f (turns_due dues)
     → (get_or dues i d).count ≡ f (told_window (get_or dues i d).window)

@@ -12,11 +12,11 @@ pub use Rattle.aggregator_rounds.proofs.SplitSteps.{entry_ends}
 pub use Rattle.aggregator_rounds.specs.EntryParts.{IsCovered}
 pub use Rattle.aggregator_rounds.specs.Left.{IsPast}
 pub use Rattle.aggregator_rounds.specs.ToldWindows.{told_window}
-pub use Rattle.exchange_crew.proofs.BackLaws.{and_failed, and_first_ok, and_second_ok, at_index, back_more, both_long, each_new, err_not_ok, failed_more, map_new, middle_in, slice_kept, zip_push, zip_same}
-pub use Rattle.exchange_crew.proofs.CrewLaws.{AreOf, all_of, handed_more, next_domain, none_handed, part_domain, some_of, workers_few}
+pub use Rattle.exchange_crew.proofs.BackLaws.{AreKept, IsLater, err_not_ok, joined_back, kept_all, lent_kept, middle_in, one_back, slice_kept, zip_push, zip_same}
+pub use Rattle.exchange_crew.proofs.CrewLaws.{all_served, handed_few, handed_more, have_served, next_domain, none_handed, part_domain, some_served}
 pub use Rattle.exchange_crew.proofs.OneChanged.{each_twice, fewer_all, no_more_all}
 pub use Rattle.exchange_crew.proofs.PlanLaws.{plan_on, plan_turns, plan_windows}
-pub use Rattle.exchange_crew.proofs.SplitLaws.{domains_behind, failed_joined, first_parts, parts_behind, zip_joined}
+pub use Rattle.exchange_crew.proofs.SplitLaws.{all_joined, domains_behind, failed_joined, split_at, split_long}
 pub use Rattle.exchange_crew.proofs.TurnLaws.{at_begin, at_next, turn_end, turn_in, due_now, in_served, served_are, served_covered, served_ends, served_in, served_now, turn_limit}
 pub use Rattle.exchange_crew.specs.Cursor.{AreInFront, AreServed, IsAt}
 pub use Rattle.exchange_crew.specs.Handed.{AreHanded, domain_in}

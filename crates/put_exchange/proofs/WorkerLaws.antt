@@ -1,24 +1,16 @@
 -- Helpers that have their jobs, and were fed.
-use Rattle.put_exchange.proofs.Words.{◌≡◌, ℕ, sym, ◌∙◌, ap, subst, List, length, map, min, Some, Result, append-nil, slice_get, In, StepErr, DiskGhosts, Sent, domain_of, part_of, HasFed, IsFed, IsFresh, IsStartedFor, HasPut, HasServed, IsPlanOn, message_counts, planned_turns, source_in, AreTurns, HaveWindows, IsPlan, PartState, Told, PutPlan, Worker, AreDue, Batch, Extent, IsDomainOf, Owned, ◌≤◌, arith, each_new, map_new, plan_on, plan_turns, plan_windows, turn_end, turn_in, turns_of, nat_tests}
+use Rattle.put_exchange.proofs.Words.{◌≡◌, ℕ, sym, ◌∙◌, ap, subst, List, length, map, min, Some, Result, append-nil, In, StepErr, DiskGhosts, Sent, domain_of, part_of, HasFed, IsFed, IsFresh, IsStartedFor, HasPut, HasServed, IsPlanOn, message_counts, planned_turns, source_in, AreTurns, HaveWindows, IsPlan, PartState, Told, PutPlan, Worker, AreDue, Batch, Extent, IsDomainOf, Owned, ◌≤◌, arith, plan_on, plan_turns, plan_windows, turn_end, turn_in, turns_of, nat_tests, AreKept, kept_all}
 
 fed_worker : {D : Type 0} (disk : DiskGhosts D) (plan : PutPlan) (old new : Worker D) → HasFed old new → IsFresh disk plan old → IsFed disk plan new
 fed_worker disk plan old new h f = grind (arith, nat_tests, append-nil new.feed.line.items)
 
-pub fed_workers : {D : Type 0} (disk : DiskGhosts D) (plan : PutPlan) (old new : List (Worker D)) → length new ≡ length old
-    → ((k : ℕ) (a b : Worker D) → slice_get old k ≡ Some a → slice_get new k ≡ Some b → HasFed a b) → ((worker : Worker D) → In old worker → IsFresh disk plan worker)
-    → (worker : Worker D) → In new worker → IsFed disk plan worker
-fed_workers disk plan old new long fed fresh =
-    each_new (λ worker. IsFresh disk plan worker) (λ worker. IsFed disk plan worker) (λ a b. HasFed a b) old new long fed fresh (λ a b h f. fed_worker disk plan a b h f)
+pub fed_workers : {D : Type 0} (disk : DiskGhosts D) (plan : PutPlan) {first last whole : List (Worker D)} → AreKept HasFed first last whole
+    → ((worker : Worker D) → In first worker → IsFresh disk plan worker) → (worker : Worker D) → In whole worker → IsFed disk plan worker
+fed_workers disk plan kept = kept_all HasFed (IsFresh disk plan) (IsFed disk plan) kept (fed_worker disk plan)
 
--- ---- they stay those of their parts and domains
-
-pub fed_parts : {D : Type 0} (old new : List (Worker D)) → length new ≡ length old → ((k : ℕ) (a b : Worker D) → slice_get old k ≡ Some a → slice_get new k ≡ Some b → HasFed a b)
-    → map (λ worker. part_of worker) new ≡ map (λ worker. part_of worker) old
-fed_parts old new long fed = map_new (λ worker. part_of worker) (λ a b. HasFed a b) old new long fed (λ a b h. ap (λ helper. helper.awaited.ends.value.part) h.helper)
-
-pub fed_domains : {D : Type 0} (old new : List (Worker D)) → length new ≡ length old → ((k : ℕ) (a b : Worker D) → slice_get old k ≡ Some a → slice_get new k ≡ Some b → HasFed a b)
-    → map (λ worker. domain_of worker) new ≡ map (λ worker. domain_of worker) old
-fed_domains old new long fed = map_new (λ worker. domain_of worker) (λ a b. HasFed a b) old new long fed (λ a b h. ap (λ helper. helper.domain) h.helper)
+-- they stay those of their parts and domains
+pub fed_same : {D : Type 0} (old new : Worker D) → HasFed old new → (part_of new ≡ part_of old) × (domain_of new ≡ domain_of old)
+fed_same old new h = (ap (λ helper. helper.awaited.ends.value.part) h.helper, ap (λ helper. helper.domain) h.helper)
 
 -- ---- what a helper is handed
 

@@ -1,16 +1,14 @@
 -- The bytes of the window's hull were copied, and the next window is the part's next.
-use Rattle.get_exchange.proofs.Words.{◌<◌, ◌∙◌, ◌∷◌, length, List, Option, refl, sym, ap, subst, rules, arith, common_steps, IsWalk, Window, WindowWalk, told_window, entries_left, turns_due_of, IsNextUp, IsShelfOf, Told, turns_ahead, at_next, left_ends, left_filled, left_sorted, served_ends, served_now, turn_limit}
+use Rattle.get_exchange.proofs.Words.{◌<◌, ◌∙◌, ◌∷◌, length, List, Option, refl, sym, ap, subst, rules, arith, common_steps, IsWalk, Window, WindowWalk, told_window, entries_left, turns_due_of, Told, turns_ahead, at_next, left_ends, left_filled, left_sorted, served_ends, served_now, turn_limit}
 use Rattle.get_exchange.proofs.CollectLaws.{filled_served, fit_served}
-use Rattle.get_exchange.proofs.ShelfLaws.{due_next, fewer_due, shelf_first}
+use Rattle.get_exchange.proofs.ShelfLaws.{due_next, fewer_due, next_up, shelf_first}
 use Rattle.get_exchange.proofs.TakeLaws.{taken_turn}
 use Rattle.get_exchange.proofs.collecting.take_turn.Goals as goal
 
 pub turn-turn-requires : goal.turn-turn-requires
 turn-turn-requires g c =
-    let list = c.args.plan.now.list.now in
     let walk = c.args.shelf.now.walk in
-    let room = c.requires.ready.0 in
-    let up : IsNextUp list room c.in-Some.window walk = subst (λ (o : Option Window). IsShelfOf list room o walk) c.in-Some.is c.requires.ready.1 in
+    let up = next_up c.args.plan.now.list.now c.args.shelf.now c.in-Some.window c.requires.ready c.in-Some.is in
     record {
       sorted = left_sorted _ _ _ _ (turns_ahead walk.windows) (told_window c.in-Some.window) c.requires.plan.sorted up.at refl;
       end = turn_limit _ _ _ _ (turns_ahead walk.windows) (told_window c.in-Some.window) c.requires.plan.ends up.at refl;
@@ -18,10 +16,8 @@ turn-turn-requires g c =
 
 pub collect_hull-came-requires : goal.collect_hull-came-requires
 collect_hull-came-requires g c =
-    let list = c.args.plan.now.list.now in
     let walk = c.args.shelf.now.walk in
-    let room = c.requires.ready.0 in
-    let up : IsNextUp list room c.in-Some.window walk = subst (λ (o : Option Window). IsShelfOf list room o walk) c.in-Some.is c.requires.ready.1 in
+    let up = next_up c.args.plan.now.list.now c.args.shelf.now c.in-Some.window c.requires.ready c.in-Some.is in
     let t : Told = told_window c.turn-turn.result.window in
     let same = ap (λ (w : Window). told_window w ∷ turns_ahead walk.windows) c.turn-turn.ensures.window in
     let served = served_now _ _ _ _ _ (turns_ahead walk.windows) t up.at (sym same) c.turn-turn.ensures.front in
@@ -34,10 +30,8 @@ collect_hull-came-requires g c =
 
 pub go_past-requires : goal.go_past-requires
 go_past-requires g c =
-    let list = c.args.plan.now.list.now in
     let walk = c.args.shelf.now.walk in
-    let room = c.requires.ready.0 in
-    let up : IsNextUp list room c.in-Some.window walk = subst (λ (o : Option Window). IsShelfOf list room o walk) c.in-Some.is c.requires.ready.1 in
+    let up = next_up c.args.plan.now.list.now c.args.shelf.now c.in-Some.window c.requires.ready c.in-Some.is in
     record {
       ends = left_ends _ _ _ _ (turns_ahead walk.windows) (told_window c.in-Some.window) c.requires.plan.ends up.at refl;
       filled = left_filled _ _ _ _ (turns_ahead walk.windows) (told_window c.in-Some.window) c.requires.plan.filled up.at refl;
@@ -46,25 +40,20 @@ go_past-requires g c =
 
 pub next_window-shelf-requires : goal.next_window-shelf-requires
 next_window-shelf-requires g c =
-    let list = c.args.plan.now.list.now in
-    let walk = c.args.shelf.now.walk in
-    let room = c.requires.ready.0 in
-    let up : IsNextUp list room c.in-Some.window walk = subst (λ (o : Option Window). IsShelfOf list room o walk) c.in-Some.is c.requires.ready.1 in
+    let up = next_up c.args.plan.now.list.now c.args.shelf.now c.in-Some.window c.requires.ready c.in-Some.is in
     subst (λ (ws : WindowWalk). IsWalk ws) (sym c.go_past.ensures.windows) up.ready
 
 pub returns-in-Hull-clause-ready : goal.returns-in-Hull-clause-ready
 returns-in-Hull-clause-ready g c =
-    let list = c.args.plan.now.list.now in
     let walk = c.args.shelf.now.walk in
-    let room = c.requires.ready.0 in
-    let up : IsNextUp list room c.in-Some.window walk = subst (λ (o : Option Window). IsShelfOf list room o walk) c.in-Some.is c.requires.ready.1 in
+    let up = next_up c.args.plan.now.list.now c.args.shelf.now c.in-Some.window c.requires.ready c.in-Some.is in
     let t : Told = told_window c.in-Some.window in
     let next = c.next_window-shelf.ensures in
     let later = c.go_past.new.self in
     let kept = ap (λ (ws : WindowWalk). t ∷ turns_ahead ws) (sym c.go_past.ensures.windows) in (
-      room,
-      shelf_first list (entries_left later.entries) room c.next_window-shelf.result (turns_ahead later.windows) (record { windows = c.next_window-shelf.new.windows; entries = later.entries })
-          (at_next list (entries_left walk.entries) (entries_left later.entries) room (t ∷ turns_ahead walk.windows) (turns_ahead later.windows) t up.at kept c.go_past.ensures.past) refl next.ready next.some,
+      c.requires.ready.0,
+      shelf_first c.args.plan.now.list.now (entries_left later.entries) c.requires.ready.0 c.next_window-shelf.result (turns_ahead later.windows) (record { windows = c.next_window-shelf.new.windows; entries = later.entries })
+          (at_next _ _ (entries_left later.entries) _ (t ∷ turns_ahead walk.windows) (turns_ahead later.windows) t up.at kept c.go_past.ensures.past) refl next.ready next.some,
     )
 
 pub returns-in-Hull-clause-fewer : goal.returns-in-Hull-clause-fewer
@@ -74,10 +63,8 @@ returns-in-Hull-clause-fewer g c = λ some.
 
 pub returns-in-Hull-clause-taken : goal.returns-in-Hull-clause-taken
 returns-in-Hull-clause-taken g c =
-    let list = c.args.plan.now.list.now in
     let walk = c.args.shelf.now.walk in
-    let room = c.requires.ready.0 in
-    let up : IsNextUp list room c.in-Some.window walk = subst (λ (o : Option Window). IsShelfOf list room o walk) c.in-Some.is c.requires.ready.1 in
+    let up = next_up c.args.plan.now.list.now c.args.shelf.now c.in-Some.window c.requires.ready c.in-Some.is in
     let t : Told = told_window c.turn-turn.result.window in
     let same = ap (λ (w : Window). told_window w ∷ turns_ahead walk.windows) c.turn-turn.ensures.window in
     let served = served_now _ _ _ _ _ (turns_ahead walk.windows) t up.at (sym same) c.turn-turn.ensures.front in

@@ -1,8 +1,8 @@
 -- Each window is read, and the entries' bytes in it are placed.
-use Rattle.get_exchange.proofs.Words.{◌+◌, ◌∙◌, ◌∷◌, ap, refl, sym, subst, arith, IsWalk, Window, WindowWalk, told_window, entries_left, IsPast, Told, turns_ahead, err_not_ok, due_now, left_ends, left_filled, left_sorted, turn_limit, rules, common_steps}
+use Rattle.get_exchange.proofs.Words.{◌+◌, ◌∙◌, ◌∷◌, ap, refl, sym, subst, arith, IsWalk, Window, WindowWalk, told_window, entries_left, IsPast, Told, turns_ahead, err_not_ok, left_ends, left_filled, left_sorted, turn_limit, rules, common_steps}
 use Rattle.get_exchange.proofs.CollectLaws.{filled_served, fit_as_long, fit_served}
 use Rattle.get_exchange.proofs.FetchLaws.{get_on}
-use Rattle.get_exchange.proofs.TurnReads.{reading_begin, reading_end, reading_next}
+use Rattle.get_exchange.proofs.TurnReads.{reading_begin, reading_due, reading_end, reading_next}
 use Rattle.get_exchange.proofs.in_turn.collect_part.Goals as goal
 
 pub turns-init : goal.turns-init
@@ -32,51 +32,37 @@ turn-turn-requires g c =
 
 pub collect_turn-requires-clause-low : goal.collect_turn-requires-clause-low
 collect_turn-requires-clause-low g c κs within =
-    let ahead = c.in-Some.ensures.some ∙ ap (λ (w : Window). told_window w ∷ turns_ahead c.next_window.new.windows) (sym c.turn-turn.ensures.window) in
-    let s = c.turns.invariant.reading in
-    let due = due_now _ _ _ _ (g.D.Disk.from c.args.part.now) (g.D.Disk.len c.args.part.now) _ _ (told_window c.turn-turn.result.window) c.requires.plan.ends s.here s.on_part ahead c.turn-turn.ensures.front in
+    let due = reading_due _ _ _ c.turn-turn.result.window c.requires.plan.ends c.turns.invariant.reading c.in-Some.ensures.some c.turn-turn.ensures.window c.turn-turn.ensures.front in
     omega (arith, due.low, c.turns.invariant.from)
 
 pub collect_turn-requires-clause-high : goal.collect_turn-requires-clause-high
 collect_turn-requires-clause-high g c κs within =
-    let ahead = c.in-Some.ensures.some ∙ ap (λ (w : Window). told_window w ∷ turns_ahead c.next_window.new.windows) (sym c.turn-turn.ensures.window) in
-    let s = c.turns.invariant.reading in
-    let due = due_now _ _ _ _ (g.D.Disk.from c.args.part.now) (g.D.Disk.len c.args.part.now) _ _ (told_window c.turn-turn.result.window) c.requires.plan.ends s.here s.on_part ahead c.turn-turn.ensures.front in
+    let due = reading_due _ _ _ c.turn-turn.result.window c.requires.plan.ends c.turns.invariant.reading c.in-Some.ensures.some c.turn-turn.ensures.window c.turn-turn.ensures.front in
     omega (arith, due.high, c.turns.invariant.from, c.turns.invariant.len)
 
 pub collect_turn-requires-clause-hull : goal.collect_turn-requires-clause-hull
 collect_turn-requires-clause-hull g c κs within =
-    let ahead = c.in-Some.ensures.some ∙ ap (λ (w : Window). told_window w ∷ turns_ahead c.next_window.new.windows) (sym c.turn-turn.ensures.window) in
-    let s = c.turns.invariant.reading in
-    let due = due_now _ _ _ _ (g.D.Disk.from c.args.part.now) (g.D.Disk.len c.args.part.now) _ _ (told_window c.turn-turn.result.window) c.requires.plan.ends s.here s.on_part ahead c.turn-turn.ensures.front in
+    let due = reading_due _ _ _ c.turn-turn.result.window c.requires.plan.ends c.turns.invariant.reading c.in-Some.ensures.some c.turn-turn.ensures.window c.turn-turn.ensures.front in
     due.limit
 
 pub collect_turn-requires-clause-ends : goal.collect_turn-requires-clause-ends
 collect_turn-requires-clause-ends g c κs within =
-    let ahead = c.in-Some.ensures.some ∙ ap (λ (w : Window). told_window w ∷ turns_ahead c.next_window.new.windows) (sym c.turn-turn.ensures.window) in
-    let s = c.turns.invariant.reading in
-    let due = due_now _ _ _ _ (g.D.Disk.from c.args.part.now) (g.D.Disk.len c.args.part.now) _ _ (told_window c.turn-turn.result.window) c.requires.plan.ends s.here s.on_part ahead c.turn-turn.ensures.front in
+    let due = reading_due _ _ _ c.turn-turn.result.window c.requires.plan.ends c.turns.invariant.reading c.in-Some.ensures.some c.turn-turn.ensures.window c.turn-turn.ensures.front in
     due.ends
 
 pub collect_turn-requires-clause-filled : goal.collect_turn-requires-clause-filled
 collect_turn-requires-clause-filled g c κs within =
-    let ahead = c.in-Some.ensures.some ∙ ap (λ (w : Window). told_window w ∷ turns_ahead c.next_window.new.windows) (sym c.turn-turn.ensures.window) in
-    let s = c.turns.invariant.reading in
-    let due = due_now _ _ _ _ (g.D.Disk.from c.args.part.now) (g.D.Disk.len c.args.part.now) _ _ (told_window c.turn-turn.result.window) c.requires.plan.ends s.here s.on_part ahead c.turn-turn.ensures.front in
+    let due = reading_due _ _ _ c.turn-turn.result.window c.requires.plan.ends c.turns.invariant.reading c.in-Some.ensures.some c.turn-turn.ensures.window c.turn-turn.ensures.front in
     filled_served _ _ _ _ due.served c.requires.plan.filled
 
 pub collect_turn-requires-clause-fit : goal.collect_turn-requires-clause-fit
 collect_turn-requires-clause-fit g c κs within =
-    let ahead = c.in-Some.ensures.some ∙ ap (λ (w : Window). told_window w ∷ turns_ahead c.next_window.new.windows) (sym c.turn-turn.ensures.window) in
-    let s = c.turns.invariant.reading in
-    let due = due_now _ _ _ _ (g.D.Disk.from c.args.part.now) (g.D.Disk.len c.args.part.now) _ _ (told_window c.turn-turn.result.window) c.requires.plan.ends s.here s.on_part ahead c.turn-turn.ensures.front in
-    fit_served c.turns.table _ _ _ _ due.served (fit_as_long c.args.table.now c.turns.table c.args.plan.now.list.now s.long c.requires.fit)
+    let due = reading_due _ _ _ c.turn-turn.result.window c.requires.plan.ends c.turns.invariant.reading c.in-Some.ensures.some c.turn-turn.ensures.window c.turn-turn.ensures.front in
+    fit_served c.turns.table _ _ _ _ due.served (fit_as_long c.args.table.now c.turns.table c.args.plan.now.list.now c.turns.invariant.reading.long c.requires.fit)
 
 pub collect_turn-requires-clause-room : goal.collect_turn-requires-clause-room
 collect_turn-requires-clause-room g c κs within =
-    let ahead = c.in-Some.ensures.some ∙ ap (λ (w : Window). told_window w ∷ turns_ahead c.next_window.new.windows) (sym c.turn-turn.ensures.window) in
-    let s = c.turns.invariant.reading in
-    let due = due_now _ _ _ _ (g.D.Disk.from c.args.part.now) (g.D.Disk.len c.args.part.now) _ _ (told_window c.turn-turn.result.window) c.requires.plan.ends s.here s.on_part ahead c.turn-turn.ensures.front in
+    let due = reading_due _ _ _ c.turn-turn.result.window c.requires.plan.ends c.turns.invariant.reading c.in-Some.ensures.some c.turn-turn.ensures.window c.turn-turn.ensures.front in
     omega (arith, due.turn.short, c.requires.room)
 
 pub go_past-requires : goal.go_past-requires
@@ -126,12 +112,10 @@ returns-in_err-collect_turn-clause-blobs g c = c.in_err-collect_turn.ensures.blo
 
 pub returns : goal.returns
 returns g c =
-    let plan = c.args.plan.now in
+    let end = reading_end _ _ _ _ _ _ _ _ _ _ _ c.turns.invariant.reading c.in_default.ensures.none in
     record {
-      got =
-          let end = reading_end _ _ _ _ _ _ _ _ _ _ _ c.turns.invariant.reading c.in_default.ensures.none in
-          record { from = c.turns.invariant.from; len = c.turns.invariant.len; held = c.turns.invariant.held; device = end.1; later = c.turns.invariant.later };
-      read = (reading_end _ _ _ _ _ _ _ _ _ _ _ c.turns.invariant.reading c.in_default.ensures.none).0;
+      got = record { from = c.turns.invariant.from; len = c.turns.invariant.len; held = c.turns.invariant.held; device = end.1; later = c.turns.invariant.later };
+      read = end.0;
       blobs = c.turns.invariant.reading.long;
       failed = first_of (search rules, grind (arith, common_steps));
     }

@@ -1,15 +1,13 @@
 -- The blobs are taken out, and put back as they were read.
-use Rattle.get_exchange.proofs.Words.{◌≡◌, List, ℕ, subst, sym, rules, arith, common_steps, zip, OnOk, get_turns, HasReadParts, part_state, zip_same}
-use Rattle.get_exchange.proofs.PartReads.{got_untouched}
+use Rattle.get_exchange.proofs.Words.{◌≡◌, List, ℕ, subst, sym, rules, arith, common_steps, zip, OnOk, HasReadParts}
+use Rattle.get_exchange.proofs.PartReads.{got_none}
 use Rattle.get_exchange.proofs.in_turn.get_in_turn.Goals as goal
 
 pub returns-in_default-clause-got : goal.returns-in_default-clause-got
-returns-in_default-clause-got g c = zip_same _ c.args.parts.items c.args.domains.now c.requires.one_each (λ p domain. got_untouched (get_turns c.args.plan.now domain)
-    (part_state g.D.Disk p) _)
+returns-in_default-clause-got g c = got_none g.D.Disk c.args.plan.now c.args.parts.items c.args.domains.now _ c.requires.one_each
 
 pub returns-in_default-take-clause-got : goal.returns-in_default-take-clause-got
-returns-in_default-take-clause-got g c = zip_same _ c.args.parts.items c.args.domains.now c.requires.one_each (λ p domain. got_untouched (get_turns c.args.plan.now domain)
-    (part_state g.D.Disk p) _)
+returns-in_default-take-clause-got g c = got_none g.D.Disk c.args.plan.now c.args.parts.items c.args.domains.now _ c.requires.one_each
 
 pub returns-clause-read : goal.returns-clause-read
 returns-clause-read g c =

@@ -1,20 +1,18 @@
 -- One part more was read.
-use Rattle.get_exchange.proofs.Words.{ℕ, ◌≡◌, ◌∙◌, ◌++◌, ◌∷◌, [], refl, sym, ap, subst, length, append_assoc, List, Some, Result, Ok, rules, arith, slice_get, slice_get_within, common_steps, zip, OnOk, AllZip, Extent, Rose, StepErr, at_in, get_turns, HasGot, HasReadParts, part_state, middle_at, part_domain, back_more, both_long, failed_more, zip_push}
+use Rattle.get_exchange.proofs.Words.{ℕ, ◌≡◌, ◌∙◌, ◌++◌, ◌∷◌, [], refl, sym, ap, subst, length, append_assoc, List, Some, Ok, rules, arith, slice_get, slice_get_within, common_steps, zip, OnOk, Rose, at_in, HasReadParts, middle_at, part_domain, zip_push, one_back}
 use Rattle.get_exchange.proofs.CollectLaws.{fit_as_long}
-use Rattle.get_exchange.proofs.FetchLaws.{got_later}
+use Rattle.get_exchange.proofs.FetchLaws.{GotBy, got_later}
 use Rattle.get_exchange.proofs.PartReads.{none_zip, parts_none, parts_on}
 use Rattle.get_exchange.proofs.in_turn.read_parts.Goals as goal
 
 pub loop-part-init : goal.loop-part-init
 loop-part-init g c =
-    let state = part_state g.D.Disk in
-    let Got : Result (Unit {0}) StepErr → g.row.D.Denot × Extent → g.row.D.Denot → Type 0 = λ r p d. HasGot (get_turns c.args.plan.now p.1) (state p.0) (state d) r in
     record {
       all = first_of (search rules, grind (arith, common_steps));
       long = ap (λ (ds : List g.row.D.Denot). length ds) c.requires.none;
       room = refl;
       buf = refl;
-      got = none_zip (Got (Ok tt)) c.args.back.items c.requires.none;
+      got = none_zip (GotBy g.D.Disk c.args.plan.now (Ok tt)) c.args.back.items c.requires.none;
       read = parts_none (λ d. g.D.Disk.from d) (λ d. g.D.Disk.held d) c.args.plan.now c.args.room.now.table.items;
       blobs = refl;
       past = c.new-ahead.ensures.past;
@@ -46,33 +44,27 @@ read_next-part-requires-clause-fit g c κs within =
 
 pub loop-part-preserved : goal.loop-part-preserved
 loop-part-preserved g c =
-    let many = c.loop-part.invariant.long in
+    let s = c.loop-part.invariant in
     let number : c.len-place.result ≡ length c.loop-part.back.items = first_of (search rules, grind (arith, common_steps)) in
     let domain = c.aggregator_at-aggregator.result.domain in
-    let at = subst (λ (k : ℕ). slice_get c.args.domains.now k ≡ Some domain) (number ∙ many) c.aggregator_at-aggregator.ensures in
-    let pushed = c.push_reserved.ensures.items in
-    let part = c.read_next-part.result.0 in
-    let came = c.read_next-part.result.1 in
-    let plan = c.args.plan.now in
+    let at = subst (λ (k : ℕ). slice_get c.args.domains.now k ≡ Some domain) (number ∙ s.long) c.aggregator_at-aggregator.ensures in
     let more = zip_push c.loop-part.yielded c.args.domains.now c.in-Some.part domain at in
-    let state = part_state g.D.Disk in
-    let Got : Result (Unit {0}) StepErr → g.row.D.Denot × Extent → g.row.D.Denot → Type 0 = λ r p d. HasGot (get_turns plan p.1) (state p.0) (state d) r in
+    let came = c.read_next-part.ensures in
+    let Failing : g.row.D.Denot → g.row.D.Denot → Type 0 = λ a b. Rose (g.D.Disk.faults a) (g.D.Disk.faults b) in
+    let back = one_back (GotBy g.D.Disk c.args.plan.now) Failing (zip c.loop-part.yielded c.args.domains.now) _ (c.in-Some.part, domain) c.loop-part.yielded c.in-Some.part c.loop-part.back.items _
+    c.read_next-part.result.0 c.loop-part.end c.read_next-part.result.1 (got_later g.D.Disk c.args.plan.now) more c.push_reserved.ensures.items came.ok
+    (record { long = s.long; done = s.got; failed = s.failed }) came.got came.failed in
     record {
-      all = append_assoc c.loop-part.yielded (c.in-Some.part ∷ []) _ ∙ ap (λ v. c.loop-part.yielded ++ v) (sym c.in-Some.ensures.steps.0) ∙ c.loop-part.invariant.all;
-      long = both_long c.loop-part.yielded c.in-Some.part c.loop-part.back.items _ part pushed many;
-      room = c.push_reserved.ensures.capacity ∙ c.loop-part.invariant.room;
-      buf = c.read_next-part.ensures.buf ∙ c.loop-part.invariant.buf;
-      got = subst (λ (ps : List (g.row.D.Denot × Extent)). AllZip (Got came) ps c.push_reserved.new.self.items) (sym more)
-          (back_more Got (zip c.loop-part.yielded c.args.domains.now) c.loop-part.back.items _ (c.in-Some.part, domain) part c.loop-part.end came
-          (λ p d h. got_later (get_turns plan p.1) (state p.0) (state d) c.loop-part.end came c.read_next-part.ensures.ok h) c.loop-part.invariant.got
-          c.read_next-part.ensures.got pushed);
-      read = parts_on (λ d. g.D.Disk.from d) (λ d. g.D.Disk.held d) plan (zip c.loop-part.yielded c.args.domains.now) (zip (c.loop-part.yielded ++ c.in-Some.part ∷ []) c.args.domains.now)
-          (c.in-Some.part, domain) c.args.room.now.table.items c.loop-part.room.table.items c.read_next-part.new.room.table.items c.loop-part.end came
-          more c.read_next-part.ensures.ok c.loop-part.invariant.read c.read_next-part.ensures.read;
-      blobs = c.read_next-part.ensures.blobs ∙ c.loop-part.invariant.blobs;
+      all = append_assoc c.loop-part.yielded (c.in-Some.part ∷ []) _ ∙ ap (λ v. c.loop-part.yielded ++ v) (sym c.in-Some.ensures.steps.0) ∙ s.all;
+      long = back.long;
+      room = c.push_reserved.ensures.capacity ∙ s.room;
+      buf = came.buf ∙ s.buf;
+      got = back.done;
+      read = parts_on (λ d. g.D.Disk.from d) (λ d. g.D.Disk.held d) c.args.plan.now (zip c.loop-part.yielded c.args.domains.now) _ (c.in-Some.part, domain) c.args.room.now.table.items
+          c.loop-part.room.table.items c.read_next-part.new.room.table.items c.loop-part.end c.read_next-part.result.1 more came.ok s.read came.read;
+      blobs = came.blobs ∙ s.blobs;
       past = c.reach-entries.ensures.past;
-      failed = failed_more (λ (a b : g.row.D.Denot). Rose (g.D.Disk.faults a) (g.D.Disk.faults b)) c.loop-part.yielded c.loop-part.back.items _ c.in-Some.part part c.loop-part.end came
-          many c.loop-part.invariant.failed c.read_next-part.ensures.failed pushed;
+      failed = back.failed;
     }
 
 pub returns-clause-read : goal.returns-clause-read

@@ -1,6 +1,6 @@
 -- Each window is read, and its hull put on the line.
-use Rattle.get_exchange.proofs.Words.{◌∙◌, ◌++◌, ◌∷◌, [], ℕ, List, ap, refl, map, false, get_or, arith, drop_all, told_window, at_index, Window, Hull, rules, common_steps}
-use Rattle.get_exchange.proofs.FetchLaws.{fetch_begin, fetch_end, fetch_high, fetch_low, fetch_next, windows_left}
+use Rattle.get_exchange.proofs.Words.{◌∙◌, ◌++◌, ◌∷◌, [], ℕ, List, ap, refl, map, false, arith, drop_all, told_window, Window, Hull, rules, common_steps}
+use Rattle.get_exchange.proofs.FetchLaws.{fetch_begin, fetch_end, fetch_next, fetch_on, windows_left}
 use Rattle.get_exchange.proofs.reading.read_part.Goals as goal
 
 abbrev none : Window
@@ -19,28 +19,24 @@ loop-window-init g c = record {
 
 pub read_turn-requires-clause-low : goal.read_turn-requires-clause-low
 read_turn-requires-clause-low g c κs within =
-    let windows = c.args.windows.now in
-    let i = c.loop-window.window-index in
-    fetch_low _ _ _ _ _ _ _ _ _ _ _ c.loop-window.invariant.fetching (windows_left windows i _ (at_index windows i i none c.loop-window-test.true refl)) c.loop-window.invariant.from
+    let on = fetch_on c.loop-window.invariant.fetching (windows_left c.args.windows.now c.loop-window.window-index none c.loop-window-test.true) in
+    omega (arith, on.0, c.loop-window.invariant.from)
 
 pub read_turn-requires-clause-high : goal.read_turn-requires-clause-high
 read_turn-requires-clause-high g c κs within =
-    let windows = c.args.windows.now in
-    let i = c.loop-window.window-index in
-    fetch_high _ _ _ _ _ _ _ _ _ _ _ _ c.loop-window.invariant.fetching (windows_left windows i _ (at_index windows i i none c.loop-window-test.true refl)) c.loop-window.invariant.from
-    c.loop-window.invariant.len
+    let on = fetch_on c.loop-window.invariant.fetching (windows_left c.args.windows.now c.loop-window.window-index none c.loop-window-test.true) in
+    omega (arith, on.1, c.loop-window.invariant.from, c.loop-window.invariant.len)
 
 pub loop-window-preserved : goal.loop-window-preserved
 loop-window-preserved g c =
     let windows = c.args.windows.now in
     let i = c.loop-window.window-index in
-    let window = get_or windows i none in
     let later = c.in-Ok.ensures.cause.later in
     let before = c.loop-window.invariant.later in
     record {
       of = c.put.ensures.of ∙ c.loop-window.invariant.of;
       fetching = fetch_next _ _ _ _ _ _ _ _ _ c.read_turn.new.bytes.items _ _ _ _ _ c.loop-window.invariant.fetching
-          (windows_left windows i _ (at_index windows i i none c.loop-window-test.true refl))
+          (windows_left windows i none c.loop-window-test.true)
           (c.put.ensures.items ∙ ap (λ (hull : List ℕ). c.loop-window.lines.line.items ++ Hull hull ∷ []) c.from_vec.ensures) c.loop-window.invariant.from
           c.loop-window.invariant.held c.in-Ok.ensures.read c.in-Ok.ensures.calls;
       held = c.in-Ok.ensures.bytes ∙ c.loop-window.invariant.held;
@@ -62,10 +58,8 @@ returns g c =
         from = c.loop-window.invariant.from;
         len = c.loop-window.invariant.len;
         held = c.loop-window.invariant.held;
-        device =
-            (fetch_end _ _ _ _ _ _ _ _ c.loop-window.invariant.fetching (ap (λ (ws : List Window). map told_window ws) (drop_all i windows c.loop-window-test.false))).2;
-        later =
-            c.loop-window.invariant.later;
+        device = got.2;
+        later = c.loop-window.invariant.later;
       };
       failed = first_of (search rules, grind (arith, common_steps));
     }

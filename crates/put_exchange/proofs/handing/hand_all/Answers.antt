@@ -1,5 +1,5 @@
 -- One part more.
-use Rattle.put_exchange.proofs.Words.{IsPast, Owned, past_none, refl, subst, ◌≡◌, ◌∙◌, ◌++◌, ◌∷◌, [], sym, ap, length, append_assoc, rules, arith, slice_get_within, common_steps, domain_of, part_of, IsFresh, List, handed_more, middle_at, next_domain, none_handed, workers_few}
+use Rattle.put_exchange.proofs.Words.{IsPast, Owned, past_none, refl, subst, ◌≡◌, ◌∙◌, ◌++◌, ◌∷◌, [], sym, ap, append_assoc, rules, arith, common_steps, domain_of, part_of, IsFresh, List, handed_more, next_domain, none_handed, handed_few}
 use Rattle.put_exchange.proofs.handing.hand_all.Goals as goal
 
 pub loop-part-init : goal.loop-part-init
@@ -21,12 +21,8 @@ hand_one-handed-requires-clause-domain g c κs within =
 pub add_handed-requires : goal.add_handed-requires
 add_handed-requires g c =
     let middle = ap (λ v. c.loop-part.yielded ++ v) (sym c.in-Some.ensures.steps.0) ∙ c.loop-part.invariant.all in
-    let low = slice_get_within c.args.parts.items (length c.loop-part.yielded) c.in-Some.part (middle_at c.loop-part.yielded _ c.args.parts.items c.in-Some.part middle) in
-    let few = workers_few (λ worker. part_of worker) c.loop-part.shares.workers.items c.loop-part.shares.rest.items c.loop-part.yielded c.loop-part.invariant.handed.of_parts in
-    record {
-      workers = omega (arith, few, low, c.requires.workers_room, c.loop-part.invariant.workers_room);
-      rest = omega (arith, few, low, c.requires.rest_room, c.loop-part.invariant.rest_room);
-    }
+    let few = handed_few (λ worker. part_of worker) c.loop-part.shares c.args.parts.items c.loop-part.yielded _ c.in-Some.part middle c.loop-part.invariant.handed.of_parts in
+    record { workers = omega (arith, few, c.requires.workers_room, c.loop-part.invariant.workers_room); rest = omega (arith, few, c.requires.rest_room, c.loop-part.invariant.rest_room) }
 
 pub loop-part-preserved : goal.loop-part-preserved
 loop-part-preserved g c =

@@ -1,5 +1,5 @@
 -- Each window is served by the messages that are due in it.
-use Rattle.put_exchange.proofs.Words.{◌∙◌, inl, inr, refl, ap, subst, length, ℕ, List, false, get_or, arith, at_index, drop_all, told_window, Told, turns_due, messages_in, turn_due, Due, HasPutTaken}
+use Rattle.put_exchange.proofs.Words.{◌∙◌, inl, inr, refl, ap, subst, length, ℕ, List, false, get_or, arith, drop_all, told_window, Told, turns_due, messages_in, turn_due, Due, HasPutTaken}
 use Rattle.put_exchange.proofs.ServeLaws.{count_at, due_in, dues_left, served_begin, served_next, served_end}
 use Rattle.put_exchange.proofs.laying.lay_part.Goals as goal
 
@@ -54,7 +54,7 @@ loop-due-preserved g c =
           served_next _ _ (g.D.Disk.len c.args.part.now) _ _ _ _ _ _ _ t _ c.serve_turn-end.new.line.items _ _ (g.D.Disk.held c.serve_turn-end.new.part) _ _
           (g.D.Disk.calls c.serve_turn-end.new.part) _ c.serve_turn-end.result
           (record { pieces = plan.pieces; below = plan.below; one = plan.one; told = c.size-size.ensures.told })
-          (c.loop-due.invariant.served source ranks list plan) (dues_left dues i _ (at_index dues i i none c.loop-due-test.true refl)) on.0 on.1
+          (c.loop-due.invariant.served source ranks list plan) (dues_left dues i none c.loop-due-test.true) on.0 on.1
           (count_at (λ (u : Told). length (messages_in source ranks list u)) dues i none c.loop-due-test.true plan.counts)
           (record {
             took = c.serve_turn-end.ensures.taken;

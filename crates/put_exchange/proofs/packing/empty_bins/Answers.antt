@@ -1,6 +1,6 @@
 -- One rank more.
 use Rattle.put_exchange.proofs.Words.{◌≡◌, ◌∙◌, ◌++◌, ◌∷◌, [], ◌<◌, ℕ, List, Vec, Global, ap, sym, length, map, rules, arith, common_steps, length-append, map-append, range_with_len, binned, Cut}
-use Rattle.put_exchange.proofs.PackLaws.{map_push}
+use Rattle.std.proofs.lemmas.List.FromFn.{map-range_with_len_more}
 use Rattle.put_exchange.proofs.packing.empty_bins.Goals as goal
 
 pub ranks-preserved : goal.ranks-preserved
@@ -19,7 +19,7 @@ ranks-preserved c =
           ∙ map-append (λ (b : Vec Cut Global). b.items) before (bin ∷ [])
           ∙ ap (λ (cuts : List Cut). binned before ++ cuts ∷ []) empty
           ∙ ap (λ (bins : List (List Cut)). bins ++ [] ∷ []) c.ranks.invariant.each
-          ∙ sym (map_push (λ (r : ℕ). []) (length before))
+          ∙ sym (map-range_with_len_more (λ (r : ℕ). []) 0 (length before) (length before) (omega arith))
           ∙ ap (λ (n : ℕ). map (λ (r : ℕ). []) (range_with_len 0 n)) (sym (more ∙ long));
       few = omega arith;
       room = omega arith;
