@@ -62,21 +62,14 @@ any_bput : (posted : List Posted) (w : List Request) → filter (λ (p : Posted)
     → list_any (λ (p : Posted). is_bput p.status) posted ≡ ltb 0 (count_by is_buffered w)
 any_bput posted w kept = any-filter posted ∙ ap (list_any (λ (p : Posted). is_bput p.status)) kept ∙ any-count w
 
-abbrev attached_by : Option Account → List Posted → Queued
+abbrev pub attached_by : Option Account → List Posted → Queued
 attached_by room posted = record { posted = posted; attached = option_map (λ (a : Account). a.size) room }
 
-detach_by : (room : Option Account) (posted : List Posted) (b : Bool) → list_any (λ (p : Posted). is_bput p.status) posted ≡ b → is_some room ≡ true
-    → detach_code (rank_with (attached_by room posted)) ≡ cond b code.EPendingBput code.Ok
-detach_by None posted b h n = cc
-detach_by (Some room) posted b h n = ap (λ (x : Bool). cond x code.EPendingBput code.Ok) h
-
-pub detach_pending : (room : Option Account) (posted : List Posted) (w : List Request) → filter (λ (p : Posted). is_waiting p.status) posted ≡ map as_posted w
-    → is_some room ≡ true → 0 < count_by is_buffered w → detach_code (rank_with (attached_by room posted)) ≡ code.EPendingBput
-detach_pending room posted w kept some h = detach_by room posted true (any_bput posted w kept ∙ lt-ltb 0 (count_by is_buffered w) h) some
-
-pub detach_right : (room : Option Account) (posted : List Posted) (w : List Request) → filter (λ (p : Posted). is_waiting p.status) posted ≡ map as_posted w
-    → is_some room ≡ true → count_by is_buffered w ≡ 0 → detach_code (rank_with (attached_by room posted)) ≡ code.Ok
-detach_right room posted w kept some h = detach_by room posted false (any_bput posted w kept ∙ le-ltb 0 (count_by is_buffered w) (omega (arith, h))) some
+-- a buffer can't be detached while a bput waits
+pub detach_is : (room : Option Account) (posted : List Posted) (w : List Request) (b : Bool) → filter (λ (p : Posted). is_waiting p.status) posted ≡ map as_posted w → is_some room ≡ true
+    → ltb 0 (count_by is_buffered w) ≡ b → detach_code (rank_with (attached_by room posted)) ≡ cond b code.EPendingBput code.Ok
+detach_is None posted w b kept some h = cc
+detach_is (Some room) posted w b kept some h = ap (λ (x : Bool). cond x code.EPendingBput code.Ok) (any_bput posted w kept ∙ h)
 
 -- ---- giving back
 

@@ -1,5 +1,6 @@
 -- The index of the requests that wait: it stays one as requests come and go, and finds each by its id.
 use Rattle.request_queue.proofs.Words.{◌≡◌, ℕ, ◌∙◌, ap, sym, refl, inl, inr, ◌⊎◌, List, [], ◌∷◌, Bool, true, false, cond, eqb, Option, Some, None, filter, option_map, is_some, list_any, AllByRecursion, nat_cmp, nat_cmp_total, values_of, lookup, BTreeMap, get, is_at, values, IsOrdered, cases_eq, cases_Bool, cond-true, cond-false, eq-eqb, ne_eqb, eqb-true, or_left, or_right, or_cases, recursion_from_All, All-weaker, All-found, has_id, Request, has_waiting, IsIndex, is_place, stands_at, arith, nat_tests}
+use Rattle.list_laws.proofs.Optional.{some_or_none}
 use Rattle.request_queue.proofs.PlaceLaws.{at_same, at_apart}
 
 abbrev id_at : Option Request → Option ℕ
@@ -71,22 +72,17 @@ module _ (places : BTreeMap ℕ ℕ) (by_place : BTreeMap ℕ Request) (ordered 
 
   by_place_of : (id : ℕ) (o : Option ℕ) → get nat_cmp places id ≡ o → is_some o ≡ has_waiting (values by_place) id
   by_place_of id (Some p) e = sym (lookup_waits (is_at (nat_cmp p)) by_place.entries id ((index id p).0 e))
-  by_place_of id None e = by_case (cases_Bool (has_waiting (values by_place) id))
-    where
-      by_case : (has_waiting (values by_place) id ≡ true) ⊎ (has_waiting (values by_place) id ≡ false) → false ≡ has_waiting (values by_place) id
-      by_case (inl w) = let some = waits_listed places by_place.entries id all_listed w in let none = ap is_some e in cc
-      by_case (inr w) = sym w
+  by_place_of id None e = elim (cases_Bool (has_waiting (values by_place) id)) [
+    | inl w ↦ let some = waits_listed places by_place.entries id all_listed w in let none = ap is_some e in cc
+    | inr w ↦ sym w
+  ]
 
   -- the index has the ids of the requests
   pub index_has : (id : ℕ) → is_some (get nat_cmp places id) ≡ has_waiting (values by_place) id
   index_has id = by_place_of id (get nat_cmp places id) refl
 
   pub index_lacks : (id : ℕ) → has_waiting (values by_place) id ≡ false → get nat_cmp places id ≡ None
-  index_lacks id h = by_option (get nat_cmp places id) refl
-    where
-      by_option : (o : Option ℕ) → get nat_cmp places id ≡ o → get nat_cmp places id ≡ None
-      by_option None e = e
-      by_option (Some p) e = let some = by_place_of id (Some p) e in cc
+  index_lacks id h = elim (some_or_none (get nat_cmp places id)) [ inl e ↦ e | inr p ↦ let some = by_place_of id (Some p.0) p.1 in cc ]
 
   -- ---- the places of some ids
 
@@ -96,12 +92,10 @@ module _ (places : BTreeMap ℕ ℕ) (by_place : BTreeMap ℕ Request) (ordered 
       ne_eqb p place (λ same. let here = (index id place).0 (e ∙ ap Some same) in let held = ap id_at there in let equal : id ≡ r.id = cc in apart equal)
 
   stands_one : (id place : ℕ) (r : Request) → get nat_cmp by_place place ≡ Some r → stands_at places place id ≡ eqb id r.id
-  stands_one id place r there = by_case (cases_eq id r.id)
-    where
-      by_case : (id ≡ r.id) ⊎ (id ≡ r.id → ⊥) → stands_at places place id ≡ eqb id r.id
-      by_case (inl same) =
-          ap (is_place place) (ap (get nat_cmp places) same ∙ (index r.id place).1 (ap id_at there)) ∙ eq-eqb place place refl ∙ sym (eq-eqb id r.id same)
-      by_case (inr apart) = not_place id place r there apart (get nat_cmp places id) refl ∙ sym (ne_eqb id r.id apart)
+  stands_one id place r there = elim (cases_eq id r.id) [
+    | inl same ↦ ap (is_place place) (ap (get nat_cmp places) same ∙ (index r.id place).1 (ap id_at there)) ∙ eq-eqb place place refl ∙ sym (eq-eqb id r.id same)
+    | inr apart ↦ not_place id place r there apart (get nat_cmp places id) refl ∙ sym (ne_eqb id r.id apart)
+  ]
 
   -- an entry stands at the place of one of the ids exactly if its request has one of them
   all_stand : (ids : List ℕ) (listed : ℕ → Bool) → ((place : ℕ) → listed place ≡ list_any (stands_at places place) ids)
