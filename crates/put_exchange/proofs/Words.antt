@@ -1,5 +1,5 @@
 -- The words of this crate's proofs, from where they stand.
-pub use Rattle.list_laws.proofs.Std.{AllZip, Bool, Err, IfNone, IfSome, IsErr, IsErrOf, IsOk, List, None, Ok, OnOk, Option, Result, Some, Vec, [], and_from, and_parts, and_right, ap, append-nil, append_assoc, arith, common_steps, cond, drop, drop-append_seam, drop_all, enumerate_from, eqb-true, eqb_tells, false, filter, filter-append, flat_map, fold-append, get_or, inl, inr, le-ltb, length, length-drop, length-map, length-range_with_len, length-take, lt-ltb, ltb-false, ltb-true, map, map-append, min, nat_lt, nat_tests, range_with_len, refl, result_and, rules, same_Some, set, slice_get, slice_get-get_or, slice_get_within, subst, suc, sym, take, take-append_seam, take_more, take_rest, true, vec_capacity, zero, zip, ℕ, ◌&&◌, ◌++◌, ◌+◌, ◌-◌, ◌<◌, ◌==◌, ◌^◌, ◌∙◌, ◌∷◌, ◌≡◌, ◌≤◌, ◌⊎◌}
+pub use Rattle.list_laws.proofs.Std.{AllZip, Bool, Err, IfNone, IfSome, IsErr, IsErrOf, IsOk, List, None, Ok, OnOk, Option, Result, Some, Vec, [], and_from, and_parts, and_right, ap, append-nil, append_assoc, arith, common_steps, cond, drop, drop-append_seam, drop_all, enumerate_from, eqb-true, eqb_tells, false, filter, filter-append, flat_map, fold-append, get_or, inl, inr, le-ltb, length, length-drop, length-map, length-take, lt-ltb, ltb-false, ltb-true, map, map-append, min, nat_lt, nat_tests, range_with_len, refl, rules, same_Some, set, slice_get, slice_get-get_or, slice_get_within, subst, suc, sym, take, take-append_seam, take_more, true, vec_capacity, zero, zip, ℕ, ◌&&◌, ◌++◌, ◌+◌, ◌-◌, ◌<◌, ◌==◌, ◌^◌, ◌∙◌, ◌∷◌, ◌≡◌, ◌≤◌, ◌⊎◌}
 pub use Rattle.std.proofs.Common.{length-set}
 pub use Rattle.std.proofs.lemmas.List.{length-append}
 pub use Rattle.std.proofs.lemmas.List.Concat.{flat_map-append}
@@ -28,7 +28,7 @@ pub use Rattle.exchange_crew.specs.Turns.{IsTurnWalk, Told, puts_of_some, source
 pub use Rattle.exchange_crew.specs.declared.plan.PutPlan.{PutPlan}
 pub use Rattle.exchange_crew.specs.declared.walk.TurnWalk.{TurnWalk}
 pub use Rattle.file_domains.specs.declared.walk.Window.{Window}
-pub use Rattle.list_laws.proofs.Common.{drop_at, each_more, equal_true, left_more, middle_at, no_none_some, range_push, zip_weaker}
+pub use Rattle.list_laws.proofs.Common.{each_more, equal_true, left_more, middle_at, no_none_some}
 pub use Rattle.list_laws.proofs.Types.{Batch, Disk, DiskCall, Extent, Job, Owned, Post, StepErr}
 pub use Rattle.nc_outside.proofs.ToldLaws.{calls_more, with_end-nil}
 pub use Rattle.nc_outside.specs.Cause.{Rose}

@@ -1,5 +1,5 @@
 -- Helpers that have their jobs, and were fed.
-use Rattle.put_exchange.proofs.Words.{◌≡◌, ℕ, sym, ◌∙◌, ap, subst, List, length, map, min, Some, Result, append-nil, In, StepErr, DiskGhosts, Sent, domain_of, part_of, HasFed, IsFed, IsFresh, IsStartedFor, HasPut, HasServed, IsPlanOn, message_counts, planned_turns, source_in, AreTurns, HaveWindows, IsPlan, PartState, Told, PutPlan, Worker, AreDue, Batch, Extent, IsDomainOf, Owned, ◌≤◌, arith, plan_on, plan_turns, plan_windows, turn_end, turn_in, turns_of, nat_tests, AreKept, kept_all}
+use Rattle.put_exchange.proofs.Words.{◌≡◌, ℕ, sym, ◌∙◌, ap, subst, List, length, min, Result, append-nil, In, StepErr, DiskGhosts, Sent, domain_of, part_of, HasFed, IsFed, IsFresh, IsStartedFor, HasPut, HasServed, IsPlanOn, message_counts, planned_turns, source_in, AreTurns, HaveWindows, IsPlan, PartState, Told, PutPlan, Worker, AreDue, Batch, Extent, IsDomainOf, Owned, ◌≤◌, arith, plan_on, plan_turns, plan_windows, turn_end, turn_in, turns_of, nat_tests, AreKept, kept_all}
 
 fed_worker : {D : Type 0} (disk : DiskGhosts D) (plan : PutPlan) (old new : Worker D) → HasFed old new → IsFresh disk plan old → IsFed disk plan new
 fed_worker disk plan old new h f = grind (arith, nat_tests, append-nil new.feed.line.items)

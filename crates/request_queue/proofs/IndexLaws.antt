@@ -1,5 +1,5 @@
 -- The index of the requests that wait: it stays one as requests come and go, and finds each by its id.
-use Rattle.request_queue.proofs.Words.{◌≡◌, ℕ, ◌∙◌, ap, sym, refl, inl, inr, ◌⊎◌, List, [], ◌∷◌, Bool, true, false, cond, eqb, Option, Some, None, filter, option_map, is_some, list_any, AllByRecursion, nat_cmp, nat_cmp_total, values_of, lookup, BTreeMap, get, is_at, values, IsOrdered, cases_eq, cases_Bool, cond-true, cond-false, eq-eqb, ne_eqb, eqb-true, or_left, or_right, or_cases, recursion_from_All, All-weaker, All-found, has_id, Request, has_waiting, IsIndex, is_place, stands_at, arith, nat_tests}
+use Rattle.request_queue.proofs.Words.{◌≡◌, ℕ, ◌∙◌, ap, sym, refl, inl, inr, List, [], ◌∷◌, Bool, true, false, cond, eqb, Option, Some, None, filter, option_map, is_some, list_any, AllByRecursion, nat_cmp, nat_cmp_total, values_of, lookup, BTreeMap, get, is_at, values, IsOrdered, cases_eq, cases_Bool, cond-true, cond-false, eq-eqb, ne_eqb, eqb-true, or_left, or_right, or_cases, recursion_from_All, All-weaker, All-found, has_id, Request, has_waiting, IsIndex, is_place, stands_at, arith, nat_tests}
 use Rattle.list_laws.proofs.Optional.{some_or_none}
 use Rattle.request_queue.proofs.PlaceLaws.{at_same, at_apart}
 
