@@ -8,7 +8,7 @@ use Rattle.get_exchange.proofs.exchange.get_helped.Goals as goal
 pub get_in_turn-others-requires-clause-domains : goal.get_in_turn-others-requires-clause-domains
 get_in_turn-others-requires-clause-domains g c κs within =
     let number : c.len-served.result ≡ length c.get_served-back.result.back.items = first_of (search rules, grind (arith, common_steps)) in
-    domains_behind (split_at _ _ _ _ _ number c.requires.one_each c.get_served-back.ensures.rest) (λ d. g.D.Disk.from d) (λ d. g.D.Disk.len d) c.args.plan.now.list.now c.requires.domains
+    domains_behind (split_at c.len-served.result (length c.get_served-back.result.back.items) c.args.parts.items c.get_served-back.result.rest.items c.args.domains.now number c.requires.one_each c.get_served-back.ensures.rest) (λ d. g.D.Disk.from d) (λ d. g.D.Disk.len d) c.args.plan.now.list.now c.requires.domains
 
 pub get_in_turn-others-requires-clause-fit : goal.get_in_turn-others-requires-clause-fit
 get_in_turn-others-requires-clause-fit g c κs within =
@@ -18,7 +18,7 @@ pub give_back-requires : goal.give_back-requires
 give_back-requires g c =
     let others = c.get_in_turn-others.result in
     let number : c.len-served.result ≡ length c.get_served-back.result.back.items = first_of (search rules, grind (arith, common_steps)) in
-    let split = split_at _ _ _ _ _ number c.requires.one_each c.get_served-back.ensures.rest in
+    let split = split_at c.len-served.result (length c.get_served-back.result.back.items) c.args.parts.items c.get_served-back.result.rest.items c.args.domains.now number c.requires.one_each c.get_served-back.ensures.rest in
     let many = back_long (GotBy g.D.Disk c.args.plan.now others.1) _ _ others.0.items (split_long split) c.get_in_turn-others.ensures.got in
     let behind = ap (λ (ps : List g.row.D.Denot). length ps) c.get_served-back.ensures.rest in
     let rest = length-drop (length c.get_served-back.result.back.items) c.args.parts.items in
@@ -28,12 +28,12 @@ pub returns : goal.returns
 returns g c =
     let plan = c.args.plan.now in
     let number : c.len-served.result ≡ length c.get_served-back.result.back.items = first_of (search rules, grind (arith, common_steps)) in
-    let split = split_at _ _ _ _ _ number c.requires.one_each c.get_served-back.ensures.rest in
+    let split = split_at c.len-served.result (length c.get_served-back.result.back.items) c.args.parts.items c.get_served-back.result.rest.items c.args.domains.now number c.requires.one_each c.get_served-back.ensures.rest in
     record {
-      got = all_joined _ _ _ _ _ _ split c.give_back.ensures c.and.ensures (GotBy g.D.Disk plan) (got_later g.D.Disk plan) c.get_served-back.ensures.got c.get_in_turn-others.ensures.got;
+      got = all_joined c.get_served-back.result.back.items c.get_in_turn-others.result.0.items c.give_back.new.back.items c.get_served-back.result.end c.get_in_turn-others.result.1 c.and.result split c.give_back.ensures c.and.ensures (GotBy g.D.Disk plan) (got_later g.D.Disk plan) c.get_served-back.ensures.got c.get_in_turn-others.ensures.got;
       read = parts_joined (λ d. g.D.Disk.from d) (λ d. g.D.Disk.held d) plan _ _ _ _ _ _ c.get_served-back.new.into c.get_in_turn-others.new.into _ _ _ split c.and.ensures c.get_served-back.ensures.read
           c.get_in_turn-others.ensures.read;
       blobs = first_of (search rules, grind (arith, common_steps));
       failed =
-          failed_joined _ _ _ _ _ _ split c.give_back.ensures c.and.ensures (λ a b. Rose (g.D.Disk.faults a) (g.D.Disk.faults b)) c.get_served-back.ensures.failed c.get_in_turn-others.ensures.failed;
+          failed_joined c.get_served-back.result.back.items c.get_in_turn-others.result.0.items c.give_back.new.back.items c.get_served-back.result.end c.get_in_turn-others.result.1 c.and.result split c.give_back.ensures c.and.ensures (λ a b. Rose (g.D.Disk.faults a) (g.D.Disk.faults b)) c.get_served-back.ensures.failed c.get_in_turn-others.ensures.failed;
     }

@@ -14,12 +14,12 @@ take_all-came-requires-clause-ready g c κs within =
 pub take_back-end-requires-clause-workers : goal.take_back-end-requires-clause-workers
 take_back-end-requires-clause-workers g c κs within =
     let n : c.hand_all.new.shares.workers.len ≡ length c.hand_all.new.shares.workers.items = first_of (search rules, grind (arith, common_steps)) in
-    kept_workers c.args.plan.now (lent_kept IsKept _ _ _ _ c.deref_mut.ensures.value n c.take_all-came.ensures.long c.take_all-came.ensures.kept) c.hand_all.ensures.workers
+    kept_workers c.args.plan.now (lent_kept IsKept c.hand_all.new.shares.workers.len c.hand_all.new.shares.workers.items c.deref_mut.result.now c.take_all-came.new.workers c.deref_mut.ensures.value n c.take_all-came.ensures.long c.take_all-came.ensures.kept) c.hand_all.ensures.workers
 
 pub returns : goal.returns
 returns g c =
     let n : c.hand_all.new.shares.workers.len ≡ length c.hand_all.new.shares.workers.items = first_of (search rules, grind (arith, common_steps)) in
-    let kept = lent_kept IsKept _ _ _ _ c.deref_mut.ensures.value n c.take_all-came.ensures.long c.take_all-came.ensures.kept in
+    let kept = lent_kept IsKept c.hand_all.new.shares.workers.len c.hand_all.new.shares.workers.items c.deref_mut.result.now c.take_all-came.new.workers c.deref_mut.ensures.value n c.take_all-came.ensures.long c.take_all-came.ensures.kept in
     let served = have_served (λ worker. part_of worker) (λ worker. domain_of worker) IsKept c.hand_all.new.shares.rest.items c.take_back-end.new.back.items c.args.parts.items c.args.domains.now kept kept_same
     c.hand_all.ensures.parts c.hand_all.ensures.domains c.take_back-end.ensures.long in
     let plan = c.args.plan.now in
