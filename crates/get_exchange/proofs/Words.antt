@@ -1,5 +1,5 @@
 -- The words of this crate's proofs, from where they stand.
-pub use Rattle.list_laws.proofs.Std.{AllZip, AllZip-long, Bool, Err, IfErr, IfNone, IfSome, IsErrOf, IsOk, List, None, Ok, OnOk, Option, Result, Some, [], and_from, ap, append-nil, append_assoc, arith, common_steps, cond, drop, drop_all, ext_get_or, false, filter-append, flat_map, fold-append, get_or, get_or-set_other, get_or-set_same, get_or_default, inl, inr, is_some, length, length-drop, length-map, length-take, length-zip, map, map-append, map-set_same, min, nat_tests, on_ok_weaker, refl, result_and, rules, same_Some, set, slice_get, slice_get-get_or, slice_get_within, subst, suc, sym, take, take_all, take_more, take_rest, true, vec_capacity, zero, zip, ℕ, ◌&&◌, ◌++◌, ◌+◌, ◌-◌, ◌<◌, ◌==◌, ◌^◌, ◌∙◌, ◌∷◌, ◌≡◌, ◌≢◌, ◌≤◌, ◌⊎◌, eqb_tells}
+pub use Rattle.list_laws.proofs.Std.{AllZip, AllZip-long, Bool, Err, IfErr, IfNone, IfSome, IsErrOf, IsOk, List, None, Ok, OnOk, Option, Result, Some, [], and_from, ap, append-nil, append_assoc, arith, common_steps, cond, drop, drop_all, ext_get_or, false, filter-append, flat_map, fold-append, get_or, get_or-set_other, get_or-set_same, get_or_default, inl, inr, is_some, length, length-drop, length-map, length-take, length-zip, map, map-append, map-set_same, min, nat_tests, on_ok_weaker, refl, result_and, rules, same_Some, set, slice_get, slice_get-get_or, slice_get_within, subst, suc, sym, take, take_all, take_more, true, vec_capacity, zero, zip, ℕ, ◌&&◌, ◌++◌, ◌+◌, ◌-◌, ◌<◌, ◌==◌, ◌^◌, ◌∙◌, ◌∷◌, ◌≡◌, ◌≢◌, ◌≤◌, ◌⊎◌, eqb_tells}
 pub use Rattle.std.proofs.Common.{length-set}
 pub use Rattle.std.proofs.Math.ListN.{get_or-map}
 pub use Rattle.std.proofs.lemmas.List.{length-append}
@@ -10,7 +10,7 @@ pub use Rattle.aggregator_rounds.proofs.SplitSteps.{dropped_past, entry_ends, ex
 pub use Rattle.aggregator_rounds.specs.EntryParts.{AreFilled, IsCovered, buffer_cell, got_cells, part_in, places_of}
 pub use Rattle.aggregator_rounds.specs.Left.{IsPast, entries_left}
 pub use Rattle.aggregator_rounds.specs.ToldWindows.{told_window}
-pub use Rattle.exchange_crew.proofs.BackLaws.{AreKept, IsLater, and_first_ok, and_second_ok, err_not_ok, joined_back, kept_all, lent_kept, middle_in, one_back, slice_kept, zip_push, zip_same}
+pub use Rattle.exchange_crew.proofs.BackLaws.{AreKept, IsLater, and_first_ok, err_not_ok, joined_back, kept_all, lent_kept, middle_in, one_back, slice_kept, zip_push, zip_same}
 pub use Rattle.exchange_crew.proofs.CrewLaws.{HaveServed, all_served, each_joined, handed_few, handed_more, have_served, next_domain, none_handed, part_domain, some_served}
 pub use Rattle.exchange_crew.proofs.DomainTurns.{domain_part, domain_turns, domain_windows}
 pub use Rattle.exchange_crew.proofs.OneChanged.{fewer_all, set_each}
@@ -38,7 +38,7 @@ pub use Rattle.get_exchange.specs.declared.reading.Reading.{Reading}
 pub use Rattle.get_exchange.specs.declared.reading.Reading.TheVariants.{Hull}
 pub use Rattle.get_exchange.specs.declared.shelf.Shelf.{Shelf}
 pub use Rattle.get_exchange.specs.declared.walk.ReadWalk.{ReadWalk}
-pub use Rattle.list_laws.proofs.Common.{and_first, and_second, drop_at, entry_below, entry_set, entry_set_other, equal_true, middle_at, no_both, refilled, zip_weaker}
+pub use Rattle.list_laws.proofs.Common.{and_first, and_second, entry_below, entry_set, entry_set_other, equal_true, middle_at, no_both, refilled, zip_weaker}
 pub use Rattle.list_laws.proofs.Types.{Disk, DiskCall, Extent, Memory, Owned, StepErr}
 pub use Rattle.nc_outside.proofs.ToldLaws.{with_end-nil, with_end-with_end}
 pub use Rattle.nc_outside.specs.Cause.{Rose}
