@@ -195,7 +195,7 @@ pub rows_long : (old now : List (List (List ℕ))) → AreAsLong old now → len
 rows_long old now h = grind (arith, nat_tests, length-map)
 
 -- nothing was read
-pub got_none : {D T : Type 0} (disk : DiskGhosts D) (plan : GetPlan) (parts : List D) (domains : List Extent) (e : StepErr) → length domains ≡ length parts
-    → AllZip (GotBy {T = T} disk plan (Err e)) (zip parts domains) parts
+pub got_none : {D : Type 0} (disk : DiskGhosts D) (plan : GetPlan) (parts : List D) (domains : List Extent) (e : StepErr) → length domains ≡ length parts
+    → AllZip (GotBy {T = Unit {0}} disk plan (Err e)) (zip parts domains) parts
 got_none disk plan parts domains e long =
     zip_same (GotBy disk plan (Err e)) parts domains long (λ p domain. record { from = refl; len = refl; held = refl; device = tt; later = omega arith })

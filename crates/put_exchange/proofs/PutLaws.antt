@@ -250,7 +250,7 @@ pub put_later : {D T : Type 0} (disk : DiskGhosts D) (plan : PutPlan) → IsLate
 put_later disk plan end came p new ok h = grind (arith, nat_tests)
 
 -- nothing was done
-pub put_none : {D T : Type 0} (disk : DiskGhosts D) (plan : PutPlan) (parts : List D) (domains : List Extent) (e : StepErr) → length domains ≡ length parts
-    → AllZip (PutBy {T = T} disk plan (Err e)) (zip parts domains) parts
+pub put_none : {D : Type 0} (disk : DiskGhosts D) (plan : PutPlan) (parts : List D) (domains : List Extent) (e : StepErr) → length domains ≡ length parts
+    → AllZip (PutBy {T = Unit {0}} disk plan (Err e)) (zip parts domains) parts
 put_none disk plan parts domains e long = zip_same (PutBy disk plan (Err e)) parts domains long (λ p domain.
     record { from = refl; len = refl; bytes = tt; between = told_nothing (disk.held p) (put_part (source_in plan) plan.list.now (disk.from p)); device = tt; later = omega arith })
