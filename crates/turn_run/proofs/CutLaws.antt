@@ -1,45 +1,31 @@
 -- A run that was cut off, step by step.
-use Rattle.turn_run.proofs.Words.{IfSome_then, ◌≡◌, ℕ, ◌<◌, refl, sym, ◌∙◌, ap, subst, inl, List, [], ◌∷◌, ◌++◌, set, Bool, true, Option, Some, Result, Err, append-nil, slice_get, fold, ◌&&◌, byte_len, Hints, Script, Mark, Solo, Offer, StepErr, Memory, after, BothTold, Setting, Counted, puts_of, solo, count_width, Going, covered, IsTorn, IsLeft, counted, torn_wider, Header, DiskCall, is_lawful, completed_by, point, AreRunners, Arrived, Stand, step_to, solo_to, Stage, HasGone, IsGrownBy, rank_stage, StopsAt, HasStopped, MayFollow, IsNext, bytes_at, Runner, in_step, entry_set, offer_of, IsErrAnd, Ok, HasReached, HasLed, None}
+use Rattle.turn_run.proofs.Words.{IfSome_then, ◌≡◌, ℕ, ◌<◌, refl, sym, ◌∙◌, ap, subst, inl, List, [], ◌∷◌, ◌++◌, set, Bool, true, Option, Some, Result, Err, append-nil, slice_get, fold, ◌&&◌, byte_len, Hints, Script, Mark, Solo, Offer, StepErr, Memory, after, BothTold, Setting, Counted, puts_of, solo, count_width, Going, covered, IsTorn, IsLeft, counted, torn_wider, Header, DiskCall, is_lawful, completed_by, point, AreRunners, Arrived, Stand, step_to, solo_to, HasGone, IsGrownBy, rank_stage, StopsAt, HasStopped, MayFollow, IsNext, bytes_at, Runner, in_step, entry_set, offer_of, IsErrAnd, Ok, None}
 use Rattle.turn_run.proofs.AloneLaws.{grown_then}
 use Rattle.turn_run.proofs.TurnSteps.{step_begun}
 use Rattle.turn_run.specs.Cuts.StopsAt.{between}
 use Rattle.turn_run.proofs.SaidLaws.{reached_then}
 use Rattle.turn_run.proofs.StageLaws.{gone_beside, some_each}
+use Rattle.turn_run.specs.Cuts.{IsLeftAt}
 
--- ---- what went before
-
--- what is left, of a stand that was reached
-abbrev IsLeftAt : (Mark → Type 0) → Setting → StepErr → Option (List ℕ) → ℕ → Stand → Type 0
-IsLeftAt F s fault left count stand = (bytes : List ℕ) × (left ≡ Some bytes) × StopsAt F s fault stand bytes count
-
-pub stopped_then : (F : Mark → Type 0) (mid : List Mark) {hints : Hints} {s : Setting} {fault : StepErr} {before now : List Mark} {a b : Stage} {left : Option (List ℕ)} {count : ℕ}
-    → HasLed hints s before mid a b → HasStopped F s fault (point mid b.held b.records) b.ranks (point now left count) → HasStopped F s fault (point before a.held a.records) a.ranks (point now left count)
-stopped_then F mid {s} {fault} {now} {b} {left} {count} led h =
-    let start : HasReached (IsLeftAt F s fault left count) s (point mid b.held b.records) b.ranks now = record { more = h.more; grown = h.grown; ends = h.stops } in
-    let k = reached_then (IsLeftAt F s fault left count) mid led start in
-    record { more = k.more; grown = k.grown; stops = k.ends }
+-- ---- where nothing more was done
 
 -- as the next mark may be known by more
-pub stopped_as : (F G : Mark → Type 0) (s : Setting) (fault : StepErr) (before now : List Mark) (held : Option (List ℕ)) (records : ℕ) (ranks : List Arrived) (left : Option (List ℕ)) (count : ℕ)
-    → ((m : Mark) → F m → G m) → HasStopped F s fault (point before held records) ranks (point now left count) → HasStopped G s fault (point before held records) ranks (point now left count)
-stopped_as F G s fault before now held records ranks left count f h = record {
+pub stopped_as : {F G : Mark → Type 0} {s : Setting} {fault : StepErr} {before now : List Mark} {held left : Option (List ℕ)} {records count : ℕ} {ranks : List Arrived} → ((m : Mark) → F m → G m)
+    → HasStopped F s fault (point before held records) ranks (point now left count) → HasStopped G s fault (point before held records) ranks (point now left count)
+stopped_as {F} {G} {s} {fault} {held} {records} {count} {ranks} f h = record {
   more = h.more;
   grown = h.grown;
-  stops = IfSome_then held h.stops (λ file k. (k.0, k.1, by_stop (fold (step_to s) (counted file records, ranks) h.more) k.0 k.2));
+  ends = IfSome_then held h.ends (λ file k. (k.0, k.1, by_stop (fold (step_to s) (counted file records, ranks) h.more) k.0 k.2));
 }
   where
     by_stop : (stand : Stand) (bytes : List ℕ) → StopsAt F s fault stand bytes count → StopsAt G s fault stand bytes count
     by_stop stand bytes (in_step m k l) = in_step m (f m k) l
     by_stop stand bytes (between e k l) = between e k l
 
-pub stopped_at : (F : Mark → Type 0) (s : Setting) (fault : StepErr) (before now : List Mark) (held left : Option (List ℕ)) (records n m : ℕ) (ranks : List Arrived)
-    → n ≡ m → HasStopped F s fault (point before held records) ranks (point now left n) → HasStopped F s fault (point before held records) ranks (point now left m)
-stopped_at F s fault before now held left records n m ranks e h = subst (λ (k : ℕ). HasStopped F s fault (point before held records) ranks (point now left k)) e h
-
 -- want of memory where nothing was begun
 pub stopped_between : {F : Mark → Type 0} {s : Setting} {fault : StepErr} {before now : List Mark} {held left : Option (List ℕ)} {records count : ℕ} {ranks : List Arrived}
     → fault ≡ Memory → now ≡ before → left ≡ held → count ≡ records → HasStopped F s fault (point before held records) ranks (point now left count)
-stopped_between {before} {held} e o l k = record { more = []; grown = o ∙ sym (append-nil before); stops = some_each held (λ file there. (file, l ∙ there, between e refl k)) }
+stopped_between {before} {held} e o l k = record { more = []; grown = o ∙ sym (append-nil before); ends = some_each held (λ file there. (file, l ∙ there, between e refl k)) }
 
 -- ---- a solo step
 
@@ -62,7 +48,7 @@ pub stopped_solo : (F : Mark → Type 0) (r n : ℕ) (t : Going) (o : Offer) {s 
 stopped_solo F r n t o {s} {before} {held} f same torn records ranks e = record {
   more = [];
   grown = same ∙ sym (append-nil before);
-  stops = some_each held (λ file there.
+  ends = some_each held (λ file there.
       let b = rw there at torn in (
         b.0,
         b.1,
@@ -80,7 +66,7 @@ pub stopped_unheard : (r n : ℕ) (t : Going) (o : Offer) {F : Mark → Type 0} 
 stopped_unheard r n t o {s} {held} memory grown bytes records ranks e = record {
   more = Solo r n ∷ [];
   grown = grown;
-  stops = some_each held (λ file there.
+  ends = some_each held (λ file there.
       let c = solo_at s r n (counted file records) ranks t o e in
       ((solo s r o (counted file records)).0.file, rw there at bytes, between memory (ap (λ (c : Counted). c.file) c) (ap (λ (c : Counted). c.records) c)));
 }
@@ -103,7 +89,8 @@ pub gone_stopped : (F : Mark → Type 0) (mid : List Mark) {hints : Hints} {s : 
     {calls made : Option (List DiskCall)} {from to : Arrived} → HasGone hints s r (rank_stage before held calls from) (rank_stage mid left made to)
     → ((records : ℕ) (ranks : List Arrived) → slice_get ranks r ≡ Some to → HasStopped F s fault (point mid left records) ranks (point now last records))
     → (records : ℕ) (ranks : List Arrived) → slice_get ranks r ≡ Some from → HasStopped F s fault (point before held records) ranks (point now last records)
-gone_stopped F mid {r} {from} {to} g next records ranks e = stopped_then F mid (gone_beside g records ranks e) (next records (set ranks r to) (entry_set ranks r from to e))
+gone_stopped F mid {s} {r} {fault} {last} {from} {to} g next records ranks e =
+    reached_then (IsLeftAt F s fault last records) mid (gone_beside g records ranks e) (next records (set ranks r to) (entry_set ranks r from to e))
 
 -- a step that rank n may do next is one that a history of the script has next
 pub follows_next : (script : Script) (header : Header) (len : ℕ) (before now : List Mark) (runners : List Runner) (n : ℕ) → is_lawful script ≡ true

@@ -136,7 +136,7 @@ stopped_meet {F} {s} {fault} k {before} {now} {held} {left} {calls} {runners} {b
     record {
       more = [];
       grown = same ∙ sym (append-nil before);
-      stops = some_each held (λ file there.
+      ends = some_each held (λ file there.
           let b = rw there at torn in (
             b.0,
             b.1,
@@ -155,7 +155,7 @@ stopped_deaf {F} {s} {fault} k {before} {now} {held} {left} {calls} {runners} {b
     record {
       more = Meet k ∷ [];
       grown = grown;
-      stops = some_each held (λ file there.
+      ends = some_each held (λ file there.
           let same = meet_at s k (counted file r) t in (
             (met s batches known (counted file r)).file,
             rw there at bytes,

@@ -32,10 +32,6 @@ alike_then s marks more n m k from mid to first second stand w =
 pub has_led_none : (hints : Hints) (s : Setting) (order : List Mark) (a : Stage) → HasLed hints s order order a a
 has_led_none hints s order a = record { more = []; grown = sym (append-nil order); led = led_none hints s a; alike = λ stand w. w }
 
-pub has_led_at : (hints : Hints) (s : Setting) (before now : List Mark) (a : Stage) (held : Option (List ℕ)) (calls : Option (List DiskCall)) (n m : ℕ) (ranks : List Arrived)
-    → n ≡ m → HasLed hints s before now a (stage held calls n ranks) → HasLed hints s before now a (stage held calls m ranks)
-has_led_at hints s before now a held calls n m ranks e h = subst (λ (k : ℕ). HasLed hints s before now a (stage held calls k ranks)) e h
-
 pub has_led_then : (hints : Hints) (s : Setting) (before now later : List Mark) (a b c : Stage) → HasLed hints s before now a b → HasLed hints s now later b c → HasLed hints s before later a c
 has_led_then hints s before now later a b c first second = record {
   more = first.more ++ second.more;

@@ -1,10 +1,11 @@
 -- Where a run was cut off. (own)
 --     bytes_at s ranks mark     the bytes that the puts of a step hold, of ranks at their next offers
 --     StopsAt ..                in a step whose mark may follow, or, for want of memory, between two
+--     IsLeftAt ..               the same of the bytes and the count that are left
 --     HasStopped ..             the steps that were added before that
 --     MayFollow script r order m      the mark is a step of rank r, and its next
 --     IsNext script order m     with the mark, the order begins one of the script's histories
-use Rattle.std.specs.Prelude.{◌≡◌, ℕ, List, [], ◌∷◌, ◌++◌, flat_map, filter, fold, true, Some, None, IfSome}
+use Rattle.std.specs.Prelude.{◌≡◌, ℕ, List, [], ◌∷◌, ◌++◌, flat_map, filter, true, Option, Some, None}
 use Rattle.std.specs.List.{enumerate_from}
 use Rattle.nc_base.specs.declared.script.Script.{Script}
 use Rattle.nc_base.specs.declared.step.Mark.{Mark}
@@ -16,10 +17,10 @@ use Rattle.serial_spec.specs.History.{IsLegal, concerns, marks}
 use Rattle.serial_spec.specs.SerialEnd.{offers_of}
 use Rattle.serial_spec.specs.SharedByte.{covered}
 use Rattle.serial_spec.specs.Torn.{IsLeft}
-use Rattle.collective_round.specs.Rounds.{counted}
 use Rattle.run_laws.specs.Ahead.{is_solo_of}
 use Rattle.run_laws.specs.Arrivals.{Arrived, Stand, offer_at, step_to}
 use Rattle.turn_run.specs.Known.{Point}
+use Rattle.turn_run.specs.Said.{HasReached}
 
 abbrev pub bytes_at : Setting → List Arrived → Mark → List ℕ
 bytes_at s ranks (Meet k) = covered s.header (flat_map puts_of (enumerate_from 0 (offers_of ranks)))
@@ -29,11 +30,12 @@ pub data StopsAt (Follows : Mark → Type 0) (s : Setting) (fault : StepErr) (st
   in_step : (m : Mark) → Follows m → IsLeft s.header (bytes_at s stand.1 m) stand.0 (step_to s stand m).0 left records → StopsAt Follows s fault stand left records
   between : fault ≡ Memory → left ≡ stand.0.file → records ≡ stand.0.records → StopsAt Follows s fault stand left records
 
+abbrev pub IsLeftAt : (Mark → Type 0) → Setting → StepErr → Option (List ℕ) → ℕ → Stand → Type 0
+IsLeftAt Follows s fault left records stand = (bytes : List ℕ) × (left ≡ Some bytes) × StopsAt Follows s fault stand bytes records
+
 -- from a point with ranks at their next offers to another
-pub record HasStopped (Follows : Mark → Type 0) (s : Setting) (fault : StepErr) (from : Point) (ranks : List Arrived) (to : Point) : Type 0 where
-  pub more : List Mark
-  pub grown : to.order ≡ from.order ++ more
-  pub stops : IfSome from.held (λ file. (bytes : List ℕ) × (to.held ≡ Some bytes) × StopsAt Follows s fault (fold (step_to s) (counted file from.records, ranks) more) bytes to.records)
+abbrev pub HasStopped : (Mark → Type 0) → Setting → StepErr → Point → List Arrived → Point → Type 0
+HasStopped Follows s fault from ranks to = HasReached (IsLeftAt Follows s fault to.held to.records) s from ranks to.order
 
 abbrev pub MayFollow : Script → ℕ → List Mark → Mark → Type 0
 MayFollow script r order m = (is_solo_of r m ≡ true) × ((rest : List Mark) × (filter (concerns r) (order ++ m ∷ []) ++ rest ≡ marks script.calls r))

@@ -1,12 +1,11 @@
 -- One rank more has arrived.
-use Rattle.turn_run.proofs.Words.{◌≡◌, ◌<◌, ◌≤◌, ◌+◌, ℕ, refl, sym, ◌∙◌, subst, Some, None, arith, slice_get, slice_index_or, Runner, calls_of, HasArrived, setting_of, ranks_lawful, IsCount, IsNext, MayFollow, arrived_all, slice_get_within, left_more}
+use Rattle.turn_run.proofs.Words.{◌≡◌, ◌<◌, ◌≤◌, ◌+◌, ℕ, refl, sym, ◌∙◌, subst, Some, None, arith, slice_get, slice_index_or, Runner, calls_of, HasArrived, setting_of, ranks_lawful, IsCount, arrived_all, slice_get_within, left_more}
 use Rattle.turn_run.proofs.CountLaws.{count_longer}
-use Rattle.turn_run.proofs.StageLaws.{has_led_at, has_led_none, has_led_then}
-use Rattle.turn_run.proofs.TurnSteps.{below_other, get_at, gone_led, grown_meetings, runners_begun, runners_step, set_each, step_begun}
-use Rattle.turn_run.proofs.CutLaws.{stopped_at, stopped_then, stopped_as, follows_next, same_err}
-use Rattle.turn_run.proofs.TurnSteps.{calls_there, get_arrived}
-use Rattle.turn_run.proofs.SaidLaws.{answers_cut, grown_beside}
-use Rattle.turn_run.proofs.TellLaws.{told_at, told_none, told_then}
+use Rattle.turn_run.proofs.StageLaws.{has_led_none, has_led_then}
+use Rattle.turn_run.proofs.TurnSteps.{arrived_at, below_other, get_at, gone_led, grown_meetings, runners_begun, runners_step, set_each, step_begun}
+use Rattle.turn_run.proofs.CutLaws.{stopped_as, follows_next, same_err}
+use Rattle.turn_run.proofs.SaidLaws.{answers_cut, grown_beside, reached_then}
+use Rattle.turn_run.proofs.TellLaws.{told_none, told_then}
 use Rattle.turn_run.proofs.in_turn.arrive_all.Goals as goal
 
 pub loop-number-init : goal.loop-number-init
@@ -69,8 +68,8 @@ loop-number-preserved g c =
           (gone_led c.args.lent.now.setup.script.now c.args.lent.now.setup.header.now runners n was runner c.loop-number.progress.order c.arrive.new.progress.order _ _ _ _ c.requires.lawful (omega arith) there done.gone records);
       count = c.arrive.ensures.records ∙ before.count;
       told = told_then _ _ _ _ _ _ _ _ _ _ before.told (before.led c.args.progress.now.records)
-          (told_at _ _ _ _ _ _ _ _ _ before.count (c.arrive.ensures.told (arrived_all c.args.lent.now.setup.header.now c.args.lent.now.setup.script.now.calls runners)
-          (get_arrived c.args.lent.now.setup.header.now c.args.lent.now.setup.script.now.calls runners n (calls_of c.args.lent.now.setup.script.now n) was (calls_there c.args.lent.now.setup.script.now n (omega arith)) there)));
+          (rw before.count at (c.arrive.ensures.told (arrived_all c.args.lent.now.setup.header.now c.args.lent.now.setup.script.now.calls runners)
+          (arrived_at c.args.lent.now.setup.script.now c.args.lent.now.setup.header.now runners n was (long ∙ sym before.runners.all) there)));
     }
 
 pub returns-clause-arrived : goal.returns-clause-arrived
@@ -81,25 +80,20 @@ returns-clause-records g c = subst (λ (n : ℕ). IsCount c.args.lent.now.setup.
     (count_longer c.args.lent.now.setup.header.now _ _ c.args.progress.now.records c.loop-number.invariant.longer c.requires.records)
 
 pub returns-clause-led : goal.returns-clause-led
-returns-clause-led g c = has_led_at _ _ _ _ _ _ _ _ _ _ (sym c.loop-number.invariant.count) (c.loop-number.invariant.led c.args.progress.now.records)
+returns-clause-led g c = rw c.loop-number.invariant.count (c.loop-number.invariant.led c.args.progress.now.records)
 
 pub returns-clause-begun : goal.returns-clause-begun
 returns-clause-begun g c = runners_begun c.args.lent.now.setup.script.now c.args.lent.now.setup.header.now _ c.loop-number.progress.order c.loop-number.runners c.loop-number.invariant.runners
 
 pub returns-in_err-arrive-clause-cut : goal.returns-in_err-arrive-clause-cut
 returns-in_err-arrive-clause-cut g c e is =
-    let script = c.args.lent.now.setup.script.now in let header = c.args.lent.now.setup.header.now in
-    let n = c.loop-number.number in let runners = c.loop-number.runners in let order = c.arrive.new.progress.order in
-    let records = c.args.progress.now.records in let ranks = arrived_all header script.calls runners in
-    let was = slice_index_or runners n c.index-runners-number.result in
+    let script = c.args.lent.now.setup.script.now in let header = c.args.lent.now.setup.header.now in let before = c.loop-number.invariant in
+    let n = c.loop-number.number in let runners = c.loop-number.runners in let was = slice_index_or runners n c.index-runners-number.result in
     let there : slice_get runners n ≡ Some was = get_at runners n c.index-runners-number.result (omega arith) in
-    let long = (ranks_lawful script c.requires.lawful).one_each in
-    stopped_at _ _ _ _ _ _ _ _ _ _ _ (sym (c.arrive.ensures.records ∙ c.loop-number.invariant.count))
-    (stopped_then (IsNext script order) c.loop-number.progress.order (c.loop-number.invariant.led records)
-    (stopped_as (MayFollow script n order) (IsNext script order) (setting_of script header) e c.loop-number.progress.order order (g.D.Disk.held c.loop-number.disk) records ranks (g.D.Disk.held c.arrive.new.disk) records
-    (follows_next script header _ c.loop-number.progress.order order runners n c.requires.lawful c.loop-number.invariant.runners (omega arith) c.arrive.ensures.grown)
-    (c.in_err-arrive.ensures.cut e (same_err c.from_residual.result e c.from_residual.ensures.1 is) records ranks
-    (get_arrived header script.calls runners n (calls_of script n) was (calls_there script n (omega arith)) there))))
+    rw (c.arrive.ensures.records ∙ before.count) (reached_then _ c.loop-number.progress.order (before.led c.args.progress.now.records)
+    (stopped_as (follows_next script header _ c.loop-number.progress.order c.arrive.new.progress.order runners n c.requires.lawful before.runners (omega arith) c.arrive.ensures.grown)
+    (c.in_err-arrive.ensures.cut e (same_err c.from_residual.result e c.from_residual.ensures.1 is) c.args.progress.now.records (arrived_all header script.calls runners)
+    (arrived_at script header runners n was ((ranks_lawful script c.requires.lawful).one_each ∙ sym before.runners.all) there))))
 
 pub returns-in_err-arrive-clause-answered : goal.returns-in_err-arrive-clause-answered
 returns-in_err-arrive-clause-answered g c e is =
@@ -112,7 +106,7 @@ returns-in_err-arrive-clause-answered g c e is =
     answers_cut script e n c.args.progress.now.order c.loop-number.progress.order c.arrive.new.progress.order c.args.runners.now runners was c.arrive.new.self s (g.D.Disk.held c.args.disk.now) (g.D.Disk.held c.loop-number.disk)
     (g.D.Disk.calls c.args.disk.now) (g.D.Disk.calls c.loop-number.disk) records (long ∙ sym before.runners.all) c.requires.free there (before.led records) c.arrive.ensures.grown before.others before.arrived
     before.same (c.in_err-arrive.ensures.answered e (same_err c.from_residual.result e c.from_residual.ensures.1 is) records (arrived_all header script.calls runners)
-    (get_arrived header script.calls runners n (calls_of script n) was (calls_there script n (omega arith)) there))
+    (arrived_at script header runners n was (long ∙ sym before.runners.all) there))
 
 pub returns-in_err-arrive-clause-told : goal.returns-in_err-arrive-clause-told
 returns-in_err-arrive-clause-told g c =
@@ -122,5 +116,4 @@ returns-in_err-arrive-clause-told g c =
     let there : slice_get runners n ≡ Some was = get_at runners n c.index-runners-number.result (omega arith) in
     let long = (ranks_lawful script c.requires.lawful).one_each in
     told_then _ _ _ _ _ _ _ _ _ _ before.told (before.led c.args.progress.now.records)
-    (told_at _ _ _ _ _ _ _ _ _ before.count (c.arrive.ensures.told (arrived_all header script.calls runners)
-    (get_arrived header script.calls runners n (calls_of script n) was (calls_there script n (omega arith)) there)))
+    (rw before.count at (c.arrive.ensures.told (arrived_all header script.calls runners) (arrived_at script header runners n was (long ∙ sym before.runners.all) there)))

@@ -1,9 +1,9 @@
 -- All have arrived, and one meeting more is held.
-use Rattle.turn_run.proofs.Words.{◌<◌, List, Mark, sym, refl, ◌∙◌, ap, true≢false, arith, err_from_is_err_and, most_calls, meetings, setting_of, IsNext, arrived_all, stage, all_between, AllSay}
+use Rattle.turn_run.proofs.Words.{◌<◌, List, Mark, sym, refl, ◌∙◌, ap, true≢false, arith, err_from_is_err_and, most_calls, meetings, setting_of, arrived_all, stage, all_between}
 use Rattle.turn_run.proofs.StageLaws.{has_led_none, has_led_then}
 use Rattle.turn_run.proofs.TurnCauses.{cause_after, cause_done}
 use Rattle.turn_run.proofs.TurnEnds.{all_ended, met_number, next_meeting}
-use Rattle.turn_run.proofs.CutLaws.{stopped_then, same_err}
+use Rattle.turn_run.proofs.CutLaws.{same_err}
 use Rattle.turn_run.proofs.SaidLaws.{between_up, have_reached, reached_then}
 use Rattle.turn_run.proofs.SaidMeet.{answers_after}
 use Rattle.turn_run.proofs.TellLaws.{told_none, told_then}
@@ -89,7 +89,7 @@ returns-then-not-all_hold-clause-cause g c = let k = c.meetings.invariant.faults
 
 pub returns-in_err-arrive_all-clause-cut : goal.returns-in_err-arrive_all-clause-cut
 returns-in_err-arrive_all-clause-cut g c e is =
-    stopped_then (IsNext c.args.lent.now.setup.script.now c.arrive_all.new.progress.order) c.meetings.progress.order c.meetings.invariant.led
+    reached_then _ c.meetings.progress.order c.meetings.invariant.led
     (c.in_err-arrive_all.ensures.cut e (same_err c.from_residual.result e c.from_residual.ensures.1 is))
 
 pub returns-in_err-arrive_all-clause-answered : goal.returns-in_err-arrive_all-clause-answered
@@ -108,7 +108,7 @@ returns-in_err-arrive_all-clause-cause g c =
 
 pub returns-in_err-meet-clause-cut : goal.returns-in_err-meet-clause-cut
 returns-in_err-meet-clause-cut g c e is =
-    stopped_then (IsNext c.args.lent.now.setup.script.now c.meet.new.progress.order) c.arrive_all.new.progress.order
+    reached_then _ c.arrive_all.new.progress.order
     (has_led_then _ _ _ c.meetings.progress.order _ _ _ _ c.meetings.invariant.led c.in_ok-arrive_all.ensures.led)
     (c.in_err-meet.ensures.cut e (same_err c.from_residual-in_err-meet.result e c.from_residual-in_err-meet.ensures.1 is))
 
@@ -117,7 +117,7 @@ returns-in_err-meet-clause-answered g c e is =
     let script = c.args.lent.now.setup.script.now in let header = c.args.lent.now.setup.header.now in let first = c.args.runners.now in
     have_reached (setting_of script header) e c.args.progress.now.order c.meet.new.progress.order (g.D.Disk.held c.args.disk.now) c.args.progress.now.records (all_between script.calls first) (arrived_all header script.calls first) c.meet.new.runners
     (between_up header script.calls first c.requires.free)
-    (reached_then (AllSay e c.meet.new.runners) c.arrive_all.new.progress.order (has_led_then _ _ _ c.meetings.progress.order _ _ _ _ c.meetings.invariant.led c.in_ok-arrive_all.ensures.led)
+    (reached_then _ c.arrive_all.new.progress.order (has_led_then _ _ _ c.meetings.progress.order _ _ _ _ c.meetings.invariant.led c.in_ok-arrive_all.ensures.led)
     (c.in_err-meet.ensures.answered e (same_err c.from_residual-in_err-meet.result e c.from_residual-in_err-meet.ensures.1 is)))
 
 pub returns-in_err-meet-clause-told : goal.returns-in_err-meet-clause-told
