@@ -1,11 +1,14 @@
 -- The offers of a meeting, as the runners hold them: together they are a job that a meeting takes.
-use Rattle.turn_run.proofs.Words.{◌≡◌, ℕ, zero, suc, ◌+◌, ◌^◌, ◌<◌, ◌≤◌, refl, sym, ◌∙◌, ap, subst, List, [], ◌∷◌, ◌++◌, length, map, Bool, true, false, Option, Some, None, inl, inr, arith, map-append, length-map, slice_get, flat_map, is_some, IfSome, enumerate_from, AllByRecursion, option_to_list, same_Some, Header, Batch, Post, Script, Mark, Offer, OfferKind, In, in_either, known_by, is_lawful, Going, bytes_of, holdings, Holding, IsOwnOnce, Puts, IsOnWay, ranks_lawful, together_kind, gets_in, posts_in, puts_of_batch, AreGets, ArePuts, IsGet, IsPut, raises, IsAsked, IsCount, IsFit, IsRise, asking, calls_of, going_of, AreRunners, HaveArrived, HaveMet, IsMet, IsPlaced, IsPlacedWith, batches_of, held_offers, known_of, IsJob, IsOneRise, Runner, IsSingleOffer, value_of_some}
-use Rattle.std.specs.Prelude.{◌⊎◌}
+use Rattle.turn_run.proofs.Words.{◌≡◌, ℕ, zero, suc, ◌+◌, ◌^◌, ◌<◌, ◌≤◌, refl, sym, ◌∙◌, ap, subst, List, [], ◌∷◌, ◌++◌, length, map, Bool, true, false, Option, Some, inl, inr, arith, map-append, length-map, slice_get, flat_map, is_some, enumerate_from, AllByRecursion, option_to_list, same_Some, Header, Batch, Post, Script, Mark, Offer, OfferKind, In, known_by, is_lawful, bytes_of, holdings, Holding, IsOwnOnce, Puts, IsOnWay, ranks_lawful, together_kind, gets_in, posts_in, puts_of_batch, AreGets, ArePuts, raises, IsAsked, IsCount, IsFit, IsRise, asking, calls_of, AreRunners, HaveArrived, HaveMet, batches_of, held_offers, known_of, IsJob, IsOneRise, Runner, IsSingleOffer, value_of_some, if_some_at, mapped_entry}
 use Rattle.nc_base.specs.declared.step.MeetKind.TheVariants as kind
 use Rattle.nc_base.specs.declared.step.OfferKind.TheVariants as offer
-use Rattle.turn_run.proofs.AloneLaws.{going_held}
 use Rattle.turn_run.proofs.CountLaws.{rise_max}
-use Rattle.turn_run.proofs.MeetPosts.{get_of, put_of, ranked_puts}
+use Rattle.turn_run.proofs.MeetPosts.{get_of, put_of}
+use Rattle.turn_run.proofs.TurnEnds.{comes, holding}
+use Rattle.overlay_laws.proofs.Common.{each_in, flat_in, map_in}
+use Rattle.overlay_laws.proofs.Members.{numbered_from}
+use Rattle.rank_core.proofs.OwnLaws.{held_at as holding_at, held_by, own_append, own_none}
+use Rattle.serial_spec.proofs.Common.{at_in}
 
 -- ---- the offers that runners hold
 
@@ -50,27 +53,16 @@ pub record Meets (script : Script) (header : Header) (len : ℕ) (order : List M
 pub meets_at : {script : Script} {header : Header} {len : ℕ} {order : List Mark} {runners : List Runner} → AreRunners script header len order runners → HaveMet runners → HaveArrived script runners
     → (r : ℕ) (runner : Runner) → slice_get runners r ≡ Some runner → (o : Offer) × Meets script header len order r runner o
 meets_at {script} {header} {len} {order} {runners} all met come r runner e =
-    let s = all.each r runner e in
-    by_held runner.held refl (met r runner e) (come r runner e).met s.placed s.asked s.of_header
-  where
-    by_kind : (s : Going) (o : Offer) (k : OfferKind) → (k ≡ offer.Solo → ⊥) → IsPlacedWith script header order r (s, o) k → IsOnWay script order r s (Some o)
-    by_kind s o offer.Solo n p = absurd (n refl)
-    by_kind s o (offer.Meet kind) n p = p
-
-    by_held : (held : Option Offer) → runner.held ≡ held → is_some held ≡ true → IsMet held → IsPlaced script header order r (going_of (calls_of script r) runner) held
-        → IfSome held (IsAsked header runner.rank.state.known) → runner.rank.header ≡ header → (o : Offer) × Meets script header len order r runner o
-    by_held None f i n p k h = absurd cc
-    by_held (Some o) f i n p k h =
-        let own = calls_of script r in (
-          o,
-          record {
-            held = f;
-            way = subst (λ (s : Going). IsOnWay script order r s (Some o)) (going_held own runner o f) (by_kind (going_of own runner) o o.kind n p);
-            asked = k;
-            known = all.known r runner e;
-            of_header = h;
-          },
-        )
+    let s = all.each r runner e in let o = value_of_some runner.held (met r runner e) in (
+      o.0,
+      record {
+        held = o.1;
+        way = holding script order r runner o.0 o.1 (comes script header len order runners all come r runner e);
+        asked = if_some_at (IsAsked header runner.rank.state.known) runner.held o.0 o.1 s.asked;
+        known = all.known r runner e;
+        of_header = s.of_header;
+      },
+    )
 
 -- ---- what an offer brings to the meeting
 
@@ -86,117 +78,51 @@ brought {header} {len} {runner} {o} m = asked_fit header len runner.rank.state.k
 abbrev puts_from : ℕ → List Offer → Puts
 puts_from first offers = flat_map puts_of_batch (enumerate_from first (batches_of offers))
 
-all_of_both : {X : Type 0} (P : X → Type 0) (xs ys : List X) → ((x : X) → In xs x → P x) → ((x : X) → In ys x → P x) → (x : X) → In (xs ++ ys) x → P x
-all_of_both P xs ys h k x i = by_part (in_either xs ys x i)
-  where
-    by_part : In xs x ⊎ In ys x → P x
-    by_part (inl j) = h x j
-    by_part (inr j) = k x j
+-- each is one of an offer
+put_from : (first : ℕ) (offers : List Offer) (p : ℕ × Post) → In (puts_from first offers) p → (o : Offer) × In offers o × In o.batch.puts p.1 × (first ≤ p.0)
+put_from first offers p m =
+    let b = flat_in puts_of_batch (enumerate_from first (batches_of offers)) p m in let n = numbered_from first (batches_of offers) b.0 b.1 in
+    let q = map_in (λ (post : Post). (b.0.0, post)) b.0.1.puts p b.2 in let rank = ap (λ (x : ℕ × Post). x.0) q.2 in
+    let o = map_in (λ (o : Offer). o.batch) offers b.0.1 (at_in (batches_of offers) n.0 b.0.1 n.2) in
+    (o.0, o.1, subst (λ (x : ℕ × Post). In o.0.batch.puts x.1) q.2 (subst (λ (c : Batch). In c.puts q.0) (sym o.2) q.1), omega (arith, n.1, rank))
 
 puts_brought : (header : Header) (len first : ℕ) (offers : List Offer) → AllByRecursion (IsFit header len) offers → ArePuts header (puts_from first offers)
-puts_brought header len first [] all = λ p i. absurd i
-puts_brought header len first (o ∷ offers) all = all_of_both (λ (p : ℕ × Post). IsPut header p.1) (map (λ post. (first, post)) o.batch.puts) (puts_from (first + 1) offers)
-    (ranked_puts header first o.batch.puts (put_of header o all.0.sound)) (puts_brought header len (first + 1) offers all.1)
+puts_brought header len first offers all p m = let o = put_from first offers p m in put_of header o.0 (each_in (IsFit header len) offers o.0 all o.1).sound p.1 o.2
 
 gets_brought : (header : Header) (len : ℕ) (offers : List Offer) → AllByRecursion (IsFit header len) offers → AreGets header len (gets_in (batches_of offers))
-gets_brought header len [] all = λ p i. absurd i
-gets_brought header len (o ∷ offers) all =
-    all_of_both (IsGet header len) o.batch.gets (gets_in (batches_of offers)) (get_of header len o all.0.sound all.0.known) (gets_brought header len offers all.1)
+gets_brought header len offers all p m =
+    let b = flat_in (λ (c : Batch). c.gets) (batches_of offers) p m in let o = map_in (λ (o : Offer). o.batch) offers b.0 b.1 in
+    let fit = each_in (IsFit header len) offers o.0 all o.1 in
+    get_of header len o.0 fit.sound fit.known p (subst (λ (c : Batch). In c.gets p) (sym o.2) b.2)
 
 few_brought : (header : Header) (len : ℕ) (offers : List Offer) → AllByRecursion (IsFit header len) offers → (b : Batch) → In (batches_of offers) b → posts_in b < 2 ^ 32
-few_brought header len [] all b i = absurd i
-few_brought header len (o ∷ offers) all b (inl e) =
-    let few = all.0.few in let small : posts_in o.batch < 2 ^ 32 = omega arith in
-    subst (λ (c : Batch). posts_in c < 2 ^ 32) e small
-few_brought header len (o ∷ offers) all b (inr i) = few_brought header len offers all.1 b i
+few_brought header len offers all b m =
+    let o = map_in (λ (o : Offer). o.batch) offers b m in let few = (each_in (IsFit header len) offers o.0 all o.1).few in
+    let small : posts_in o.0.batch < 2 ^ 32 = omega arith in
+    subst (λ (c : Batch). posts_in c < 2 ^ 32) o.2 small
 
 -- ---- no request holds a byte twice
 
-split_get : {X : Type 0} (xs ys : List X) (i : ℕ) (x : X) → slice_get (xs ++ ys) i ≡ Some x
-    → (slice_get xs i ≡ Some x) ⊎ ((m : ℕ) × ((i ≡ length xs + m) × (slice_get ys m ≡ Some x)))
-split_get [] ys i x e = inr (i, (omega arith, e))
-split_get (z ∷ xs) ys zero x e = inl e
-split_get (z ∷ xs) ys (suc i) x e = on (split_get xs ys i x e)
-  where
-    on : (slice_get xs i ≡ Some x) ⊎ ((m : ℕ) × ((i ≡ length xs + m) × (slice_get ys m ≡ Some x)))
-        → (slice_get (z ∷ xs) (suc i) ≡ Some x) ⊎ ((m : ℕ) × ((suc i ≡ length (z ∷ xs) + m) × (slice_get ys m ≡ Some x)))
-    on (inl f) = inl f
-    on (inr f) = let l = f.1.0 in inr (f.0, (omega arith, f.1.1))
-
-abbrev OwnKeys : ℕ → List Holding → Type 0
-OwnKeys first held = (i : ℕ) (h : Holding) → slice_get held i ≡ Some h → h.0.0 ≡ first
-
-abbrev LaterKeys : ℕ → List Holding → Type 0
-LaterKeys first held = (i : ℕ) (h : Holding) → slice_get held i ≡ Some h → first ≤ h.0.0
-
-own_joined : (first : ℕ) (xs ys : List Holding) → OwnKeys first xs → LaterKeys (first + 1) ys → IsOwnOnce xs → IsOwnOnce ys → IsOwnOnce (xs ++ ys)
-own_joined first xs ys own later one two i j g h k l x e f same a b = by_parts (split_get xs ys i g e) (split_get xs ys j h f)
-  where
-    apart : (p q : Holding) (n m : ℕ) → slice_get xs n ≡ Some p → slice_get ys m ≡ Some q → p.0 ≡ q.0 → ⊥
-    apart p q n m u v w =
-        let low = own n p u in let high = later m q v in
-        let rank : p.0.0 ≡ q.0.0 = ap (λ (z : ℕ × ℕ). z.0) w in
-        absurd (omega arith)
-
-    by_parts : (slice_get xs i ≡ Some g) ⊎ ((m : ℕ) × ((i ≡ length xs + m) × (slice_get ys m ≡ Some g)))
-        → (slice_get xs j ≡ Some h) ⊎ ((m : ℕ) × ((j ≡ length xs + m) × (slice_get ys m ≡ Some h))) → (i ≡ j) × (k ≡ l)
-    by_parts (inl u) (inl v) = one i j g h k l x u v same a b
-    by_parts (inl u) (inr v) = absurd (apart g h i v.0 u v.1.1 same)
-    by_parts (inr u) (inl v) = absurd (apart h g j u.0 v u.1.1 (sym same))
-    by_parts (inr u) (inr v) =
-        let s = two u.0 v.0 g h k l x u.1.1 v.1.1 same a b in let p = u.1.0 in
-        let q = v.1.0 in let r = s.0 in
-        (omega arith, s.1)
-
-own_keys : (header : Header) (first : ℕ) (posts : List Post) → OwnKeys first (holdings header (map (λ post. (first, post)) posts))
-own_keys header first [] i h e = absurd cc
-own_keys header first (p ∷ posts) zero h e = ap (λ (q : Holding). q.0.0) (sym (same_Some ((first, p.id), bytes_of header p) h e))
-own_keys header first (p ∷ posts) (suc i) h e = own_keys header first posts i h e
-
-holdings_joined : (header : Header) (xs ys : Puts) → holdings header (xs ++ ys) ≡ holdings header xs ++ holdings header ys
-holdings_joined header xs ys = map-append (λ (p : ℕ × Post). ((p.0, p.1.id), bytes_of header p.1)) xs ys
-
-later_joined : (first : ℕ) (xs ys : List Holding) → OwnKeys first xs → LaterKeys (first + 1) ys → LaterKeys first (xs ++ ys)
-later_joined first xs ys own later i h e = by_part (split_get xs ys i h e)
-  where
-    by_part : (slice_get xs i ≡ Some h) ⊎ ((m : ℕ) × ((i ≡ length xs + m) × (slice_get ys m ≡ Some h))) → first ≤ h.0.0
-    by_part (inl u) = let s = own i h u in omega arith
-    by_part (inr u) = let s = later u.0 h u.1.1 in omega arith
-
-later_keys : (header : Header) (first : ℕ) (offers : List Offer) → LaterKeys first (holdings header (puts_from first offers))
-later_keys header first [] = λ i h e. absurd cc
-later_keys header first (o ∷ offers) =
-    let own = map (λ post. (first, post)) o.batch.puts in
-    subst (λ (held : List Holding). LaterKeys first held) (sym (holdings_joined header own (puts_from (first + 1) offers)))
-    (later_joined first (holdings header own) (holdings header (puts_from (first + 1) offers)) (own_keys header first o.batch.puts) (later_keys header (first + 1) offers))
-
 own_brought : (header : Header) (len first : ℕ) (offers : List Offer) → AllByRecursion (IsFit header len) offers → IsOwnOnce (holdings header (puts_from first offers))
-own_brought header len first [] all = λ i j g h k l x e f same a b. absurd cc
+own_brought header len first [] all = own_none
 own_brought header len first (o ∷ offers) all =
-    let own = map (λ post. (first, post)) o.batch.puts in
-    subst (λ (held : List Holding). IsOwnOnce held) (sym (holdings_joined header own (puts_from (first + 1) offers)))
-    (own_joined first (holdings header own) (holdings header (puts_from (first + 1) offers)) (own_keys header first o.batch.puts) (later_keys header (first + 1) offers)
-    (all.0.sound.own first) (own_brought header len (first + 1) offers all.1))
+    let later = puts_from (first + 1) offers in let holds = λ (p : ℕ × Post). ((p.0, p.1.id), bytes_of header p.1) in
+    subst IsOwnOnce (sym (map-append holds (map (λ post. (first, post)) o.batch.puts) later))
+    (own_append (held_by header first o.batch.puts) (holdings header later) (all.0.sound.own first) (own_brought header len (first + 1) offers all.1) (λ i j g h a b keys.
+    let p = holding_at header first o.batch.puts i g a in let q = mapped_entry holds later j h b in
+    let past = (put_from (first + 1) offers q.0 (at_in later j q.0 q.1.0)).3 in
+    let same : first ≡ q.0.0 = ap (λ (x : Holding). x.0.0) (sym p.2) ∙ ap (λ (k : ℕ × ℕ). k.0) (keys ∙ ap (λ (x : Holding). x.0) (sym q.1.1)) in
+    omega arith))
 
 -- ---- what the ranks know
 
 unraised : (k : OfferKind) (n : ℕ) → raises k ≡ false → known_by k n ≡ 0
-unraised offer.Solo n e = refl
-unraised (offer.Meet kind.Put) n e = refl
-unraised (offer.Meet kind.Get) n e = refl
-unraised (offer.Meet kind.Wait) n e = refl
-unraised (offer.Meet kind.Begin) n e = refl
-unraised (offer.Meet kind.End) n e = absurd cc
-unraised (offer.Meet kind.Sync) n e = absurd cc
+unraised k n e = grind (arith, nat_tests)
 
 known_rise : (header : Header) (len : ℕ) (k : OfferKind) (n : ℕ) → IsCount header len n → IsRise header len (known_by k n)
-known_rise header len offer.Solo n h = inl refl
-known_rise header len (offer.Meet kind.Put) n h = inl refl
-known_rise header len (offer.Meet kind.Get) n h = inl refl
-known_rise header len (offer.Meet kind.Wait) n h = inl refl
-known_rise header len (offer.Meet kind.Begin) n h = inl refl
 known_rise header len (offer.Meet kind.End) n h = inr h
 known_rise header len (offer.Meet kind.Sync) n h = inr h
+known_rise header len k n h = inl refl
 
 pub rise_brought : (header : Header) (len : ℕ) (offers : List Offer) → AllByRecursion (IsFit header len) offers → IsRise header len (known_of offers)
 rise_brought header len [] all = inl refl

@@ -1,12 +1,12 @@
 -- The words of this crate's proofs, from where they stand.
-pub use Rattle.list_laws.proofs.Std.{AllByRecursion, Bool, Err, IfSome, IfSome_then, List, None, Ok, OnErr, OnOk, Option, Result, Some, [], and_from, and_parts, ap, append-nil, append_assoc, append_cancel_left, arith, byte_len, cond, drop, drop-append-add, drop-append_seam, enumerate_from, eqb-true, eqb_tells, err_from_is_err_and, ext_get_or, false, filter, filter-append, flat_map, flat_map-append, fold, fold-append, get_or, if◌then◌else◌, inl, inr, is_some, length, length-append, length-map, length-replicate, length-set, list_all, list_all-append, list_any, map, map-append, max, nat_lt, nat_tests, not, on_err_weaker, option_to_list, refl, replicate, result_err, rules, same_Some, set, set-set, slice_get, slice_get-get_or, slice_get_within, slice_index, slice_index_or, subst, suc, sum_by-append, sym, take, take-append_seam, true, true≢false, vec_capacity, with_items_is, zero, zip, ℕ, ◌*◌, ◌++◌, ◌+◌, ◌-◌, ◌<◌, ◌==◌, ◌^◌, ◌||◌, ◌∙◌, ◌∷◌, ◌≡◌, ◌≢◌, ◌≤◌, ◌⊎◌}
+pub use Rattle.list_laws.proofs.Std.{AllByRecursion, Bool, Err, IfSome, IfSome_then, List, None, Ok, OnErr, OnOk, Option, Result, Some, [], and_from, and_parts, ap, append-nil, append_assoc, append_cancel_left, arith, byte_len, cond, drop, drop-append-add, drop-append_seam, enumerate_from, eqb-true, err_from_is_err_and, ext_get_or, false, filter, filter-append, flat_map, flat_map-append, fold, fold-append, get_or, if◌then◌else◌, inl, inr, is_some, length, length-append, length-map, length-replicate, length-set, list_all, list_all-append, list_any, map, map-append, max, nat_lt, nat_tests, not, on_err_weaker, option_to_list, refl, replicate, result_err, rules, same_Some, set, set-set, slice_get, slice_get-get_or, slice_get_within, slice_index, slice_index_or, subst, suc, sum_by-append, sym, take, take-append_seam, true, true≢false, vec_capacity, with_items_is, zero, zip, ℕ, ◌*◌, ◌++◌, ◌+◌, ◌-◌, ◌<◌, ◌==◌, ◌^◌, ◌||◌, ◌∙◌, ◌∷◌, ◌≡◌, ◌≢◌, ◌≤◌, ◌⊎◌}
 pub use Rattle.std.specs.Prelude.{IsErrAnd, ◌&&◌}
 pub use Rattle.collective_round.proofs.CountedLaws.{counted_sound, put_needed}
 pub use Rattle.collective_round.proofs.PutLaws.{no_calls, none_windows}
 pub use Rattle.collective_round.proofs.TornFiles.{counted_past, torn_by, torn_sides, torn_wider}
 pub use Rattle.collective_round.proofs.TornLaws.{done_torn, round_grows}
 pub use Rattle.collective_round.specs.Ended.{pair_of}
-pub use Rattle.collective_round.specs.Rounds.{AreGets, ArePuts, IsGet, IsPut, after_round, as_setting, counted, gets_in, posts_in, puts_in, puts_of_batch, setting}
+pub use Rattle.collective_round.specs.Rounds.{AreGets, ArePuts, IsPut, after_round, as_setting, counted, gets_in, posts_in, puts_in, puts_of_batch, setting}
 pub use Rattle.collective_round.specs.declared.collective.PutEnd.{PutEnd}
 pub use Rattle.collective_round.specs.declared.collective.PutEnd.TheVariants.{Done, Overlap}
 pub use Rattle.join_laws.proofs.Completing.{completed, completed_by}
@@ -21,7 +21,7 @@ pub use Rattle.list_laws.proofs.Types.{Answer, Batch, Call, Disk, DiskCall, Get,
 pub use Rattle.nc_outside.proofs.ToldLaws.{rose_before, told_as, with_end-nil, with_end-with_end}
 pub use Rattle.nc_outside.specs.Cause.{HasDiskCause, Rose}
 pub use Rattle.nc_outside.specs.Told.{BothTold, after, with_end}
-pub use Rattle.overlay_laws.proofs.Common.{In, in_either}
+pub use Rattle.overlay_laws.proofs.Common.{In}
 pub use Rattle.rank_core.specs.Offered.{IsSoundWant, posts_offered}
 pub use Rattle.rank_core.specs.Ranked.{Ranked}
 pub use Rattle.run_laws.proofs.ArrivalLaws.{arrival_step, arrival_steps, calls_of_arrivals, first_up, gone_up, offer_of, serial_of_arrivals, stand_at, state_at}
