@@ -1,5 +1,6 @@
 -- The runners after a meeting.
-use Rattle.turn_run.proofs.Words.{◌≡◌, ℕ, ◌<◌, ◌≤◌, refl, sym, ◌∙◌, ap, subst, List, [], ◌∷◌, ◌++◌, length, map, Option, Some, None, inr, arith, slice_get, is_some, IfSome, length-map, same_Some, slice_get_within, Answer, Pair, Header, Batch, Script, Mark, Meet, Offer, Reply, hear, Open, wanted, Going, Ranked, meetings, IsOnWay, hears_keeps, call_waits, meeting_of_known, way_hears, HasBegun, IsAsked, IsCount, asking, between, calls_of, going_of, reply_of, AreFreed, AreHeard, AreRunners, HasHeard, HaveArrived, HaveMet, IsPlaced, IsToHear, batches_of, held_offers, known_of, is_lawful, ranks_lawful, true, Runner, entry_below, entry_map}
+use Rattle.turn_run.proofs.Words.{◌≡◌, ℕ, ◌≤◌, refl, sym, ◌∙◌, ap, subst, List, [], ◌∷◌, ◌++◌, length, map, Option, Some, None, inr, arith, slice_get, is_some, IfSome, length-map, same_Some, slice_get_within, Answer, Pair, Header, Batch, Script, Mark, Meet, Offer, Reply, hear, wanted, Going, Ranked, meetings, IsOnWay, hears_keeps, call_waits, meeting_of_known, way_hears, HasBegun, IsAsked, IsCount, asking, between, calls_of, going_of, reply_of, AreFreed, AreHeard, AreRunners, HasHeard, HaveArrived, HaveMet, IsPlaced, IsRunner, IsToHear, batches_of, held_offers, known_of, is_lawful, ranks_lawful, true, Runner, entry_below, entry_map}
+use Rattle.turn_run.proofs.AloneLaws.{fits_open}
 use Rattle.turn_run.proofs.CountLaws.{count_longer, count_max}
 use Rattle.turn_run.proofs.MeetOffers.{held_at, held_long, meets_at}
 use Rattle.turn_run.proofs.MeetStep.{AreDone, FitsGets, HaveDone, IsTaken}
@@ -22,7 +23,7 @@ pub to_hear : {script : Script} {header : Header} {len : ℕ} {order : List Mark
     → AreRunners script header len order runners → HaveMet runners → HaveArrived script runners → AreFreed runners mid → batches ≡ batches_of (held_offers runners)
     → FitsGets header batches table → (r : ℕ) (runner : Runner) (blobs : List (List ℕ)) → slice_get mid r ≡ Some runner → slice_get table r ≡ Some blobs → IsToHear runner blobs
 to_hear {script} {header} {order} {runners} {mid} {batches} table all met come freed e f r runner blobs h t =
-    let a = entry_below runners r (within (slice_get_within mid r runner h) freed.long) in
+    let l = slice_get_within mid r runner h in let long = freed.long in let a = entry_below runners r (omega arith) in
     let m = meets_at all met come r a.0 a.1 in let o = m.0 in
     let keeps = call_waits script order r (asking (calls_of script r) a.0) o m.1.way in
     let rank = (freed.each r a.0 runner a.1 h).rank in
@@ -34,16 +35,8 @@ to_hear {script} {header} {order} {runners} {mid} {batches} table all met come f
     record {
       waits = ap (λ (k : Ranked). is_some k.state.«open») rank ∙ keeps.0;
       fits = subst (λ (k : Ranked). IfSome k.state.«open» (λ w. map (λ blob. length blob) blobs ≡ map (wanted k.header) w.gets)) (sym rank)
-          (on o a.0.rank.header m.1.of_header row a.0.rank.state.«open» keeps.1);
+          (fits_open a.0.rank.state.«open» header a.0.rank.header o.batch.gets blobs m.1.of_header keeps.1 row);
     }
-  where
-    within : {n k : ℕ} → r < n → n ≡ k → r < k
-    within l e = subst (λ (m : ℕ). r < m) e l
-
-    on : (o : Offer) (its : Header) → its ≡ header → map (λ blob. length blob) blobs ≡ map (wanted header) o.batch.gets → (m : Option Open) → IfSome m (λ w. w.gets ≡ o.batch.gets)
-        → IfSome m (λ w. map (λ blob. length blob) blobs ≡ map (wanted its) w.gets)
-    on o its same row None k = tt
-    on o its same row (Some w) k = row ∙ ap (λ (x : Header). map (wanted x) o.batch.gets) (sym same) ∙ ap (map (wanted its)) (sym k)
 
 -- ---- one rank after the meeting
 
@@ -54,78 +47,62 @@ heard_before m a b reply e f h = record {
   answers = h.answers ∙ ap (λ (xs : List Answer). xs ++ h.answer ∷ []) f;
 }
 
-are_done : {script : Script} {header : Header} {len : ℕ} {order : List Mark} {runners mid now : List Runner} {pair : Option Pair} {n : ℕ} {table : List (List (List ℕ))}
-    → AreRunners script header len order runners → HaveMet runners → HaveArrived script runners → AreFreed runners mid → AreHeard pair n table mid now → AreDone header pair n runners now table
-are_done {runners} {mid} {pair} {n} {table} all met come freed heard r a b blobs g h t =
-    let m = entry_below mid r (within (slice_get_within runners r a g) freed.long) in
-    let o = meets_at all met come r a g in let free = freed.each r a m.0 g m.1 in
-    let said = heard.each r m.0 b blobs m.1 h t in (
-      o.0,
-      record {
-        held = o.1.held;
-        free = said.held ∙ free.held;
-        of_header = o.1.of_header;
-        same_header = said.same_header ∙ ap (λ (k : Ranked). k.header) free.rank;
-        heard = heard_before m.0 a b (reply_of pair n blobs) free.rank free.answers said.heard;
-      },
-    )
-  where
-    within : {n k : ℕ} → r < n → k ≡ n → r < k
-    within l e = subst (λ (m : ℕ). r < m) (sym e) l
-
-pub have_done : {script : Script} {header : Header} {len : ℕ} {order : List Mark} {runners mid now : List Runner} {pair : Option Pair} {n : ℕ} {table : List (List (List ℕ))}
-    → AreRunners script header len order runners → HaveMet runners → HaveArrived script runners → AreFreed runners mid → AreHeard pair n table mid now → length table ≡ length runners
-    → HaveDone header pair n runners now table
-have_done all met come freed heard wide = record { long = heard.long ∙ freed.long; wide = wide; each = are_done all met come freed heard }
-
 pub placed_free : (script : Script) (header : Header) (order : List Mark) (r : ℕ) (own : List _) (b : Runner) → b.held ≡ None → IsOnWay script order r (between own b) None
     → IsPlaced script header order r (going_of own b) b.held
 placed_free script header order r own b e w = subst (λ (m : _). IsPlaced script header order r (elim m [ None ↦ between own b | Some o ↦ asking own b ]) m) (sym e) w
 
--- ---- all ranks after the meeting
+module _ {script : Script} {header : Header} {before : ℕ} {order : List Mark} {runners mid now : List Runner} {pair : Option Pair} {n : ℕ} {table : List (List (List ℕ))}
+    (all : AreRunners script header before order runners) (met : HaveMet runners) (come : HaveArrived script runners) (freed : AreFreed runners mid) (heard : AreHeard pair n table mid now) where
+  are_done : AreDone header pair n runners now table
+  are_done r a b blobs g h t =
+      let l = slice_get_within runners r a g in let long = freed.long in let m = entry_below mid r (omega arith) in
+      let o = meets_at all met come r a g in let free = freed.each r a m.0 g m.1 in
+      let said = heard.each r m.0 b blobs m.1 h t in (
+        o.0,
+        record {
+          held = o.1.held;
+          free = said.held ∙ free.held;
+          of_header = o.1.of_header;
+          same_header = said.same_header ∙ ap (λ (k : Ranked). k.header) free.rank;
+          heard = heard_before m.0 a b (reply_of pair n blobs) free.rank free.answers said.heard;
+        },
+      )
 
-pub runners_after : {script : Script} {header : Header} {before len : ℕ} {order now_order : List Mark} {runners mid now : List Runner} {pair : Option Pair} {n : ℕ} {table : List (List (List ℕ))}
-    → AreRunners script header before order runners → HaveMet runners → HaveArrived script runners → AreFreed runners mid → AreHeard pair n table mid now → length table ≡ length runners
-    → before ≤ len → IsCount header len n → now_order ≡ order ++ Meet (meetings order) ∷ [] → AreRunners script header len now_order now
-runners_after {script} {header} {before} {len} {order} {runners} {mid} {now} {pair} {n} {table} all met come freed heard wide longer count e =
-    subst (λ (ms : List Mark). AreRunners script header len ms now) (sym e) (record {
-      all = heard.long ∙ freed.long ∙ all.all;
-      known_ranks = meeting_of_known script.ranks (meetings order) order all.known_ranks;
-      each = λ r b h.
-          let a = entry_below runners r (within r b h) in let row = entry_below table r (across r b h) in
-          let d = done r a.0 b row.0 a.1 h row.1 in let m = meets_at all met come r a.0 a.1 in
-          record {
-            of_header = d.1.same_header ∙ d.1.of_header;
-            placed = placed_free script header (order ++ Meet (meetings order) ∷ []) r (calls_of script r) b d.1.free
-                (on_way r a.0 b m.0 (reply_of pair n row.0) m.1.way d.1.of_header d.1.heard);
-            asked = subst (λ (o : Option Offer). IfSome o (IsAsked header b.rank.state.known)) (sym d.1.free) tt;
-          };
-      known = λ r b h.
-          let a = entry_below runners r (within r b h) in let row = entry_below table r (across r b h) in
-          let d = done r a.0 b row.0 a.1 h row.1 in let m = meets_at all met come r a.0 a.1 in
-          let waits = call_waits script order r (asking (calls_of script r) a.0) m.0 m.1.way in
-          let keeps = hears_keeps header a.0.rank.state b.rank.state (reply_of pair n row.0) d.1.heard.answer waits.0 (said a.0 b (reply_of pair n row.0) d.1.of_header d.1.heard) in
-          subst (λ (k : ℕ). IsCount header len k) (sym keeps.0)
-          (count_max header len a.0.rank.state.known n (count_longer header before len a.0.rank.state.known longer m.1.known) (inr count));
-    })
-  where
-    done : AreDone header pair n runners now table
-    done = are_done all met come freed heard
+  pub have_done : length table ≡ length runners → HaveDone header pair n runners now table
+  have_done wide = record { long = heard.long ∙ freed.long; wide = wide; each = are_done }
 
-    within : (r : ℕ) (b : Runner) → slice_get now r ≡ Some b → r < length runners
-    within r b h = let l = slice_get_within now r b h in let p = heard.long in let q = freed.long in omega arith
+  -- ---- all ranks after the meeting
 
-    across : (r : ℕ) (b : Runner) → slice_get now r ≡ Some b → r < length table
-    across r b h = let l = within r b h in omega arith
+  one_after : length table ≡ length runners → (len : ℕ) → before ≤ len → IsCount header len n → (r : ℕ) (b : Runner) → slice_get now r ≡ Some b
+      → IsRunner script header (order ++ Meet (meetings order) ∷ []) r b × IsCount header len b.rank.state.known
+  one_after wide len longer count r b h =
+      let l = slice_get_within now r b h in let p = heard.long in let q = freed.long in
+      let a = entry_below runners r (omega arith) in let row = entry_below table r (omega arith) in
+      let d = are_done r a.0 b row.0 a.1 h row.1 in let o = meets_at all met come r a.0 a.1 in
+      let reply = reply_of pair n row.0 in let own = calls_of script r in let answer = d.1.heard.answer in
+      let waits = call_waits script order r (asking own a.0) o.0 o.1.way in
+      let said : (b.rank.state, answer) ≡ hear header a.0.rank.state reply = d.1.heard.heard ∙ ap (λ (k : Header). hear k a.0.rank.state reply) d.1.of_header in
+      let keeps = hears_keeps header a.0.rank.state b.rank.state reply answer waits.0 said in
+      let way = subst (λ (s : Going). IsOnWay script (order ++ Meet (meetings order) ∷ []) r s None)
+      (answered_is own a.0.rank.state b.rank.state a.0.answers b.answers answer d.1.heard.answers)
+      (way_hears script order r header (asking own a.0) b.rank.state o.0 reply answer o.1.way said) in (
+        record {
+          of_header = d.1.same_header ∙ d.1.of_header;
+          placed = placed_free script header (order ++ Meet (meetings order) ∷ []) r own b d.1.free way;
+          asked = subst (λ (m : Option Offer). IfSome m (IsAsked header b.rank.state.known)) (sym d.1.free) tt;
+        },
+        subst (λ (k : ℕ). IsCount header len k) (sym keeps.0)
+            (count_max header len a.0.rank.state.known n (count_longer header before len a.0.rank.state.known longer o.1.known) (inr count)),
+      )
 
-    said : (a b : Runner) (reply : Reply) → a.rank.header ≡ header → (h : HasHeard a b reply) → (b.rank.state, h.answer) ≡ hear header a.rank.state reply
-    said a b reply f h = h.heard ∙ ap (λ (k : Header). hear k a.rank.state reply) f
-
-    on_way : (r : ℕ) (a b : Runner) (o : Offer) (reply : Reply) → IsOnWay script order r (asking (calls_of script r) a) (Some o) → a.rank.header ≡ header → HasHeard a b reply
-        → IsOnWay script (order ++ Meet (meetings order) ∷ []) r (between (calls_of script r) b) None
-    on_way r a b o reply w f h = subst (λ (s : Going). IsOnWay script (order ++ Meet (meetings order) ∷ []) r s None)
-        (answered_is (calls_of script r) a.rank.state b.rank.state a.answers b.answers h.answer h.answers)
-        (way_hears script order r header (asking (calls_of script r) a) b.rank.state o reply h.answer w (said a b reply f h))
+  pub runners_after : {len : ℕ} {now_order : List Mark} → length table ≡ length runners → before ≤ len → IsCount header len n → now_order ≡ order ++ Meet (meetings order) ∷ []
+      → AreRunners script header len now_order now
+  runners_after {len} wide longer count e = subst (λ (ms : List Mark). AreRunners script header len ms now) (sym e) (record {
+    all = heard.long ∙ freed.long ∙ all.all;
+    known_ranks = meeting_of_known script.ranks (meetings order) order all.known_ranks;
+    each = λ r b h. (one_after wide len longer count r b h).0;
+    known = λ r b h. (one_after wide len longer count r b h).1;
+  })
 
 pub free_after : {runners mid now : List Runner} {pair : Option Pair} {n : ℕ} {table : List (List (List ℕ))}
     → AreFreed runners mid → AreHeard pair n table mid now → length table ≡ length runners → (r : ℕ) (b : Runner) → slice_get now r ≡ Some b → b.held ≡ None

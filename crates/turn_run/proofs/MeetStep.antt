@@ -1,8 +1,9 @@
 -- A meeting of the serial run, by the offers that the runners hold.
-use Rattle.turn_run.proofs.Words.{◌≡◌, ℕ, suc, ◌+◌, refl, sym, ◌∙◌, ap, subst, List, [], ◌∷◌, ◌++◌, length, map, max, Option, Some, None, arith, append-nil, slice_get, flat_map, zip, nat_lt, IfSome, enumerate_from, Pair, Header, Batch, Post, Call, Hints, DiskCall, Mark, Meet, Offer, Reply, after, with_end, needed_now, collective_windows, get_bytes, gets_of, loads, meeting_calls, put_calls, store_records, Counted, Setting, after_puts, get_post, meeting, puts_of, raised, told, advance, offers_of, Puts, counted, gets_in, puts_in, puts_of_batch, reply_of, HasHeard, heard, step_to, Arrived, IsLike, gots_long, meets_like, AllTell, wanted, arrived, arrived_all, stage, HasLed, Leads, LeadsAlike, batches_of, held_offers, known_of, met, met_calls, Runner, value_of_some, if_some_at, map_map, raised_records}
-use Rattle.turn_run.proofs.AloneLaws.{arrived_free, arrived_held}
+use Rattle.turn_run.proofs.Words.{◌≡◌, ℕ, suc, ◌+◌, refl, sym, ◌∙◌, ap, subst, List, [], ◌∷◌, ◌++◌, length, map, max, Option, Some, None, arith, append-nil, slice_get, flat_map, zip, nat_lt, IfSome, enumerate_from, Pair, Header, Batch, Post, Call, Hints, DiskCall, Mark, Meet, Offer, Reply, after, with_end, needed_now, collective_windows, get_bytes, gets_of, loads, meeting_calls, put_calls, store_records, Counted, Setting, after_puts, get_post, meeting, puts_of, raised, told, advance, offers_of, Puts, counted, gets_in, puts_in, puts_of_batch, reply_of, HasHeard, heard, step_to, Arrived, IsLike, gots_long, meets_like, AllTell, wanted, arrived, arrived_all, stage, HasLed, Leads, LeadsAlike, batches_of, held_offers, known_of, met, met_calls, Runner, value_of_some, if_some_at, map_map, raised_records, all_between, between, entry_below, hears, slice_get_within}
+use Rattle.turn_run.proofs.AloneLaws.{arrived_held}
 use Rattle.turn_run.proofs.MeetOffers.{held_first, AllHold}
 use Rattle.turn_run.proofs.RunnerLaws.{heard_runner}
+use Rattle.turn_run.proofs.SaidLaws.{between_up}
 
 -- ---- the puts and gets of the offers are those of their batches
 
@@ -52,10 +53,6 @@ pub record IsDone (header : Header) (reply : Reply) (o : Offer) (a b : Runner) :
   pub same_header : b.rank.header ≡ a.rank.header
   pub heard : HasHeard a b reply
 
-pub arrived_done : (header : Header) (own : List Call) (reply : Reply) (o : Offer) (a b : Runner) → IsDone header reply o a b → heard header (arrived header own a, reply) ≡ arrived header own b
-arrived_done header own reply o a b d = ap (λ (x : Arrived). heard header (x, reply)) (arrived_held header own a o d.held)
-    ∙ ap (advance header) (sym (heard_runner header own a b reply d.of_header d.heard)) ∙ sym (arrived_free header own b d.free)
-
 abbrev pub AreDone : Header → Option Pair → ℕ → List Runner → List Runner → List (List (List ℕ)) → Type 0
 AreDone header pair n runners now table = (r : ℕ) (a b : Runner) (blobs : List (List ℕ)) → slice_get runners r ≡ Some a → slice_get now r ≡ Some b → slice_get table r ≡ Some blobs
     → (o : Offer) × IsDone header (reply_of pair n blobs) o a b
@@ -71,27 +68,34 @@ pub done_behind : {header : Header} {pair : Option Pair} {n : ℕ} {a b : Runner
     → HaveDone header pair n (a ∷ runners) (b ∷ now) (blobs ∷ table) → HaveDone header pair n runners now table
 done_behind d = record { long = omega arith; wide = omega arith; each = λ r x y z e f g. d.each (suc r) x y z e f g }
 
+-- where each heard
+pub between_done : (header : Header) (pair : Option Pair) (n : ℕ) (calls : List (List Call)) (runners now : List Runner) (table : List (List (List ℕ))) → HaveDone header pair n runners now table
+    → map (λ p. hears header p.0.0 p.1) (zip (arrived_all header calls runners) (map (reply_of pair n) table)) ≡ all_between calls now
+between_done header pair n (own ∷ calls) (a ∷ runners) (b ∷ now) (blobs ∷ table) d =
+    let first = d.each 0 a b blobs refl refl refl in let reply = reply_of pair n blobs in
+    let one : hears header (arrived header own a).0 reply ≡ between own b =
+    ap (λ (x : Arrived). hears header x.0 reply) (arrived_held header own a first.0 first.1.held) ∙ sym (heard_runner header own a b reply first.1.of_header first.1.heard) in
+    let others = between_done header pair n calls runners now table (done_behind d) in
+    λ i. one i ∷ others i
+between_done header pair n [] runners now table d = refl
+between_done header pair n (own ∷ calls) [] [] table d = refl
+between_done header pair n calls runners now table d = absurd (omega arith)
+
 pub ranks_done : (header : Header) (pair : Option Pair) (n : ℕ) (calls : List (List Call)) (runners now : List Runner) (table : List (List (List ℕ))) → HaveDone header pair n runners now table
     → map (heard header) (zip (arrived_all header calls runners) (map (reply_of pair n) table)) ≡ arrived_all header calls now
-ranks_done header pair n [] runners now table d = refl
-ranks_done header pair n (own ∷ calls) [] [] table d = refl
-ranks_done header pair n (own ∷ calls) [] (b ∷ now) table d = absurd (omega arith)
-ranks_done header pair n (own ∷ calls) (a ∷ runners) [] table d = absurd (omega arith)
-ranks_done header pair n (own ∷ calls) (a ∷ runners) (b ∷ now) [] d = absurd (omega arith)
-ranks_done header pair n (own ∷ calls) (a ∷ runners) (b ∷ now) (blobs ∷ table) d =
-    let first = d.each 0 a b blobs refl refl refl in
-    let own_done = arrived_done header own (reply_of pair n blobs) first.0 a b first.1 in
-    let others = ranks_done header pair n calls runners now table (done_behind d) in
-    λ i. own_done i ∷ others i
+ranks_done header pair n calls runners now table d =
+    sym (map_map (advance header) (λ (p : Arrived × Reply). hears header p.0.0 p.1) (zip (arrived_all header calls runners) (map (reply_of pair n) table)))
+    ∙ ap (map (advance header)) (between_done header pair n calls runners now table d) ∙ between_up header calls now (λ r b e.
+    let l = slice_get_within now r b e in let a = entry_below runners r (omega arith) in let row = entry_below table r (omega arith) in
+    (d.each r a.0 b row.0 a.1 e row.1).1.free)
 
 pub offers_are : (header : Header) (calls : List (List Call)) (runners : List Runner) → length calls ≡ length runners → AllHold runners → offers_of (arrived_all header calls runners) ≡ held_offers runners
 offers_are header [] [] l m = refl
-offers_are header [] (x ∷ runners) l m = absurd (omega arith)
-offers_are header (own ∷ calls) [] l m = absurd (omega arith)
 offers_are header (own ∷ calls) (x ∷ runners) l m =
     let p = value_of_some x.held (m 0 x refl) in
     ap (λ (a : Arrived). offers_of (a ∷ arrived_all header calls runners)) (arrived_held header own x p.0 p.1)
     ∙ ap (λ (os : List Offer). p.0 ∷ os) (offers_are header calls runners (omega arith) (λ q s g. m (suc q) s g)) ∙ sym (held_first x runners p.0 p.1)
+offers_are header calls runners l m = absurd (omega arith)
 
 -- ---- the step
 
@@ -140,11 +144,10 @@ tells_table : (s : Setting) (one pair : Option Pair) (m n : ℕ) (file : List �
     → map (λ (blobs : List (List ℕ)). map (λ (blob : List ℕ). length blob) blobs) table ≡ map (λ (b : Batch). map (wanted s.header) b.gets) (batches_of offers)
     → AllTell (map (λ (o : Offer). reply_of one m (map (get_post s file) o.batch.gets)) offers) (map (reply_of pair n) table)
 tells_table s one pair m n file [] [] e f fits = tt
-tells_table s one pair m n file [] (blobs ∷ table) e f fits = absurd cc
-tells_table s one pair m n file (o ∷ offers) [] e f fits = absurd cc
 tells_table s one pair m n file (o ∷ offers) (blobs ∷ table) e f fits =
     let head : map (λ (blob : List ℕ). length blob) blobs ≡ map (wanted s.header) o.batch.gets = cc in
     (record { pair = e; records = f; lengths = gots_long s file o.batch.gets ∙ sym head }, tells_table s one pair m n file offers table e f cc)
+tells_table s one pair m n file offers table e f fits = absurd cc
 
 -- the lengths of the bytes that the gets of a meeting give
 abbrev pub FitsGets : Header → List Batch → List (List (List ℕ)) → Type 0

@@ -1,13 +1,14 @@
 -- The answers of the ranks of a meeting, also where it was cut off.
-use Rattle.turn_run.proofs.Words.{◌≡◌, ℕ, zero, suc, ◌<◌, ◌≤◌, refl, sym, ◌∙◌, ap, subst, inl, inr, ◌⊎◌, List, [], ◌∷◌, ◌++◌, length, map, set, Bool, true, false, Option, Some, append_assoc, arith, nat_tests, fold-append, append_cancel_left, same_Some, slice_get_within, slice_get, fold, zip, nat_lt, IfSome, Answer, Pair, Header, Batch, Call, Hints, Script, Mark, Meet, Offer, Reply, StepErr, Memory, Setting, Counted, meeting, Going, advance, after_mark, hears, offers_of, Begins, counted, Arrived, Stand, heard, step_to, point, HasSaid, AllSay, HasReached, AreAnswers, HaveAnswers, HaveHeardInPart, KeepAnswers, all_between, asking, between, calls_of, reply_of, AreFreed, HasHeard, HaveArrived, AreRunners, Stage, Leads, IsLed, HasLed, arrived, arrived_all, stand_of, Runner, if_some_at, entry_below, entry_map, gone_up, is_lawful, ranks_lawful, setting_of}
+use Rattle.turn_run.proofs.Words.{◌≡◌, ℕ, zero, suc, ◌<◌, ◌≤◌, sym, ◌∙◌, ap, subst, inl, inr, ◌⊎◌, List, [], ◌∷◌, ◌++◌, length, map, set, true, Option, Some, append_assoc, arith, fold-append, append_cancel_left, same_Some, slice_get_within, slice_get, fold, zip, IfSome, Answer, Pair, Header, Batch, Call, Hints, Script, Mark, Meet, Offer, Reply, StepErr, Memory, Setting, Counted, meeting, Going, advance, after_mark, hears, offers_of, Begins, counted, Arrived, Stand, heard, step_to, point, HasSaid, AllSay, HasReached, AreAnswers, HaveAnswers, HaveHeardInPart, KeepAnswers, all_between, asking, between, calls_of, reply_of, AreFreed, HasHeard, HaveArrived, AreRunners, Stage, Leads, IsLed, HasLed, arrived, arrived_all, stand_of, Runner, if_some_at, entry_below, entry_map, gone_up, is_lawful, ranks_lawful, setting_of}
 use Rattle.turn_run.proofs.AloneLaws.{arrived_held}
 use Rattle.turn_run.proofs.MeetDone.{heard_before}
 use Rattle.turn_run.proofs.MeetOffers.{meets_at}
-use Rattle.turn_run.proofs.MeetStep.{done_behind, replies_of, HasGiven, HaveDone, IsTaken}
+use Rattle.turn_run.proofs.MeetStep.{between_done, replies_of, HasGiven, HaveDone, IsTaken}
 use Rattle.turn_run.proofs.SaidLaws.{arrived_said, begins_heard, begins_up, reached_here, said_here, said_part, up_after}
 use Rattle.turn_run.proofs.RunnerLaws.{heard_runner}
 use Rattle.turn_run.proofs.StageLaws.{led_then, some_each}
-use Rattle.turn_run.proofs.TurnSteps.{calls_there, get_arrived, set_each}
+use Rattle.turn_run.proofs.TurnSteps.{arrived_at, set_each}
+use Rattle.list_laws.proofs.Std.{cases_lt}
 
 -- ---- before its step is done
 
@@ -17,7 +18,7 @@ all_say_here script header fault runners now c long same come kept r b k a g =
     let within : r < length runners = (let l = slice_get_within now r b k in omega arith) in
     let was = entry_below runners r within in
     let is : arrived header (calls_of script r) was.0 ≡ a =
-    same_Some _ _ (sym (get_arrived header script.calls runners r (calls_of script r) was.0 (calls_there script r (omega arith)) was.1) ∙ g) in
+    same_Some _ _ (sym (arrived_at script header runners r was.0 long was.1) ∙ g) in
     said_here fault a b.answers (kept r was.0 b was.1 k ∙ sym (arrived_said header (calls_of script r) was.0 (come r was.0 was.1)) ∙ ap (λ (x : Arrived). x.0.answers) is)
 
 pub all_reached_here : {script : Script} {header : Header} {len : ℕ} {fault : StepErr} {before now_order : List Mark} {held : Option (List ℕ)} {records : ℕ} {runners : List Runner} (now : List Runner)
@@ -39,11 +40,10 @@ at_part : (P : ℕ → Runner → Runner → Type 0) (old now : List Runner) (i 
     → ((r : ℕ) (a b : Runner) → b.answers ≡ a.answers → P r a b) → (r : ℕ) (a b : Runner) → slice_get old r ≡ Some a → slice_get (set now i new) r ≡ Some b → P r a b
 at_part P old now i was new there before left same kept r a b g h =
     set_each (λ (q : ℕ) (x : Runner). (y : Runner) → slice_get old q ≡ Some y → P q y x) now i was new there
-    (λ y e. kept i y new (same ∙ ap (λ (x : Runner). x.answers) (same_Some was y (sym there ∙ left i (omega arith) ∙ e)))) (λ q x other f y e. by_order q x y f e (nat_lt q i) refl) r b h a g
-  where
-    by_order : (q : ℕ) (x y : Runner) → slice_get now q ≡ Some x → slice_get old q ≡ Some y → (t : Bool) → nat_lt q i ≡ t → P q y x
-    by_order q x y f e true t = before q y x (grind (arith, nat_tests)) e f
-    by_order q x y f e false t = kept q y x (ap (λ (z : Runner). z.answers) (same_Some x y (sym f ∙ left q (grind (arith, nat_tests)) ∙ e)))
+    (λ y e. kept i y new (same ∙ ap (λ (x : Runner). x.answers) (same_Some was y (sym there ∙ left i (omega arith) ∙ e)))) (λ q x other f y e. elim (cases_lt q i) [
+      | inl l ↦ before q y x l e f
+      | inr l ↦ kept q y x (ap (λ (z : Runner). z.answers) (same_Some x y (sym f ∙ left q l ∙ e)))
+    ]) r b h a g
 
 pub keep_part : (old now : List Runner) (i : ℕ) (was new : Runner) → slice_get now i ≡ Some was
     → ((r : ℕ) (a b : Runner) → r < i → slice_get old r ≡ Some a → slice_get now r ≡ Some b → b.answers ≡ a.answers)
@@ -54,10 +54,9 @@ keep_part old now i was new there before left same = at_part (λ r a b. b.answer
 
 get_zip : {A B C : Type 0} (f : A × B → C) (xs : List A) (ys : List B) (r : ℕ) (x : A) (y : B) (z : C) → slice_get xs r ≡ Some x → slice_get ys r ≡ Some y
     → slice_get (map f (zip xs ys)) r ≡ Some z → f (x, y) ≡ z
-get_zip f [] ys r x y z e g h = absurd cc
-get_zip f (a ∷ xs) [] r x y z e g h = absurd cc
 get_zip f (a ∷ xs) (b ∷ ys) zero x y z e g h = let p = same_Some a x e in let q = same_Some b y g in (λ i. f (sym p i, sym q i)) ∙ same_Some (f (a, b)) z h
 get_zip f (a ∷ xs) (b ∷ ys) (suc r) x y z e g h = get_zip f xs ys r x y z e g h
+get_zip f xs ys r x y z e g h = absurd cc
 
 -- ---- some have heard
 
@@ -84,11 +83,7 @@ pub part_of_freed : (pair : Option Pair) (n : ℕ) (table : List (List (List ℕ
 part_of_freed pair n table runners mid now long freed part r a b blobs e g t =
     let m = entry_below mid r (let l = slice_get_within runners r a e in omega arith) in
     let free = freed.each r a m.0 e m.1 in
-    by_part m.0 free.rank free.answers (part r m.0 b blobs m.1 g t)
-  where
-    by_part : (m : Runner) → m.rank ≡ a.rank → m.answers ≡ a.answers → (b.answers ≡ m.answers) ⊎ HasHeard m b (reply_of pair n blobs) → (b.answers ≡ a.answers) ⊎ HasHeard a b (reply_of pair n blobs)
-    by_part m k h (inl q) = inl (q ∙ h)
-    by_part m k h (inr q) = inr (heard_before m a b (reply_of pair n blobs) k h q)
+    elim (part r m.0 b blobs m.1 g t) [ inl q ↦ inl (q ∙ free.answers) | inr q ↦ inr (heard_before m.0 a b (reply_of pair n blobs) free.rank free.answers q) ]
 
 pub reached_deaf : {script : Script} {header : Header} {len : ℕ} {fault : StepErr} {order now_order : List Mark} {runners : List Runner} (now : List Runner) {batches : List Batch} {known r n : ℕ} (k : ℕ) {s : Setting}
     {held left : Option (List ℕ)} {pair : Option Pair} {table : List (List (List ℕ))} → s.header ≡ header → fault ≡ Memory → now_order ≡ order ++ Meet k ∷ []
@@ -101,30 +96,16 @@ reached_deaf {script} {header} {fault} {runners} now {batches} {known} {r} {n} k
     heard_at : (file : List ℕ) → HasGiven s batches known r n (Some file) left pair table → AllSay fault now (step_to s (counted file r, arrived_all s.header script.calls runners) (Meet k))
     heard_at file b = λ q x h a g.
         let within : q < length runners = (let i = slice_get_within now q x h in omega arith) in
-        let long = t.long in let was = entry_below runners q within in
+        let was = entry_below runners q within in
         let row = entry_below table q (omega arith) in let o = meets_at all t.hold come q was.0 was.1 in
         let is : heard s.header (arrived s.header (calls_of script q) was.0, reply_of pair n row.0) ≡ a =
         get_zip (heard s.header) (arrived_all s.header script.calls runners) (map (reply_of pair n) table) q (arrived s.header (calls_of script q) was.0) (reply_of pair n row.0) a
-        (get_arrived s.header script.calls runners q (calls_of script q) was.0 (calls_there script q (omega arith)) was.1) (entry_map (reply_of pair n) table q row.0 row.1)
+        (arrived_at script s.header runners q was.0 t.long was.1) (entry_map (reply_of pair n) table q row.0 row.1)
         (ap (λ (ys : List Reply). slice_get (map (heard s.header) (zip (arrived_all s.header script.calls runners) ys)) q) (sym (replies_of t b)) ∙ g) in
         subst (λ (y : Arrived). HasSaid fault y x.answers) is
         (said_in_part s.header fault (calls_of script q) was.0 x o.0 (reply_of pair n row.0) memory o.1.held (o.1.of_header ∙ sym of_header) (part q was.0 x row.0 was.1 h row.1))
 
 -- ---- all have heard
-
-between_done : (header : Header) (pair : Option Pair) (n : ℕ) (calls : List (List Call)) (runners now : List Runner) (table : List (List (List ℕ))) → HaveDone header pair n runners now table
-    → map (λ p. hears header p.0.0 p.1) (zip (arrived_all header calls runners) (map (reply_of pair n) table)) ≡ all_between calls now
-between_done header pair n [] runners now table d = refl
-between_done header pair n (own ∷ calls) [] [] table d = refl
-between_done header pair n (own ∷ calls) [] (b ∷ now) table d = absurd (omega arith)
-between_done header pair n (own ∷ calls) (a ∷ runners) [] table d = absurd (omega arith)
-between_done header pair n (own ∷ calls) (a ∷ runners) (b ∷ now) [] d = absurd (omega arith)
-between_done header pair n (own ∷ calls) (a ∷ runners) (b ∷ now) (blobs ∷ table) d =
-    let first = d.each 0 a b blobs refl refl refl in let reply = reply_of pair n blobs in
-    let one : hears header (arrived header own a).0 reply ≡ between own b =
-    ap (λ (x : Arrived). hears header x.0 reply) (arrived_held header own a first.0 first.1.held) ∙ sym (heard_runner header own a b reply first.1.of_header first.1.heard) in
-    let others = between_done header pair n calls runners now table (done_behind d) in
-    λ i. one i ∷ others i
 
 pub meeting_between : {s : Setting} {calls : List (List Call)} {runners now : List Runner} {batches : List Batch} {known r n : ℕ} (k : ℕ) {held left : Option (List ℕ)} {pair : Option Pair}
     {table : List (List (List ℕ))} → IsTaken calls runners batches known → HaveDone s.header pair n runners now table → HasGiven s batches known r n held left pair table
