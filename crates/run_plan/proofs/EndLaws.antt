@@ -32,7 +32,7 @@ first_is : (script : Script) (header : Header) (file : List ℕ) (first : List R
     → (counted file header.records, arrived_all header script.calls first) ≡ first_stand header file script.calls
 first_is script header file first lawful firsts =
     let s = setting_of script header in
-    first_stage script header file header.records first lawful refl firsts ∙ sym (first_up header s file script.calls refl)
+    first_stage script header header.records first lawful refl firsts file ∙ sym (first_up header s file script.calls refl)
 
 pub plan_ends : (script : Script) (header : Header) (file : List ℕ) (steps : List StepPlan) (size later count : ℕ) (close : Option Extent) (first last : List Runner)
     → is_lawful script ≡ true → length file ≡ size → first ≡ replicate script.ranks (first_runner header header.records) → length script.calls ≡ length last → AreOver script.calls last
@@ -54,9 +54,9 @@ plan_ends script header file steps size later count close first last lawful long
     closes ∙ ap (λ t. store_records s t) (sym (rises count (most_known last)))
     ∙ (λ i. store_records s (nat_lt (sym followed.beside.like.records i) (ends.records i))) in
     record {
-      calls_are = (λ i. sym followed.over i ++ closing i) ∙ calls_from_first script header file from first (order_in steps) lawful refl firsts;
+      calls_are = (λ i. sym followed.over i ++ closing i) ∙ calls_from_first script header from first lawful refl firsts file (order_in steps);
       each = subst (λ (x : Stand). AreStepsOf script.hints s x steps) (first_is script header file first lawful firsts) followed.each;
-      alike = subst (λ (x : End). AreAlikeEnds (told_end (max count (most_known last)) last) x) (serial_from_first script header file from first (order_in steps) lawful refl firsts) ends;
+      alike = subst (λ (x : End). AreAlikeEnds (told_end (max count (most_known last)) last) x) (serial_from_first script header from first lawful refl firsts file (order_in steps)) ends;
     }
 
 -- a plan whose meetings are all held, with its close

@@ -5,9 +5,11 @@ use Rattle.serial_spec.specs.RankMachine as machine
 use Rattle.serial_spec.specs.Torn.StoodAt.{in_step as stood_step, in_close as stood_close, between as stood_between}
 use Rattle.turn_run.specs.Cuts.StopsAt.{between}
 use Rattle.turn_run.proofs.CutMeet.{raised_kept}
+use Rattle.turn_run.proofs.StageLaws.{some_each}
 use Rattle.turn_run.proofs.TurnEnds.{AreOver, map_ended}
 use Rattle.turn_run.proofs.TurnKnown.{most_known}
 use Rattle.turn_run.proofs.TurnRuns.{first_goings, first_stage, none_begun}
+use Rattle.list_laws.proofs.Common.{some_or_none}
 
 -- ---- the close
 
@@ -37,16 +39,15 @@ raised_torn header (Some old) now count n e = (
 
 bytes_up : (s : Setting) (goings : List Going) (m : Mark) → bytes_at s (map (advance s.header) goings) m ≡ bytes_of_mark s goings m
 bytes_up s goings (Meet k) = refl
-bytes_up s goings (Solo r n) = by_rank (slice_get goings r) refl
+bytes_up s goings (Solo r n) = elim (some_or_none (slice_get goings r)) [
+  | inl e ↦ ap (λ (m : Option Arrived). some (elim m [ None ↦ None | Some a ↦ a.1 ])) (entry_map_none (advance s.header) goings r e)
+      ∙ sym (ap (λ (m : Option Going). some (elim m [ None ↦ None | Some g ↦ (advance s.header g).1 ])) e)
+  | inr g ↦ ap (λ (m : Option Arrived). some (elim m [ None ↦ None | Some a ↦ a.1 ])) (entry_map (advance s.header) goings r g.0 g.1)
+      ∙ sym (ap (λ (m : Option Going). some (elim m [ None ↦ None | Some g ↦ (advance s.header g).1 ])) g.1)
+]
   where
     some : Option Offer → List ℕ
     some o = elim o [ None ↦ [] | Some x ↦ covered s.header (puts_of (r, x)) ]
-
-    by_rank : (m : Option Going) → slice_get goings r ≡ m → bytes_at s (map (advance s.header) goings) (Solo r n) ≡ bytes_of_mark s goings (Solo r n)
-    by_rank None e = ap (λ (m : Option Arrived). some (elim m [ None ↦ None | Some a ↦ a.1 ])) (entry_map_none (advance s.header) goings r e)
-        ∙ sym (ap (λ (m : Option Going). some (elim m [ None ↦ None | Some g ↦ (advance s.header g).1 ])) e)
-    by_rank (Some g) e = ap (λ (m : Option Arrived). some (elim m [ None ↦ None | Some a ↦ a.1 ])) (entry_map (advance s.header) goings r g e)
-        ∙ sym (ap (λ (m : Option Going). some (elim m [ None ↦ None | Some g ↦ (advance s.header g).1 ])) e)
 
 closed_up : (s : Setting) (c : Counted) (goings : List Going)
     → closed_at s (gone_up s (c, goings)) ≡ record { file = (closed s (c, goings)).bytes; records = (closed s (c, goings)).records }
@@ -69,7 +70,7 @@ module _ (script : Script) (header : Header) (e : StepErr) (records : ℕ) (firs
       → fold (step_to s) (counted file records, arrived_all header script.calls first) more ≡ gone_up s (state_after script header file order)
   up file more grown =
       ap (λ (ms : List Mark). fold (step_to s) (counted file records, arrived_all header script.calls first) ms) (sym (grown ∙ ap (λ (ms : List Mark). ms ++ more) none))
-      ∙ ap (λ (stand : Stand). fold (step_to s) stand order) (first_stage script header file records first lawful same_count all)
+      ∙ ap (λ (stand : Stand). fold (step_to s) stand order) (first_stage script header records first lawful same_count all file)
       ∙ arrival_steps s (first_state header file script.calls) order
 
   may_follow : (later : List Mark) × IsLegal script (order ++ later)
@@ -78,7 +79,7 @@ module _ (script : Script) (header : Header) (e : StepErr) (records : ℕ) (firs
   -- before the close
   pub stood_before : {left : Option (List ℕ)} {count : ℕ} → HasStopped (IsNext script order) s e (point before held records) (arrived_all header script.calls first) (point order left count)
       → Stood script header e order held left count
-  stood_before {count} h = IfSome_then held h.stops (λ file k.
+  stood_before {count} h = IfSome_then held h.ends (λ file k.
       (k.0, k.1, by_stop file k.0 (subst (λ (stand : Stand). StopsAt (IsNext script order) s e stand k.0 count) (up file h.more h.grown) k.2)))
     where
       by_stop : (file bytes : List ℕ) → StopsAt (IsNext script order) s e (gone_up s (state_after script header file order)) bytes count
@@ -125,15 +126,13 @@ stood_as (inr wanted) (stood_between later legal memory l k) = stood_between lat
 
 -- nothing was begun
 pub stood_first : (script : Script) (header : Header) (e : StepErr) (order : List Mark) (held left : Option (List ℕ)) (records count : ℕ) → is_lawful script ≡ true → e ≡ fault.Memory → order ≡ []
-    → left ≡ held → count ≡ records → records ≡ header.records
-    → IfSome held (λ file. (bytes : List ℕ) × (left ≡ Some bytes) × StoodAt script (setting_of script header) e (state_after script header file order) order bytes count)
-stood_first script header e order None left records count lawful memory none l k first = tt
-stood_first script header e order (Some file) left records count lawful memory none l k first = (
+    → left ≡ held → count ≡ records → records ≡ header.records → Stood script header e order held left count
+stood_first script header e order held left records count lawful memory none l k first = some_each held (λ file there. (
   file,
-  l,
+  l ∙ there,
   subst (λ (ms : List Mark). StoodAt script (setting_of script header) e (state_after script header file ms) ms file count) (sym none)
       (let b = none_begun script in let c = completed script [] lawful b.known_ranks b.each_rank in stood_between c.0 c.1 memory refl (k ∙ first)),
-)
+))
 
 pub no_answers : (script : Script) (header : Header) (e : StepErr) (order : List Mark) (file : List ℕ) (answers : List (List Answer)) → answers ≡ []
     → (r : ℕ) (g : Going) (own : List Answer) → slice_get (state_after script header file order).1 r ≡ Some g → slice_get answers r ≡ Some own → HasAnswers header e g own
@@ -174,8 +173,7 @@ cut_rows script fault.Memory table answers long disk (inr q) = let k = ap (λ (r
 -- of a run that stood there, with these answers
 pub cut_run : (script : Script) (header : Header) (e : StepErr) (order : List Mark) (held left : Option (List ℕ)) (count : ℕ) (answers : List (List Answer)) → HasAnswersOfEach e script answers
     → ((file : List ℕ) → held ≡ Some file → (r : ℕ) (g : Going) (own : List Answer) → slice_get (state_after script header file order).1 r ≡ Some g → slice_get answers r ≡ Some own → HasAnswers header e g own)
-    → IfSome held (λ file. (bytes : List ℕ) × (left ≡ Some bytes) × StoodAt script (setting_of script header) e (state_after script header file order) order bytes count)
-    → IfSome held (λ file. (bytes : List ℕ) × (left ≡ Some bytes) × IsCutRun script header file e order bytes count answers)
+    → Stood script header e order held left count → IfSome held (λ file. (bytes : List ℕ) × (left ≡ Some bytes) × IsCutRun script header file e order bytes count answers)
 cut_run script header e order None left count answers rows some h = tt
 cut_run script header e order (Some file) left count answers rows some h = (h.0, h.1, record { stood = h.2; each_rank = rows; some_answers = some file refl })
 

@@ -1,15 +1,12 @@
 -- What is told of steps, one after another, and of a whole run.
-use Rattle.turn_run.proofs.Words.{IfSome_then, ◌≡◌, ◌+◌, ℕ, suc, refl, sym, ◌∙◌, ap, subst, List, [], ◌∷◌, ◌++◌, length, map, max, replicate, set, take, true, Option, Some, None, append_assoc, length-append, arith, append-nil, append_cancel_left, map-append, fold-append, slice_get, fold, enumerate_from, Header, Batch, Call, Hints, Script, DiskCall, Mark, Meet, Solo, Offer, with_end, needed_now, Counted, Setting, is_lawful, told_of, Going, after_mark, first_state, setting_of, counted, puts_in, step_to, Arrived, Stand, point, arrived_all, stand_of, HasGone, HasLed, IsLed, Stage, rank_stage, first_runner, counts_along, told_marks, told_over, HasTold, HasToldMore, Runner, entry_set, with_end-with_end, with_end-nil, gone_up, arrival_step, if_some_at}
+use Rattle.turn_run.proofs.Words.{IfSome_then, ◌≡◌, ◌+◌, ℕ, refl, sym, ◌∙◌, ap, subst, List, [], ◌∷◌, ◌++◌, length, map, max, replicate, set, take, true, Option, Some, None, append_assoc, length-append, arith, append-nil, append_cancel_left, map-append, fold-append, slice_get, fold, enumerate_from, Header, Batch, Call, Hints, Script, DiskCall, Mark, Meet, Solo, Offer, with_end, needed_now, Counted, Setting, is_lawful, told_of, Going, after_mark, first_state, setting_of, counted, puts_in, step_to, Arrived, Stand, point, arrived_all, stand_of, HasGone, HasLed, IsLed, Stage, rank_stage, first_runner, counts_along, told_marks, told_over, HasTold, HasToldMore, Runner, entry_set, with_end-with_end, with_end-nil, gone_up, arrival_step, if_some_at}
 use Rattle.turn_run.proofs.CutLaws.{solo_at}
 use Rattle.turn_run.proofs.StageLaws.{some_each, gone_beside}
 use Rattle.turn_run.proofs.MeetStep.{meet_at, met_count, IsTaken}
 use Rattle.turn_run.proofs.TurnRuns.{first_stage}
+use Rattle.list_laws.proofs.Std.{take-append_seam}
 
 -- ---- nothing, and one step
-
-pub told_at : (s : Setting) (held : Option (List ℕ)) (n m : ℕ) (ranks : List Arrived) (before now : List Mark) (told heard : Option (List (Mark × ℕ)))
-    → n ≡ m → HasToldMore s (point before held n) ranks now told heard → HasToldMore s (point before held m) ranks now told heard
-told_at s held n m ranks before now told heard e h = subst (λ (k : ℕ). HasToldMore s (point before held k) ranks now told heard) e h
 
 pub told_none : (s : Setting) (held : Option (List ℕ)) (records : ℕ) (ranks : List Arrived) (before now : List Mark) (told heard : Option (List (Mark × ℕ)))
     → now ≡ before → heard ≡ told → HasToldMore s (point before held records) ranks now told heard
@@ -84,12 +81,9 @@ told_gone now {r} {records} {from} {to} gone first e second ranks at =
 
 -- ---- a whole run
 
-module _ {M : Type 0} where
-  take_through : (first : List M) (m : M) (rest : List M) (k : ℕ) → k ≡ length first + 1 → take k (first ++ (m ∷ rest)) ≡ first ++ m ∷ []
-  take_through [] m rest k e = let one : k ≡ 1 = omega (arith, e) in subst (λ (z : ℕ). take z (m ∷ rest) ≡ m ∷ []) (sym one) refl
-  take_through (x ∷ xs) m rest k e =
-      let j : ℕ = length xs + 1 in let next : k ≡ suc j = omega (arith, e) in
-      subst (λ (z : ℕ). take z (x ∷ (xs ++ (m ∷ rest))) ≡ x ∷ (xs ++ m ∷ [])) (sym next) (ap (λ (l : List M). x ∷ l) (take_through xs m rest j refl))
+take_through : (first : List Mark) (m : Mark) (rest : List Mark) (k : ℕ) → k ≡ length first + 1 → take k (first ++ (m ∷ rest)) ≡ first ++ m ∷ []
+take_through first m rest k e = ap (take k) (sym (append_assoc first (m ∷ []) rest))
+    ∙ ap (λ (z : ℕ). take z ((first ++ m ∷ []) ++ rest)) (e ∙ sym (length-append first (m ∷ []))) ∙ take-append_seam (first ++ m ∷ []) rest
 
 -- each mark of a list with the count after it, by its place and by steps
 along : {U : Type 0} (step : U → Mark → U) (count : U → ℕ) (u : U) (first rest : List Mark) (n : ℕ) → n ≡ length first
@@ -122,7 +116,7 @@ told_from_first : (script : Script) (header : Header) (file : List ℕ) (records
     → records ≡ header.records → runners ≡ replicate script.ranks (first_runner header records)
     → told_over (setting_of script header) (counted file records, arrived_all header script.calls runners) order ≡ told_of script header file order
 told_from_first script header file records runners order lawful e first =
-    ap (λ (stand : Stand). told_over (setting_of script header) stand order) (first_stage script header file records runners lawful e first)
+    ap (λ (stand : Stand). told_over (setting_of script header) stand order) (first_stage script header records runners lawful e first file)
     ∙ sym (told_along script header file order ∙ counts_up (setting_of script header) (first_state header file script.calls) order)
 
 -- before the first step

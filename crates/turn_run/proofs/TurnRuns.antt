@@ -58,33 +58,29 @@ goings_first header records (own ∷ calls) e =
     let others = goings_first header records calls e in
     λ i. first i ∷ others i
 
-pub first_goings : (script : Script) (header : Header) (records : ℕ) (runners : List Runner) → is_lawful script ≡ true → records ≡ header.records
-    → runners ≡ replicate script.ranks (first_runner header records) → all_between script.calls runners ≡ map (first_going header) script.calls
-first_goings script header records runners lawful e s = ap (λ (ss : List Runner). all_between script.calls ss) s
-    ∙ ap (λ (n : ℕ). all_between script.calls (replicate n (first_runner header records))) (sym (ranks_lawful script lawful).one_each) ∙ goings_first header records script.calls e
+module _ (script : Script) (header : Header) (records : ℕ) (runners : List Runner) (lawful : is_lawful script ≡ true) (same_count : records ≡ header.records)
+    (first : runners ≡ replicate script.ranks (first_runner header records)) where
+  pub first_goings : all_between script.calls runners ≡ map (first_going header) script.calls
+  first_goings = ap (λ (ss : List Runner). all_between script.calls ss) first
+      ∙ ap (λ (n : ℕ). all_between script.calls (replicate n (first_runner header records))) (sym (ranks_lawful script lawful).one_each) ∙ goings_first header records script.calls same_count
 
-pub first_stage : (script : Script) (header : Header) (file : List ℕ) (records : ℕ) (runners : List Runner) → is_lawful script ≡ true → records ≡ header.records
-    → runners ≡ replicate script.ranks (first_runner header records)
-    → (counted file records, arrived_all header script.calls runners) ≡ gone_up (setting_of script header) (first_state header file script.calls)
-first_stage script header file records runners lawful e s =
-    let ranks : arrived_all header script.calls runners ≡ map (advance header) (map (first_going header) script.calls) =
-    sym (between_up header script.calls runners (first_free header script.ranks records runners s)) ∙ ap (map (advance header)) (first_goings script header records runners lawful e s) in
-    λ i. (counted file (e i), ranks i)
+  pub first_stage : (file : List ℕ) → (counted file records, arrived_all header script.calls runners) ≡ gone_up (setting_of script header) (first_state header file script.calls)
+  first_stage file =
+      let ranks : arrived_all header script.calls runners ≡ map (advance header) (map (first_going header) script.calls) =
+      sym (between_up header script.calls runners (first_free header script.ranks records runners first)) ∙ ap (map (advance header)) first_goings in
+      λ i. (counted file (same_count i), ranks i)
 
--- the run is that of the script
-pub serial_from_first : (script : Script) (header : Header) (file : List ℕ) (records : ℕ) (runners : List Runner) (order : List Mark) → is_lawful script ≡ true
-    → records ≡ header.records → runners ≡ replicate script.ranks (first_runner header records)
-    → ended_from (setting_of script header) (counted file records, arrived_all header script.calls runners) order ≡ serial_from script header file order
-serial_from_first script header file records runners order lawful e s =
-    ap (λ (stand : Stand). ended_from (setting_of script header) stand order) (first_stage script header file records runners lawful e s)
-    ∙ sym (serial_of_arrivals script header file order ∙ ap (λ (stand : Stand). ended_from (setting_of script header) stand order) (first_up header (setting_of script header) file script.calls refl))
+  -- the run is that of the script
+  pub serial_from_first : (file : List ℕ) (order : List Mark) → ended_from (setting_of script header) (counted file records, arrived_all header script.calls runners) order ≡ serial_from script header file order
+  serial_from_first file order =
+      let ends = λ (stand : Stand). ended_from (setting_of script header) stand order in
+      ap ends (first_stage file) ∙ sym (serial_of_arrivals script header file order ∙ ap ends (first_up header (setting_of script header) file script.calls refl))
 
-pub calls_from_first : (script : Script) (header : Header) (file : List ℕ) (records : ℕ) (runners : List Runner) (order : List Mark) → is_lawful script ≡ true
-    → records ≡ header.records → runners ≡ replicate script.ranks (first_runner header records)
-    → all_calls_over script.hints (setting_of script header) (counted file records, arrived_all header script.calls runners) order ≡ run_calls script header file order
-calls_from_first script header file records runners order lawful e s =
-    ap (λ (stand : Stand). all_calls_over script.hints (setting_of script header) stand order) (first_stage script header file records runners lawful e s)
-    ∙ sym (calls_of_arrivals script header file order ∙ ap (λ (stand : Stand). all_calls_over script.hints (setting_of script header) stand order) (first_up header (setting_of script header) file script.calls refl))
+  pub calls_from_first : (file : List ℕ) (order : List Mark)
+      → all_calls_over script.hints (setting_of script header) (counted file records, arrived_all header script.calls runners) order ≡ run_calls script header file order
+  calls_from_first file order =
+      let calls = λ (stand : Stand). all_calls_over script.hints (setting_of script header) stand order in
+      ap calls (first_stage file) ∙ sym (calls_of_arrivals script header file order ∙ ap calls (first_up header (setting_of script header) file script.calls refl))
 
 -- ---- the close
 

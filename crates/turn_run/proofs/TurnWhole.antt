@@ -12,6 +12,7 @@ use Rattle.turn_run.proofs.TurnCauses.{rose_later}
 use Rattle.turn_run.proofs.TurnEnds.{are_over, ended_legal}
 use Rattle.turn_run.proofs.TurnKnown.{ends_known, most_known, most_rise, rise_sound}
 use Rattle.turn_run.proofs.TurnRuns.{alike_ended, calls_from_first, first_free, none_begun, run_ended, serial_from_first, told_end, IsClosed, IsThrough}
+use Rattle.list_laws.proofs.Common.{some_or_none}
 
 -- ---- how it went
 
@@ -75,16 +76,16 @@ module _ (script : Script) (header : Header) (len : ℕ) (before : List Mark) (s
       (λ n. all_say_here script header e last last n ((ranks_lawful script lawful).one_each ∙ sym t.runners.all) refl t.arrived (keep_own last))))
 
   -- the answers may be those of a fault before it
-  said_at : (e : StepErr) (now : Option (List ℕ)) (total : ℕ) → EndedAt header ends served.fault e (contents_of left count) (contents_of now total)
-      → (x : StepErr) × (((e ≡ x) ⊎ (e ≡ fault.Memory)) × HaveAnswers (setting_of script header) x (point before held records) (all_between script.calls first) served.order last)
+  abbrev Said : StepErr → Type 0
+  Said e = (x : StepErr) × (((e ≡ x) ⊎ (e ≡ fault.Memory)) × HaveAnswers (setting_of script header) x (point before held records) (all_between script.calls first) served.order last)
+
+  said_at : (e : StepErr) (now : Option (List ℕ)) (total : ℕ) → EndedAt header ends served.fault e (contents_of left count) (contents_of now total) → Said e
   said_at e now total (in_closing no_fault whole torn k) = (e, (inl refl, all_said e (h.through no_fault)))
   said_at e now total (as_left (inl some) l k) = (e, (inl refl, h.answered e some))
-  said_at e now total (as_left (inr memory) l k) = by_fault served.fault refl
-    where
-      by_fault : (m : Option StepErr) → served.fault ≡ m
-          → (x : StepErr) × (((e ≡ x) ⊎ (e ≡ fault.Memory)) × HaveAnswers (setting_of script header) x (point before held records) (all_between script.calls first) served.order last)
-      by_fault None f = (e, (inl refl, all_said e (h.through f)))
-      by_fault (Some x) f = (x, (inr memory, h.answered x f))
+  said_at e now total (as_left (inr memory) l k) = elim (some_or_none served.fault) [
+    | inl f ↦ (e, (inl refl, all_said e (h.through f)))
+    | inr x ↦ (x.0, (inr memory, h.answered x.0 x.1))
+  ]
 
   stood_of : (e : StepErr) (now : Option (List ℕ)) (total : ℕ) → EndedAt header ends served.fault e (contents_of left count) (contents_of now total) → Stood script header e served.order held now total
   stood_of e now total (in_closing no_fault whole torn which) =
@@ -94,12 +95,11 @@ module _ (script : Script) (header : Header) (len : ℕ) (before : List Mark) (s
       (subst (λ (n : ℕ). BothTold (λ old bytes. IsTorn [] (byte_len (count_width header.version)) old (raised (as_setting header) (counted old count) n).file bytes) left now) known_is torn)
       (subst (λ (n : ℕ). (total ≡ count) ⊎ (total ≡ max count n)) known_is which)
   stood_of e now total (as_left (inl some) l k) = rw (l, k) (stood_before script header e records first before served.order held lawful same_count all none h.begun (h.cut e some))
-  stood_of e now total (as_left (inr memory) l k) = rw (l, k) (by_fault served.fault refl)
-    where
-      by_fault : (m : Option StepErr) → served.fault ≡ m → Stood script header e served.order held left count
-      by_fault None f = stood_led script header e records first before served.order held lawful same_count all none h.begun last memory (h.through f).led
-      by_fault (Some x) f =
-          IfSome_then held (stood_before script header x records first before served.order held lawful same_count all none h.begun (h.cut x f)) (λ file k. (k.0, k.1, stood_as (inr memory) k.2))
+  stood_of e now total (as_left (inr memory) l k) = rw (l, k) (elim (some_or_none served.fault) [
+    | inl f ↦ stood_led script header e records first before served.order held lawful same_count all none h.begun last memory (h.through f).led
+    | inr x ↦
+        IfSome_then held (stood_before script header x.0 records first before served.order held lawful same_count all none h.begun (h.cut x.0 x.1)) (λ file k. (k.0, k.1, stood_as (inr memory) k.2))
+  ])
 
   cut_in_turn : (e : StepErr) (now : Option (List ℕ)) (total : ℕ) (end : RunEnd) → EndOfCut header ends served e left count now total end
       → IfSome held (λ file. (bytes : List ℕ) × (now ≡ Some bytes) × IsCutRun script header file e end.order bytes total end.answers)
@@ -110,7 +110,7 @@ module _ (script : Script) (header : Header) (len : ℕ) (before : List Mark) (s
       (subst (λ (m : Option (List ℕ)). HaveAnswers (setting_of script header) said.0 (point before m records) (all_between script.calls first) served.order last) there said.1.1) rows)
       (stood_of e now total c.at))
     where
-      said : (x : StepErr) × (((e ≡ x) ⊎ (e ≡ fault.Memory)) × HaveAnswers (setting_of script header) x (point before held records) (all_between script.calls first) served.order last)
+      said : Said e
       said = said_at e now total c.at
 
       by_rows : (end.answers ≡ map (λ x. x.answers) ends) ⊎ (end.answers ≡ []) → (end.answers ≡ map (λ runner. runner.answers) last) ⊎ (end.answers ≡ [])
@@ -134,17 +134,20 @@ module _ (script : Script) (header : Header) (len : ℕ) (before : List Mark) (s
     calls = λ good. IfSome_then held (closed_so good) (λ file k. k.calls ∙ ap (λ (cs : List DiskCall). with_end calls cs) (device file));
     sound = c.sound;
     begun = subst (λ (ms : List Mark). HasBegun script ms) (sym c.order) h.begun;
-    fault = λ disk. by_fault disk served.fault refl;
+    fault = λ disk. elim (some_or_none served.fault) [
+      | inl f ↦ rose_before faults failed risen h.later (c.cause f disk)
+      | inr x ↦ rose_later faults failed risen (h.cause (x.1 ∙ ap (λ (y : StepErr). Some y) (c.first x.0 x.1 disk))) c.later
+    ];
     later = le_two faults failed risen h.later c.later;
     cut = λ e is. cut_in_turn e now total end (cut e is);
     none_pending = c.none_pending;
   }
     where
       serial : (file : List ℕ) → ended_from (setting_of script header) (counted file records, arrived_all header script.calls first) served.order ≡ serial_from script header file end.order
-      serial file = serial_from_first script header file records first served.order lawful same_count all ∙ ap (λ (ms : List Mark). serial_from script header file ms) (sym c.order)
+      serial file = serial_from_first script header records first lawful same_count all file served.order ∙ ap (λ (ms : List Mark). serial_from script header file ms) (sym c.order)
 
       device : (file : List ℕ) → all_calls_over script.hints (setting_of script header) (counted file records, arrived_all header script.calls first) served.order ≡ run_calls script header file end.order
-      device file = calls_from_first script header file records first served.order lawful same_count all ∙ ap (λ (ms : List Mark). run_calls script header file ms) (sym c.order)
+      device file = calls_from_first script header records first lawful same_count all file served.order ∙ ap (λ (ms : List Mark). run_calls script header file ms) (sym c.order)
 
       closing : end.fault ≡ None → HasClosed header (most_known last) (contents_of left count) (contents_of now total) made later
       closing good = subst (λ (n : ℕ). HasClosed header n (contents_of left count) (contents_of now total) made later) known_is (c.closed good)
@@ -158,7 +161,3 @@ module _ (script : Script) (header : Header) (len : ℕ) (before : List Mark) (s
           let ranks = arrived_all header script.calls first in
           subst (λ (x : End). AreAlikeEnds (told_end total last) x) (serial file)
           (alike_ended lawful none (h.through (c.went good).0) (closing good) (counted file records, ranks) (record { records = refl; beside = same_beside ranks }))
-
-      by_fault : end.fault ≡ Some fault.Disk → (m : Option StepErr) → served.fault ≡ m → Rose faults risen
-      by_fault disk None f = rose_before faults failed risen h.later (c.cause f disk)
-      by_fault disk (Some x) f = rose_later faults failed risen (h.cause (f ∙ ap (λ (y : StepErr). Some y) (c.first x f disk))) c.later
