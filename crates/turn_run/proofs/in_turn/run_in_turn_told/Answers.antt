@@ -9,39 +9,20 @@ use Rattle.turn_run.proofs.in_turn.run_in_turn_told.Goals as goal
 
 -- ---- no memory before the first step
 
-pub returns-in-Err-clause-run : goal.returns-in-Err-clause-run
-returns-in-Err-clause-run g c =
-    let disk = c.args.disk.now in
-    stopped_first c.args.script.now c.args.header.now (g.D.Disk.held disk) (g.D.Disk.calls disk) (g.D.Disk.faults disk) c.args.records.now c.stopped.result c.requires.lawful c.requires.records
-    (c.stopped.ensures.order ∙ c.new-order.ensures) c.stopped.ensures.fault c.stopped.ensures.answers c.stopped.ensures.none_pending
+pub returns-in-Err : goal.returns-in-Err
+returns-in-Err g c =
+    let end = c.stopped.ensures in let none = end.order ∙ c.new-order.ensures in
+    record { run = stopped_first _ _ _ _ _ _ _ c.requires.lawful c.requires.records none end.fault end.answers end.none_pending; told = told_nothing _ _ _ _ _ none }
 
-pub returns-in-Err-runners_of-clause-run : goal.returns-in-Err-runners_of-clause-run
-returns-in-Err-runners_of-clause-run g c =
-    let disk = c.args.disk.now in
-    let end = c.stopped-in-Err-runners_of in
-    stopped_first c.args.script.now c.args.header.now (g.D.Disk.held disk) (g.D.Disk.calls disk) (g.D.Disk.faults disk) c.args.records.now end.result c.requires.lawful c.requires.records
-    (end.ensures.order ∙ c.new-order.ensures) end.ensures.fault end.ensures.answers end.ensures.none_pending
+pub returns-in-Err-runners_of : goal.returns-in-Err-runners_of
+returns-in-Err-runners_of g c =
+    let end = c.stopped-in-Err-runners_of.ensures in let none = end.order ∙ c.new-order.ensures in
+    record { run = stopped_first _ _ _ _ _ _ _ c.requires.lawful c.requires.records none end.fault end.answers end.none_pending; told = told_nothing _ _ _ _ _ none }
 
-pub returns-in-Err-with_capacity-clause-run : goal.returns-in-Err-with_capacity-clause-run
-returns-in-Err-with_capacity-clause-run g c =
-    let disk = c.args.disk.now in
-    let end = c.stopped-in-Err-with_capacity in
-    stopped_first c.args.script.now c.args.header.now (g.D.Disk.held disk) (g.D.Disk.calls disk) (g.D.Disk.faults disk) c.args.records.now end.result c.requires.lawful c.requires.records
-    (end.ensures.order ∙ c.new-order.ensures) end.ensures.fault end.ensures.answers end.ensures.none_pending
-
-pub returns-in-Err-clause-told : goal.returns-in-Err-clause-told
-returns-in-Err-clause-told g c =
-    told_nothing c.args.script.now c.args.header.now (g.D.Disk.held c.args.disk.now) (g.T.Told.heard c.args.told.now) c.stopped.result.order (c.stopped.ensures.order ∙ c.new-order.ensures)
-
-pub returns-in-Err-runners_of-clause-told : goal.returns-in-Err-runners_of-clause-told
-returns-in-Err-runners_of-clause-told g c =
-    let end = c.stopped-in-Err-runners_of in
-    told_nothing c.args.script.now c.args.header.now (g.D.Disk.held c.args.disk.now) (g.T.Told.heard c.args.told.now) end.result.order (end.ensures.order ∙ c.new-order.ensures)
-
-pub returns-in-Err-with_capacity-clause-told : goal.returns-in-Err-with_capacity-clause-told
-returns-in-Err-with_capacity-clause-told g c =
-    let end = c.stopped-in-Err-with_capacity in
-    told_nothing c.args.script.now c.args.header.now (g.D.Disk.held c.args.disk.now) (g.T.Told.heard c.args.told.now) end.result.order (end.ensures.order ∙ c.new-order.ensures)
+pub returns-in-Err-with_capacity : goal.returns-in-Err-with_capacity
+returns-in-Err-with_capacity g c =
+    let end = c.stopped-in-Err-with_capacity.ensures in let none = end.order ∙ c.new-order.ensures in
+    record { run = stopped_first _ _ _ _ _ _ _ c.requires.lawful c.requires.records none end.fault end.answers end.none_pending; told = told_nothing _ _ _ _ _ none }
 
 -- ---- the meetings
 

@@ -4,7 +4,7 @@ use Rattle.turn_run.proofs.RunnerLaws.{way_rest}
 use Rattle.turn_run.proofs.AloneLaws.{arrived_gone, asks_on, gone_grown, gone_same, gone_then, grown_then, taken_alone, way_free, went_runner}
 use Rattle.turn_run.proofs.CutLaws.{gone_stopped, stopped_between, memory_of, same_err}
 use Rattle.turn_run.proofs.SaidLaws.{gone_reached, part_arrived, reached_here, said_part, says_here}
-use Rattle.turn_run.proofs.TellLaws.{told_at, told_gone, told_none}
+use Rattle.turn_run.proofs.TellLaws.{told_gone, told_none}
 use Rattle.turn_run.proofs.runners.Runner.arrive.Goals as goal
 
 pub own_calls-calls-requires : goal.own_calls-calls-requires
@@ -19,11 +19,9 @@ alone-init g c = record {
   free = c.requires.free;
   way = way_free c.args.lent.now.setup.script.now c.args.lent.now.setup.header.now c.args.progress.now.order c.args.number _ c.args.self.now c.requires.free c.requires.runner.placed;
   known = c.requires.known;
-  gone = gone_same c.args.lent.now.setup.script.now.hints (setting_of c.args.lent.now.setup.script.now c.args.lent.now.setup.header.now) c.args.number c.args.progress.now.order (g.D.Disk.held c.args.disk.now)
-      (g.D.Disk.calls c.args.disk.now) _ _ refl;
+  gone = gone_same _ _ _ _ _ _ _ _ refl;
   count = refl;
-  told = λ ranks at. told_none (setting_of c.args.lent.now.setup.script.now c.args.lent.now.setup.header.now) (g.D.Disk.held c.args.disk.now) c.args.progress.now.records ranks c.args.progress.now.order c.args.progress.now.order
-      (g.T.Told.heard c.args.told.now) (g.T.Told.heard c.args.told.now) refl refl;
+  told = λ ranks at. told_none _ _ _ _ _ _ _ _ refl refl;
 }
 
 pub go_on-requires-clause-way : goal.go_on-requires-clause-way
@@ -46,14 +44,11 @@ returns-in_err-go_on-clause-cut g c e is records ranks at = gone_stopped (MayFol
 
 pub returns-in_err-go_on-clause-answered : goal.returns-in_err-go_on-clause-answered
 returns-in_err-go_on-clause-answered g c e is records ranks at =
-    let script = c.args.lent.now.setup.script.now in let header = c.args.lent.now.setup.header.now in
-    let r = c.args.number in let s = setting_of script header in
-    let all = calls_of script r in let answers = c.go_on.new.self.answers in
-    let from = arrived header all c.alone.self in
-    gone_reached (SaysAt r e answers) c.alone.progress.order c.alone.invariant.gone
-    (λ n others there. reached_here (SaysAt r e answers) s c.alone.progress.order c.alone.progress.order (g.D.Disk.held c.alone.disk) n others refl
-    (λ m. says_here r e answers from m others there (said_part e from answers (memory_of c.from_residual.result e c.from_residual.ensures.1 is)
-    (part_arrived header c.own_calls-calls.result.now all c.alone.self answers c.own_calls-calls.ensures c.alone.invariant.free c.in_err-go_on.ensures.some)))) records ranks at
+    gone_reached (SaysAt c.args.number e c.go_on.new.self.answers) c.alone.progress.order c.alone.invariant.gone
+    (λ n others there. reached_here (SaysAt c.args.number e c.go_on.new.self.answers) _ _ _ _ _ _ refl
+    (λ m. says_here _ _ _ _ m others there (said_part e _ _ (memory_of c.from_residual.result e c.from_residual.ensures.1 is)
+    (part_arrived c.args.lent.now.setup.header.now c.own_calls-calls.result.now (calls_of c.args.lent.now.setup.script.now c.args.number) c.alone.self c.go_on.new.self.answers
+    c.own_calls-calls.ensures c.alone.invariant.free c.in_err-go_on.ensures.some)))) records ranks at
 
 pub returns-in_err-go_on-clause-told : goal.returns-in_err-go_on-clause-told
 returns-in_err-go_on-clause-told g c = c.alone.invariant.told
@@ -136,7 +131,7 @@ alone-preserved g c =
           (subst (λ (a : Arrived). HasGone hints s r (rank_stage c.alone.progress.order (g.D.Disk.held c.alone.disk) (g.D.Disk.calls c.alone.disk) a) (rank_stage order (g.D.Disk.held c.do_alone.new.disk) (g.D.Disk.calls c.do_alone.new.disk) (arrived header all c.do_alone.new.self)))
           asks c.in_ok-do_alone-in-Some.ensures.gone);
       count = c.do_alone.ensures.records ∙ k.count;
-      told = told_gone c.alone.progress.order k.gone k.told asks (λ others there. told_at _ _ _ _ _ _ _ _ _ k.count (c.do_alone.ensures.told others there));
+      told = told_gone c.alone.progress.order k.gone k.told asks (λ others there. rw k.count at (c.do_alone.ensures.told others there));
     }
 
 -- ---- it was cut off there
@@ -167,4 +162,4 @@ returns-in_err-do_alone-in-Some-clause-told g c =
     let all = calls_of c.args.lent.now.setup.script.now c.args.number in
     let asks = asks_on c.args.lent.now.setup.header.now c.own_calls-calls.result.now all c.alone.self c.go_on.new.self c.take_alone.new.self c.in-Some.offer c.own_calls-calls.ensures c.alone.invariant.free
     c.in_ok-go_on.ensures.advanced c.in_ok-go_on.ensures.ended c.in-Some.ensures.taken.0 c.take_alone.ensures.rank c.take_alone.ensures.answers in
-    told_gone c.alone.progress.order c.alone.invariant.gone c.alone.invariant.told asks (λ others there. told_at _ _ _ _ _ _ _ _ _ c.alone.invariant.count (c.do_alone.ensures.told others there))
+    told_gone c.alone.progress.order c.alone.invariant.gone c.alone.invariant.told asks (λ others there. rw c.alone.invariant.count at (c.do_alone.ensures.told others there))

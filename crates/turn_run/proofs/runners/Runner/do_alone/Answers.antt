@@ -1,5 +1,5 @@
 -- The step is done, and the rank has heard its reply.
-use Rattle.turn_run.proofs.Words.{◌≡◌, refl, sym, ◌∙◌, ap, subst, List, Some, inr, Mark, advance, setting_of, IsOnWay, IsCount, asking, between, calls_of, arrived, MayFollow, length, [], ◌∷◌, ◌++◌, Solo, Reply, puts_of, told, done_torn, SaysAt, None, ℕ, on_err, lawful_hints, equal_itself, one_of}
+use Rattle.turn_run.proofs.Words.{◌≡◌, refl, sym, ◌∙◌, ap, subst, List, inr, Mark, advance, setting_of, IsOnWay, IsCount, asking, between, calls_of, arrived, MayFollow, length, [], ◌∷◌, ◌++◌, Solo, Reply, puts_of, told, done_torn, SaysAt, None, ℕ, on_err, lawful_hints, equal_itself, one_of}
 use Rattle.turn_run.proofs.CountLaws.{count_longer, count_max}
 use Rattle.turn_run.proofs.MeetOffers.{asked_fit}
 use Rattle.turn_run.proofs.RunnerLaws.{alone_done, alone_heard, alone_rest, heard_runner, HasRest}
@@ -16,20 +16,18 @@ pub solo_reply-requires-clause-fit : goal.solo_reply-requires-clause-fit
 solo_reply-requires-clause-fit g c κs within = asked_fit c.args.lent.now.setup.header.now _ c.args.self.now.rank.state.known c.args.ask.offer c.requires.asked c.requires.known
 
 pub returns-in_err-reply-clause-begun : goal.returns-in_err-reply-clause-begun
-returns-in_err-reply-clause-begun g c =
-    on_err _ (alone_rest c.args.lent.now.setup.script.now c.args.lent.now.setup.header.now c.args.progress.now.order c.args.ask.number _ c.args.ask.offer c.requires.asks)
+returns-in_err-reply-clause-begun g c = on_err _ (alone_rest _ _ _ _ _ _ c.requires.asks)
 
 pub returns-in_err-note_step-clause-begun : goal.returns-in_err-note_step-clause-begun
 returns-in_err-note_step-clause-begun g c =
-    on_err _ (subst (λ (ms : List Mark). HasRest c.args.lent.now.setup.script.now ms c.args.ask.number) (sym c.in_err-note_step.ensures.kept)
-    (alone_rest c.args.lent.now.setup.script.now c.args.lent.now.setup.header.now c.args.progress.now.order c.args.ask.number _ c.args.ask.offer c.requires.asks))
+    on_err _ (subst (λ (ms : List Mark). HasRest c.args.lent.now.setup.script.now ms c.args.ask.number) (sym c.in_err-note_step.ensures.kept) (alone_rest _ _ _ _ _ _ c.requires.asks))
 
 pub hear-requires-clause-waits : goal.hear-requires-clause-waits
-hear-requires-clause-waits g c = (alone_waits c.args.lent.now.setup.script.now c.args.lent.now.setup.header.now c.args.progress.now.order c.args.ask.number _ c.args.ask.offer c.requires.asks).0
+hear-requires-clause-waits g c = (alone_waits _ _ _ _ _ _ c.requires.asks).0
 
 pub hear-requires-clause-fits : goal.hear-requires-clause-fits
 hear-requires-clause-fits g c = fits_open _ c.args.lent.now.setup.header.now c.args.self.now.rank.header c.args.ask.offer.batch.gets c.in_ok-reply.reply.got c.requires.header
-    (alone_waits c.args.lent.now.setup.script.now c.args.lent.now.setup.header.now c.args.progress.now.order c.args.ask.number _ c.args.ask.offer c.requires.asks).1 c.in_ok-reply.ensures.fits
+    (alone_waits _ _ _ _ _ _ c.requires.asks).1 c.in_ok-reply.ensures.fits
 
 pub returns-in_err-hear-clause-grown : goal.returns-in_err-hear-clause-grown
 returns-in_err-hear-clause-grown g c = grown_one _ _ _ _ c.in_ok-note_step.ensures.order
@@ -37,7 +35,7 @@ returns-in_err-hear-clause-grown g c = grown_one _ _ _ _ c.in_ok-note_step.ensur
 pub returns-in_err-hear-clause-begun : goal.returns-in_err-hear-clause-begun
 returns-in_err-hear-clause-begun g c = on_err _ (subst (λ (ms : List Mark). HasRest c.args.lent.now.setup.script.now ms c.args.ask.number)
     (sym (order_is _ _ c.args.self.now.answers c.args.progress.now.order c.note_step.new.order c.in_ok-note_step.ensures.order c.len.ensures))
-    (alone_done c.args.lent.now.setup.script.now c.args.lent.now.setup.header.now c.args.progress.now.order c.args.ask.number _ c.args.ask.offer c.in_ok-reply.reply c.requires.asks))
+    (alone_done _ _ _ _ _ _ c.in_ok-reply.reply c.requires.asks))
 
 pub returns-clause-way : goal.returns-clause-way
 returns-clause-way g c =
@@ -49,7 +47,7 @@ returns-clause-way g c =
 
 pub returns-clause-known : goal.returns-clause-known
 returns-clause-known g c =
-    let waits = (alone_waits c.args.lent.now.setup.script.now c.args.lent.now.setup.header.now c.args.progress.now.order c.args.ask.number _ c.args.ask.offer c.requires.asks).0 in
+    let waits = (alone_waits _ _ _ _ _ _ c.requires.asks).0 in
     subst (λ (n : ℕ). IsCount c.args.lent.now.setup.header.now (g.D.Disk.len c.solo_reply.new.disk) n) (sym (heard_known c.args.self.now c.hear.new.self c.in_ok-reply.reply waits c.in_ok-hear.ensures.heard))
     (count_max c.args.lent.now.setup.header.now (g.D.Disk.len c.solo_reply.new.disk) c.args.self.now.rank.state.known c.in_ok-reply.reply.records
     (count_longer c.args.lent.now.setup.header.now (g.D.Disk.len c.args.disk.now) (g.D.Disk.len c.solo_reply.new.disk) c.args.self.now.rank.state.known c.in_ok-reply.ensures.longer c.requires.known)
@@ -103,16 +101,11 @@ returns-in_err-hear-clause-cut g c e is records ranks at =
     c.in_ok-reply.ensures.bytes records ranks at
 
 pub returns-in_err-reply-clause-answered : goal.returns-in_err-reply-clause-answered
-returns-in_err-reply-clause-answered g c e is records ranks at =
-    let script = c.args.lent.now.setup.script.now in let answers = c.args.self.now.answers in
-    reached_here (SaysAt c.args.ask.number e answers) (setting_of script c.args.lent.now.setup.header.now) c.args.progress.now.order c.args.progress.now.order (g.D.Disk.held c.args.disk.now) records ranks refl
-    (λ n. says_here c.args.ask.number e answers (asking (calls_of script c.args.ask.number) c.args.self.now, Some c.args.ask.offer) n ranks at (said_here e _ answers refl))
+returns-in_err-reply-clause-answered g c e is records ranks at = reached_here (SaysAt c.args.ask.number e c.args.self.now.answers) _ _ _ _ _ _ refl (λ n. says_here _ _ _ _ n ranks at (said_here e _ _ refl))
 
 pub returns-in_err-note_step-clause-answered : goal.returns-in_err-note_step-clause-answered
 returns-in_err-note_step-clause-answered g c e is records ranks at =
-    let script = c.args.lent.now.setup.script.now in let answers = c.args.self.now.answers in
-    reached_here (SaysAt c.args.ask.number e answers) (setting_of script c.args.lent.now.setup.header.now) c.args.progress.now.order c.note_step.new.order (g.D.Disk.held c.args.disk.now) records ranks c.in_err-note_step.ensures.kept
-    (λ n. says_here c.args.ask.number e answers (asking (calls_of script c.args.ask.number) c.args.self.now, Some c.args.ask.offer) n ranks at (said_here e _ answers refl))
+    reached_here (SaysAt c.args.ask.number e c.args.self.now.answers) _ _ _ _ _ _ c.in_err-note_step.ensures.kept (λ n. says_here _ _ _ _ n ranks at (said_here e _ _ refl))
 
 pub returns-in_err-hear-clause-answered : goal.returns-in_err-hear-clause-answered
 returns-in_err-hear-clause-answered g c e is records ranks at =
@@ -123,23 +116,13 @@ returns-in_err-hear-clause-answered g c e is records ranks at =
     c.in_err-hear.ensures.kept records ranks at
 
 pub returns-in_err-reply-clause-told : goal.returns-in_err-reply-clause-told
-returns-in_err-reply-clause-told g c ranks at =
-    told_none (setting_of c.args.lent.now.setup.script.now c.args.lent.now.setup.header.now) (g.D.Disk.held c.args.disk.now) c.args.progress.now.records ranks c.args.progress.now.order c.args.progress.now.order
-    (g.T.Told.heard c.args.told.now) (g.T.Told.heard c.args.told.now) refl refl
+returns-in_err-reply-clause-told g c ranks at = told_none _ _ _ _ _ _ _ _ refl refl
 
 pub returns-in_err-note_step-clause-told : goal.returns-in_err-note_step-clause-told
-returns-in_err-note_step-clause-told g c ranks at =
-    told_none (setting_of c.args.lent.now.setup.script.now c.args.lent.now.setup.header.now) (g.D.Disk.held c.args.disk.now) c.args.progress.now.records ranks c.args.progress.now.order c.note_step.new.order
-    (g.T.Told.heard c.args.told.now) (g.T.Told.heard c.note_step.new.told) c.in_err-note_step.ensures.kept c.in_err-note_step.ensures.untold
+returns-in_err-note_step-clause-told g c ranks at = told_none _ _ _ _ _ _ _ _ c.in_err-note_step.ensures.kept c.in_err-note_step.ensures.untold
 
 pub returns-in_err-hear-clause-told : goal.returns-in_err-hear-clause-told
-returns-in_err-hear-clause-told g c =
-    told_alone (setting_of c.args.lent.now.setup.script.now c.args.lent.now.setup.header.now) c.args.ask.number _ (g.D.Disk.held c.args.disk.now) c.args.progress.now.records c.args.progress.now.order c.note_step.new.order
-    (g.T.Told.heard c.args.told.now) (g.T.Told.heard c.note_step.new.told) (asking (calls_of c.args.lent.now.setup.script.now c.args.ask.number) c.args.self.now) c.args.ask.offer
-    c.in_ok-note_step.ensures.order c.in_ok-note_step.ensures.heard
+returns-in_err-hear-clause-told g c ranks at = told_alone _ _ _ _ _ _ _ _ _ _ _ c.in_ok-note_step.ensures.order c.in_ok-note_step.ensures.heard ranks at
 
 pub returns-clause-told : goal.returns-clause-told
-returns-clause-told g c =
-    told_alone (setting_of c.args.lent.now.setup.script.now c.args.lent.now.setup.header.now) c.args.ask.number _ (g.D.Disk.held c.args.disk.now) c.args.progress.now.records c.args.progress.now.order c.note_step.new.order
-    (g.T.Told.heard c.args.told.now) (g.T.Told.heard c.note_step.new.told) (asking (calls_of c.args.lent.now.setup.script.now c.args.ask.number) c.args.self.now) c.args.ask.offer
-    c.in_ok-note_step.ensures.order c.in_ok-note_step.ensures.heard
+returns-clause-told g c ranks at = told_alone _ _ _ _ _ _ _ _ _ _ _ c.in_ok-note_step.ensures.order c.in_ok-note_step.ensures.heard ranks at
