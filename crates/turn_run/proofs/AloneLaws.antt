@@ -3,6 +3,7 @@ use Rattle.turn_run.proofs.Words.{◌≡◌, ℕ, suc, refl, sym, ◌∙◌, ap,
 use Rattle.nc_base.specs.declared.step.OfferKind.TheVariants as offer
 use Rattle.turn_run.proofs.RunnerLaws.{advance_ended}
 use Rattle.turn_run.proofs.StageLaws.{alike_then, led_none, led_then}
+use Rattle.list_laws.proofs.Common.{some_or_none}
 
 -- ---- a runner, by the offer that it holds
 
@@ -21,13 +22,10 @@ going_held own runner o e = ap (λ (m : Option Offer). elim m [ None ↦ between
 -- going through its calls leads to no other offer
 pub arrived_gone : (header : Header) (own : List Call) (old new : Runner) → old.held ≡ None → advance header (between own old) ≡ (going_of own new, new.held)
     → (new.held ≡ None → drop (length new.answers) own ≡ []) → arrived header own old ≡ arrived header own new
-arrived_gone header own old new free gone ended = arrived_free header own old free ∙ gone ∙ sym (by_held new.held refl)
-  where
-    by_held : (m : Option Offer) → new.held ≡ m → arrived header own new ≡ (going_of own new, new.held)
-    by_held None e =
-        let g = going_free own new e in
-        arrived_free header own new e ∙ advance_ended header own new.rank.state new.answers (ended e) ∙ (λ i. (sym g i, sym e i))
-    by_held (Some o) e = let g = going_held own new o e in arrived_held header own new o e ∙ (λ i. (sym g i, sym e i))
+arrived_gone header own old new free gone ended = arrived_free header own old free ∙ gone ∙ elim (some_or_none new.held) [
+  | inl e ↦ (λ i. (going_free own new e i, e i)) ∙ sym (arrived_free header own new e ∙ advance_ended header own new.rank.state new.answers (ended e))
+  | inr o ↦ (λ i. (going_held own new o.0 o.1 i, o.1 i)) ∙ sym (arrived_held header own new o.0 o.1)
+]
 
 -- ---- one solo step
 

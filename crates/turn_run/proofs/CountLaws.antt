@@ -1,5 +1,6 @@
 -- Record counts that a header can have.
-use Rattle.turn_run.proofs.Words.{◌≡◌, ℕ, ◌^◌, ◌<◌, ◌≤◌, refl, sym, ◌∙◌, subst, Bool, true, false, max, inl, inr, arith, nat_tests, nat_lt, Header, Post, header_len, is_sound, end_of, record_limit, needed, end_grows, sound_end, canon_len, sound_small, IsPut, counted_sound, put_needed, IsCount, IsRise, some_limit}
+use Rattle.turn_run.proofs.Words.{◌≡◌, ℕ, ◌^◌, ◌<◌, ◌≤◌, sym, ◌∙◌, subst, true, max, inl, inr, arith, Header, Post, header_len, is_sound, end_of, record_limit, needed, end_grows, sound_end, canon_len, sound_small, IsPut, counted_sound, put_needed, IsCount, IsRise, some_limit}
+use Rattle.list_laws.proofs.Std.{cases_lt}
 
 pub count_small : (header : Header) (len n : ℕ) → IsCount header len n → n < record_limit header.version
 count_small header len n h = sound_small (record header { records = n }) h.sound
@@ -34,11 +35,10 @@ rise_longer header len more n l (inr h) = inr (count_longer header len more n l 
 -- the greater of a count and a count, or 0
 pub count_max : (header : Header) (len a n : ℕ) → IsCount header len a → IsRise header len n → IsCount header len (max a n)
 count_max header len a n h (inl e) = let f : a ≡ max a n = omega arith in subst (λ (m : ℕ). IsCount header len m) f h
-count_max header len a n h (inr k) = by_order (nat_lt a n) refl
-  where
-    by_order : (t : Bool) → nat_lt a n ≡ t → IsCount header len (max a n)
-    by_order true e = let f : n ≡ max a n = grind (arith, nat_tests) in subst (λ (m : ℕ). IsCount header len m) f k
-    by_order false e = let f : a ≡ max a n = grind (arith, nat_tests) in subst (λ (m : ℕ). IsCount header len m) f h
+count_max header len a n h (inr k) = elim (cases_lt a n) [
+  | inl l ↦ let f : n ≡ max a n = omega arith in subst (λ (m : ℕ). IsCount header len m) f k
+  | inr l ↦ let f : a ≡ max a n = omega arith in subst (λ (m : ℕ). IsCount header len m) f h
+]
 
 pub rise_max : (header : Header) (len a n : ℕ) → IsRise header len a → IsRise header len n → IsRise header len (max a n)
 rise_max header len a n (inl e) k = let f : n ≡ max a n = omega arith in subst (λ (m : ℕ). IsRise header len m) f k

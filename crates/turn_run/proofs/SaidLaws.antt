@@ -1,10 +1,13 @@
 -- The answers of ranks that a fault cut off.
-use Rattle.turn_run.proofs.Words.{IfSome_then, ◌≡◌, ℕ, zero, suc, ◌<◌, ◌≤◌, ◌≢◌, refl, sym, ◌∙◌, ap, subst, List, [], ◌∷◌, ◌++◌, length, map, set, Bool, true, false, cond, Option, Some, None, length-append, append_assoc, arith, nat_tests, fold-append, append-nil, append_cancel_left, filter-append, same_Some, slice_get_within, slice_get, fold, filter, nat_lt, ◌==◌, IfSome, Answer, Header, Call, Hints, Script, DiskCall, Mark, Meet, Solo, Offer, Reply, StepErr, Disk, Memory, Setting, Counted, solo, concerns, hear, Going, advance, after_mark, hears, solo_of, Begins, HasAnswers, counted, Arrived, Stand, step_to, point, HasSaid, SaysAt, AllSay, HasReached, AreAnswers, HaveAnswers, all_between, between, calls_of, AreFree, HasArrived, Stage, IsLed, HasGone, HasLed, IsGrownBy, arrived, arrived_all, stage, rank_stage, Runner, if_some_at, entry_set, entry_set_other, entry_map, stand_at, state_at, gone_up, arrival_steps}
+use Rattle.turn_run.proofs.Words.{IfSome_then, ◌≡◌, ℕ, suc, ◌<◌, ◌≤◌, ◌≢◌, refl, sym, ◌∙◌, ap, subst, List, [], ◌∷◌, ◌++◌, length, map, set, Bool, true, false, cond, Option, Some, None, length-append, append_assoc, arith, nat_tests, fold-append, append-nil, append_cancel_left, filter-append, same_Some, slice_get_within, slice_get, fold, filter, ◌==◌, IfSome, Answer, Header, Call, Hints, Script, DiskCall, Mark, Meet, Solo, Offer, Reply, StepErr, Disk, Memory, Setting, Counted, solo, concerns, hear, Going, advance, after_mark, hears, solo_of, Begins, HasAnswers, counted, Arrived, Stand, step_to, point, HasSaid, SaysAt, AllSay, HasReached, AreAnswers, HaveAnswers, all_between, between, calls_of, AreFree, HasArrived, Stage, IsLed, HasGone, HasLed, IsGrownBy, arrived, arrived_all, stage, rank_stage, Runner, if_some_at, entry_set, entry_set_other, entry_map, stand_at, state_at, gone_up, arrival_steps}
 use Rattle.run_laws.proofs.WayLaws.{others_filter as solos_beside}
 use Rattle.turn_run.proofs.AloneLaws.{arrived_free, arrived_held, step_at}
 use Rattle.turn_run.proofs.RunnerLaws.{advance_ended, answers_begin}
 use Rattle.turn_run.proofs.StageLaws.{some_each, gone_beside}
-use Rattle.turn_run.proofs.TurnSteps.{calls_there, get_arrived, own_or_other}
+use Rattle.turn_run.proofs.TurnEnds.{get_between}
+use Rattle.turn_run.proofs.TurnSteps.{arrived_at, calls_there, set_each}
+use Rattle.list_laws.proofs.Std.{cases_lt}
+use Rattle.list_laws.proofs.Common.{some_or_none}
 
 -- ---- one rank
 
@@ -43,11 +46,10 @@ said_between header Disk g answers e = (
 said_between header Memory g answers e = (subst (λ (xs : List Answer). Begins xs (advance header g).0.answers) (sym e) (begins_up header g), tt)
 
 pub arrived_said : (header : Header) (own : List Call) (runner : Runner) → HasArrived own runner → (arrived header own runner).0.answers ≡ runner.answers
-arrived_said header own runner h = by_held runner.held refl
-  where
-    by_held : (m : Option Offer) → runner.held ≡ m → (arrived header own runner).0.answers ≡ runner.answers
-    by_held None e = ap (λ (a : Arrived). a.0.answers) (arrived_free header own runner e ∙ advance_ended header own runner.rank.state runner.answers (h.ended e))
-    by_held (Some o) e = ap (λ (a : Arrived). a.0.answers) (arrived_held header own runner o e)
+arrived_said header own runner h = elim (some_or_none runner.held) [
+  | inl e ↦ ap (λ (a : Arrived). a.0.answers) (arrived_free header own runner e ∙ advance_ended header own runner.rank.state runner.answers (h.ended e))
+  | inr o ↦ ap (λ (a : Arrived). a.0.answers) (arrived_held header own runner o.0 o.1)
+]
 
 pub says_here : (r : ℕ) (fault : StepErr) (answers : List Answer) (from : Arrived) (c : Counted) (ranks : List Arrived) → slice_get ranks r ≡ Some from → HasSaid fault from answers
     → SaysAt r fault answers (c, ranks)
@@ -160,21 +162,11 @@ have_reached s fault before now held records goings ranks runners e h = record {
 
 -- those that hold no offer wait where they heard their last reply
 pub between_up : (header : Header) (calls : List (List Call)) (runners : List Runner) → AreFree runners → map (advance header) (all_between calls runners) ≡ arrived_all header calls runners
-between_up header [] runners f = refl
-between_up header (own ∷ calls) [] f = refl
 between_up header (own ∷ calls) (runner ∷ runners) f =
     let first : advance header (between own runner) ≡ arrived header own runner = sym (arrived_free header own runner (f 0 runner refl)) in
     let others = between_up header calls runners (λ r s e. f (suc r) s e) in
     λ i. first i ∷ others i
-
-get_between : (calls : List (List Call)) (runners : List Runner) (r : ℕ) (own : List Call) (runner : Runner) → slice_get calls r ≡ Some own → slice_get runners r ≡ Some runner
-    → slice_get (all_between calls runners) r ≡ Some (between own runner)
-get_between [] runners r own runner e f = absurd cc
-get_between (c ∷ calls) [] r own runner e f = absurd cc
-get_between (c ∷ calls) (s ∷ runners) zero own runner e f =
-    let a : c ≡ own = same_Some c own e in let b : s ≡ runner = same_Some s runner f in
-    λ i. Some (between (a i) (b i))
-get_between (c ∷ calls) (s ∷ runners) (suc r) own runner e f = get_between calls runners r own runner e f
+between_up header calls runners f = refl
 
 -- ---- ranks that go on one after another
 
@@ -212,46 +204,34 @@ answers_cut script fault n before mid now first runners was new s held left call
     by_held : (m : Option (List ℕ)) → IfSome m (λ file. IsLed script.hints s led.more file (stage m calls records (arrived_all s.header script.calls first)) (stage left made records (arrived_all s.header script.calls runners)))
         → IfSome m (λ file. AreAnswers s.header fault (fold (after_mark s) (counted file records, goings) more).1 (set runners n new))
     by_held None l = tt
-    by_held (Some file) l = λ r g runner f k. own_or_other (HasAnswers s.header fault g runner.answers) n r (λ e. at_own r g runner f k e) (λ ne. at_other r g runner f k ne)
+    by_held (Some file) l = λ r g runner f k. set_each (λ (q : ℕ) (x : Runner). (h : Going) → slice_get last q ≡ Some h → HasAnswers s.header fault h x.answers) runners n was new there
+        (λ h e. said_up s.header fault h new.answers (ends_at l.left l.told (advance s.header h) (gets n h e))) at_other r runner k g f
       where
-        up : map (advance s.header) (fold (after_mark s) (counted file records, goings) more).1
-            ≡ (fold (step_to s) (counted l.left records, arrived_all s.header script.calls runners) reached.more).1
+        last : List Going
+        last = (fold (after_mark s) (counted file records, goings) more).1
+
+        stand : Stand
+        stand = fold (step_to s) (counted l.left records, arrived_all s.header script.calls runners) reached.more
+
+        up : map (advance s.header) last ≡ stand.1
         up =
-            ap (λ (stand : Stand). stand.1) (up_after s (counted file records) goings (arrived_all s.header script.calls first) more (between_up s.header script.calls first free)
+            ap (λ (x : Stand). x.1) (up_after s (counted file records) goings (arrived_all s.header script.calls first) more (between_up s.header script.calls first free)
             ∙ fold-append (step_to s) (counted file records, arrived_all s.header script.calls first) led.more reached.more
-            ∙ ap (λ (stand : Stand). fold (step_to s) stand reached.more) l.state)
+            ∙ ap (λ (x : Stand). fold (step_to s) x reached.more) l.state)
 
-        gets : (r : ℕ) (g : Going) → slice_get (fold (after_mark s) (counted file records, goings) more).1 r ≡ Some g
-            → slice_get (fold (step_to s) (counted l.left records, arrived_all s.header script.calls runners) reached.more).1 r ≡ Some (advance s.header g)
-        gets r g f = ap (λ (rs : List Arrived). slice_get rs r) (sym up) ∙ entry_map (advance s.header) (fold (after_mark s) (counted file records, goings) more).1 r g f
+        gets : (r : ℕ) (g : Going) → slice_get last r ≡ Some g → slice_get stand.1 r ≡ Some (advance s.header g)
+        gets r g f = ap (λ (rs : List Arrived). slice_get rs r) (sym up) ∙ entry_map (advance s.header) last r g f
 
-        at_own : (r : ℕ) (g : Going) (runner : Runner) → slice_get (fold (after_mark s) (counted file records, goings) more).1 r ≡ Some g → slice_get (set runners n new) r ≡ Some runner → n ≡ r
-            → HasAnswers s.header fault g runner.answers
-        at_own r g runner f k e =
-            let same_runner : new ≡ runner = same_Some new runner (sym (entry_set runners n was new there) ∙ ap (λ (q : ℕ). slice_get (set runners n new) q) e ∙ k) in
-            subst (λ (x : Runner). HasAnswers s.header fault g x.answers) same_runner (said_up s.header fault g new.answers (ends_at l.left l.told (advance s.header g)
-            (ap (λ (q : ℕ). slice_get (fold (step_to s) (counted l.left records, arrived_all s.header script.calls runners) reached.more).1 q) e ∙ gets r g f)))
-
-        at_other : (r : ℕ) (g : Going) (runner : Runner) → slice_get (fold (after_mark s) (counted file records, goings) more).1 r ≡ Some g → slice_get (set runners n new) r ≡ Some runner → n ≢ r
-            → HasAnswers s.header fault g runner.answers
-        at_other r g runner f k ne = by_order (nat_lt r n) refl
-          where
-            here : slice_get runners r ≡ Some runner
-            here = sym (entry_set_other runners n r new (λ e. ne (sym e))) ∙ k
-
-            its_calls : slice_get script.calls r ≡ Some (calls_of script r)
-            its_calls = calls_there script r (let w = slice_get_within runners r runner here in omega arith)
-
-            by_order : (t : Bool) → nat_lt r n ≡ t → HasAnswers s.header fault g runner.answers
-            by_order true t =
-                let below : r < n = grind (arith, nat_tests) in
-                let is : advance s.header g ≡ arrived s.header (calls_of script r) runner = same_Some _ _ (sym (gets r g f)
-                ∙ marks_beside s r reached.more (counted l.left records, arrived_all s.header script.calls runners) (own_none r ne)
-                ∙ get_arrived s.header script.calls runners r (calls_of script r) runner its_calls here) in
-                said_up s.header fault g runner.answers (said_here fault (advance s.header g) runner.answers
-                (sym (ap (λ (a : Arrived). a.0.answers) is ∙ arrived_said s.header (calls_of script r) runner (come r runner below here))))
-            by_order false t =
-                let past : n ≤ r = grind (arith, nat_tests) in
-                let is : g ≡ between (calls_of script r) runner = same_Some _ _ (sym f ∙ goings_beside s r more (counted file records, goings) (all_none r ne past)
-                ∙ get_between script.calls first r (calls_of script r) runner its_calls (sym (same r past) ∙ here)) in
-                said_between s.header fault g runner.answers (sym (ap (λ (x : Going). x.answers) is))
+        at_other : (r : ℕ) (runner : Runner) → n ≢ r → slice_get runners r ≡ Some runner → (g : Going) → slice_get last r ≡ Some g → HasAnswers s.header fault g runner.answers
+        at_other r runner ne here g f = elim (cases_lt r n) [
+          | inl below ↦
+              let is : advance s.header g ≡ arrived s.header (calls_of script r) runner = same_Some _ _ (sym (gets r g f)
+              ∙ marks_beside s r reached.more (counted l.left records, arrived_all s.header script.calls runners) (own_none r ne) ∙ arrived_at script s.header runners r runner long here) in
+              said_up s.header fault g runner.answers (said_here fault (advance s.header g) runner.answers
+              (sym (ap (λ (a : Arrived). a.0.answers) is ∙ arrived_said s.header (calls_of script r) runner (come r runner below here))))
+          | inr past ↦
+              let within = slice_get_within runners r runner here in
+              let is : g ≡ between (calls_of script r) runner = same_Some _ _ (sym f ∙ goings_beside s r more (counted file records, goings) (all_none r ne past)
+              ∙ get_between script.calls first r (calls_of script r) runner (calls_there script r (omega arith)) (sym (same r past) ∙ here)) in
+              said_between s.header fault g runner.answers (sym (ap (λ (x : Going). x.answers) is))
+        ]

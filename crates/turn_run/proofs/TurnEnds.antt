@@ -1,8 +1,11 @@
 -- When all ranks have met, or have ended.
-use Rattle.turn_run.proofs.Words.{◌≡◌, ℕ, zero, suc, ◌+◌, ◌<◌, refl, sym, ◌∙◌, ap, subst, List, [], ◌∷◌, ◌++◌, length, map, drop, true, Option, Some, None, arith, slice_get, is_some, same_Some, Header, Call, Answer, Script, Mark, Meet, Offer, OfferKind, IsLegal, is_lawful, most_calls, Going, advance, meetings, IsOnWay, ranks_lawful, order_legal, together_all, together_number, meetings_met, all_between, asking, between, calls_of, going_of, AreFree, AreRunners, HasArrived, HaveArrived, HaveMet, IsMet, IsPlaced, IsPlacedWith, Arrived, arrived, arrived_all, Runner, entry_below, some_rank}
+use Rattle.turn_run.proofs.Words.{◌≡◌, ℕ, zero, suc, ◌+◌, ◌<◌, refl, sym, ◌∙◌, ap, subst, List, [], ◌∷◌, ◌++◌, length, map, drop, true, Option, Some, None, arith, slice_get, is_some, same_Some, slice_get_within, Header, Call, Answer, Script, Mark, Meet, Offer, OfferKind, IsLegal, is_lawful, most_calls, Going, meetings, IsOnWay, ranks_lawful, order_legal, together_all, together_number, meetings_met, all_between, asking, between, calls_of, going_of, AreFree, AreRunners, HasArrived, HaveArrived, HaveMet, IsMet, IsPlaced, IsPlacedWith, Arrived, arrived, arrived_all, Runner, entry_below, some_rank}
 use Rattle.nc_base.specs.declared.step.OfferKind.TheVariants as offer
 use Rattle.serial_spec.specs.RankMachine as machine
+use Rattle.turn_run.proofs.AloneLaws.{arrived_free}
 use Rattle.turn_run.proofs.RunnerLaws.{advance_ended}
+use Rattle.turn_run.proofs.TurnSteps.{calls_there}
+use Rattle.list_laws.proofs.Common.{some_or_none, value_of_some}
 
 -- ---- a rank that has arrived
 
@@ -45,35 +48,27 @@ pub all_ended : (script : Script) (header : Header) (len : ℕ) (order : List Ma
     → HaveArrived script runners → (HaveMet runners → ⊥) → AreFree runners
 all_ended script header len order runners lawful a h n =
     let first = entry_below runners 0 (let k = some_rank script lawful in let l = a.all in omega arith) in
-    by_first first.0 first.1 first.0.held refl
+    elim (some_or_none first.0.held) [
+      | inl f ↦ λ r runner g. elim (some_or_none runner.held) [
+        | inl i ↦ i
+        | inr o ↦ absurd (not_both script order r 0 runner first.0 o.0 o.1 (at r runner g) f (at 0 first.0 first.1) (h 0 first.0 first.1))
+      ]
+      | inr o ↦ absurd (n (λ r runner g. elim (some_or_none runner.held) [
+        | inl i ↦ absurd (not_both script order 0 r first.0 runner o.0 o.1 (at 0 first.0 first.1) i (at r runner g) (h r runner g))
+        | inr p ↦ ap (λ (m : Option Offer). is_some m) p.1
+      ]))
+    ]
   where
     at : (r : ℕ) (runner : Runner) → slice_get runners r ≡ Some runner → Comes script order r runner
     at = comes script header len order runners a h
-
-    is_free : (first : Runner) → slice_get runners 0 ≡ Some first → first.held ≡ None → (r : ℕ) (runner : Runner) → slice_get runners r ≡ Some runner → (m : Option Offer)
-        → runner.held ≡ m → runner.held ≡ None
-    is_free first e f r runner g None i = i
-    is_free first e f r runner g (Some o) i = absurd (not_both script order r 0 runner first o i (at r runner g) f (at 0 first e) (h 0 first e))
-
-    has_met : (first : Runner) (o : Offer) → slice_get runners 0 ≡ Some first → first.held ≡ Some o → (r : ℕ) (runner : Runner) → slice_get runners r ≡ Some runner → (m : Option Offer)
-        → runner.held ≡ m → is_some runner.held ≡ true
-    has_met first o e f r runner g None i = absurd (not_both script order 0 r first runner o f (at 0 first e) i (at r runner g) (h r runner g))
-    has_met first o e f r runner g (Some p) i = ap (λ (m : Option Offer). is_some m) i
-
-    by_first : (first : Runner) → slice_get runners 0 ≡ Some first → (m : Option Offer) → first.held ≡ m → AreFree runners
-    by_first first e None f = λ r runner g. is_free first e f r runner g runner.held refl
-    by_first first e (Some o) f = absurd (n (λ r runner g. has_met first o e f r runner g runner.held refl))
 
 -- there is a meeting to come
 pub next_meeting : (script : Script) (header : Header) (len : ℕ) (order : List Mark) (runners : List Runner) → is_lawful script ≡ true → AreRunners script header len order runners
     → HaveArrived script runners → HaveMet runners → meetings order < most_calls
 next_meeting script header len order runners lawful a h met =
     let first = entry_below runners 0 (let k = some_rank script lawful in let l = a.all in omega arith) in
-    by_held first.0 first.1 first.0.held refl
-  where
-    by_held : (first : Runner) → slice_get runners 0 ≡ Some first → (m : Option Offer) → first.held ≡ m → meetings order < most_calls
-    by_held first e None f = let g = sym (met 0 first e) ∙ ap (λ (m : Option Offer). is_some m) f in absurd cc
-    by_held first e (Some o) f = together_number script order 0 _ o lawful (holding script order 0 first o f (comes script header len order runners a h 0 first e))
+    let o = value_of_some first.0.held (met 0 first.0 first.1) in
+    together_number script order 0 _ o.0 lawful (holding script order 0 first.0 o.0 o.1 (comes script header len order runners a h 0 first.0 first.1))
 
 -- the number of the meeting after it
 pub met_number : (before now later : List Mark) (n k : ℕ) → n ≡ meetings before → now ≡ before ++ Meet k ∷ [] → meetings later ≡ meetings now → n + 1 ≡ meetings later
@@ -82,17 +77,17 @@ met_number before now later n k e f h = let a = meetings_met before k in let b =
 -- ---- the ends
 
 pub long_between : (calls : List (List Call)) (runners : List Runner) → length calls ≡ length runners → length (all_between calls runners) ≡ length runners
-long_between [] [] e = refl
 long_between [] (runner ∷ runners) e = absurd (omega arith)
-long_between (own ∷ calls) [] e = refl
 long_between (own ∷ calls) (runner ∷ runners) e = ap (λ (k : ℕ). suc k) (long_between calls runners (omega arith))
+long_between calls runners e = refl
 
-pub get_between : (calls : List (List Call)) (runners : List Runner) (r : ℕ) (s : Going) → slice_get (all_between calls runners) r ≡ Some s
-    → (own : List Call) × ((runner : Runner) × ((slice_get calls r ≡ Some own) × ((slice_get runners r ≡ Some runner) × (between own runner ≡ s))))
-get_between [] runners r s e = absurd cc
-get_between (own ∷ calls) [] r s e = absurd cc
-get_between (own ∷ calls) (runner ∷ runners) zero s e = (own, (runner, (refl, (refl, same_Some (between own runner) s e))))
-get_between (own ∷ calls) (runner ∷ runners) (suc r) s e = get_between calls runners r s e
+pub get_between : (calls : List (List Call)) (runners : List Runner) (r : ℕ) (own : List Call) (runner : Runner) → slice_get calls r ≡ Some own → slice_get runners r ≡ Some runner
+    → slice_get (all_between calls runners) r ≡ Some (between own runner)
+get_between (c ∷ calls) (s ∷ runners) zero own runner e f =
+    let a : c ≡ own = same_Some c own e in let b : s ≡ runner = same_Some s runner f in
+    λ i. Some (between (a i) (b i))
+get_between (c ∷ calls) (s ∷ runners) (suc r) own runner e f = get_between calls runners r own runner e f
+get_between calls runners r own runner e f = absurd cc
 
 -- each is at the end of its calls
 pub AreOver : List (List Call) → List Runner → Type 0
@@ -112,29 +107,25 @@ ended_legal script header len order runners lawful a f h = order_legal script or
   where
     each : (r : ℕ) (s : Going) → slice_get (all_between script.calls runners) r ≡ Some s → IsOnWay script order r s None × (s.calls ≡ [])
     each r s e =
-        let p = get_between script.calls runners r s e in let own = p.0 in
-        let runner = p.1.0 in
-        let same : calls_of script r ≡ own = ap (λ (m : Option (List Call)). elim m [ None ↦ [] | Some cs ↦ cs ]) p.1.1.0 in
-        let there = p.1.1.1.0 in
-        let w = free script order r runner (f r runner there) (comes script header len order runners a h r runner there) in
-        let over : drop (length runner.answers) (calls_of script r) ≡ [] = let has = h r runner there in has.ended (f r runner there) in
-        subst (λ (g : Going). IsOnWay script order r g None × (g.calls ≡ [])) (ap (λ (cs : List Call). between cs runner) same ∙ p.1.1.1.1) (w, over)
+        let one = (ranks_lawful script lawful).one_each in let all = a.all in let both = long_between script.calls runners (one ∙ sym a.all) in
+        let l = slice_get_within (all_between script.calls runners) r s e in let runner = entry_below runners r (omega arith) in
+        let is = same_Some _ _ (sym (get_between script.calls runners r (calls_of script r) runner.0 (calls_there script r (omega arith)) runner.1) ∙ e) in
+        let w = free script order r runner.0 (f r runner.0 runner.1) (comes script header len order runners a h r runner.0 runner.1) in
+        subst (λ (g : Going). IsOnWay script order r g None × (g.calls ≡ [])) is (w, (h r runner.0 runner.1).ended (f r runner.0 runner.1))
 
 -- those that have ended stand where they have gone up to
 pub arrived_over : (header : Header) (own : List Call) (runner : Runner) → runner.held ≡ None → drop (length runner.answers) own ≡ [] → arrived header own runner ≡ (between own runner, None)
-arrived_over header own runner e f = ap (λ (m : Option Offer). elim m [ None ↦ advance header (between own runner) | Some o ↦ (asking own runner, Some o) ]) e
-    ∙ advance_ended header own runner.rank.state runner.answers f
+arrived_over header own runner e f = arrived_free header own runner e ∙ advance_ended header own runner.rank.state runner.answers f
 
 -- what each has at its end
 pub map_ended : {X : Type 0} (f : machine.Rank → List Answer → X) (header : Header) (calls : List (List Call)) (runners : List Runner) → length calls ≡ length runners
     → AreOver calls runners → map (λ g. f g.rank g.answers) (map (λ a. a.0) (arrived_all header calls runners)) ≡ map (λ runner. f runner.rank.state runner.answers) runners
 unfolding AreOver
 map_ended f header [] [] e h = refl
-map_ended f header [] (runner ∷ runners) e h = absurd (omega arith)
-map_ended f header (own ∷ calls) [] e h = absurd (omega arith)
 map_ended f header (own ∷ calls) (runner ∷ runners) e h =
     let over = h 0 own runner refl refl in
     let first : f (arrived header own runner).0.rank (arrived header own runner).0.answers ≡ f runner.rank.state runner.answers =
     ap (λ (a : Arrived). f a.0.rank a.0.answers) (arrived_over header own runner over.0 over.1) in
     let others = map_ended f header calls runners (omega arith) (λ r cs s i j. h (suc r) cs s i j) in
     λ i. first i ∷ others i
+map_ended f header calls runners e h = absurd (omega arith)

@@ -1,6 +1,7 @@
 -- The greatest count that ranks know, of their runners and at their ends.
-use Rattle.turn_run.proofs.Words.{◌≡◌, ℕ, suc, ◌+◌, ◌<◌, refl, sym, ap, subst, inl, inr, List, [], ◌∷◌, length, map, take, max, Bool, true, false, Some, Result, Ok, Err, arith, nat_tests, slice_get, slice_index_or, nat_lt, OnOk, map_map, Header, RankEnd, RankStop, greatest, is_sound, IsCount, IsRise, most_known_of, runner_end, Runner, map_more, greatest_joined}
+use Rattle.turn_run.proofs.Words.{◌≡◌, ℕ, suc, ◌+◌, ◌<◌, refl, sym, ap, subst, inl, inr, List, [], ◌∷◌, length, map, take, max, true, Some, Result, Ok, Err, arith, slice_get, slice_index_or, OnOk, map_map, Header, RankEnd, RankStop, greatest, is_sound, IsCount, IsRise, most_known_of, runner_end, Runner, map_more, greatest_joined}
 use Rattle.turn_run.proofs.CountLaws.{count_less, rise_max}
+use Rattle.list_laws.proofs.Std.{cases_lt}
 
 -- ---- runners
 
@@ -36,9 +37,8 @@ known_more ends i end before now l e f h =
 -- the greater of two counts that a header can have
 pub raised_sound : {T E : Type 0} (result : Result T E) (header : Header) (before known now : ℕ) → is_sound (record header { records = before }) ≡ true
     → is_sound (record header { records = known }) ≡ true → OnOk result (now ≡ max before known) → OnOk result (is_sound (record header { records = now }) ≡ true)
-raised_sound (Ok x) header before known now h k e = by (nat_lt before known) refl
-  where
-    by : (t : Bool) → nat_lt before known ≡ t → is_sound (record header { records = now }) ≡ true
-    by true f = let n : known ≡ now = grind (arith, nat_tests) in subst (λ (m : ℕ). is_sound (record header { records = m }) ≡ true) n k
-    by false f = let n : before ≡ now = grind (arith, nat_tests) in subst (λ (m : ℕ). is_sound (record header { records = m }) ≡ true) n h
+raised_sound (Ok x) header before known now h k e = elim (cases_lt before known) [
+  | inl l ↦ let m : now ≡ max before known = e in let n : known ≡ now = omega arith in subst (λ (m : ℕ). is_sound (record header { records = m }) ≡ true) n k
+  | inr l ↦ let m : now ≡ max before known = e in let n : before ≡ now = omega arith in subst (λ (m : ℕ). is_sound (record header { records = m }) ≡ true) n h
+]
 raised_sound (Err x) header before known now h k e = tt

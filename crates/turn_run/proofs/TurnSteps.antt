@@ -1,5 +1,5 @@
 -- One rank goes on while the others stand.
-use Rattle.turn_run.proofs.Words.{◌≡◌, ℕ, zero, suc, ◌+◌, ◌<◌, ◌≤◌, ◌≢◌, refl, sym, ◌∙◌, ap, subst, inl, inr, ◌⊎◌, List, [], ◌∷◌, ◌++◌, length, set, true, false, cond, Option, Some, None, arith, sum_by-append, list_all-append, eqb_tells, nat_tests, slice_get, slice_index_or, nat_lt, ◌==◌, list_all, and_from, eqb-true, same_Some, slice_get_within, and_first, and_second, Header, Call, Script, DiskCall, Mark, Meet, Solo, Offer, OfferKind, is_of_rank_below, is_meeting, is_lawful, Going, setting_of, is_solo_of, meetings, ranks_lawful, way_others, others_meetings, HasBegun, IsCount, calls_of, going_of, AreRunners, IsPlaced, IsPlacedWith, IsRunner, Arrived, arrived, arrived_all, stage, HasGone, HasLed, IsGrownBy, rank_stage, Runner, entry_below, entry_set, entry_set_other, length-set}
+use Rattle.turn_run.proofs.Words.{◌≡◌, ℕ, zero, suc, ◌+◌, ◌<◌, ◌≤◌, ◌≢◌, refl, sym, ◌∙◌, ap, subst, inl, inr, List, [], ◌∷◌, ◌++◌, length, set, true, cond, Option, Some, None, arith, sum_by-append, list_all-append, cases_eq, nat_tests, slice_get, slice_index_or, nat_lt, ◌==◌, list_all, and_from, eqb-true, same_Some, slice_get_within, and_first, and_second, Header, Call, Script, DiskCall, Mark, Meet, Solo, Offer, OfferKind, is_of_rank_below, is_meeting, is_lawful, Going, setting_of, is_solo_of, meetings, ranks_lawful, way_others, others_meetings, HasBegun, IsCount, calls_of, going_of, AreRunners, IsPlaced, IsPlacedWith, IsRunner, Arrived, arrived, arrived_all, stage, HasGone, HasLed, IsGrownBy, rank_stage, Runner, entry_below, entry_set, entry_set_other, length-set}
 use Rattle.nc_base.specs.declared.step.OfferKind.TheVariants as offer
 use Rattle.turn_run.proofs.CountLaws.{count_longer}
 use Rattle.turn_run.proofs.RunnerLaws.{placed_rest, HasRest}
@@ -58,22 +58,15 @@ runner_beside script header before now r q runner n g h = record {
 -- ---- all ranks
 
 pub own_or_other : (P : Type 0) (q r : ℕ) → (q ≡ r → P) → (q ≢ r → P) → P
-own_or_other P q r own other = by (eqb_tells q r)
-  where
-    by : (((q == r) ≡ true) × (q ≡ r)) ⊎ (((q == r) ≡ false) × (q ≡ r → ⊥)) → P
-    by (inl (e, f)) = own f
-    by (inr (e, f)) = other f
+own_or_other P q r own other = elim (cases_eq q r) [ inl e ↦ own e | inr n ↦ other n ]
 
 pub below_other : (q n : ℕ) → n ≢ q → q < n + 1 → q < n
-below_other zero zero f l = absurd (f refl)
-below_other zero (suc n) f l = omega arith
-below_other (suc q) zero f l = absurd (omega arith)
-below_other (suc q) (suc n) f l = let h = below_other q n (λ e. f (ap (λ (k : ℕ). suc k) e)) (omega arith) in omega arith
+below_other q n f l = omega arith
 
 pub get_at : {X : Type 0} (xs : List X) (n : ℕ) (d : X) → n < length xs → slice_get xs n ≡ Some (slice_index_or xs n d)
-get_at [] n d l = absurd (omega arith)
 get_at (x ∷ xs) zero d l = refl
 get_at (x ∷ xs) (suc n) d l = get_at xs n d (omega arith)
+get_at xs n d l = absurd (omega arith)
 
 -- what holds of the new element and held of the others holds of all
 pub set_each : {X : Type 0} (P : ℕ → X → Type 0) (xs : List X) (n : ℕ) (was x : X) → slice_get xs n ≡ Some was → P n x
@@ -119,12 +112,11 @@ step_begun script header len before now runners n a l g own = record {
 
 pub get_arrived : (header : Header) (calls : List (List Call)) (runners : List Runner) (r : ℕ) (own : List Call) (runner : Runner) → slice_get calls r ≡ Some own
     → slice_get runners r ≡ Some runner → slice_get (arrived_all header calls runners) r ≡ Some (arrived header own runner)
-get_arrived header [] runners r own runner e f = absurd cc
-get_arrived header (c ∷ calls) [] r own runner e f = absurd cc
 get_arrived header (c ∷ calls) (s ∷ runners) zero own runner e f =
     let a : c ≡ own = same_Some c own e in let b : s ≡ runner = same_Some s runner f in
     λ i. Some (arrived header (a i) (b i))
 get_arrived header (c ∷ calls) (s ∷ runners) (suc r) own runner e f = get_arrived header calls runners r own runner e f
+get_arrived header calls runners r own runner e f = absurd cc
 
 pub set_arrived : (header : Header) (calls : List (List Call)) (runners : List Runner) (r : ℕ) (own : List Call) (runner : Runner) → slice_get calls r ≡ Some own
     → arrived_all header calls (set runners r runner) ≡ set (arrived_all header calls runners) r (arrived header own runner)
@@ -137,6 +129,11 @@ set_arrived header (c ∷ calls) (s ∷ runners) (suc r) own runner e = ap (λ (
 
 pub calls_there : (script : Script) (r : ℕ) → r < length script.calls → slice_get script.calls r ≡ Some (calls_of script r)
 calls_there script r l = let h = entry_below script.calls r l in h.1 ∙ ap (λ (own : Option (List Call)). Some (elim own [ None ↦ [] | Some cs ↦ cs ])) (sym h.1)
+
+pub arrived_at : (script : Script) (header : Header) (runners : List Runner) (r : ℕ) (runner : Runner) → length script.calls ≡ length runners → slice_get runners r ≡ Some runner
+    → slice_get (arrived_all header script.calls runners) r ≡ Some (arrived header (calls_of script r) runner)
+arrived_at script header runners r runner long there =
+    let l = slice_get_within runners r runner there in get_arrived header script.calls runners r (calls_of script r) runner (calls_there script r (omega arith)) there
 
 pub gone_led : (script : Script) (header : Header) (runners : List Runner) (n : ℕ) (was runner : Runner) (before now : List Mark) (held left : Option (List ℕ))
     (calls made : Option (List DiskCall)) → is_lawful script ≡ true → n < script.ranks → slice_get runners n ≡ Some was
