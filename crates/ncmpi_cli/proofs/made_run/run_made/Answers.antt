@@ -47,8 +47,6 @@ pub returns-in-None : goal.returns-in-None
 returns-in-None g c =
     let seed : ℕ = c.args.seed in
     let size : ℕ = c.args.size in
-    let mid = g.D.Disk.held c.begin_made.new.disk in
-    let calls = g.D.Disk.calls c.begin_made.new.disk in
     let own = c.in-Ok.ensures in
     let end : RunEnd = c.run_ranks-end.result in
     let run = c.run_ranks-end.ensures.run in
@@ -56,7 +54,7 @@ returns-in-None g c =
     let status : ℕ = c.sum_up-outcome.result.status in
     let before : Output = output_at g.D.Disk g.K.Sink c.args.disk.now c.args.out.now in
     let now : Output = output_at g.D.Disk g.K.Sink c.run_ranks-end.new.disk c.sum_up-outcome.new.out in
-    let did = made_ran seed size c.in-Ok.ready.script c.in-Ok.ready.header before now mid calls _ _ c.run_ranks-end.new.records end c.sum_up-outcome.result.order own.script own.ready summed.order run c.in-None.is in
+    let did = made_ran seed size c.in-Ok.ready.script c.in-Ok.ready.header before now _ _ _ _ c.run_ranks-end.new.records end c.sum_up-outcome.result.order own.script own.ready summed.order run c.in-None.is in
     record {
       ends = record {
         statuses = made_end status summed.statuses;
@@ -86,8 +84,6 @@ pub returns-in-Some-Disk-clause-ends : goal.returns-in-Some-Disk-clause-ends
 returns-in-Some-Disk-clause-ends g c =
     let seed : ℕ = c.args.seed in
     let size : ℕ = c.args.size in
-    let mid = g.D.Disk.held c.begin_made.new.disk in
-    let calls = g.D.Disk.calls c.begin_made.new.disk in
     let own = c.in-Ok.ensures in
     let end : RunEnd = c.run_ranks-end.result in
     let run = c.run_ranks-end.ensures.run in
@@ -102,7 +98,7 @@ returns-in-Some-Disk-clause-ends g c =
       cut = λ s. absurd (omega (arith, is, s));
       complete = λ _ disk. absurd (disk (rose_before _ (g.D.Disk.faults c.begin_made.new.disk) _ own.later (run.fault failed)));
       steps = made_begins seed size c.in-Ok.ready.script _ end.order own.script same run.begun;
-      torn = λ _. inr (made_cut seed size fault.Disk c.in-Ok.ready.script c.in-Ok.ready.header before now mid calls c.tell-in-Some-Disk.result.order c.run_ranks-end.new.records end
+      torn = λ _. inr (made_cut seed size fault.Disk c.in-Ok.ready.script c.in-Ok.ready.header before now _ _ c.tell-in-Some-Disk.result.order c.run_ranks-end.new.records end
           own.script own.ready same failed run.cut);
       wanting = λ s. absurd (omega (arith, is, s));
     }
@@ -113,8 +109,6 @@ pub returns-in-Some-Memory-clause-ends : goal.returns-in-Some-Memory-clause-ends
 returns-in-Some-Memory-clause-ends g c =
     let seed : ℕ = c.args.seed in
     let size : ℕ = c.args.size in
-    let mid = g.D.Disk.held c.begin_made.new.disk in
-    let calls = g.D.Disk.calls c.begin_made.new.disk in
     let own = c.in-Ok.ensures in
     let end : RunEnd = c.run_ranks-end.result in
     let run = c.run_ranks-end.ensures.run in
@@ -130,6 +124,6 @@ returns-in-Some-Memory-clause-ends g c =
       complete = λ _ _. inr is;
       steps = made_begins seed size c.in-Ok.ready.script _ end.order own.script same run.begun;
       torn = λ s. absurd (omega (arith, is, s));
-      wanting = λ _. inl (inr (made_cut seed size fault.Memory c.in-Ok.ready.script c.in-Ok.ready.header before now mid calls c.tell-in-Some-Memory.result.order
+      wanting = λ _. inl (inr (made_cut seed size fault.Memory c.in-Ok.ready.script c.in-Ok.ready.header before now _ _ c.tell-in-Some-Memory.result.order
           c.run_ranks-end.new.records end own.script own.ready same failed run.cut));
     }

@@ -133,8 +133,6 @@ pub returns-in-Some-Disk-clause-ends : goal.returns-in-Some-Disk-clause-ends
 returns-in-Some-Disk-clause-ends g c =
     let left = g.S.Source.left c.args.script.now in
     let held = g.D.Disk.held c.args.disk.now in
-    let mid = g.D.Disk.held c.begin.new.disk in
-    let calls = g.D.Disk.calls c.begin.new.disk in
     let own = c.in-Ok.ensures in
     let script : Script = c.in-Ok.ready.script in
     let end : RunEnd = c.run_beside-run.result.end in
@@ -153,10 +151,10 @@ returns-in-Some-Disk-clause-ends g c =
       unlaid = not_mislaid left held script own.asks own.ready.faultless;
       faulty = λ asks _ _. not_wrong left held script own.asks own.ready.faultless asks;
       complete = λ _ _ _ disk. absurd (disk (rose_before _ (g.D.Disk.faults c.begin.new.disk) _ own.later (run.fault failed)));
-      began = inr (have_begun script c.in-Ok.ready.header _ _ mid calls _ end.order own.asks own.ready own.taken same run.begun);
+      began = inr (have_begun script c.in-Ok.ready.header _ _ _ _ _ end.order own.asks own.ready own.taken same run.begun);
       unread = λ asks. not_unread left script own.asks asks;
       unfit = λ asks. not_wrong left held script own.asks own.ready.faultless asks;
-      torn = λ _. inr (cut_off fault.Disk script c.in-Ok.ready.header _ _ mid calls c.tell-in-Some-Disk.result.order c.run_beside-run.new.records end
+      torn = λ _. inr (cut_off fault.Disk script c.in-Ok.ready.header _ _ _ _ c.tell-in-Some-Disk.result.order c.run_beside-run.new.records end
           own.asks own.ready own.taken same run.begun failed run.cut);
       wanting = λ s. absurd (omega (arith, is, s));
     }
@@ -167,8 +165,6 @@ pub returns-in-Some-Memory-clause-ends : goal.returns-in-Some-Memory-clause-ends
 returns-in-Some-Memory-clause-ends g c =
     let left = g.S.Source.left c.args.script.now in
     let held = g.D.Disk.held c.args.disk.now in
-    let mid = g.D.Disk.held c.begin.new.disk in
-    let calls = g.D.Disk.calls c.begin.new.disk in
     let own = c.in-Ok.ensures in
     let script : Script = c.in-Ok.ready.script in
     let end : RunEnd = c.run_beside-run.result.end in
@@ -187,11 +183,11 @@ returns-in-Some-Memory-clause-ends g c =
       unlaid = not_mislaid left held script own.asks own.ready.faultless;
       faulty = λ _ _ _. inr is;
       complete = λ _ _ _ _. inr is;
-      began = inr (have_begun script c.in-Ok.ready.header _ _ mid calls _ end.order own.asks own.ready own.taken same run.begun);
+      began = inr (have_begun script c.in-Ok.ready.header _ _ _ _ _ end.order own.asks own.ready own.taken same run.begun);
       unread = λ asks. not_unread left script own.asks asks;
       unfit = λ asks. not_wrong left held script own.asks own.ready.faultless asks;
       torn = λ s. absurd (omega (arith, is, s));
-      wanting = λ _. inl (inr (cut_off fault.Memory script c.in-Ok.ready.header _ _ mid calls c.tell-in-Some-Memory.result.order c.run_beside-run.new.records end
+      wanting = λ _. inl (inr (cut_off fault.Memory script c.in-Ok.ready.header _ _ _ _ c.tell-in-Some-Memory.result.order c.run_beside-run.new.records end
           own.asks own.ready own.taken same run.begun failed run.cut));
     }
 
