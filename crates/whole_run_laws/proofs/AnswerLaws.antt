@@ -1,11 +1,11 @@
 -- The answer to the call of a meeting, or of a rank's own step, stands at the number of that call.
-use Rattle.whole_run_laws.proofs.Words.{◌≡◌, ℕ, zero, suc, ◌+◌, ◌<◌, sym, ◌∙◌, ap, subst, List, [], ◌∷◌, ◌++◌, length, map, set, drop, Bool, true, false, Option, Some, None, arith, append_assoc, length-append, same_Some, slice_get_within, fold, slice_get, list_all, entry_below, entry_set, get_left, get_right, and_first, and_second, Answer, Pair, Header, Call, Script, Mark, Meet, Solo, MeetKind, Offer, OfferKind, Want, Counted, Setting, solo, is_collective, is_of_rank_below, IsLegal, kind_of_meeting, is_lawful, Rank, step, advance, after_mark, after_meeting, after_solo, first_going, first_state, go, Going, hears, serial_from, setting_of, state_after, kinds_of, Says, step_says, ranks_lawful, state_more, hear_length, IsToldAt, meeting_call, told_at, set_cases, nat_tests}
+use Rattle.whole_run_laws.proofs.Words.{◌≡◌, ℕ, zero, suc, ◌+◌, ◌<◌, sym, ◌∙◌, ap, subst, List, [], ◌∷◌, ◌++◌, length, map, drop, Bool, true, false, Option, Some, None, arith, append_assoc, length-append, same_Some, slice_get_within, fold, slice_get, list_all, entry_below, entry_set, get_left, get_right, and_first, and_second, Answer, Pair, Header, Call, Script, Mark, Meet, Solo, MeetKind, Offer, OfferKind, Want, Counted, Setting, solo, is_collective, is_of_rank_below, IsLegal, kind_of_meeting, is_lawful, Rank, step, advance, after_mark, after_meeting, after_solo, first_going, first_state, go, Going, hears, serial_from, setting_of, state_after, kinds_of, Says, step_says, ranks_lawful, state_more, hear_length, IsToldAt, meeting_call, told_at, set_cases, nat_tests, Puts, offers_of, puts_asked, puts_met, puts_of, rank_offer, told}
 use borrow.Author.Tests.{ltb-true}
 use Rattle.nc_base.specs.declared.step.OfferKind.TheVariants as offer
 use Rattle.nc_base.specs.declared.step.Want.TheVariants as want
 use Rattle.join_laws.proofs.WholeLaws.{get_map as mapped_from}
-use Rattle.whole_run_laws.proofs.Courses.{AreOn, first_on, goes_number, heard_by, hears_then, meets, meets_number, met_on, solo_on, steps}
-use Rattle.whole_run_laws.proofs.ToldLaws.{answers_after, answers_of, IsLastTold, along_at, alone_told, known_mark, met_told}
+use Rattle.whole_run_laws.proofs.Courses.{AreAlong, AreOn, first_on, goes_number, heard_by, hears_then, meets, meets_number, met_on, offered_alone, solo_on, steps}
+use Rattle.whole_run_laws.proofs.ToldLaws.{answers_after, answers_of, heard_pair, IsLastTold, along_at, known_mark, reply_told}
 use Rattle.whole_run_laws.proofs.AnswersStay.{answers_stay}
 
 -- ---- the number of a meeting's call
@@ -148,12 +148,17 @@ placed_at script header file before later lawful legal =
 
 -- ---- the answer
 
-answers_long : (goings : List Going) (r n : ℕ) (g : Going) → slice_get goings r ≡ Some g → length g.answers ≡ n → length (answers_of (slice_get goings r)) ≡ n
-answers_long goings r n g e f = ap (λ (m : Option Going). length (answers_of m)) e ∙ f
+-- rank r has answered as many calls, and was told this pair last
+record HasLast (goings : List Going) (r n : ℕ) (pair : Option Pair) : Type 0 where
+  going : Going
+  there : slice_get goings r ≡ Some going
+  told : IsLastTold going.answers pair
+  long : length going.answers ≡ suc n
 
-met_long_is : (s : Setting) (calls : List (List Call)) (ranks k r : ℕ) (rest : List Mark) (c : Counted) (goings : List Going) (own : List Call) → length calls ≡ ranks
-    → AlongPlaced calls ranks (Meet k ∷ rest) goings → slice_get calls r ≡ Some own → length (answers_of (slice_get (after_meeting s (c, goings)).1 r)) ≡ suc (meeting_call k own)
-met_long_is s calls ranks k r rest c goings own many a f =
+met_last : (s : Setting) (calls : List (List Call)) (ranks k r : ℕ) (rest : List Mark) (c : Counted) (goings : List Going) (own : List Call) → length calls ≡ ranks
+    → AlongPlaced calls ranks (Meet k ∷ rest) goings → slice_get calls r ≡ Some own
+    → HasLast (after_meeting s (c, goings)).1 r (meeting_call k own) (told s (puts_met (offers_of (map (advance s.header) goings))))
+met_last s calls ranks k r rest c goings own many a f =
     let below = slice_get_within calls r own f in
     let long = a.on.long in
     let b = entry_below goings r (omega arith) in
@@ -166,19 +171,28 @@ met_long_is s calls ranks k r rest c goings own many a f =
     let none : a.met + 0 ≡ k = omega arith in
     let call : length p.0.answers ≡ meeting_call k own =
     sym places.0 ∙ sym (a.placed.each r h.before own h.was f 0) ∙ ap (λ (j : ℕ). meeting_call j own) none in
-    answers_long (after_meeting s (c, goings)).1 r (suc (meeting_call k own)) g.0 g.1.0
-    (ap (λ (z : Going). length z.answers) h.is ∙ hear_length s.header p.0 h.reply ∙ ap (λ (n : ℕ). suc n) call)
+    record {
+      going = g.0;
+      there = g.1.0;
+      told = subst (λ (pair : Option Pair). IsLastTold g.0.answers pair) (reply_told s (offers_of (map (advance s.header) goings)) c r h.reply h.is_reply)
+          (subst (λ (z : Going). IsLastTold z.answers h.reply.pair) (sym h.is) (heard_pair s.header p.0 h.reply at.asks.open_with at.asks.is_open));
+      long = ap (λ (z : Going). length z.answers) h.is ∙ hear_length s.header p.0 h.reply ∙ ap (λ (n : ℕ). suc n) call;
+    }
 
-solo_long_is : (s : Setting) (calls : List (List Call)) (ranks r n : ℕ) (rest : List Mark) (c : Counted) (goings : List Going) → r < ranks → AlongPlaced calls ranks (Solo r n ∷ rest) goings
-    → length (answers_of (slice_get (after_solo s r c goings).1 r)) ≡ suc n
-solo_long_is s calls ranks r n rest c goings l a =
+solo_last : (s : Setting) (ranks r n : ℕ) (rest : List Mark) (c : Counted) (goings : List Going) → r < ranks → AreAlong ranks (Solo r n ∷ rest) goings
+    → HasLast (after_solo s r c goings).1 r n (told s (puts_asked r (rank_offer s goings r)))
+solo_last s ranks r n rest c goings l a =
     let st = steps s c l a.on in
     let p = advance s.header st.before in
     let y = (solo s r st.at.asks.offer c).1 in
     let next = hears s.header p.0 y in
-    let call = goes_number s.header a.on st.before st.was in
-    ap (λ (z : Counted × List Going). length (answers_of (slice_get z.1 r))) st.state
-    ∙ answers_long (set goings r next) r (suc n) next (entry_set goings r st.before next st.was) (hear_length s.header p.0 y ∙ ap (λ (k : ℕ). suc k) call)
+    subst (λ (ps : Puts). HasLast (after_solo s r c goings).1 r n (told s ps)) (sym (offered_alone st))
+    (subst (λ (z : Counted × List Going). HasLast z.1 r n (told s (puts_of (r, st.at.asks.offer)))) (sym st.state) (record {
+      going = next;
+      there = entry_set goings r st.before next st.was;
+      told = heard_pair s.header p.0 y st.at.asks.open_with st.at.asks.is_open;
+      long = hear_length s.header p.0 y ∙ ap (λ (k : ℕ). suc k) (goes_number s.header a.on st.before st.was);
+    }))
 
 -- the last of these answers stands at its number in all that follow
 told_end : (xs answers : List Answer) (n : ℕ) (pair : Option Pair) → IsLastTold xs pair → length xs ≡ suc n → ((rest : List Answer) × (xs ++ rest ≡ answers)) → IsToldAt answers n pair
@@ -194,24 +208,18 @@ told_end xs answers n pair (earlier, last, e, t) long (rest, f) =
 joined : (before later : List Mark) (m : Mark) → before ++ m ∷ later ≡ (before ++ m ∷ []) ++ later
 joined before later m = sym (append_assoc before (m ∷ []) later)
 
-stays : (script : Script) (header : Header) (file : List ℕ) (before later : List Mark) (m : Mark) (r : ℕ) (answers : List Answer) → is_lawful script ≡ true
-    → IsLegal script (before ++ m ∷ later) → slice_get (serial_from script header file (before ++ m ∷ later)).answers r ≡ Some answers
-    → (rest : List Answer) × (answers_after script header file (before ++ m ∷ []) r ++ rest ≡ answers)
-stays script header file before later m r answers lawful legal e =
-    answers_stay script header file (before ++ m ∷ []) later r answers lawful (subst (IsLegal script) (joined before later m) legal)
-    (ap (λ (order : List Mark). slice_get (serial_from script header file order).answers r) (sym (joined before later m)) ∙ e)
-
 -- what is told when a mark is done stands at its number in the answers at the end
 mark_answer : (script : Script) (header : Header) (file : List ℕ) (before later : List Mark) (m : Mark) (r n : ℕ) (answers : List Answer)
     → is_lawful script ≡ true → IsLegal script (before ++ m ∷ later)
-    → IsLastTold (answers_of (slice_get (after_mark (setting_of script header) (state_after script header file before) m).1 r)) (told_at script header file before m)
-    → length (answers_of (slice_get (after_mark (setting_of script header) (state_after script header file before) m).1 r)) ≡ suc n
+    → HasLast (after_mark (setting_of script header) (state_after script header file before) m).1 r n (told_at script header file before m)
     → slice_get (serial_from script header file (before ++ m ∷ later)).answers r ≡ Some answers → IsToldAt answers n (told_at script header file before m)
-mark_answer script header file before later m r n answers lawful legal last long e =
-    told_end (answers_after script header file (before ++ m ∷ []) r) answers n (told_at script header file before m)
-    (subst (λ (z : Counted × List Going). IsLastTold (answers_of (slice_get z.1 r)) (told_at script header file before m)) (sym (state_more script header file before m)) last)
-    (ap (λ (z : Counted × List Going). length (answers_of (slice_get z.1 r))) (state_more script header file before m) ∙ long)
-    (stays script header file before later m r answers lawful legal e)
+mark_answer script header file before later m r n answers lawful legal w e =
+    let is : answers_after script header file (before ++ m ∷ []) r ≡ w.going.answers =
+    ap (λ (z : Counted × List Going). answers_of (slice_get z.1 r)) (state_more script header file before m) ∙ ap answers_of w.there in
+    told_end w.going.answers answers n (told_at script header file before m) w.told w.long
+    (subst (λ (xs : List Answer). (rest : List Answer) × (xs ++ rest ≡ answers)) is
+    (answers_stay script header file (before ++ m ∷ []) later r answers lawful (subst (IsLegal script) (joined before later m) legal)
+    (ap (λ (order : List Mark). slice_get (serial_from script header file order).answers r) (sym (joined before later m)) ∙ e)))
 
 pub meeting_answer : (script : Script) (header : Header) (file : List ℕ) (before later : List Mark) (k r : ℕ) (own : List Call) (answers : List Answer)
     → is_lawful script ≡ true → IsLegal script (before ++ Meet k ∷ later) → slice_get script.calls r ≡ Some own
@@ -221,10 +229,8 @@ meeting_answer script header file before later k r own answers lawful legal f e 
     let s = setting_of script header in
     let state = state_after script header file before in
     let many = (ranks_lawful script lawful).one_each in
-    let below = slice_get_within script.calls r own f in
     mark_answer script header file before later (Meet k) r (meeting_call k own) answers lawful legal
-    (met_told s script.ranks k r later state.0 state.1 (along_at script header file before (Meet k ∷ later) lawful legal) (omega arith))
-    (met_long_is s script.calls script.ranks k r later state.0 state.1 own many (placed_at script header file before (Meet k ∷ later) lawful legal) f) e
+    (met_last s script.calls script.ranks k r later state.0 state.1 own many (placed_at script header file before (Meet k ∷ later) lawful legal) f) e
 
 pub solo_answer : (script : Script) (header : Header) (file : List ℕ) (before later : List Mark) (r c : ℕ) (answers : List Answer)
     → is_lawful script ≡ true → IsLegal script (before ++ Solo r c ∷ later)
@@ -235,5 +241,4 @@ solo_answer script header file before later r c answers lawful legal e =
     let state = state_after script header file before in
     let low = ltb-true r script.ranks (known_mark script.ranks before later (Solo r c) legal.known_ranks) in
     mark_answer script header file before later (Solo r c) r c answers lawful legal
-    (alone_told s script.ranks r c later state.0 state.1 (along_at script header file before (Solo r c ∷ later) lawful legal) low)
-    (solo_long_is s script.calls script.ranks r c later state.0 state.1 low (placed_at script header file before (Solo r c ∷ later) lawful legal)) e
+    (solo_last s script.ranks r c later state.0 state.1 low (along_at script header file before (Solo r c ∷ later) lawful legal)) e

@@ -1,8 +1,8 @@
 -- What a step tells its ranks, and that a step with a pair changes nothing.
-use Rattle.whole_run_laws.proofs.Words.{◌≡◌, ℕ, suc, ◌+◌, ◌<◌, refl, sym, ◌∙◌, ap, subst, List, [], ◌∷◌, ◌++◌, map, set, Bool, true, false, Option, Some, None, arith, same_Some, nat_tests, flat_map, slice_get, enumerate_from, list_all, entry_below, entry_set, and_first, and_second, in_at, Answer, Pair, Header, Post, Call, OverlapRule, Refuse, Script, Mark, Meet, Solo, MeetKind, Offer, OfferKind, Reply, Counted, get_post, known_by, meeting, puts_of, raises, Setting, solo, told, told_under, is_of_rank_below, IsLegal, is_lawful, greatest, In, Open, Rank, advance, after_mark, after_meeting, after_solo, first_state, go, Going, hears, offers_of, rank_offer, setting_of, state_after, holdings, IsSharedPair, IsUnshared, Puts, shared_pair, pair_found, pair_none, state_more, puts_asked, puts_at, puts_met, quiet_step, nil_cons}
+use Rattle.whole_run_laws.proofs.Words.{◌≡◌, ℕ, suc, ◌+◌, refl, sym, ◌∙◌, ap, List, [], ◌∷◌, ◌++◌, map, Bool, true, false, Option, Some, None, arith, same_Some, nat_tests, flat_map, slice_get, enumerate_from, list_all, and_first, and_second, in_at, Answer, Pair, Header, Post, Call, OverlapRule, Refuse, Script, Mark, Meet, Solo, MeetKind, Offer, OfferKind, Reply, Counted, get_post, known_by, meeting, puts_of, raises, Setting, told, told_under, is_of_rank_below, IsLegal, is_lawful, greatest, In, Open, Rank, advance, after_mark, first_state, go, Going, hears, offers_of, setting_of, state_after, holdings, IsSharedPair, IsUnshared, Puts, shared_pair, pair_found, pair_none, state_more, puts_at, puts_met, quiet_step, nil_cons}
 use borrow.Author.Tests.{ltb-true}
 use Rattle.nc_base.specs.declared.step.OfferKind.TheVariants as offer
-use Rattle.whole_run_laws.proofs.Courses.{AreAlong, AreOn, first_along, hears_then, marks_along, meets, offered, offered_alone, steps}
+use Rattle.whole_run_laws.proofs.Courses.{AreAlong, AreOn, first_along, marks_along, offered, offered_alone, steps}
 use Rattle.join_laws.proofs.WholeLaws.{get_map as mapped_from}
 
 -- what rank r has answered when these marks are done
@@ -18,7 +18,7 @@ IsLastTold answers pair = (earlier : List Answer) × (last : Answer) × (answers
 
 -- ---- one step
 
-reply_told : (s : Setting) (offers : List Offer) (c : Counted) (q : ℕ) (y : Reply) → slice_get (meeting s offers c).1 q ≡ Some y → y.pair ≡ told s (puts_met offers)
+pub reply_told : (s : Setting) (offers : List Offer) (c : Counted) (q : ℕ) (y : Reply) → slice_get (meeting s offers c).1 q ≡ Some y → y.pair ≡ told s (puts_met offers)
 reply_told s offers c q y e =
     let next = (meeting s offers c).0 in
     let o = mapped_from (λ (o : Offer). let z : Reply = record { pair = told s (puts_met offers); records = next.records; got = map (get_post s next.file) o.batch.gets } in z) offers q y e in
@@ -102,7 +102,7 @@ module _ (s : Setting) (ranks k j : ℕ) (ks : List MeetKind) (rest : List Mark)
       by_first (kind ∷ others) f = by_kind kind others f (raises (offer.Meet kind)) refl
 
 -- the pair of the answer to a reply
-heard_pair : (header : Header) (g : Going) (y : Reply) (o : Open) → g.rank.«open» ≡ Some o → IsLastTold (hears header g y).answers y.pair
+pub heard_pair : (header : Header) (g : Going) (y : Reply) (o : Open) → g.rank.«open» ≡ Some o → IsLastTold (hears header g y).answers y.pair
 heard_pair header g y o e = grind (arith, nat_tests)
 
 pub along_at : (script : Script) (header : Header) (file : List ℕ) (before later : List Mark) → is_lawful script ≡ true → IsLegal script (before ++ later)
@@ -128,33 +128,3 @@ mark_nothing script header file before later m p lawful legal e =
     ap (λ (z : Counted × List Going). z.0) (state_more script header file before m)
     ∙ step_nothing (setting_of script header) script.ranks m later state.0 state.1 p (known_mark script.ranks before later m legal.known_ranks)
     (along_at script header file before (m ∷ later) lawful legal) e
-
-last_at : (goings : List Going) (q : ℕ) (g : Going) (pair : Option Pair) → slice_get goings q ≡ Some g → IsLastTold g.answers pair
-    → IsLastTold (answers_of (slice_get goings q)) pair
-last_at goings q g pair e w = subst (λ (m : Option Going). IsLastTold (answers_of m) pair) (sym e) w
-
-pub met_told : (s : Setting) (ranks j r : ℕ) (rest : List Mark) (c : Counted) (goings : List Going) → AreAlong ranks (Meet j ∷ rest) goings → r < ranks
-    → IsLastTold (answers_of (slice_get (after_meeting s (c, goings)).1 r)) (told s (puts_met (offers_of (map (advance s.header) goings))))
-met_told s ranks j r rest c goings a l =
-    let offers = offers_of (map (advance s.header) goings) in
-    let long = a.on.long in
-    let b = entry_below goings r (omega arith) in
-    let g = hears_then s c a.on r b.0 b.1 in
-    let h = g.1.1 in
-    let at = meets s.header a.on r h.before h.was in
-    let last : IsLastTold g.0.answers h.reply.pair =
-    subst (λ (z : Going). IsLastTold z.answers h.reply.pair) (sym h.is) (heard_pair s.header (advance s.header h.before).0 h.reply at.asks.open_with at.asks.is_open) in
-    last_at (after_meeting s (c, goings)).1 r g.0 (told s (puts_met offers)) g.1.0
-    (subst (λ (pair : Option Pair). IsLastTold g.0.answers pair) (reply_told s offers c r h.reply h.is_reply) last)
-
-pub alone_told : (s : Setting) (ranks r n : ℕ) (rest : List Mark) (c : Counted) (goings : List Going) → AreAlong ranks (Solo r n ∷ rest) goings → r < ranks
-    → IsLastTold (answers_of (slice_get (after_solo s r c goings).1 r)) (told s (puts_asked r (rank_offer s goings r)))
-alone_told s ranks r n rest c goings a l =
-    let st = steps s c l a.on in
-    let o = st.at.asks.offer in
-    let y = (solo s r o c).1 in
-    let next = hears s.header (advance s.header st.before).0 y in
-    subst (λ (ps : Puts). IsLastTold (answers_of (slice_get (after_solo s r c goings).1 r)) (told s ps)) (sym (offered_alone st))
-    (subst (λ (z : Counted × List Going). IsLastTold (answers_of (slice_get z.1 r)) (told s (puts_of (r, o)))) (sym st.state)
-    (last_at (set goings r next) r next (told s (puts_of (r, o))) (entry_set goings r st.before next st.was)
-    (heard_pair s.header (advance s.header st.before).0 y st.at.asks.open_with st.at.asks.is_open)))
