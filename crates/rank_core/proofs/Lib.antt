@@ -1,6 +1,6 @@
 mod Words
 pub mod KnownLaws
-mod OwnLaws
+pub mod OwnLaws
 pub mod RequestLaws
 mod GetLaws
 mod HeardLaws
