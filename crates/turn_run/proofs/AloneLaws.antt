@@ -1,5 +1,5 @@
 -- A rank that goes from one offer to the next by itself.
-use Rattle.turn_run.proofs.Words.{◌≡◌, ℕ, suc, refl, sym, ◌∙◌, ap, subst, List, [], ◌∷◌, ◌++◌, length, map, set, drop, true, max, Option, Some, None, append_assoc, append-nil, set-set, slice_get, is_some, IfSome, Header, Call, Answer, Post, Hints, Script, Mark, Solo, DiskCall, Offer, OfferKind, Reply, after, with_end, Setting, Counted, puts_of, solo, told, needed_now, solo_calls, Open, wanted, Going, advance, hears, counted, is_solo_of, IsOnWay, AsksAlone, hears_keeps, solo_keeps, IsAsked, asking, between, calls_of, going_of, HasHeard, IsPlaced, IsPlacedWith, IsRunner, solo_to, step_calls, step_to, Arrived, IsLike, gots_long, solo_like, arrived, stage, HasGone, IsGrownBy, Leads, LeadsAlike, rank_stage, Runner, entry_set, set_own, one_of, all_joined, offer_of, calls_at}
+use Rattle.turn_run.proofs.Words.{inl, inr, ◌≡◌, ℕ, suc, refl, sym, ◌∙◌, ap, subst, List, [], ◌∷◌, ◌++◌, length, map, set, drop, true, max, Option, Some, None, append_assoc, append-nil, set-set, slice_get, is_some, IfSome, Header, Call, Answer, Post, Hints, Script, Mark, Solo, DiskCall, Offer, OfferKind, Reply, after, with_end, Setting, Counted, puts_of, solo, told, needed_now, solo_calls, Open, wanted, Going, advance, hears, counted, is_solo_of, IsOnWay, AsksAlone, hears_keeps, solo_keeps, IsAsked, asking, between, calls_of, going_of, HasHeard, IsPlaced, IsPlacedWith, IsRunner, solo_to, step_calls, step_to, Arrived, IsLike, gots_long, solo_like, arrived, stage, HasGone, IsGrownBy, Leads, LeadsAlike, rank_stage, Runner, entry_set, set_own, one_of, all_joined, offer_of, calls_at}
 use Rattle.nc_base.specs.declared.step.OfferKind.TheVariants as offer
 use Rattle.turn_run.proofs.RunnerLaws.{advance_ended}
 use Rattle.turn_run.proofs.StageLaws.{alike_then, led_none, led_then}
