@@ -1,5 +1,5 @@
 -- The offers of a meeting, as the runners hold them: together they are a job that a meeting takes.
-use Rattle.turn_run.proofs.Words.{◌≡◌, ℕ, zero, suc, ◌+◌, ◌^◌, ◌<◌, ◌≤◌, refl, sym, ◌∙◌, ap, subst, List, [], ◌∷◌, ◌++◌, length, map, Bool, true, false, Option, Some, inl, inr, arith, map-append, length-map, slice_get, flat_map, is_some, enumerate_from, AllByRecursion, option_to_list, same_Some, Header, Batch, Post, Script, Mark, Offer, OfferKind, In, known_by, is_lawful, bytes_of, holdings, Holding, IsOwnOnce, Puts, IsOnWay, ranks_lawful, together_kind, gets_in, posts_in, puts_of_batch, AreGets, ArePuts, raises, IsAsked, IsCount, IsFit, IsRise, asking, calls_of, AreRunners, HaveArrived, HaveMet, batches_of, held_offers, known_of, IsJob, IsOneRise, Runner, IsSingleOffer, value_of_some, if_some_at, mapped_entry}
+use Rattle.turn_run.proofs.Words.{nat_tests, ◌≡◌, ℕ, zero, suc, ◌+◌, ◌^◌, ◌<◌, ◌≤◌, refl, sym, ◌∙◌, ap, subst, List, [], ◌∷◌, ◌++◌, length, map, Bool, true, false, Option, Some, inl, inr, arith, map-append, length-map, slice_get, flat_map, is_some, enumerate_from, AllByRecursion, option_to_list, same_Some, Header, Batch, Post, Script, Mark, Offer, OfferKind, In, known_by, is_lawful, bytes_of, holdings, Holding, IsOwnOnce, Puts, IsOnWay, ranks_lawful, together_kind, gets_in, posts_in, puts_of_batch, AreGets, ArePuts, raises, IsAsked, IsCount, IsFit, IsRise, asking, calls_of, AreRunners, HaveArrived, HaveMet, batches_of, held_offers, known_of, IsJob, IsOneRise, Runner, IsSingleOffer, value_of_some, if_some_at, mapped_entry}
 use Rattle.nc_base.specs.declared.step.MeetKind.TheVariants as kind
 use Rattle.nc_base.specs.declared.step.OfferKind.TheVariants as offer
 use Rattle.turn_run.proofs.CountLaws.{rise_max}

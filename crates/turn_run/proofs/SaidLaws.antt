@@ -1,5 +1,5 @@
 -- The answers of ranks that a fault cut off.
-use Rattle.turn_run.proofs.Words.{IfSome_then, ◌≡◌, ℕ, suc, ◌<◌, ◌≤◌, ◌≢◌, refl, sym, ◌∙◌, ap, subst, List, [], ◌∷◌, ◌++◌, length, map, set, Bool, true, false, cond, Option, Some, None, length-append, append_assoc, arith, nat_tests, fold-append, append-nil, append_cancel_left, filter-append, same_Some, slice_get_within, slice_get, fold, filter, ◌==◌, IfSome, Answer, Header, Call, Hints, Script, DiskCall, Mark, Meet, Solo, Offer, Reply, StepErr, Disk, Memory, Setting, Counted, solo, concerns, hear, Going, advance, after_mark, hears, solo_of, Begins, HasAnswers, counted, Arrived, Stand, step_to, point, HasSaid, SaysAt, AllSay, HasReached, AreAnswers, HaveAnswers, all_between, between, calls_of, AreFree, HasArrived, Stage, IsLed, HasGone, HasLed, IsGrownBy, arrived, arrived_all, stage, rank_stage, Runner, if_some_at, entry_set, entry_set_other, entry_map, stand_at, state_at, gone_up, arrival_steps}
+use Rattle.turn_run.proofs.Words.{inl, inr, IfSome_then, ◌≡◌, ℕ, suc, ◌<◌, ◌≤◌, ◌≢◌, refl, sym, ◌∙◌, ap, subst, List, [], ◌∷◌, ◌++◌, length, map, set, Bool, true, false, cond, Option, Some, None, length-append, append_assoc, arith, nat_tests, fold-append, append-nil, append_cancel_left, filter-append, same_Some, slice_get_within, slice_get, fold, filter, ◌==◌, IfSome, Answer, Header, Call, Hints, Script, DiskCall, Mark, Meet, Solo, Offer, Reply, StepErr, Disk, Memory, Setting, Counted, solo, concerns, hear, Going, advance, after_mark, hears, solo_of, Begins, HasAnswers, counted, Arrived, Stand, step_to, point, HasSaid, SaysAt, AllSay, HasReached, AreAnswers, HaveAnswers, all_between, between, calls_of, AreFree, HasArrived, Stage, IsLed, HasGone, HasLed, IsGrownBy, arrived, arrived_all, stage, rank_stage, Runner, if_some_at, entry_set, entry_set_other, entry_map, stand_at, state_at, gone_up, arrival_steps}
 use Rattle.run_laws.proofs.WayLaws.{others_filter as solos_beside}
 use Rattle.turn_run.proofs.AloneLaws.{arrived_free, arrived_held, step_at}
 use Rattle.turn_run.proofs.RunnerLaws.{advance_ended, answers_begin}

@@ -1,5 +1,5 @@
 -- When all ranks have met, or have ended.
-use Rattle.turn_run.proofs.Words.{◌≡◌, ℕ, zero, suc, ◌+◌, ◌<◌, refl, sym, ◌∙◌, ap, subst, List, [], ◌∷◌, ◌++◌, length, map, drop, true, Option, Some, None, arith, slice_get, is_some, same_Some, slice_get_within, Header, Call, Answer, Script, Mark, Meet, Offer, OfferKind, IsLegal, is_lawful, most_calls, Going, meetings, IsOnWay, ranks_lawful, order_legal, together_all, together_number, meetings_met, all_between, asking, between, calls_of, going_of, AreFree, AreRunners, HasArrived, HaveArrived, HaveMet, IsMet, IsPlaced, IsPlacedWith, Arrived, arrived, arrived_all, Runner, entry_below, some_rank}
+use Rattle.turn_run.proofs.Words.{inl, inr, ◌≡◌, ℕ, zero, suc, ◌+◌, ◌<◌, refl, sym, ◌∙◌, ap, subst, List, [], ◌∷◌, ◌++◌, length, map, drop, true, Option, Some, None, arith, slice_get, is_some, same_Some, slice_get_within, Header, Call, Answer, Script, Mark, Meet, Offer, OfferKind, IsLegal, is_lawful, most_calls, Going, meetings, IsOnWay, ranks_lawful, order_legal, together_all, together_number, meetings_met, all_between, asking, between, calls_of, going_of, AreFree, AreRunners, HasArrived, HaveArrived, HaveMet, IsMet, IsPlaced, IsPlacedWith, Arrived, arrived, arrived_all, Runner, entry_below, some_rank}
 use Rattle.nc_base.specs.declared.step.OfferKind.TheVariants as offer
 use Rattle.serial_spec.specs.RankMachine as machine
 use Rattle.turn_run.proofs.AloneLaws.{arrived_free}
