@@ -1,14 +1,11 @@
 -- The header and the file of a redefinition.
-use Rattle.dataset_start.proofs.Words.{◌≡◌, ℕ, ◌-◌, ◌≤◌, List, [], ◌∷◌, length, fold, zip, refl, ap, ◌∙◌, arith, length-append, length-replicate, one_keeps, Header, Var, Extra, header_len, end_of, moved, redefined, redefined_header, with_extra, new_end, written_grows, nat_tests}
+use Rattle.dataset_start.proofs.Words.{◌≡◌, ℕ, ◌-◌, ◌≤◌, List, [], ◌∷◌, length, fold, zip, ap, ◌∙◌, arith, length-append, length-replicate, Header, Var, Extra, header_len, end_of, moved, redefined, redefined_header, new_end, written_grows, nat_tests}
+use Rattle.serial_spec.proofs.AddedLaws.{records_stay}
 
 -- ---- the record count stays
 
-added_kept : (extras : List Extra) (header : Header) → (fold with_extra header extras).records ≡ header.records
-added_kept [] header = refl
-added_kept (e ∷ extras) header = added_kept extras (with_extra header e) ∙ one_keeps header e
-
 pub records_kept : (old new : Header) (extras : List Extra) → new ≡ redefined_header old extras → new.records ≡ old.records
-records_kept old new extras e = ap (λ (h : Header). h.records) e ∙ added_kept extras old
+records_kept old new extras e = ap (λ (h : Header). h.records) e ∙ records_stay old extras
 
 pub same_end : (old new : Header) (extras : List Extra) → new ≡ redefined_header old extras → end_of new (header_len new) new.records ≡ new_end old new
 same_end old new extras e = ap (λ (n : ℕ). end_of new (header_len new) n) (records_kept old new extras e)

@@ -20,7 +20,6 @@ pub use Rattle.overlay_laws.proofs.Common.{IsBetween}
 pub use Rattle.redef_laws.proofs.MovedLaws.{writable_is_sound}
 pub use Rattle.redef_laws.specs.Applied.{IsApplied}
 pub use Rattle.redef_laws.specs.Shifted.{new_end}
-pub use Rattle.redef_mover.proofs.AppliedLaws.{one_keeps}
 pub use Rattle.redef_mover.specs.Relocation.{KeepsPlaces, relocation_calls}
 pub use Rattle.script_laws.proofs.HeaderLaws.{read_unplaced, read_writable}
 pub use Rattle.script_laws.proofs.LawfulLaws.{read_lawful, read_whole}

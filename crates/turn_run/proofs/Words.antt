@@ -1,7 +1,7 @@
 -- The words of this crate's proofs, from where they stand.
 pub use Rattle.list_laws.proofs.Std.{AllByRecursion, Bool, Err, IfSome, IfSome_then, List, None, Ok, OnErr, OnOk, Option, Result, Some, [], and_from, and_parts, ap, append-nil, append_assoc, append_cancel_left, arith, byte_len, cases_eq, cond, drop, drop-append-add, drop-append_seam, enumerate_from, eqb-true, err_from_is_err_and, ext_get_or, false, filter, filter-append, flat_map, flat_map-append, fold, fold-append, get_or, if◌then◌else◌, inl, inr, is_some, length, length-append, length-map, length-replicate, length-set, list_all, list_all-append, list_any, map, map-append, max, nat_lt, nat_tests, not, on_err_weaker, option_to_list, refl, replicate, result_err, rules, same_Some, set, set-set, slice_get, slice_get-get_or, slice_get_within, slice_index, slice_index_or, subst, suc, sum_by-append, sym, take, take-append_seam, true, true≢false, vec_capacity, with_items_is, zero, zip, ℕ, ◌*◌, ◌++◌, ◌+◌, ◌-◌, ◌<◌, ◌==◌, ◌^◌, ◌||◌, ◌∙◌, ◌∷◌, ◌≡◌, ◌≢◌, ◌≤◌, ◌⊎◌}
 pub use Rattle.std.specs.Prelude.{IsErrAnd, ◌&&◌}
-pub use Rattle.collective_round.proofs.CountedLaws.{counted_sound, put_needed}
+pub use Rattle.collective_round.proofs.CountedLaws.{put_needed}
 pub use Rattle.collective_round.proofs.PutLaws.{no_calls, none_windows}
 pub use Rattle.collective_round.proofs.TornFiles.{counted_past, torn_by, torn_sides, torn_wider}
 pub use Rattle.collective_round.proofs.TornLaws.{done_torn, round_grows}
@@ -51,3 +51,4 @@ pub use Rattle.turn_run.specs.Told.{HasTold, HasToldMore, counts_along, told_mar
 pub use Rattle.turn_run.specs.declared.runners.Runner.{Runner}
 pub use Rattle.var_layout.proofs.ElementPlaces.{sound_end}
 pub use Rattle.var_layout.proofs.WrittenLengths.{canon_len}
+pub use Rattle.var_layout.proofs.CountedSound.{counted_sound}
