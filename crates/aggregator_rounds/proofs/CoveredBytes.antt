@@ -1,7 +1,6 @@
 -- The bytes that entries have.
-use Rattle.aggregator_rounds.proofs.Words.{◌≡◌, ℕ, ◌<◌, ◌≤◌, ◌⊎◌, inl, inr, refl, sym, subst, List, [], ◌∷◌, ◌++◌, arith, ◌+◌, ◌-◌, length, Bool, true, false, range_with_len, Owned, In, ranges, IsAscending, extents, EndBelow, in_left, in_right, in_either, in_flat, flat_in, in_range, range_low, range_high, IsCovered, IsPast, BeginBefore, in_extents, cases_lt, nat_tests}
+use Rattle.aggregator_rounds.proofs.Words.{◌≡◌, ℕ, ◌<◌, ◌≤◌, ◌⊎◌, inl, inr, refl, sym, subst, List, [], ◌∷◌, ◌++◌, arith, ◌+◌, ◌-◌, length, Bool, true, false, range_with_len, Owned, In, ranges, IsAscending, extents, EndBelow, in_left, in_right, in_either, in_flat, flat_in, in_range, range_low, range_high, IsCovered, IsPast, BeginBefore, in_extents, cases_lt, nat_tests, ltb-true, ltb-false}
 use Rattle.aggregator_rounds.proofs.PastSteps.{past_in, past_kept}
-use borrow.Author.Tests.{ltb-true, ltb-false}
 use Rattle.overlay_laws.proofs.HullLaws.{ascending_few}
 
 -- ---- covered bytes

@@ -1,6 +1,5 @@
 -- Entries as cells: what they say, and where they lie.
-use Rattle.aggregator_rounds.proofs.Words.{◌≡◌, ℕ, ◌+◌, ◌-◌, ◌<◌, ◌≤◌, inl, inr, refl, sym, ◌∙◌, ap, subst, List, [], ◌∷◌, ◌++◌, length, take, drop, get_or, Option, Some, None, arith, map-append, length-take, length-drop, map, enumerate_from, option_or, said_below, said_past, said_inside, said_append, neither_some, second_counts, first_counts, Owned, Cell, said_at, said_by, IsFrom, IsWithin, clips, HasPlace, In, Source, cell_of, AreFound, clips_in, said_joined, IsCovered, some_or_none, nat_tests}
-use borrow.Author.Tests.{ltb-true, ltb-false}
+use Rattle.aggregator_rounds.proofs.Words.{◌≡◌, ℕ, ◌+◌, ◌-◌, ◌<◌, ◌≤◌, inl, inr, refl, sym, ◌∙◌, ap, subst, List, [], ◌∷◌, ◌++◌, length, take, drop, get_or, Option, Some, None, arith, map-append, length-take, length-drop, map, enumerate_from, option_or, said_below, said_past, said_inside, said_append, neither_some, second_counts, first_counts, Owned, Cell, said_at, said_by, IsFrom, IsWithin, clips, HasPlace, In, Source, cell_of, AreFound, clips_in, said_joined, IsCovered, some_or_none, nat_tests, ltb-true, ltb-false}
 use Rattle.aggregator_rounds.proofs.CoveredBytes.{covered_right}
 
 -- ---- what entries say

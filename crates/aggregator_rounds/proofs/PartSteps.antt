@@ -1,6 +1,5 @@
 -- Parts of entries, and entries laid over a buffer one by one.
-use Rattle.aggregator_rounds.proofs.Words.{◌≡◌, ℕ, zero, suc, ◌+◌, ◌-◌, ◌<◌, ◌≤◌, refl, sym, ◌∙◌, ap, subst, List, [], ◌∷◌, length, take, drop, get_or, min, slice_get, arith, set, take-take, take_all, drop-drop, length-take, get_or_default, slice_get-get_or, Owned, Post, written, Cell, write_cells, moved_down, clip, Source, cell_of, AreFound, bytes_of_post, source_of, part_at, part_in, blob_at, buffer_cell, nat_tests}
-use borrow.Author.Tests.{ltb-true, ltb-false}
+use Rattle.aggregator_rounds.proofs.Words.{◌≡◌, ℕ, zero, suc, ◌+◌, ◌-◌, ◌<◌, ◌≤◌, refl, sym, ◌∙◌, ap, subst, List, [], ◌∷◌, length, take, drop, get_or, min, slice_get, arith, set, take-take, take_all, drop-drop, length-take, get_or_default, slice_get-get_or, Owned, Post, written, Cell, write_cells, moved_down, clip, Source, cell_of, AreFound, bytes_of_post, source_of, part_at, part_in, blob_at, buffer_cell, nat_tests, ltb-true, ltb-false}
 
 -- ---- slices of slices
 

@@ -1,6 +1,5 @@
 -- What is left of entries when some that end there or before are gone.
-use Rattle.aggregator_rounds.proofs.Words.{◌≡◌, ℕ, ◌+◌, ◌^◌, ◌<◌, ◌≤◌, ◌⊎◌, inl, inr, refl, sym, ◌∙◌, ap, append_assoc, length, subst, Some, slice_get, List, [], ◌∷◌, ◌++◌, Bool, false, cond, min, arith, filter, nat_lt, same_Some, no_none_some, Extent, Owned, In, Source, extents, EndBelow, IsByPlace, AreFound, filter_in, in_either, in_right, filter_past, IsPast, nat_tests}
-use borrow.Author.Tests.{ltb-true, ltb-false}
+use Rattle.aggregator_rounds.proofs.Words.{◌≡◌, ℕ, ◌+◌, ◌^◌, ◌<◌, ◌≤◌, ◌⊎◌, inl, inr, refl, sym, ◌∙◌, ap, append_assoc, length, subst, Some, slice_get, List, [], ◌∷◌, ◌++◌, Bool, false, cond, min, arith, filter, nat_lt, same_Some, no_none_some, Extent, Owned, In, Source, extents, EndBelow, IsByPlace, AreFound, filter_in, in_either, in_right, filter_past, IsPast, nat_tests, ltb-true, ltb-false}
 
 -- ---- what is gone
 

@@ -1,6 +1,5 @@
 -- Sorted entries before and from an index on.
-use Rattle.aggregator_rounds.proofs.Words.{◌≡◌, ℕ, zero, suc, ◌+◌, ◌^◌, ◌<◌, ◌≤◌, ◌⊎◌, inl, inr, refl, sym, ap, subst, List, [], ◌∷◌, length, take, drop, get_or, ◌++◌, append_assoc, Some, None, slice_get, ◌∙◌, arith, take-append-drop, same_Some, slice_get-get_or, entry_in, in_either, no_none_some, Extent, Owned, In, extents, IsByPlace, EndBelow, get_is, IsPast, BeginBefore, in_extents, nat_tests}
-use borrow.Author.Tests.{ltb-true, ltb-false}
+use Rattle.aggregator_rounds.proofs.Words.{◌≡◌, ℕ, zero, suc, ◌+◌, ◌^◌, ◌<◌, ◌≤◌, ◌⊎◌, inl, inr, refl, sym, ap, subst, List, [], ◌∷◌, length, take, drop, get_or, ◌++◌, append_assoc, Some, None, slice_get, ◌∙◌, arith, take-append-drop, same_Some, slice_get-get_or, entry_in, in_either, no_none_some, Extent, Owned, In, extents, IsByPlace, EndBelow, get_is, IsPast, BeginBefore, in_extents, nat_tests, ltb-true, ltb-false}
 use Rattle.aggregator_rounds.proofs.PastSteps.{past_front}
 
 -- ---- members by index

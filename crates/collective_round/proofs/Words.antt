@@ -1,5 +1,5 @@
 -- The words of this crate's proofs, from where they stand.
-pub use Rattle.list_laws.proofs.Std.{AllZip, Bool, Err, IfSome, IsErrOf, IsPermutation, List, None, Ok, OnOk, Option, Result, Some, Vec, [], and_from, and_parts, ap, append-nil, append_assoc, arith, byte_len, cases_lt, common_steps, cond, drop, drop-take, drop_more, enumerate_from, ext_get_or, false, filter, flat_map, flat_map-append, flat_map-map, flat_map_more, get_or, get_or-append_right, get_or_append_left, get_or_past, inl, inr, is_none, le-leb, leb-true, length, length-append, length-map, length-range_with_len, length-replicate, length-take, length_push, list_any, lt-leb, lt-ltb, map, map-append, max, min, mul-le, mul_comm, nat_le, nat_lt, nat_tests, on_err_weaker, on_ok_weaker, option_copied, option_map, or_right, range_with_len, refl, reverse, reverse-append, rules, same_Some, slice_get, slice_get_within, slice_index_or, subst, suc, sym, take, take-append-drop, take-take, take_all, take_more, true, vec_capacity, w32, w64, zero, zip, ℕ, ◌%◌, ◌&&◌, ◌*◌, ◌++◌, ◌+◌, ◌-◌, ◌/◌, ◌<◌, ◌==◌, ◌^◌, ◌||◌, ◌↔◌, ◌∙◌, ◌∷◌, ◌≡◌, ◌≤◌, ◌⊎◌}
+pub use Rattle.list_laws.proofs.Std.{AllZip, Bool, Err, IfSome, IsErrOf, IsPermutation, List, None, Ok, OnOk, Option, Result, Some, Vec, [], and_from, and_parts, ap, append-nil, append_assoc, arith, byte_len, cases_lt, common_steps, cond, drop, drop-take, drop_more, enumerate_from, ext_get_or, false, filter, flat_map, flat_map-append, flat_map-map, flat_map_more, get_or, get_or-append_right, get_or_append_left, get_or_past, inl, inr, is_none, le-leb, leb-true, length, length-append, length-map, length-range_with_len, length-replicate, length-take, length_push, list_any, lt-leb, lt-ltb, map, map-append, max, min, mul-le, mul_comm, nat_le, nat_lt, nat_tests, on_err_weaker, on_ok_weaker, option_copied, option_map, or_right, range_with_len, refl, reverse, reverse-append, rules, same_Some, slice_get, slice_get_within, slice_index_or, subst, suc, sym, take, take-append-drop, take-take, take_all, take_more, true, vec_capacity, w32, w64, zero, zip, ℕ, ◌%◌, ◌&&◌, ◌*◌, ◌++◌, ◌+◌, ◌-◌, ◌/◌, ◌<◌, ◌==◌, ◌^◌, ◌||◌, ◌↔◌, ◌∙◌, ◌∷◌, ◌≡◌, ◌≤◌, ◌⊎◌, ltb-true, eqb-true, ltb-false}
 pub use Rattle.std.proofs.Math.ListN.{get_or-map}
 pub use Rattle.std.specs.Prelude.{not}
 pub use Rattle.std.specs.declared.alloc.Global.{Global}

@@ -1,6 +1,5 @@
 -- Entries that are read window by window, each into its blob: before the first window, one window more, after the last.
-use Rattle.data_sieving.proofs.Words.{◌≡◌, ℕ, ◌+◌, ◌<◌, ◌≤◌, inl, inr, sym, ◌∙◌, ap, subst, List, [], ◌++◌, length, Option, Some, None, IfSome, LieOn, arith, fold-append, cases_lt, some_or_none, ◌⊎◌, ◌==◌, in_filter, filter_in, equal_true, Owned, Window, written, said_at, said_by, Says, IsOneValued, Cell, write_cells, In, same_said, said_is, said_in_any_order, append_within, said_by_joined, says_left, says_right, says_cases, in_either, of_slot, HasGot, FitBlobs, HaveOnePlace, got_cells, blob_at, places_of, IsCovered, IsPast, IsNext, HasGotPart, past_covered, past_all, past_kept, parts_got, IsRead, got_says, says_got, read_as, read_once, parts_within, whole_parts, nat_tests}
-use borrow.Author.Tests.{eqb-true}
+use Rattle.data_sieving.proofs.Words.{◌≡◌, ℕ, ◌+◌, ◌<◌, ◌≤◌, inl, inr, sym, ◌∙◌, ap, subst, List, [], ◌++◌, length, Option, Some, None, IfSome, LieOn, arith, fold-append, cases_lt, some_or_none, ◌⊎◌, ◌==◌, in_filter, filter_in, equal_true, Owned, Window, written, said_at, said_by, Says, IsOneValued, Cell, write_cells, In, same_said, said_is, said_in_any_order, append_within, said_by_joined, says_left, says_right, says_cases, in_either, of_slot, HasGot, FitBlobs, HaveOnePlace, got_cells, blob_at, places_of, IsCovered, IsPast, IsNext, HasGotPart, past_covered, past_all, past_kept, parts_got, IsRead, got_says, says_got, read_as, read_once, parts_within, whole_parts, nat_tests, eqb-true}
 use Rattle.data_sieving.proofs.ReachSteps.{served_in}
 
 -- ---- the entries of a slot

@@ -1,6 +1,5 @@
 -- The hull of entries, entry by entry.
-use Rattle.data_sieving.proofs.Words.{◌≡◌, ℕ, ◌+◌, ◌-◌, ◌<◌, ◌≤◌, ◌⊎◌, inl, inr, refl, sym, ◌∙◌, ap, subst, List, [], ◌∷◌, ◌++◌, append_assoc, length, take, get_or, Bool, true, false, min, max, Some, slice_get, arith, take_more, take_all, slice_get-get_or, entry_in, Owned, Window, In, extents, IsByPlace, in_either, in_left, in_right, AreFilled, cases_lt, IsCovered, IsHull, Reach, covered_left, before_or_later, nat_tests}
-use borrow.Author.Tests.{ltb-true, ltb-false}
+use Rattle.data_sieving.proofs.Words.{◌≡◌, ℕ, ◌+◌, ◌-◌, ◌<◌, ◌≤◌, ◌⊎◌, inl, inr, refl, sym, ◌∙◌, ap, subst, List, [], ◌∷◌, ◌++◌, append_assoc, length, take, get_or, Bool, true, false, min, max, Some, slice_get, arith, take_more, take_all, slice_get-get_or, entry_in, Owned, Window, In, extents, IsByPlace, in_either, in_left, in_right, AreFilled, cases_lt, IsCovered, IsHull, Reach, covered_left, before_or_later, nat_tests, ltb-true, ltb-false}
 
 -- the entries seen so far reach up to a place, with a hole before it or not
 pub record Scanned (at stop end : ℕ) (solid : Bool) (whole seen : List Owned) (count : ℕ) : Type 0 where

@@ -1,6 +1,5 @@
 -- The first window of what is left, as it is told and as one of the windows of sieving.
-use Rattle.data_sieving.proofs.Words.{◌≡◌, ℕ, ◌+◌, ◌-◌, ◌^◌, ◌<◌, ◌≤◌, refl, sym, ◌∙◌, ap, List, [], ◌∷◌, length, Bool, true, false, arith, filter, nat_lt, nat_le, ◌==◌, range_with_len, length-range_with_len, lt-ltb, le-leb, lt-leb, leb-true, in_filter, filter_in, equal_below, equal_true, Owned, Window, first_of, hull_len, sieved, sieving_windows, In, IsAscending, told_of, filter_at_most, filter_ascends, in_range, range_low, range_high, range_ascends, last_most, last_below, drop_first, filter_all, sieved_walked, same_ascending, triple_same, walked_enough, told_window, entry_windows, IsCovered, IsPast, AreLeft, IsNext, bytes_from, windows_from, covered_below, past_covered, covered_past, front_covered, covered_front, hole_short, nat_tests}
-use borrow.Author.Tests.{ltb-true}
+use Rattle.data_sieving.proofs.Words.{◌≡◌, ℕ, ◌+◌, ◌-◌, ◌^◌, ◌<◌, ◌≤◌, refl, sym, ◌∙◌, ap, List, [], ◌∷◌, length, Bool, true, false, arith, filter, nat_lt, nat_le, ◌==◌, range_with_len, length-range_with_len, lt-ltb, le-leb, lt-leb, leb-true, in_filter, filter_in, equal_below, equal_true, Owned, Window, first_of, hull_len, sieved, sieving_windows, In, IsAscending, told_of, filter_at_most, filter_ascends, in_range, range_low, range_high, range_ascends, last_most, last_below, drop_first, filter_all, sieved_walked, same_ascending, triple_same, walked_enough, told_window, entry_windows, IsCovered, IsPast, AreLeft, IsNext, bytes_from, windows_from, covered_below, past_covered, covered_past, front_covered, covered_front, hole_short, nat_tests, ltb-true}
 use Rattle.data_sieving.proofs.LeftBytes.{byte_from, from_byte, bytes_ascend, same_bytes, begins}
 
 -- ---- the bytes of the window

@@ -1,5 +1,5 @@
 -- The words of this crate's proofs, from where they stand.
-pub use Rattle.list_laws.proofs.Std.{Bool, IfSome, List, None, Option, Some, [], ap, append-nil, append_assoc, arith, cases_lt, common_steps, cond, drop, drop_at, false, filter, filter-append, flat_map, fold-append, get_or, get_or-set_other, get_or-set_same, inl, inr, le-leb, leb-true, length, length-drop, length-range_with_len, length-set, length-take, lt-leb, lt-ltb, map, map-append, max, min, nat_le, nat_lt, nat_tests, option_or, range_with_len, refill, refl, rules, same_Some, set, slice_get-get_or, subst, sym, take, take-add, take-append-le, take-append_seam, take_all, take_at, take_min, take_more, true, ℕ, ◌&&◌, ◌++◌, ◌+◌, ◌-◌, ◌<◌, ◌==◌, ◌^◌, ◌∙◌, ◌∷◌, ◌≡◌, ◌≤◌, ◌⊎◌}
+pub use Rattle.list_laws.proofs.Std.{Bool, IfSome, List, None, Option, Some, [], ap, append-nil, append_assoc, arith, cases_lt, common_steps, cond, drop, drop_at, false, filter, filter-append, flat_map, fold-append, get_or, get_or-set_other, get_or-set_same, inl, inr, le-leb, leb-true, length, length-drop, length-range_with_len, length-set, length-take, lt-leb, lt-ltb, map, map-append, max, min, nat_le, nat_lt, nat_tests, option_or, range_with_len, refill, refl, rules, same_Some, set, slice_get-get_or, subst, sym, take, take-add, take-append-le, take-append_seam, take_all, take_at, take_min, take_more, true, ℕ, ◌&&◌, ◌++◌, ◌+◌, ◌-◌, ◌<◌, ◌==◌, ◌^◌, ◌∙◌, ◌∷◌, ◌≡◌, ◌≤◌, ◌⊎◌, eqb-true, eqb-false, ltb-true, ltb-false}
 pub use Rattle.std.proofs.Common.{slice_get}
 pub use Rattle.std.proofs.lemmas.List.{length-append}
 pub use Rattle.std.specs.Option.{option_map}

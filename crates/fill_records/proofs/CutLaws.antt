@@ -1,6 +1,5 @@
 -- The boxes of a range, as they are found row by row.
-use Rattle.fill_records.proofs.Words.{◌≡◌, ℕ, zero, suc, ◌+◌, ◌-◌, ◌*◌, ◌/◌, ◌%◌, ◌<◌, ◌≤◌, refl, sym, ◌∙◌, ap, inl, inr, ◌⊎◌, List, [], ◌∷◌, ◌++◌, length, map, replicate, take, drop, Bool, true, false, append_assoc, length-append, arith, nat_lt, ◌==◌, mul-div_cancel, mul-mod_left, zero-mod, eqb-false, map-append, append-nil, length-map, take_all, div-add-mod', mod_below, div_below, some_factor, Part, product, boxes, in_row, whole_rows, at_row, boxes_before, nat_tests}
-use borrow.Author.Tests.{eqb-true, ltb-true, ltb-false}
+use Rattle.fill_records.proofs.Words.{◌≡◌, ℕ, zero, suc, ◌+◌, ◌-◌, ◌*◌, ◌/◌, ◌%◌, ◌<◌, ◌≤◌, refl, sym, ◌∙◌, ap, inl, inr, ◌⊎◌, List, [], ◌∷◌, ◌++◌, length, map, replicate, take, drop, Bool, true, false, append_assoc, length-append, arith, nat_lt, ◌==◌, mul-div_cancel, mul-mod_left, zero-mod, eqb-false, map-append, append-nil, length-map, take_all, div-add-mod', mod_below, div_below, some_factor, Part, product, boxes, in_row, whole_rows, at_row, boxes_before, nat_tests, eqb-true, ltb-true, ltb-false}
 
 -- ---- boxes in a row
 

@@ -1,5 +1,5 @@
 -- The words of this crate's proofs, from where they stand.
-pub use Rattle.list_laws.proofs.Std.{AllZip, AllZip-long, Bool, Err, IfErr, IfNone, IfSome, IsErrOf, IsOk, List, None, Ok, OnOk, Option, Result, Some, [], and_from, ap, append-nil, append_assoc, arith, common_steps, cond, drop, drop_all, ext_get_or, false, filter-append, flat_map, fold-append, get_or, get_or-set_other, get_or-set_same, get_or_default, inl, inr, is_some, length, length-drop, length-map, length-take, length-zip, map, map-append, map-set_same, min, nat_tests, on_ok_weaker, refl, result_and, rules, same_Some, set, slice_get, slice_get-get_or, slice_get_within, subst, suc, sym, take, take_all, take_more, true, vec_capacity, zero, zip, ℕ, ◌&&◌, ◌++◌, ◌+◌, ◌-◌, ◌<◌, ◌==◌, ◌^◌, ◌∙◌, ◌∷◌, ◌≡◌, ◌≢◌, ◌≤◌, ◌⊎◌, eqb_tells}
+pub use Rattle.list_laws.proofs.Std.{AllZip, AllZip-long, Bool, Err, IfErr, IfNone, IfSome, IsErrOf, IsOk, List, None, Ok, OnOk, Option, Result, Some, [], and_from, ap, append-nil, append_assoc, arith, common_steps, cond, drop, drop_all, ext_get_or, false, filter-append, flat_map, fold-append, get_or, get_or-set_other, get_or-set_same, get_or_default, inl, inr, is_some, length, length-drop, length-map, length-take, length-zip, map, map-append, map-set_same, min, nat_tests, on_ok_weaker, refl, result_and, rules, same_Some, set, slice_get, slice_get-get_or, slice_get_within, subst, suc, sym, take, take_all, take_more, true, vec_capacity, zero, zip, ℕ, ◌&&◌, ◌++◌, ◌+◌, ◌-◌, ◌<◌, ◌==◌, ◌^◌, ◌∙◌, ◌∷◌, ◌≡◌, ◌≢◌, ◌≤◌, ◌⊎◌, eqb_tells, eqb-true, eqb-false}
 pub use Rattle.std.proofs.Common.{length-set}
 pub use Rattle.std.proofs.Math.ListN.{get_or-map}
 pub use Rattle.std.proofs.lemmas.List.{length-append}

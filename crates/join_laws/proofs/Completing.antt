@@ -1,6 +1,5 @@
 -- An order that a script's ranks have begun can be gone on with to one of its histories: the ranks meet as often, one as the other.
-use Rattle.join_laws.proofs.Words.{and_from, ◌≡◌, ℕ, zero, suc, ◌+◌, ◌-◌, ◌<◌, ◌≤◌, refl, sym, ◌∙◌, ap, inl, inr, ◌⊎◌, subst, eqb_tells, List, [], ◌∷◌, ◌++◌, length, Bool, true, false, cond, ◌&&◌, Option, Some, None, arith, append_assoc, filter-append, sum_by-cons, nat_tests, ◌==◌, filter, is_some, nat_lt, list_all, cons_option, Call, Script, Mark, Meet, Solo, MeetKind, kinds, marks, marks_from, concerns, is_of_rank_below, kind_of_call, mode_after, is_collective, is_data, IsLegal, is_meeting, is_lawful, is_solo_of, meetings, kinds_of, own_lawful, ranks_lawful, and_first, and_second, equal_itself, others_filter, all_joined, append-nil, entry_below}
-use borrow.Author.Tests.{ltb-true, ltb-false, eqb-true}
+use Rattle.join_laws.proofs.Words.{and_from, ◌≡◌, ℕ, zero, suc, ◌+◌, ◌-◌, ◌<◌, ◌≤◌, refl, sym, ◌∙◌, ap, inl, inr, ◌⊎◌, subst, eqb_tells, List, [], ◌∷◌, ◌++◌, length, Bool, true, false, cond, ◌&&◌, Option, Some, None, arith, append_assoc, filter-append, sum_by-cons, nat_tests, ◌==◌, filter, is_some, nat_lt, list_all, cons_option, Call, Script, Mark, Meet, Solo, MeetKind, kinds, marks, marks_from, concerns, is_of_rank_below, kind_of_call, mode_after, is_collective, is_data, IsLegal, is_meeting, is_lawful, is_solo_of, meetings, kinds_of, own_lawful, ranks_lawful, and_first, and_second, equal_itself, others_filter, all_joined, append-nil, entry_below, ltb-true, ltb-false, eqb-true}
 use Rattle.list_laws.proofs.Truth.{either}
 
 -- ---- what is left to a rank: its own steps, and n meetings from the k-th on

@@ -1,6 +1,5 @@
 -- The windows of all domains, domain after domain.
-use Rattle.nc_classic_c.proofs.Words.{◌≡◌, ◌↔◌, ℕ, zero, suc, ◌+◌, ◌-◌, ◌/◌, ◌^◌, ◌<◌, ◌≤◌, List, [], ◌∷◌, ◌++◌, length, map, Bool, true, false, ◌&&◌, inl, inr, refl, ap, ◌∙◌, leb, arith, length-append, filter, flat_map, nat_lt, nat_le, ◌==◌, range_with_len, enumerate_from, le-leb, leb-true, length-map, map-map, equal_true, no_both, and_first, and_second, Extent, first_of, windows, spans, low_of, share_of, LiesIn, bytes_in, round_windows, window_told, Window, In, IsAscending, told_of, walked, filter_two, filter_ascends, first_least, last_most, windows_walked, Division, NcvWindow, end_of, is_division, shown, step_windows, window_shown, nat_tests, filter_at_most, sym}
-use borrow.Author.Tests.{ltb-true, ltb-false, eqb-true}
+use Rattle.nc_classic_c.proofs.Words.{◌≡◌, ◌↔◌, ℕ, zero, suc, ◌+◌, ◌-◌, ◌/◌, ◌^◌, ◌<◌, ◌≤◌, List, [], ◌∷◌, ◌++◌, length, map, Bool, true, false, ◌&&◌, inl, inr, refl, ap, ◌∙◌, leb, arith, length-append, filter, flat_map, nat_lt, nat_le, ◌==◌, range_with_len, enumerate_from, le-leb, leb-true, length-map, map-map, equal_true, no_both, and_first, and_second, Extent, first_of, windows, spans, low_of, share_of, LiesIn, bytes_in, round_windows, window_told, Window, In, IsAscending, told_of, walked, filter_two, filter_ascends, first_least, last_most, windows_walked, Division, NcvWindow, end_of, is_division, shown, step_windows, window_shown, nat_tests, filter_at_most, sym, ltb-true, ltb-false, eqb-true}
 use Rattle.overlay_laws.proofs.DomainLaws.{share}
 use Rattle.overlay_laws.proofs.HullLaws.{ascending_few}
 

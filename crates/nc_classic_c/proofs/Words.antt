@@ -1,5 +1,5 @@
 -- The words of this crate's proofs, from where they stand.
-pub use Rattle.list_laws.proofs.Std.{AllByRecursion, Bool, Err, IfErr, IfSome, IsPermutation, List, None, Ok, OnOk, Option, Result, Some, [], and_from, ap, append-nil, append_assoc, ap₂, arith, below_more, byte_len, cond, count_by, div-le_self, div-mul-le_self, drop, drop-append-le, drop_all, enumerate_from, eqb, err_from_is_err_and, fails_before_first, false, filter, flat_map, flat_map-append, flat_map-map, from_be_bytes, get_or, get_or-drop, get_or-map, get_or-map-range_with_len, get_or-take, inl, inr, is_none, le-leb, le-ltb, leb, leb-false, leb-true, length, length-append, length-map, length-map-range_with_len, length-take, length-take-le, list_any, list_any-append, lt-leb, lt-ltb, ltb, ltb-false, ltb-true, map, map-append, map-map, map-range_with_len_more, mod-eq-sub-div-mul, mul-le-mul_right, nat_le, nat_lt, nat_tests, not, not-false, option_copied, option_map, or_parts, position, position_or_len, position_or_len_is, range_with_len, refl, rules, same_Some, set, set_at, sfits_lit, slice_get, slice_get_within, subst, suc, sum_by-cons, sym, take, take-append-le, take-put_mid, take_all, take_more, take_more_set, to_z-of_z, true, utf8_valid_len-IsUtf8, w32, w64, zero, ℕ, ◌%◌, ◌&&◌, ◌*◌, ◌++◌, ◌+◌, ◌-◌, ◌/◌, ◌<◌, ◌==◌, ◌^◌, ◌||◌, ◌↔◌, ◌∙◌, ◌∷◌, ◌≡◌, ◌≤◌, ◌⊎◌}
+pub use Rattle.list_laws.proofs.Std.{AllByRecursion, Bool, Err, IfErr, IfSome, IsPermutation, List, None, Ok, OnOk, Option, Result, Some, [], and_from, ap, append-nil, append_assoc, ap₂, arith, below_more, byte_len, cond, count_by, div-le_self, div-mul-le_self, drop, drop-append-le, drop_all, enumerate_from, eqb, err_from_is_err_and, fails_before_first, false, filter, flat_map, flat_map-append, flat_map-map, from_be_bytes, get_or, get_or-drop, get_or-map, get_or-map-range_with_len, get_or-take, inl, inr, is_none, le-leb, le-ltb, leb, leb-false, leb-true, length, length-append, length-map, length-map-range_with_len, length-take, length-take-le, list_any, list_any-append, lt-leb, lt-ltb, ltb, ltb-false, ltb-true, map, map-append, map-map, map-range_with_len_more, mod-eq-sub-div-mul, mul-le-mul_right, nat_le, nat_lt, nat_tests, not, not-false, option_copied, option_map, or_parts, position, position_or_len, position_or_len_is, range_with_len, refl, rules, same_Some, set, set_at, sfits_lit, slice_get, slice_get_within, subst, suc, sum_by-cons, sym, take, take-append-le, take-put_mid, take_all, take_more, take_more_set, to_z-of_z, true, utf8_valid_len-IsUtf8, w32, w64, zero, ℕ, ◌%◌, ◌&&◌, ◌*◌, ◌++◌, ◌+◌, ◌-◌, ◌/◌, ◌<◌, ◌==◌, ◌^◌, ◌||◌, ◌↔◌, ◌∙◌, ◌∷◌, ◌≡◌, ◌≤◌, ◌⊎◌, eqb-true}
 pub use Rattle.std.proofs.Common.{length-drop}
 pub use Rattle.std.specs.Prelude.{ℤ}
 pub use Rattle.cdf_header.specs.Decoded.{BeginsWith}

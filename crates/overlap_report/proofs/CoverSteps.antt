@@ -1,7 +1,6 @@
 -- Extents in the order of their places, joined where they touch.
-use Rattle.overlap_report.proofs.Words.{◌≡◌, ℕ, ◌+◌, ◌-◌, ◌<◌, ◌≤◌, ◌⊎◌, refl, sym, ◌∙◌, ap, subst, inl, inr, List, [], ◌∷◌, ◌++◌, length, drop, get_or, Bool, cond, max, arith, nat_lt, ◌==◌, flat_map-append, append-nil, flat_in, lt-ltb, nat_tests, drop_of_length-le, range_with_len, Extent, Owned, In, HaveSame, ranges, extents, IsByPlace, EndBelow, IsCover, spans, in_either, in_extents, entry_in, in_left, in_right, in_range, range_low, range_high, run}
+use Rattle.overlap_report.proofs.Words.{◌≡◌, ℕ, ◌+◌, ◌-◌, ◌<◌, ◌≤◌, ◌⊎◌, refl, sym, ◌∙◌, ap, subst, inl, inr, List, [], ◌∷◌, ◌++◌, length, drop, get_or, Bool, cond, max, arith, nat_lt, ◌==◌, flat_map-append, append-nil, flat_in, lt-ltb, nat_tests, drop_of_length-le, range_with_len, Extent, Owned, In, HaveSame, ranges, extents, IsByPlace, EndBelow, IsCover, spans, in_either, in_extents, entry_in, in_left, in_right, in_range, range_low, range_high, run, ltb-true}
 use Rattle.list_laws.proofs.Truth.{either}
-use borrow.Author.Tests.{ltb-true}
 
 -- the runs of the extents, where one from a place to an end has begun
 abbrev pub joined_from : ℕ → ℕ → List Extent → List Extent

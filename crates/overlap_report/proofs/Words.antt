@@ -1,5 +1,5 @@
 -- The words of this crate's proofs, from where they stand.
-pub use Rattle.list_laws.proofs.Std.{Bool, IfNone, IfSome, IsAllAdjacentAnswer, IsHeap, IsItemAt, IsPermutation, IsPermutation-put_mid, IsPermutation-trans, IsUpperBound, List, None, Option, PopsGreatest, Some, [], answers_always, ap, append-nil, arith, cases_lt, cond, drop, drop_of_length-le, enumerate_from, false, flat_map-append, get_or, get_or_default, heap_items, heap_len, inl, inr, is_ge, length, lt-ltb, map, map_push, max, nat_lt, nat_tests, option_copied, ordering_then, range_with_len, refl, rules, same_Some, subst, suc, sym, take, take_all, take_more, true, zero, ℕ, ◌++◌, ◌+◌, ◌-◌, ◌<◌, ◌==◌, ◌^◌, ◌∙◌, ◌∷◌, ◌≡◌, ◌≤◌, ◌⊎◌}
+pub use Rattle.list_laws.proofs.Std.{Bool, IfNone, IfSome, IsAllAdjacentAnswer, IsHeap, IsItemAt, IsPermutation, IsPermutation-put_mid, IsPermutation-trans, IsUpperBound, List, None, Option, PopsGreatest, Some, [], answers_always, ap, append-nil, arith, cases_lt, cond, drop, drop_of_length-le, enumerate_from, false, flat_map-append, get_or, get_or_default, heap_items, heap_len, inl, inr, is_ge, length, lt-ltb, map, map_push, max, nat_lt, nat_tests, option_copied, ordering_then, range_with_len, refl, rules, same_Some, subst, suc, sym, take, take_all, take_more, true, zero, ℕ, ◌++◌, ◌+◌, ◌-◌, ◌<◌, ◌==◌, ◌^◌, ◌∙◌, ◌∷◌, ◌≡◌, ◌≤◌, ◌⊎◌, ltb-true}
 pub use Rattle.std.proofs.Common.{Bor, is_lt, nat_cmp, slice_get}
 pub use Rattle.std.specs.Prelude.{MatchOption}
 pub use Rattle.std.specs.declared.cmp.Ordering.{Ordering}

@@ -1,6 +1,5 @@
 -- A run of the owner: its first strange arrival, and its order by the arrivals before that one.
-use Rattle.owner_laws.proofs.Words.{◌≡◌, ℕ, ◌<◌, refl, sym, ◌∙◌, ap, subst, List, [], ◌∷◌, ◌++◌, replicate, max, true, ◌&&◌, Option, None, arith, length-replicate, list_all-append, nat_lt, list_all, entry_below, and_first, and_second, Mark, Client, Owner, event, first_owner, free_client, is_strange, needed_now, served, Counted, Setting, Arrival, done, served_on, stranger_on, none_marked, entry_replicate, done_is, IsCutByArrivals, IsDoneByArrivals, before_stranger, before_stranger_from, first_stranger, first_stranger_from, is_strange_after, puts_brought, inl, inr}
-use borrow.Author.Tests.{ltb-true}
+use Rattle.owner_laws.proofs.Words.{◌≡◌, ℕ, ◌<◌, refl, sym, ◌∙◌, ap, subst, List, [], ◌∷◌, ◌++◌, replicate, max, true, ◌&&◌, Option, None, arith, length-replicate, list_all-append, nat_lt, list_all, entry_below, and_first, and_second, Mark, Client, Owner, event, first_owner, free_client, is_strange, needed_now, served, Counted, Setting, Arrival, done, served_on, stranger_on, none_marked, entry_replicate, done_is, IsCutByArrivals, IsDoneByArrivals, before_stranger, before_stranger_from, first_stranger, first_stranger_from, is_strange_after, puts_brought, inl, inr, ltb-true}
 use Rattle.list_laws.proofs.Truth.{holds_or_not}
 use Rattle.owner_laws.proofs.HeldClients.{Kept, OfNumber}
 use Rattle.owner_laws.proofs.StrangerLaws.{event_next, not_taken, same_strange}

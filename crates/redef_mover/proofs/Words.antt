@@ -1,5 +1,5 @@
 -- The words of this crate's proofs, from where they stand.
-pub use Rattle.list_laws.proofs.Std.{eqb_tells, BTreeMap, BTreeSet, Bool, Bor, Decides-eqb, Decides-like, Equal, Err, Greater, IfErr, IfOk-weaker, IfSome, IfSome_then, IsNonDecreasingBy, IsNonDecreasingBy-from_sort, IsNonDecreasingBy-from_sort_by_key, IsSortedByKey, IsStableByKey, IsTrue, Less, List, MatchOption, None, Ok, OnErr, OnOk, Option, Result, Some, YieldsList-end, YieldsList-from_enumerate, YieldsList-from_slice, YieldsList-from_zip, YieldsList-turn, [], always_returns_same, and_parts, ap, append-nil, append_assoc, arith, btree_map_updates_str, bytes_eq, bytes_eq-Decides, cases_lt, common_steps, cond, count_by, drop, drop_all, drop_more, drop_of_length-le, enumerate_from, err_from_is_err_and, false, filter, filter-append, filter_agree, filter_more, find, find_at, flat_map, flat_map-append, fold-append, get_or, get_or-enumerate_from, get_or-map, get_or_default, get_or_from_slice_get, if◌then◌else◌, inl, inr, is_eq, is_eq-slice_cmp, is_lt, is_ok, length, length-append, length-enumerate_from, length-map, length-replicate, length-take, length-take-le, length_push, list_all, list_any, list_any-append, ltb-false, map, map-append, max, min, nat_cmp, nat_eq, nat_le, nat_lt, nat_tests, on_err_weaker, on_ok_weaker, option_cmp, option_map, option_or, ordering_then, position-Some, position_from, position_from-zero, position_or_len, prefix_len, range_with_len, refl, reverse, reverse-append, rules, same_from_decides, set, slice_cmp, slice_get, slice_get_past, slice_get_read, subst, suc, sum_by, sum_by-append, sum_by-cons, sum_by_push, sym, take, take-replicate, take_all, take_at, take_more, tied_then, ties, true, unsigned_tied, unwrap_or, zero, ℕ, ◌&&◌, ◌*◌, ◌++◌, ◌+◌, ◌-◌, ◌<◌, ◌==◌, ◌^◌, ◌||◌, ◌↔◌, ◌∙◌, ◌∷◌, ◌≡◌, ◌≤◌, ◌⊎◌}
+pub use Rattle.list_laws.proofs.Std.{eqb_tells, BTreeMap, BTreeSet, Bool, Bor, Decides-eqb, Decides-like, Equal, Err, Greater, IfErr, IfOk-weaker, IfSome, IfSome_then, IsNonDecreasingBy, IsNonDecreasingBy-from_sort, IsNonDecreasingBy-from_sort_by_key, IsSortedByKey, IsStableByKey, IsTrue, Less, List, MatchOption, None, Ok, OnErr, OnOk, Option, Result, Some, YieldsList-end, YieldsList-from_enumerate, YieldsList-from_slice, YieldsList-from_zip, YieldsList-turn, [], always_returns_same, and_parts, ap, append-nil, append_assoc, arith, btree_map_updates_str, bytes_eq, bytes_eq-Decides, cases_lt, common_steps, cond, count_by, drop, drop_all, drop_more, drop_of_length-le, enumerate_from, err_from_is_err_and, false, filter, filter-append, filter_agree, filter_more, find, find_at, flat_map, flat_map-append, fold-append, get_or, get_or-enumerate_from, get_or-map, get_or_default, get_or_from_slice_get, if◌then◌else◌, inl, inr, is_eq, is_eq-slice_cmp, is_lt, is_ok, length, length-append, length-enumerate_from, length-map, length-replicate, length-take, length-take-le, length_push, list_all, list_any, list_any-append, ltb-false, map, map-append, max, min, nat_cmp, nat_eq, nat_le, nat_lt, nat_tests, on_err_weaker, on_ok_weaker, option_cmp, option_map, option_or, ordering_then, position-Some, position_from, position_from-zero, position_or_len, prefix_len, range_with_len, refl, reverse, reverse-append, rules, same_from_decides, set, slice_cmp, slice_get, slice_get_past, slice_get_read, subst, suc, sum_by, sum_by-append, sum_by-cons, sum_by_push, sym, take, take-replicate, take_all, take_at, take_more, tied_then, ties, true, unsigned_tied, unwrap_or, zero, ℕ, ◌&&◌, ◌*◌, ◌++◌, ◌+◌, ◌-◌, ◌<◌, ◌==◌, ◌^◌, ◌||◌, ◌↔◌, ◌∙◌, ◌∷◌, ◌≡◌, ◌≤◌, ◌⊎◌, eqb-true}
 pub use Rattle.std.proofs.Common.{fold, is_some, position}
 pub use Rattle.std.specs.List.{zip}
 pub use Rattle.std.specs.Prelude.{not, replicate}

@@ -1,6 +1,5 @@
 -- What the lines after `open` add to a dataset.
-use Rattle.script_laws.proofs.Words.{◌≡◌, ℕ, ◌+◌, ◌≤◌, List, [], ◌∷◌, ◌++◌, length, true, cond, Err, IfOk, refl, arith, bytes_eq, codes, length-append, lt-ltb, le-leb, AllByRecursion, each_push, Dim, most_dims, most_vars, most_dims_of_var, most_values, is_dim, is_var, added_dims, added_vars, is_lawful_extra, is_whole_extra, values_in_extra, extra_values, Word, reads_as, ended, dim_line, var_head, owner_of_text, owner_name, attribute, Title, Added, nothing_added, added_shape, dim_addition, var_addition, att_addition, addition, nat_tests}
-use borrow.Author.Tests.{ltb-false}
+use Rattle.script_laws.proofs.Words.{◌≡◌, ℕ, ◌+◌, ◌≤◌, List, [], ◌∷◌, ◌++◌, length, true, cond, Err, IfOk, refl, arith, bytes_eq, codes, length-append, lt-ltb, le-leb, AllByRecursion, each_push, Dim, most_dims, most_vars, most_dims_of_var, most_values, is_dim, is_var, added_dims, added_vars, is_lawful_extra, is_whole_extra, values_in_extra, extra_values, Word, reads_as, ended, dim_line, var_head, owner_of_text, owner_name, attribute, Title, Added, nothing_added, added_shape, dim_addition, var_addition, att_addition, addition, nat_tests, ltb-false}
 use Rattle.nc_base.specs.declared.errors.ScriptKind.TheVariants as kind
 use Rattle.nc_base.specs.declared.script.Extra.{Extra}
 use Rattle.nc_base.specs.declared.script.Extra.TheVariants as extra

@@ -1,6 +1,5 @@
 -- Dimensions, variables and attributes as they are defined, line by line.
-use Rattle.script_laws.proofs.Words.{◌≡◌, ◌∙◌, ℕ, suc, ◌+◌, ◌^◌, ◌<◌, ◌≤◌, List, [], ◌∷◌, ◌++◌, length, drop, Bool, true, false, cond, ◌&&◌, Option, Some, None, IfOk, IfSome, refl, ap, arith, nat_lt, nat_le, ◌==◌, count_by, sum, map, slice_get, slice_set, position, bytes_eq, length-append, length-set, AllByRecursion, list_any, length-map, sum_by-cons, and_from, position_below, get_left, each_push, each_weaker, each_later, each_at, fails_each, and_second, ScriptKind, NcType, Dim, Attr, Var, Values, most_dims, most_dims_of_var, most_vars, record_limit, most_values, attr_values, is_whole_attr, count_of, fits_count, is_type, is_writable_dim, is_writable_attr, Word, is_name, or_fault, name_of_text, ended, values, type_of, is_among, length_of_text, is_unlimited, dim_names, dim_line, var_head, name_list, dim_ids, is_record_dim, var_names, shape, var_line, Title, attr_of, attribute_name, attribute, with_attr_at, nat_tests}
-use borrow.Author.Tests.{ltb-false, leb-false, eq-eqb}
+use Rattle.script_laws.proofs.Words.{◌≡◌, ◌∙◌, ℕ, suc, ◌+◌, ◌^◌, ◌<◌, ◌≤◌, List, [], ◌∷◌, ◌++◌, length, drop, Bool, true, false, cond, ◌&&◌, Option, Some, None, IfOk, IfSome, refl, ap, arith, nat_lt, nat_le, ◌==◌, count_by, sum, map, slice_get, slice_set, position, bytes_eq, length-append, length-set, AllByRecursion, list_any, length-map, sum_by-cons, and_from, position_below, get_left, each_push, each_weaker, each_later, each_at, fails_each, and_second, ScriptKind, NcType, Dim, Attr, Var, Values, most_dims, most_dims_of_var, most_vars, record_limit, most_values, attr_values, is_whole_attr, count_of, fits_count, is_type, is_writable_dim, is_writable_attr, Word, is_name, or_fault, name_of_text, ended, values, type_of, is_among, length_of_text, is_unlimited, dim_names, dim_line, var_head, name_list, dim_ids, is_record_dim, var_names, shape, var_line, Title, attr_of, attribute_name, attribute, with_attr_at, nat_tests, ltb-false, leb-false, eq-eqb}
 use Rattle.nc_base.specs.declared.errors.ScriptKind.TheVariants as kind
 use Rattle.nc_base.specs.declared.errors.LimitName.TheVariants as limit
 use Rattle.script_laws.proofs.ListLaws.{all_both, all_set, count_more, sum_set, sum_more, found_all}

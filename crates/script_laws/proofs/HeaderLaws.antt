@@ -1,6 +1,5 @@
 -- The header of a script for a new dataset.
-use Rattle.script_laws.proofs.Words.{◌≡◌, ℕ, ◌^◌, ◌≤◌, List, length, Bool, true, false, not, Option, Some, None, refl, arith, nat_le, ◌==◌, count_by, slice_get, each_passes, list_any, list_all, lt-leb, and_from, not_from_false, not-true, Dim, Var, Script, most_dims, most_vars, most_dims_of_var, length_of, is_version, two_record_dims, record_later, bad_id, counts_are_small, is_writable_list, is_writable_attr, is_unplaced, has_writable_names, has_writable_parts, is_unlimited, Defined, header_of, most_lines, Reads, nat_tests}
-use borrow.Author.Tests.{le-leb, le-ltb}
+use Rattle.script_laws.proofs.Words.{◌≡◌, ℕ, ◌^◌, ◌≤◌, List, length, Bool, true, false, not, Option, Some, None, refl, arith, nat_le, ◌==◌, count_by, slice_get, each_passes, list_any, list_all, lt-leb, and_from, not_from_false, not-true, Dim, Var, Script, most_dims, most_vars, most_dims_of_var, length_of, is_version, two_record_dims, record_later, bad_id, counts_are_small, is_writable_list, is_writable_attr, is_unplaced, has_writable_names, has_writable_parts, is_unlimited, Defined, header_of, most_lines, Reads, nat_tests, le-leb, le-ltb}
 use Rattle.script_laws.proofs.ListLaws.{all_pass, none_passes}
 use Rattle.script_laws.proofs.WordLaws.{small_fits}
 use Rattle.script_laws.proofs.DimLaws.{FitsVar}

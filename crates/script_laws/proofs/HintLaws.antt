@@ -1,6 +1,5 @@
 -- The hints of a script are within their ranges.
-use Rattle.script_laws.proofs.Words.{◌≡◌, ℕ, List, true, Option, Some, min, refl, arith, and_from, is_within, is_alignment, are_lawful_hints, hint_in, hint_or, hints_of, nat_tests}
-use borrow.Author.Tests.{le-leb, eq-eqb}
+use Rattle.script_laws.proofs.Words.{◌≡◌, ℕ, List, true, Option, Some, min, refl, arith, and_from, is_within, is_alignment, are_lawful_hints, hint_in, hint_or, hints_of, nat_tests, le-leb, eq-eqb}
 use Rattle.script_laws.proofs.WordLaws.{InRange}
 use Rattle.script_laws.proofs.DefinedLaws.{FitHints}
 use Rattle.script_laws.proofs.RunLaws.{or_default}

@@ -1,6 +1,5 @@
 -- The hints and the calls of a script, and the header of one for an existing dataset.
-use Rattle.script_laws.proofs.Words.{◌≡◌, ◌∙◌, ℕ, ◌≤◌, List, length, false, Option, Some, None, refl, ap, arith, ◌==◌, unwrap_or, not-false, Script, hint_in, hint_or, Defined, no_definition, header_of, Reads}
-use borrow.Author.Tests.{eqb-true}
+use Rattle.script_laws.proofs.Words.{◌≡◌, ◌∙◌, ℕ, ◌≤◌, List, length, false, Option, Some, None, refl, ap, arith, ◌==◌, unwrap_or, not-false, Script, hint_in, hint_or, Defined, no_definition, header_of, Reads, eqb-true}
 use Rattle.script_laws.proofs.WordLaws.{InRange}
 use Rattle.script_laws.proofs.ReadLaws.{read_script}
 

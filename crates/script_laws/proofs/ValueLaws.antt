@@ -1,6 +1,5 @@
 -- The values of a line: few, each a number of 20 digits at most, and so many bytes.
-use Rattle.script_laws.proofs.Words.{each_weaker, ◌≡◌, ◌∙◌, ℕ, ◌+◌, ◌*◌, ◌≤◌, List, [], ◌∷◌, ◌++◌, length, Bool, not, ◌&&◌, Option, IfOk, refl, arith, nat_lt, is_some, flat_map, bytes_eq, codes, length-append, length-map-range_with_len, NcType, is_number, Values, Numbers, Text, Bits, Class, size_of, ext, most_elements, most_values, count_of, Word, Plain, Quoted, Broken, number_of_text, bits_of_text, refuse_if, reads_as, size, ended, within_limits, one_value, each_value, sequence_count, numbers_between, patterns_between, term, pattern_term, is_term, is_pattern_term, last_number, last_pattern, wrong_kind, may_be, are_numbers, are_patterns, are_text, seq_values, seqx_values, pattern_values, text_values, number_for, pattern_for, listed_values, listed_kind, values, external_bytes, ext_long, nat_tests, zero, suc, ◌^◌, ◌<◌, true, false, cond, Some, None, sym, subst, ◌==◌, option_map, ℤ, pos, neg_ℤ, ◌+ℤ◌, ◌*ℤ◌, unsigned_abs, lt-ltb, le-leb, ltb-true, AllByRecursion, and_from, not-false, faultless_some, natural_small, each_push, and_first, are_values, natural_of, or_fault, bare, sequence}
-use borrow.Author.Tests.{ltb-false}
+use Rattle.script_laws.proofs.Words.{each_weaker, ◌≡◌, ◌∙◌, ℕ, ◌+◌, ◌*◌, ◌≤◌, List, [], ◌∷◌, ◌++◌, length, Bool, not, ◌&&◌, Option, IfOk, refl, arith, nat_lt, is_some, flat_map, bytes_eq, codes, length-append, length-map-range_with_len, NcType, is_number, Values, Numbers, Text, Bits, Class, size_of, ext, most_elements, most_values, count_of, Word, Plain, Quoted, Broken, number_of_text, bits_of_text, refuse_if, reads_as, size, ended, within_limits, one_value, each_value, sequence_count, numbers_between, patterns_between, term, pattern_term, is_term, is_pattern_term, last_number, last_pattern, wrong_kind, may_be, are_numbers, are_patterns, are_text, seq_values, seqx_values, pattern_values, text_values, number_for, pattern_for, listed_values, listed_kind, values, external_bytes, ext_long, nat_tests, zero, suc, ◌^◌, ◌<◌, true, false, cond, Some, None, sym, subst, ◌==◌, option_map, ℤ, pos, neg_ℤ, ◌+ℤ◌, ◌*ℤ◌, unsigned_abs, lt-ltb, le-leb, ltb-true, AllByRecursion, and_from, not-false, faultless_some, natural_small, each_push, and_first, are_values, natural_of, or_fault, bare, sequence, ltb-false}
 use Rattle.list_laws.proofs.Common.{passes_each}
 use Rattle.script_laws.proofs.Sequences.{is_fit_number, numbers_fit}
 use Rattle.nc_base.specs.declared.errors.ScriptKind.TheVariants as kind

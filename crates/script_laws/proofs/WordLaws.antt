@@ -1,6 +1,5 @@
 -- What single words say.
-use Rattle.script_laws.proofs.Words.{◌≡◌, ℕ, ◌%◌, ◌^◌, ◌<◌, ◌≤◌, List, [], ◌∷◌, length, true, cond, ◌&&◌, Option, Some, None, IfOk, subst, arith, nat_lt, nat_le, ◌==◌, find, bytes_eq, codes, list_all, nat_tests, cond_some, and_first, and_second, NcType, file_limit, record_limit, number_of, last_type, fits_count, is_type, type_word, Word, is_name, starts_name, in_name, name, name_of_text, types, number_within, one_of_two, type_of, length_of_text, below_read}
-use borrow.Author.Tests.{ltb-true, leb-true, eqb-true}
+use Rattle.script_laws.proofs.Words.{◌≡◌, ℕ, ◌%◌, ◌^◌, ◌<◌, ◌≤◌, List, [], ◌∷◌, length, true, cond, ◌&&◌, Option, Some, None, IfOk, subst, arith, nat_lt, nat_le, ◌==◌, find, bytes_eq, codes, list_all, nat_tests, cond_some, and_first, and_second, NcType, file_limit, record_limit, number_of, last_type, fits_count, is_type, type_word, Word, is_name, starts_name, in_name, name, name_of_text, types, number_within, one_of_two, type_of, length_of_text, below_read, ltb-true, leb-true, eqb-true}
 use Rattle.nc_base.specs.declared.errors.ScriptKind.TheVariants as kind
 use Rattle.script_laws.proofs.StepLaws.{read_as}
 

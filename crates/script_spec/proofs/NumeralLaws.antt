@@ -1,6 +1,5 @@
 -- What digits, decimal and hexadecimal, come to at most.
-use Rattle.script_spec.proofs.Words.{◌≡◌, ℕ, zero, suc, ◌+◌, ◌-◌, ◌*◌, ◌^◌, ◌≤◌, ◌<◌, List, [], ◌∷◌, length, fold, true, Some, None, nat_lt, nat_le, refl, subst, zero-add, arith, leb-true, ◌&&◌, Option, list_all, common_steps, cond_some, and_first, and_second, is_digit, is_digits, digits_value, natural_of, hex_sum, below, size_of_text}
-use borrow.Author.Tests.{ltb-true}
+use Rattle.script_spec.proofs.Words.{◌≡◌, ℕ, zero, suc, ◌+◌, ◌-◌, ◌*◌, ◌^◌, ◌≤◌, ◌<◌, List, [], ◌∷◌, length, fold, true, Some, None, nat_lt, nat_le, refl, subst, zero-add, arith, leb-true, ◌&&◌, Option, list_all, common_steps, cond_some, and_first, and_second, is_digit, is_digits, digits_value, natural_of, hex_sum, below, size_of_text, ltb-true}
 
 abbrev pub tens : ℕ → ℕ
 tens zero = 1

@@ -1,6 +1,5 @@
 -- Places of names in a list.
-use Rattle.script_spelling.proofs.Words.{◌≡◌, ◌⊎◌, ◌∙◌, ℕ, suc, ◌<◌, List, [], ◌∷◌, ◌++◌, map, position, length, drop, Bool, true, false, cond, nat_lt, Option, Some, None, option_map, slice_get, refl, sym, ap, ⊎_elim, arith, bytes_eq, list_all, list_any, and_parts, and_from, or_parts, cond-true, cond-false, bytes_eq-Decides, position_below, get_left, Dim, all_some, is_among, dim_names, dim_ids, is_record_dim, nat_tests, subst, some_of_map}
-use borrow.Author.Tests.{ltb-true, lt-ltb}
+use Rattle.script_spelling.proofs.Words.{◌≡◌, ◌⊎◌, ◌∙◌, ℕ, suc, ◌<◌, List, [], ◌∷◌, ◌++◌, map, position, length, drop, Bool, true, false, cond, nat_lt, Option, Some, None, option_map, slice_get, refl, sym, ap, ⊎_elim, arith, bytes_eq, list_all, list_any, and_parts, and_from, or_parts, cond-true, cond-false, bytes_eq-Decides, position_below, get_left, Dim, all_some, is_among, dim_names, dim_ids, is_record_dim, nat_tests, subst, some_of_map, ltb-true, lt-ltb}
 
 abbrev place : ℕ → ℕ → Option ℕ
 place k n = cond (nat_lt k n) (Some k) None

@@ -1,8 +1,7 @@
 -- The words of values and regions that are read spell them.
-use Rattle.script_spelling.proofs.Words.{◌≡◌, ◌∙◌, ℕ, zero, suc, ◌<◌, List, [], ◌∷◌, ◌++◌, flat_map, length, Bool, true, false, not, nat_lt, ◌==◌, ◌&&◌, Option, Some, None, Ok, refl, sym, ap, subst, append_assoc, append-nil, arith, bytes_eq, codes, and_from, lt-ltb, NcType, Values, Numbers, Text, Bits, Form, Given, Part, Class, most_parts, Word, Plain, Quoted, Broken, size_of_text, number_of_text, bits_of_text, list_of_text, size, list, within_limits, are_numbers, are_patterns, may_be, number_for, pattern_for, one_value, each_value, sequence_count, sequence, is_term, pattern_sequence, is_pattern_term, pattern_values, text_values, number_values, bits_values, listed_kind, listed_values, values, given_of, given_parts, part, part_list, many_regions, region, SpellsOne, Each, SpellsSequence, SpellsBitSequence, SpellsValues, OfNothing, OfText, OfNumbers, OfBits, OfSequence, OfBitSequence, SpellsForm, SpellsRegion, nat_tests, ◌>>=◌, Result, ScriptKind, reads_as, refuse_if, ended, last_number, last_pattern}
+use Rattle.script_spelling.proofs.Words.{◌≡◌, ◌∙◌, ℕ, zero, suc, ◌<◌, List, [], ◌∷◌, ◌++◌, flat_map, length, Bool, true, false, not, nat_lt, ◌==◌, ◌&&◌, Option, Some, None, Ok, refl, sym, ap, subst, append_assoc, append-nil, arith, bytes_eq, codes, and_from, lt-ltb, NcType, Values, Numbers, Text, Bits, Form, Given, Part, Class, most_parts, Word, Plain, Quoted, Broken, size_of_text, number_of_text, bits_of_text, list_of_text, size, list, within_limits, are_numbers, are_patterns, may_be, number_for, pattern_for, one_value, each_value, sequence_count, sequence, is_term, pattern_sequence, is_pattern_term, pattern_values, text_values, number_values, bits_values, listed_kind, listed_values, values, given_of, given_parts, part, part_list, many_regions, region, SpellsOne, Each, SpellsSequence, SpellsBitSequence, SpellsValues, OfNothing, OfText, OfNumbers, OfBits, OfSequence, OfBitSequence, SpellsForm, SpellsRegion, nat_tests, ◌>>=◌, Result, ScriptKind, reads_as, refuse_if, ended, last_number, last_pattern, not-false}
 use Rattle.script_spelling.proofs.Steps.{went, same_ok, carried, tested, step_then, free_then, end_then}
 use Rattle.script_spelling.proofs.Places.{bytes_same}
-use borrow.Author.Tests.{not-false}
 use Rattle.script_spelling.proofs.WordsRead.{WordRead, one_is, size_is, list_is, read_then}
 use Rattle.nc_base.specs.declared.errors.ScriptKind.TheVariants as kind
 use Rattle.nc_base.specs.declared.request.Form.TheVariants as form

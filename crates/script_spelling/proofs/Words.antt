@@ -1,5 +1,5 @@
 -- The words of this crate's proofs, from where they stand.
-pub use Rattle.list_laws.proofs.Std.{AllPass-from_list_all, AllZip, Bool, Err, IsAscii, IsAscii-from_all, IsUtf8, IsUtf8-from_ascii, IsUtf8-from_is_utf8, List, None, Ok, Option, Result, Some, [], agree_below_at, and_from, and_left, and_parts, and_right, ap, append_assoc, arith, bytes_eq, bytes_eq-Decides, cases_Bool, codes, common_steps, cond, cond-false, cond-true, cond_some, cons_option, decimal, drop, enumerate_from, eq-eqb, eqb-true, false, filter_map-append, get_or, inl, inr, ints, is_utf8, le-leb, le-ltb, leb-true, length, length-append, length-map, length-map-range_with_len, length-replicate, length-slice_split, list_all, list_all-append, list_all-map, list_any, list_any-append, lt-leb, lt-ltb, ltb-true, map, map-append, nat_tests, ne_eqb, neg_ℤ, negsuc, not, not-true, not_from_false, or_cases, or_from, or_left, or_parts, or_right, pos, range_with_len, refl, replicate, same_Some, set_at, signed_decimal, slice_set, slice_split_at, subst, suc, sum, sum_by-cons, sym, take, take-append-drop, true, unsigned_abs, utf8_valid_len, utf8_valid_len-IsUtf8, valid_len_up_to, zero, ℕ, ℤ, ⊎_elim, ◌%◌, ◌&&◌, ◌*ℤ◌, ◌*◌, ◌++◌, ◌+ℤ◌, ◌+◌, ◌-◌, ◌/◌, ◌<◌, ◌^◌, ◌||◌, ◌∙◌, ◌∷◌, ◌≡◌, ◌≤◌, ◌⊎◌}
+pub use Rattle.list_laws.proofs.Std.{AllPass-from_list_all, AllZip, Bool, Err, IsAscii, IsAscii-from_all, IsUtf8, IsUtf8-from_ascii, IsUtf8-from_is_utf8, List, None, Ok, Option, Result, Some, [], agree_below_at, and_from, and_left, and_parts, and_right, ap, append_assoc, arith, bytes_eq, bytes_eq-Decides, cases_Bool, codes, common_steps, cond, cond-false, cond-true, cond_some, cons_option, decimal, drop, enumerate_from, eq-eqb, eqb-true, false, filter_map-append, get_or, inl, inr, ints, is_utf8, le-leb, le-ltb, leb-true, length, length-append, length-map, length-map-range_with_len, length-replicate, length-slice_split, list_all, list_all-append, list_all-map, list_any, list_any-append, lt-leb, lt-ltb, ltb-true, map, map-append, nat_tests, ne_eqb, neg_ℤ, negsuc, not, not-true, not_from_false, or_cases, or_from, or_left, or_parts, or_right, pos, range_with_len, refl, replicate, same_Some, set_at, signed_decimal, slice_set, slice_split_at, subst, suc, sum, sum_by-cons, sym, take, take-append-drop, true, unsigned_abs, utf8_valid_len, utf8_valid_len-IsUtf8, valid_len_up_to, zero, ℕ, ℤ, ⊎_elim, ◌%◌, ◌&&◌, ◌*ℤ◌, ◌*◌, ◌++◌, ◌+ℤ◌, ◌+◌, ◌-◌, ◌/◌, ◌<◌, ◌^◌, ◌||◌, ◌∙◌, ◌∷◌, ◌≡◌, ◌≤◌, ◌⊎◌, ltb-false, not-false, leb-false}
 pub use Rattle.std.proofs.Common.{append-nil, find, flat_map, fold, is_none, is_some, length-set, nat_le, nat_lt, option_map, position, slice_get, take_all, unwrap_or, ◌==◌}
 pub use Rattle.list_laws.proofs.Common.{get_left, all_joined, entry_below, entry_numbered, entry_set, entry_set_other, equal_itself, equal_true, first_same, found_passes, none_of_test, not_some, passes_at, position_below, some_not_none, some_of_map}
 pub use Rattle.list_laws.proofs.Types.{Attr, Bits, Bput, Call, Choice, Dim, Every, Extra, Form, Given, Header, Hints, Iget, Int, Iput, Listed, MeetKind, NcType, Numbers, OverlapRule, Part, PostKind, Refuse, Script, ScriptErr, ScriptKind, Serial, Text, UByte, Values, Var, count_of}

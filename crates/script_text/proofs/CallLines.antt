@@ -1,7 +1,6 @@
 -- The calls of all ranks, printed rank by rank, are read as the same calls.
-use Rattle.script_text.proofs.Words.{Option, filter_map-append, all_joined, is_expressible_call, ◌≡◌, ◌∙◌, ℕ, zero, suc, ◌+◌, ◌≤◌, ◌<◌, List, [], ◌∷◌, ◌++◌, map, length, replicate, Bool, true, false, not, nat_lt, Ok, refl, ap, subst, append-nil, arith, codes, decimal, list_all, enumerate_from, and_parts, and_from, ne_eqb, Call, call_word, shown_call, Word, Plain, Line, is_comment, is_digit, Called, data_part, flat_map-append, nat_tests, length-replicate, AllZip, Known, None, Some, SpellsCall, SpellsCallLine, calls_in, cond, cons_option, eq-eqb, is_lawful_call, list_all-append, list_all-map, no_calls, range_with_len, sym, ◌==◌}
+use Rattle.script_text.proofs.Words.{Option, filter_map-append, all_joined, is_expressible_call, ◌≡◌, ◌∙◌, ℕ, zero, suc, ◌+◌, ◌≤◌, ◌<◌, List, [], ◌∷◌, ◌++◌, map, length, replicate, Bool, true, false, not, nat_lt, Ok, refl, ap, subst, append-nil, arith, codes, decimal, list_all, enumerate_from, and_parts, and_from, ne_eqb, Call, call_word, shown_call, Word, Plain, Line, is_comment, is_digit, Called, data_part, flat_map-append, nat_tests, length-replicate, AllZip, Known, None, Some, SpellsCall, SpellsCallLine, calls_in, cond, cons_option, eq-eqb, is_lawful_call, list_all-append, list_all-map, no_calls, range_with_len, sym, ◌==◌, lt-ltb}
 use Rattle.std.proofs.Common.{flat_map}
-use borrow.Author.Tests.{lt-ltb}
 use Rattle.script_text.proofs.Lines.{is_line, spelled, numbered}
 use Rattle.script_text.proofs.Numerals.{decimal_numeral, decimal_plain}
 use Rattle.script_text.proofs.PrintedValues.{is_read}

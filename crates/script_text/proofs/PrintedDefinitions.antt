@@ -1,6 +1,5 @@
 -- Hints, dimensions and variables that are printed are read again.
-use Rattle.script_text.proofs.Words.{◌≡◌, ◌⊎◌, ◌∙◌, ℕ, ◌%◌, ◌^◌, ◌<◌, List, [], ◌∷◌, length, Bool, true, false, not, cond, nat_le, ◌==◌, ◌&&◌, ◌||◌, Option, Some, None, Ok, refl, sym, ap, subst, inl, inr, arith, bytes_eq, codes, decimal, list_all, list_any, and_parts, and_from, cond-true, cond-false, NcType, Dim, most_dims, most_vars, record_limit, type_word, bracketed, Word, Plain, is_name, size_of_text, HintForm, Within, Either, number_within, ranks_line, type_of, is_among, length_of_text, is_unlimited, dim_names, dim_line, var_head, name_list, size_read, nat_tests, lt-leb}
-use borrow.Author.Tests.{leb-true}
+use Rattle.script_text.proofs.Words.{◌≡◌, ◌⊎◌, ◌∙◌, ℕ, ◌%◌, ◌^◌, ◌<◌, List, [], ◌∷◌, length, Bool, true, false, not, cond, nat_le, ◌==◌, ◌&&◌, ◌||◌, Option, Some, None, Ok, refl, sym, ap, subst, inl, inr, arith, bytes_eq, codes, decimal, list_all, list_any, and_parts, and_from, cond-true, cond-false, NcType, Dim, most_dims, most_vars, record_limit, type_word, bracketed, Word, Plain, is_name, size_of_text, HintForm, Within, Either, number_within, ranks_line, type_of, is_among, length_of_text, is_unlimited, dim_names, dim_line, var_head, name_list, size_read, nat_tests, lt-leb, leb-true}
 use Rattle.script_spelling.proofs.Steps.{go_on, passed, word_read, all_more}
 use Rattle.script_text.proofs.Lexing.{is_plain, is_good}
 use Rattle.script_text.proofs.Numerals.{below_bound, below_again, size_again, size_plain, decimal_word, brackets_again, parts_again, bracketed_plain, is_item, name_item, name_plain}

@@ -1,6 +1,5 @@
 -- The texts on the lines of bytes have bytes.
-use Rattle.script_text.proofs.Words.{◌≡◌, ℕ, zero, suc, ◌+◌, ◌<◌, List, [], ◌∷◌, drop, Bool, true, not, ◌==◌, Option, Some, None, option_map, refl, arith, list_all, slice_split, onto_first, enumerate_from, position_or_len, and_parts, and_from, Word, is_blank, is_newline, after_blanks, first_word, quoted_word, text_from, TextState, Between, AfterBackslash, FirstHex, SecondHex, words_within, hex_value, escape, without_empty_end, text_lines, line_of, significant, significant_of, all_joined, nat_tests}
-use borrow.Author.Tests.{lt-ltb}
+use Rattle.script_text.proofs.Words.{◌≡◌, ℕ, zero, suc, ◌+◌, ◌<◌, List, [], ◌∷◌, drop, Bool, true, not, ◌==◌, Option, Some, None, option_map, refl, arith, list_all, slice_split, onto_first, enumerate_from, position_or_len, and_parts, and_from, Word, is_blank, is_newline, after_blanks, first_word, quoted_word, text_from, TextState, Between, AfterBackslash, FirstHex, SecondHex, words_within, hex_value, escape, without_empty_end, text_lines, line_of, significant, significant_of, all_joined, nat_tests, lt-ltb}
 use Rattle.script_text.proofs.Lexing.{is_byte}
 use Rattle.script_text.proofs.Numerals.{hex_value_bound}
 use Rattle.script_text.proofs.PrintedValues.{is_read}

@@ -1,6 +1,5 @@
 -- Where a run on threads stood that a fault cut off, and which answers its ranks have.
-use Rattle.thread_run.proofs.Words.{◌≡◌, ℕ, ◌≤◌, refl, sym, ◌∙◌, ap, subst, inl, inr, ◌⊎◌, List, [], ◌∷◌, ◌++◌, length, map, set, Bool, true, false, Option, Some, None, arith, eqb_tells, append-nil, slice_get, flat_map, nat_lt, list_all, byte_len, entry_below, entry_beside, and_first, and_second, Header, Call, Script, Mark, Meet, Solo, Offer, OfferKind, OwnerItem, Reply, Stop, RankItem, StepErr, In, Owner, Event, Client, event, holds, is_strange, offers_at, offers_held, own_items, step_offers, Setting, Counted, puts_of, count_width, Arrival, IsLegal, fits_offer, offered, offered_by, waiting, Going, advance, after_mark, first_going, hears, offers_of, covered, IsLeft, IsTorn, OwnerStoodAt, StoodAt, bytes_of_mark, at_arrival, between_arrivals, in_step, torn_still, solo_goes, HasOffered, IsBeginning, waiting_misfit, waiting_reply, meeting_is, same_offers, solo_of_is, AreSingle, IsSingleOffer, strange_alone, own_here, own_other, raised_grows, mark_grows, in_left, client_held, nat_tests, torn_same, by_event, does_meeting, does_solo}
-use borrow.Author.Tests.{ltb-true}
+use Rattle.thread_run.proofs.Words.{◌≡◌, ℕ, ◌≤◌, refl, sym, ◌∙◌, ap, subst, inl, inr, ◌⊎◌, List, [], ◌∷◌, ◌++◌, length, map, set, Bool, true, false, Option, Some, None, arith, eqb_tells, append-nil, slice_get, flat_map, nat_lt, list_all, byte_len, entry_below, entry_beside, and_first, and_second, Header, Call, Script, Mark, Meet, Solo, Offer, OfferKind, OwnerItem, Reply, Stop, RankItem, StepErr, In, Owner, Event, Client, event, holds, is_strange, offers_at, offers_held, own_items, step_offers, Setting, Counted, puts_of, count_width, Arrival, IsLegal, fits_offer, offered, offered_by, waiting, Going, advance, after_mark, first_going, hears, offers_of, covered, IsLeft, IsTorn, OwnerStoodAt, StoodAt, bytes_of_mark, at_arrival, between_arrivals, in_step, torn_still, solo_goes, HasOffered, IsBeginning, waiting_misfit, waiting_reply, meeting_is, same_offers, solo_of_is, AreSingle, IsSingleOffer, strange_alone, own_here, own_other, raised_grows, mark_grows, in_left, client_held, nat_tests, torn_same, by_event, does_meeting, does_solo, ltb-true}
 use Rattle.nc_base.specs.declared.step.OfferKind.TheVariants as offer
 use Rattle.nc_base.specs.declared.step.RankItem.TheVariants as item
 use Rattle.nc_base.specs.declared.step.Reply as reply

@@ -1,5 +1,5 @@
 -- The words of this crate's proofs, from where they stand.
-pub use Rattle.list_laws.proofs.Std.{All, All-head, All-push, All-tail, Bool, Err, IfSome, IsTrue, List, None, Ok, Option, Result, Some, [], ap, append-nil, append_assoc, append_cancel_left, arith, byte_len, bytes_eq-Decides, cond, drop, enumerate_from, eqb_tells, false, filter, filter-append, flat_map, fold, get_or, inl, inr, is_err, is_some, length, length-append, length-map, length-replicate, length-set, length-take-le, list_all, list_all-append, list_any, ltb-false, map, map-append, max, nat_lt, nat_tests, of_calls, or_from, range_with_len, refl, replicate, rules, same_Some, set, slice_get, slice_get-get_or, slice_get-map, slice_get_within, subst, suc, sym, take, take-append-drop, true, vec_capacity, with_items_is, zero, ℕ, ◌*◌, ◌++◌, ◌+◌, ◌-◌, ◌<◌, ◌==◌, ◌^◌, ◌∙◌, ◌∷◌, ◌≡◌, ◌≤◌, ◌⊎◌}
+pub use Rattle.list_laws.proofs.Std.{All, All-head, All-push, All-tail, Bool, Err, IfSome, IsTrue, List, None, Ok, Option, Result, Some, [], ap, append-nil, append_assoc, append_cancel_left, arith, byte_len, bytes_eq-Decides, cond, drop, enumerate_from, eqb_tells, false, filter, filter-append, flat_map, fold, get_or, inl, inr, is_err, is_some, length, length-append, length-map, length-replicate, length-set, length-take-le, list_all, list_all-append, list_any, ltb-false, map, map-append, max, nat_lt, nat_tests, of_calls, or_from, range_with_len, refl, replicate, rules, same_Some, set, slice_get, slice_get-get_or, slice_get-map, slice_get_within, subst, suc, sym, take, take-append-drop, true, vec_capacity, with_items_is, zero, ℕ, ◌*◌, ◌++◌, ◌+◌, ◌-◌, ◌<◌, ◌==◌, ◌^◌, ◌∙◌, ◌∷◌, ◌≡◌, ◌≤◌, ◌⊎◌, ltb-true}
 pub use Rattle.std.specs.Prelude.{not}
 pub use Rattle.collective_round.proofs.CountedLaws.{put_needed}
 pub use Rattle.collective_round.proofs.TornFiles.{torn_still}

@@ -1,6 +1,5 @@
 -- Where the variables of a created file lie, one variable after another.
-use Rattle.var_layout.proofs.Words.{◌≡◌, ℕ, zero, suc, ◌+◌, ◌^◌, ◌<◌, ◌≤◌, List, [], ◌∷◌, ◌++◌, length, take, drop, get_or, Bool, true, false, Option, Some, None, refl, sym, ap, ◌∙◌, arith, filter, find, no_both, sum_by, not, option_map, option_or, enumerate_from, take_all, drop_all, append-nil, set, get_or-enumerate_from, length-enumerate_from, fold_push, and_second, Header, Var, Align, round_up, vsize, is_record, fixed_variables, record_variables, end_of_fixed, begin_of, placed, begins, header_len, Numbered, fixed_of, records_in, size_fault, layout_fault, find-append, not_from_false, not_from_true, fixed_end, first_record, lies_too_far, far_fixed, far_record, capped, nat_tests}
-use borrow.Author.Tests.{ltb-true}
+use Rattle.var_layout.proofs.Words.{◌≡◌, ℕ, zero, suc, ◌+◌, ◌^◌, ◌<◌, ◌≤◌, List, [], ◌∷◌, ◌++◌, length, take, drop, get_or, Bool, true, false, Option, Some, None, refl, sym, ap, ◌∙◌, arith, filter, find, no_both, sum_by, not, option_map, option_or, enumerate_from, take_all, drop_all, append-nil, set, get_or-enumerate_from, length-enumerate_from, fold_push, and_second, Header, Var, Align, round_up, vsize, is_record, fixed_variables, record_variables, end_of_fixed, begin_of, placed, begins, header_len, Numbered, fixed_of, records_in, size_fault, layout_fault, find-append, not_from_false, not_from_true, fixed_end, first_record, lies_too_far, far_fixed, far_record, capped, nat_tests, ltb-true}
 use Rattle.nc_base.specs.declared.errors.LayoutErr.TheVariants as fault
 use Rattle.var_layout.proofs.Capping.{filter_yes, filter_no, sum_filter_yes}
 use Rattle.var_layout.proofs.Searches.{Lies, find_stops, find_goes_on, fails_at}

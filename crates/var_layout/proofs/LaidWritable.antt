@@ -1,6 +1,5 @@
 -- A laid out header can be written where its names, types and attributes can.
-use Rattle.var_layout.proofs.Words.{◌≡◌, ℕ, suc, ◌-◌, ◌*◌, ◌^◌, ◌<◌, ◌≤◌, List, [], ◌∷◌, inl, inr, holds_or_not, length, Bool, true, false, ◌&&◌, Option, Some, None, refl, sym, ap, ◌∙◌, arith, nat_lt, nat_le, option_map, slice_get, position, list_any, list_all, Width, byte_len, nat_tests, prefix_len_passes, slice_get_within, get_or_from_slice_get, and_from, or_parts, leb-true, both_none, and_first, and_second, passes_at, fails_at, Header, Var, Align, most_dims, most_vars, most_dims_of_var, vsize, is_record, placed, begins, begin_width, bad_id, is_writable, is_writable_list, is_writable_var, fits_field, fits_count, is_large_var, size_fault, lies_too_far, HasPlace, is_unplaced, has_writable_names, has_writable_parts}
-use borrow.Author.Tests.{ltb-false}
+use Rattle.var_layout.proofs.Words.{◌≡◌, ℕ, suc, ◌-◌, ◌*◌, ◌^◌, ◌<◌, ◌≤◌, List, [], ◌∷◌, inl, inr, holds_or_not, length, Bool, true, false, ◌&&◌, Option, Some, None, refl, sym, ap, ◌∙◌, arith, nat_lt, nat_le, option_map, slice_get, position, list_any, list_all, Width, byte_len, nat_tests, prefix_len_passes, slice_get_within, get_or_from_slice_get, and_from, or_parts, leb-true, both_none, and_first, and_second, passes_at, fails_at, Header, Var, Align, most_dims, most_vars, most_dims_of_var, vsize, is_record, placed, begins, begin_width, bad_id, is_writable, is_writable_list, is_writable_var, fits_field, fits_count, is_large_var, size_fault, lies_too_far, HasPlace, is_unplaced, has_writable_names, has_writable_parts, ltb-false}
 use Rattle.nc_base.specs.declared.errors.LayoutErr.TheVariants as fault
 use Rattle.var_layout.proofs.CreatedFiles.{in_place, near_end, fixed_fits, record_fits, length-placed}
 use Rattle.var_layout.proofs.Searches.{Lies}

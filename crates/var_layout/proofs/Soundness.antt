@@ -1,6 +1,5 @@
 -- What a sound header bounds.
-use Rattle.var_layout.proofs.Words.{◌≡◌, ℕ, zero, suc, ◌+◌, ◌-◌, ◌*◌, ◌^◌, ◌<◌, ◌≤◌, List, [], ◌∷◌, length, take, drop, get_or, map, Bool, true, false, cond, either, Option, Some, None, refl, sym, ap, subst, ◌∙◌, arith, count_by, sum_by, ◌==◌, slice_get, IfSome, nat_tests, take_all, drop_more, length-map, length-filter, sum_by-cons, sum_by_more, not-false, slab_below, none_of_test, both_none, untold, told_unless, and_first, and_second, or_first_false, Header, Var, slab, vsize, is_record, recsize, record_size, record_slabs, record_variables, record_share, last_share, round_up, header_len, measure, past_bound, keeps_bound, is_sound, capped}
-use borrow.Author.Tests.{ltb-true}
+use Rattle.var_layout.proofs.Words.{◌≡◌, ℕ, zero, suc, ◌+◌, ◌-◌, ◌*◌, ◌^◌, ◌<◌, ◌≤◌, List, [], ◌∷◌, length, take, drop, get_or, map, Bool, true, false, cond, either, Option, Some, None, refl, sym, ap, subst, ◌∙◌, arith, count_by, sum_by, ◌==◌, slice_get, IfSome, nat_tests, take_all, drop_more, length-map, length-filter, sum_by-cons, sum_by_more, not-false, slab_below, none_of_test, both_none, untold, told_unless, and_first, and_second, or_first_false, Header, Var, slab, vsize, is_record, recsize, record_size, record_slabs, record_variables, record_share, last_share, round_up, header_len, measure, past_bound, keeps_bound, is_sound, capped, ltb-true}
 use Rattle.nc_base.specs.declared.errors.HeaderErr.TheVariants as fault
 
 -- ---- each variable keeps its bound

@@ -1,5 +1,5 @@
 -- The words of this crate's proofs, from where they stand.
-pub use Rattle.list_laws.proofs.Std.{Bool, IfSome, List, None, Option, Some, Width, [], and_from, ap, append-nil, arith, byte_len, cases_eq, cases_lt, cond, count_by, drop, drop_all, drop_more, enumerate_from, err_from_is_err_and, false, filter, filter-append, filter_more, find, find-append, flat_map, fold_push, get_or, get_or-enumerate_from, get_or_default, get_or_from_slice_get, inl, inr, is_none, leb-true, length, length-enumerate_from, length-filter, length-flat_map, length-map, list_all, list_any, map, map-append, max, mul-le, mul-le-mul_left, mul-one, mul_assoc, mul_comm, nat_le, nat_lt, nat_tests, not-false, not-true, not_from_false, not_from_true, option_map, option_or, or_parts, position, prefix_len, prefix_len_passes, refl, result_err, row_fits, slice_get, slice_get_read, slice_get_within, subst, suc, sum_by, sum_by-cons, sum_by_more, sum_by_push, sym, take, take-append-drop, take_all, take_more, to_be_bytes, true, zero, ℕ, ◌&&◌, ◌*◌, ◌++◌, ◌+◌, ◌-◌, ◌<◌, ◌==◌, ◌^◌, ◌||◌, ◌∙◌, ◌∷◌, ◌≡◌, ◌≤◌, ◌⊎◌}
+pub use Rattle.list_laws.proofs.Std.{Bool, IfSome, List, None, Option, Some, Width, [], and_from, ap, append-nil, arith, byte_len, cases_eq, cases_lt, cond, count_by, drop, drop_all, drop_more, enumerate_from, err_from_is_err_and, false, filter, filter-append, filter_more, find, find-append, flat_map, fold_push, get_or, get_or-enumerate_from, get_or_default, get_or_from_slice_get, inl, inr, is_none, leb-true, length, length-enumerate_from, length-filter, length-flat_map, length-map, list_all, list_any, map, map-append, max, mul-le, mul-le-mul_left, mul-one, mul_assoc, mul_comm, nat_le, nat_lt, nat_tests, not-false, not-true, not_from_false, not_from_true, option_map, option_or, or_parts, position, prefix_len, prefix_len_passes, refl, result_err, row_fits, slice_get, slice_get_read, slice_get_within, subst, suc, sum_by, sum_by-cons, sum_by_more, sum_by_push, sym, take, take-append-drop, take_all, take_more, to_be_bytes, true, zero, ℕ, ◌&&◌, ◌*◌, ◌++◌, ◌+◌, ◌-◌, ◌<◌, ◌==◌, ◌^◌, ◌||◌, ◌∙◌, ◌∷◌, ◌≡◌, ◌≤◌, ◌⊎◌, ltb-true, ltb-false}
 pub use Rattle.std.proofs.Math.ListN.{get_or-map, set}
 pub use Rattle.std.proofs.lemmas.List.{length-append}
 pub use Rattle.std.specs.Prelude.{not}

@@ -1,6 +1,5 @@
 -- The answer to the call of a meeting, or of a rank's own step, stands at the number of that call.
-use Rattle.whole_run_laws.proofs.Words.{◌≡◌, ℕ, zero, suc, ◌+◌, ◌<◌, sym, ◌∙◌, ap, subst, List, [], ◌∷◌, ◌++◌, length, map, drop, Bool, true, false, Option, Some, None, arith, append_assoc, length-append, same_Some, slice_get_within, fold, slice_get, list_all, entry_below, entry_set, get_left, get_right, and_first, and_second, Answer, Pair, Header, Call, Script, Mark, Meet, Solo, MeetKind, Offer, OfferKind, Want, Counted, Setting, solo, is_collective, is_of_rank_below, IsLegal, kind_of_meeting, is_lawful, Rank, step, advance, after_mark, after_meeting, after_solo, first_going, first_state, go, Going, hears, serial_from, setting_of, state_after, kinds_of, Says, step_says, ranks_lawful, state_more, hear_length, IsToldAt, meeting_call, told_at, set_cases, nat_tests, Puts, offers_of, puts_asked, puts_met, puts_of, rank_offer, told}
-use borrow.Author.Tests.{ltb-true}
+use Rattle.whole_run_laws.proofs.Words.{◌≡◌, ℕ, zero, suc, ◌+◌, ◌<◌, sym, ◌∙◌, ap, subst, List, [], ◌∷◌, ◌++◌, length, map, drop, Bool, true, false, Option, Some, None, arith, append_assoc, length-append, same_Some, slice_get_within, fold, slice_get, list_all, entry_below, entry_set, get_left, get_right, and_first, and_second, Answer, Pair, Header, Call, Script, Mark, Meet, Solo, MeetKind, Offer, OfferKind, Want, Counted, Setting, solo, is_collective, is_of_rank_below, IsLegal, kind_of_meeting, is_lawful, Rank, step, advance, after_mark, after_meeting, after_solo, first_going, first_state, go, Going, hears, serial_from, setting_of, state_after, kinds_of, Says, step_says, ranks_lawful, state_more, hear_length, IsToldAt, meeting_call, told_at, set_cases, nat_tests, Puts, offers_of, puts_asked, puts_met, puts_of, rank_offer, told, ltb-true}
 use Rattle.nc_base.specs.declared.step.OfferKind.TheVariants as offer
 use Rattle.nc_base.specs.declared.step.Want.TheVariants as want
 use Rattle.join_laws.proofs.WholeLaws.{get_map as mapped_from}

@@ -1,6 +1,5 @@
 -- The record count of a run: the greater of the old one and the greatest that a completed put needed.
-use Rattle.whole_run_laws.proofs.Words.{◌≡◌, ℕ, zero, suc, ◌≤◌, refl, sym, ◌∙◌, ap, subst, inl, inr, List, [], ◌∷◌, ◌++◌, map, set, max, true, Option, Some, arith, map-append, same_Some, eqb_tells, fold, slice_get, list_all, entry_set, entry_set_other, and_first, and_second, Pair, Header, Call, Script, Mark, Meet, Solo, MeetKind, Offer, Counted, meeting, needs, Setting, solo, told, is_of_rank_below, IsLegal, is_lawful, greatest, needed_by, advance, after_mark, after_meeting, closed, first_going, first_state, Going, hears, offers_of, rank_offer, serial_from, setting_of, Puts, go_went, hear_known, Went, meeting_within, completed, completed_from, completed_puts, puts_asked, puts_at, puts_met, unless_told, set_cases, same_le, greatest_joined, raised_records, nat_tests}
-use borrow.Author.Tests.{ltb-true}
+use Rattle.whole_run_laws.proofs.Words.{◌≡◌, ℕ, zero, suc, ◌≤◌, refl, sym, ◌∙◌, ap, subst, inl, inr, List, [], ◌∷◌, ◌++◌, map, set, max, true, Option, Some, arith, map-append, same_Some, eqb_tells, fold, slice_get, list_all, entry_set, entry_set_other, and_first, and_second, Pair, Header, Call, Script, Mark, Meet, Solo, MeetKind, Offer, Counted, meeting, needs, Setting, solo, told, is_of_rank_below, IsLegal, is_lawful, greatest, needed_by, advance, after_mark, after_meeting, closed, first_going, first_state, Going, hears, offers_of, rank_offer, serial_from, setting_of, Puts, go_went, hear_known, Went, meeting_within, completed, completed_from, completed_puts, puts_asked, puts_at, puts_met, unless_told, set_cases, same_le, greatest_joined, raised_records, nat_tests, ltb-true}
 use Rattle.join_laws.proofs.WholeLaws.{get_map as mapped_from}
 use Rattle.whole_run_laws.proofs.Courses.{AreAlong, AreOn, first_along, Heard, heard_by, hears_then, mark_along, meets, offered, offered_alone, Stepped, steps}
 

@@ -1,6 +1,5 @@
 -- No window's hull is longer than its buffer, and no call of a step transfers more.
-use Rattle.whole_run_laws.proofs.Words.{either, leb-true, and_first, and_second, is_within, lawful_parts, ◌≡◌, ℕ, suc, ◌+◌, ◌<◌, ◌≤◌, ap, subst, inl, inr, ◌⊎◌, List, [], ◌∷◌, ◌++◌, length, map, Bool, true, false, cond, not, max, ◌&&◌, arith, filter, flat_map, nat_le, nat_lt, is_none, enumerate_from, equal_itself, filter_in, filter_ascends, flat_in, in_either, in_order_ascends, last_below, map_in, Header, Post, Hints, Script, DiskCall, Mark, Meet, Solo, Offer, calls_from, collective_windows, get_bytes, gets_of, grow_to, hull_len, in_order, last_of, loads, mark_calls, meeting_calls, overlays, put_calls, run_calls, sieved, sieving_windows, solo_calls, store_records, Counted, Setting, meeting, puts_of, told, is_lawful, In, is_empty, Going, advance, after_mark, closed, first_state, offers_of, setting_of, Puts, bytes_of, covered, is_count_store, longest, transferred, le_two, window_short, nat_tests}
-use borrow.Author.Tests.{ltb-true, ltb-false}
+use Rattle.whole_run_laws.proofs.Words.{either, leb-true, and_first, and_second, is_within, lawful_parts, ◌≡◌, ℕ, suc, ◌+◌, ◌<◌, ◌≤◌, ap, subst, inl, inr, ◌⊎◌, List, [], ◌∷◌, ◌++◌, length, map, Bool, true, false, cond, not, max, ◌&&◌, arith, filter, flat_map, nat_le, nat_lt, is_none, enumerate_from, equal_itself, filter_in, filter_ascends, flat_in, in_either, in_order_ascends, last_below, map_in, Header, Post, Hints, Script, DiskCall, Mark, Meet, Solo, Offer, calls_from, collective_windows, get_bytes, gets_of, grow_to, hull_len, in_order, last_of, loads, mark_calls, meeting_calls, overlays, put_calls, run_calls, sieved, sieving_windows, solo_calls, store_records, Counted, Setting, meeting, puts_of, told, is_lawful, In, is_empty, Going, advance, after_mark, closed, first_state, offers_of, setting_of, Puts, bytes_of, covered, is_count_store, longest, transferred, le_two, window_short, nat_tests, ltb-true, ltb-false}
 
 -- ---- the buffers of a lawful script
 

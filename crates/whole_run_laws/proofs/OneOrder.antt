@@ -1,6 +1,5 @@
 -- A script whose ranks have no steps of their own has one order: all its meetings in turn.
-use Rattle.whole_run_laws.proofs.Words.{◌≡◌, ℕ, zero, suc, ◌+◌, ◌<◌, refl, sym, ◌∙◌, ap, subst, List, [], ◌∷◌, length, map, Bool, true, false, not, ◌&&◌, Option, Some, None, arith, and-false, or_from, slice_get, filter, list_all, list_any, range_with_len, fails_each, fails_at, entry_below, and_first, equal_itself, no_false, or_first_false, or_second_false, in_range, each_in, Header, Call, Script, Mark, Meet, Solo, MeetKind, concerns, is_collective, is_data, is_of_rank_below, IsLegal, kind_of_call, kinds, marks, marks_from, is_meeting, is_lawful, serial_from, kinds_of, own_lawful, ranks_lawful, kinds_skip, kinds_take, marks_alone, marks_meet, marks_solo, all_meetings, has_independent, has_solo, is_independent, collective_kind, some_rank, nat_tests}
-use borrow.Author.Tests.{ltb-true}
+use Rattle.whole_run_laws.proofs.Words.{◌≡◌, ℕ, zero, suc, ◌+◌, ◌<◌, refl, sym, ◌∙◌, ap, subst, List, [], ◌∷◌, length, map, Bool, true, false, not, ◌&&◌, Option, Some, None, arith, and-false, or_from, slice_get, filter, list_all, list_any, range_with_len, fails_each, fails_at, entry_below, and_first, equal_itself, no_false, or_first_false, or_second_false, in_range, each_in, Header, Call, Script, Mark, Meet, Solo, MeetKind, concerns, is_collective, is_data, is_of_rank_below, IsLegal, kind_of_call, kinds, marks, marks_from, is_meeting, is_lawful, serial_from, kinds_of, own_lawful, ranks_lawful, kinds_skip, kinds_take, marks_alone, marks_meet, marks_solo, all_meetings, has_independent, has_solo, is_independent, collective_kind, some_rank, nat_tests, ltb-true}
 
 abbrev is_solo : Mark → Bool
 is_solo m = not (is_meeting m)

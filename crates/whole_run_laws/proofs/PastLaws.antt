@@ -1,6 +1,5 @@
 -- No completed put holds a byte of the header, so its bytes stay but for the record count.
-use Rattle.whole_run_laws.proofs.Words.{holds_or_not, some_or_none, ◌≡◌, ℕ, ◌<◌, ◌≤◌, sym, ◌∙◌, ap, subst, inl, inr, List, [], ◌∷◌, map, true, false, ◌||◌, Option, Some, arith, flat_map-append, slice_get, list_all, range_with_len, fails_each, and_first, and_second, or_first_false, any_in, flat_in, in_either, range_low, each_in, map_in, numbered_in, Header, Var, Post, Script, Mark, Meet, Solo, Offer, Reply, refused, wrong_length, size_of, at, Counted, puts_of, Setting, header_len, is_sound, is_of_rank_below, IsLegal, is_lawful, In, IsElementBelow, place, records_of, check_some, elements, places, advance, after_mark, first_going, first_state, Going, hears, offers_of, serial_from, setting_of, bytes_of, bytes_of_some, covered, Puts, accepted_elements, elements_past_header, Fit, good_first, heard_fits, most_posts_held, offer_fits, completed, completed_from, completed_puts, IsBesideCount, is_held, puts_at, puts_met, nat_tests}
-use borrow.Author.Tests.{ltb-true}
+use Rattle.whole_run_laws.proofs.Words.{holds_or_not, some_or_none, ◌≡◌, ℕ, ◌<◌, ◌≤◌, sym, ◌∙◌, ap, subst, inl, inr, List, [], ◌∷◌, map, true, false, ◌||◌, Option, Some, arith, flat_map-append, slice_get, list_all, range_with_len, fails_each, and_first, and_second, or_first_false, any_in, flat_in, in_either, range_low, each_in, map_in, numbered_in, Header, Var, Post, Script, Mark, Meet, Solo, Offer, Reply, refused, wrong_length, size_of, at, Counted, puts_of, Setting, header_len, is_sound, is_of_rank_below, IsLegal, is_lawful, In, IsElementBelow, place, records_of, check_some, elements, places, advance, after_mark, first_going, first_state, Going, hears, offers_of, serial_from, setting_of, bytes_of, bytes_of_some, covered, Puts, accepted_elements, elements_past_header, Fit, good_first, heard_fits, most_posts_held, offer_fits, completed, completed_from, completed_puts, IsBesideCount, is_held, puts_at, puts_met, nat_tests, ltb-true}
 use Rattle.nc_base.specs.declared.request.Direction.TheVariants as way
 use Rattle.join_laws.proofs.CountLaws.{passes_accepted as accepted}
 use Rattle.join_laws.proofs.WholeLaws.{get_map as mapped_from}

@@ -1,6 +1,5 @@
 -- What a step tells its ranks, and that a step with a pair changes nothing.
-use Rattle.whole_run_laws.proofs.Words.{◌≡◌, ℕ, suc, ◌+◌, refl, sym, ◌∙◌, ap, List, [], ◌∷◌, ◌++◌, map, Bool, true, false, Option, Some, None, arith, same_Some, nat_tests, flat_map, slice_get, enumerate_from, list_all, and_first, and_second, in_at, Answer, Pair, Header, Post, Call, OverlapRule, Refuse, Script, Mark, Meet, Solo, MeetKind, Offer, OfferKind, Reply, Counted, get_post, known_by, meeting, puts_of, raises, Setting, told, told_under, is_of_rank_below, IsLegal, is_lawful, greatest, In, Open, Rank, advance, after_mark, first_state, go, Going, hears, offers_of, setting_of, state_after, holdings, IsSharedPair, IsUnshared, Puts, shared_pair, pair_found, pair_none, state_more, puts_at, puts_met, quiet_step, nil_cons}
-use borrow.Author.Tests.{ltb-true}
+use Rattle.whole_run_laws.proofs.Words.{◌≡◌, ℕ, suc, ◌+◌, refl, sym, ◌∙◌, ap, List, [], ◌∷◌, ◌++◌, map, Bool, true, false, Option, Some, None, arith, same_Some, nat_tests, flat_map, slice_get, enumerate_from, list_all, and_first, and_second, in_at, Answer, Pair, Header, Post, Call, OverlapRule, Refuse, Script, Mark, Meet, Solo, MeetKind, Offer, OfferKind, Reply, Counted, get_post, known_by, meeting, puts_of, raises, Setting, told, told_under, is_of_rank_below, IsLegal, is_lawful, greatest, In, Open, Rank, advance, after_mark, first_state, go, Going, hears, offers_of, setting_of, state_after, holdings, IsSharedPair, IsUnshared, Puts, shared_pair, pair_found, pair_none, state_more, puts_at, puts_met, quiet_step, nil_cons, ltb-true}
 use Rattle.nc_base.specs.declared.step.OfferKind.TheVariants as offer
 use Rattle.whole_run_laws.proofs.Courses.{AreAlong, AreOn, first_along, marks_along, offered, offered_alone, steps}
 use Rattle.join_laws.proofs.WholeLaws.{get_map as mapped_from}

@@ -1,5 +1,5 @@
 -- The words of this crate's proofs, from where they stand.
-pub use Rattle.list_laws.proofs.Std.{AllByRecursion, Bool, List, None, Option, Some, [], add-one, and-false, ap, append-nil, append_assoc, arith, byte_len, cases_lt, common_steps, cond, drop, drop-append-add, enumerate_from, eqb_tells, false, filter, flat_map, flat_map-append, fold, fold-append, fold-map, get_or, get_or-replicate, get_or_past, inl, inr, is_none, leb-true, length, length-map, length-replicate, length-set, list_all, list_any, lt-ltb, ltb, ltb-false, map, map-append, max, mul-div_cancel, mul-le-mul_left, nat_le, nat_lt, nat_tests, not, option_or, or_cases, or_from, range_with_len, refl, replicate, same_Some, set, slice_get, slice_get_within, subst, suc, sum_by-cons, sym, take, take_at, true, zero, zip, ℕ, ◌&&◌, ◌*◌, ◌++◌, ◌+◌, ◌<◌, ◌==◌, ◌||◌, ◌∙◌, ◌∷◌, ◌≡◌, ◌≤◌, ◌⊎◌}
+pub use Rattle.list_laws.proofs.Std.{AllByRecursion, Bool, List, None, Option, Some, [], add-one, and-false, ap, append-nil, append_assoc, arith, byte_len, cases_lt, common_steps, cond, drop, drop-append-add, enumerate_from, eqb_tells, false, filter, flat_map, flat_map-append, fold, fold-append, fold-map, get_or, get_or-replicate, get_or_past, inl, inr, is_none, leb-true, length, length-map, length-replicate, length-set, list_all, list_any, lt-ltb, ltb, ltb-false, map, map-append, max, mul-div_cancel, mul-le-mul_left, nat_le, nat_lt, nat_tests, not, option_or, or_cases, or_from, range_with_len, refl, replicate, same_Some, set, slice_get, slice_get_within, subst, suc, sum_by-cons, sym, take, take_at, true, zero, zip, ℕ, ◌&&◌, ◌*◌, ◌++◌, ◌+◌, ◌<◌, ◌==◌, ◌||◌, ◌∙◌, ◌∷◌, ◌≡◌, ◌≤◌, ◌⊎◌, ltb-true}
 pub use Rattle.std.proofs.Common.{◌-◌, option_map}
 pub use Rattle.std.proofs.lemmas.List.Folds.{list_all-append}
 pub use Rattle.std.proofs.Math.Seq.{take_all}
