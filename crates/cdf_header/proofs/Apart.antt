@@ -1,6 +1,5 @@
 -- Spans that are seen to share no byte share none.
-use Rattle.cdf_header.proofs.Words.{◌≡◌, ℕ, ◌+◌, ◌<◌, ◌≤◌, min, List, [], ◌∷◌, Bool, true, false, None, length, get_or, drop, refl, sym, ap, subst, inl, inr, ◌⊎◌, arith, nat_lt, nat_le, All, AllPairs, Contains, cases_lt, le-ltb, le-leb, lt-leb, get_or_default, get_or-drop, length-drop, All-contains, All-head, All-tail, All-get_or, Contains-get_or, Span, fixed_meet, records_meet, share, partner, NoneShares, EndsBefore, EndsBeforeNext, AreApart, HasAll, AreSpans, nat_tests}
-use Rattle.std.specs.Prelude.{cond}
+use Rattle.cdf_header.proofs.Words.{◌≡◌, ℕ, ◌+◌, ◌<◌, ◌≤◌, min, List, [], ◌∷◌, Bool, true, false, None, length, get_or, drop, refl, sym, ap, subst, inl, inr, ◌⊎◌, arith, nat_lt, nat_le, All, AllPairs, Contains, cases_lt, le-ltb, le-leb, lt-leb, get_or_default, get_or-drop, length-drop, All-contains, All-head, All-tail, All-get_or, Contains-get_or, Span, fixed_meet, records_meet, share, partner, NoneShares, EndsBefore, EndsBeforeNext, AreApart, HasAll, AreSpans, nat_tests, cond}
 
 -- two different elements of a list stand one after the other
 pair_of : {X : Type 0} (R : X → X → Type 0) (xs : List X) (x y : X) → AllPairs R xs → Contains xs x → Contains xs y → (x ≡ y → ⊥) → R x y ⊎ R y x

@@ -1,6 +1,5 @@
 -- Numbers that fit their fields.
-use Rattle.cdf_header.proofs.Words.{◌≡◌, ℕ, ◌*◌, ◌^◌, ◌<◌, Bool, true, false, refl, subst, arith, if◌then◌else◌, ◌==◌, begin_width, fits_count, fits_field, ltb-true}
-use Rattle.std.proofs.Common.{w32, w64}
+use Rattle.cdf_header.proofs.Words.{◌≡◌, ℕ, ◌*◌, ◌^◌, ◌<◌, Bool, true, false, refl, subst, arith, if◌then◌else◌, ◌==◌, begin_width, fits_count, fits_field, ltb-true, w32, w64}
 
 fits_word : (n : ℕ) → fits_field w32 n ≡ true → n < 2 ^ 32
 fits_word n h = let k : 2 * n < 2 ^ 32 = ltb-true _ _ h in omega arith

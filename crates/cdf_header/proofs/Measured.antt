@@ -1,6 +1,5 @@
 -- What a header has whose variables keep their bounds.
-use Rattle.cdf_header.proofs.Words.{◌≡◌, ℕ, suc, ◌+◌, ◌^◌, ◌<◌, List, [], ◌∷◌, Bool, false, Option, Some, None, refl, arith, nat_le, ◌||◌, is_none, All, AllByRecursion, All-from_recursion, recsize_below, Keeps, keeps, shares_small, told_unless, slab_below, Header, Var, record_limit, slab, vsize, record_share, recsize, keeps_bound, past_bound, measure, is_too_large}
-use Rattle.std.proofs.Common.{not}
+use Rattle.cdf_header.proofs.Words.{◌≡◌, ℕ, suc, ◌+◌, ◌^◌, ◌<◌, List, [], ◌∷◌, Bool, false, Option, Some, None, refl, arith, nat_le, ◌||◌, is_none, All, AllByRecursion, All-from_recursion, recsize_below, Keeps, keeps, shares_small, told_unless, slab_below, Header, Var, record_limit, slab, vsize, record_share, recsize, keeps_bound, past_bound, measure, is_too_large, not}
 
 -- of variables that keep their bounds each has what follows from that
 each_keeps : (header : Header) (P : Var → Type 0) → ((before : ℕ) (v : Var) → Keeps header before v → P v)

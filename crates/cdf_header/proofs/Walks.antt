@@ -1,6 +1,5 @@
 -- Over what is written of a header the grammar asks for right fields only.
-use Rattle.cdf_header.proofs.Words.{◌≡◌, ℕ, ◌+◌, ◌-◌, ◌*◌, ◌^◌, ◌≤◌, ◌<◌, List, [], ◌∷◌, ◌++◌, take, drop, length, Bool, true, false, cond, Some, None, refl, sym, ap, subst, ◌∙◌, append_assoc, length-append, arith, ◌==◌, ◌||◌, ◌&&◌, not, nat_lt, nat_le, replicate, list_all, w32, w64, byte_len, to_be_bytes, from_be_bytes, drop-append_seam, take-append_seam, length-drop, length-replicate, drop-drop, from_be_bytes-to_be_bytes_4, from_be_bytes-to_be_bytes_8, ltb-true, eqb-true, le-ltb, leb-true, width_long, and_first, and_second, all_three, equal_itself, Header, Dim, Attr, Var, NcType, HeaderErr, most_dims, most_vars, most_dims_of_var, file_limit, size_of, round_up, vsize, number_of, is_version, count, tag, name, padded, list_of, dimension, attribute, variable, magic, canon, count_width, begin_width, Field, Magic, Records, Tag, Count, NameLength, Block, DimLength, AttrType, AttrCount, DimCount, DimId, VarType, Vsize, Begin, Entries, Dimensions, Attributes, Variables, Ids, Ask, One, Many, Run, stands, takes, asked, the_header, first_field, other_fields, many, block, most_of, tag_of, type_size, bad_type, version_of, fault_if, wrong, wrong_at, after_field, field_number, field_len, big_endian, field_fault, is_type, fits_field, fits_count, is_writable, is_writable_dim, is_writable_attr, is_writable_list, is_writable_var, run_on, run_whole, len_pos, known_version, nat_tests}
-use Rattle.std.specs.Prelude.{flat_map}
+use Rattle.cdf_header.proofs.Words.{◌≡◌, ℕ, ◌+◌, ◌-◌, ◌*◌, ◌^◌, ◌≤◌, ◌<◌, List, [], ◌∷◌, ◌++◌, take, drop, length, Bool, true, false, cond, Some, None, refl, sym, ap, subst, ◌∙◌, append_assoc, length-append, arith, ◌==◌, ◌||◌, ◌&&◌, not, nat_lt, nat_le, replicate, list_all, w32, w64, byte_len, to_be_bytes, from_be_bytes, drop-append_seam, take-append_seam, length-drop, length-replicate, drop-drop, from_be_bytes-to_be_bytes_4, from_be_bytes-to_be_bytes_8, ltb-true, eqb-true, le-ltb, leb-true, width_long, and_first, and_second, all_three, equal_itself, Header, Dim, Attr, Var, NcType, HeaderErr, most_dims, most_vars, most_dims_of_var, file_limit, size_of, round_up, vsize, number_of, is_version, count, tag, name, padded, list_of, dimension, attribute, variable, magic, canon, count_width, begin_width, Field, Magic, Records, Tag, Count, NameLength, Block, DimLength, AttrType, AttrCount, DimCount, DimId, VarType, Vsize, Begin, Entries, Dimensions, Attributes, Variables, Ids, Ask, One, Many, Run, stands, takes, asked, the_header, first_field, other_fields, many, block, most_of, tag_of, type_size, bad_type, version_of, fault_if, wrong, wrong_at, after_field, field_number, field_len, big_endian, field_fault, is_type, fits_field, fits_count, is_writable, is_writable_dim, is_writable_attr, is_writable_list, is_writable_var, run_on, run_whole, len_pos, known_version, nat_tests, flat_map}
 use Rattle.nc_base.specs.declared.errors.HeaderErr.TheVariants as fault
 use Rattle.cdf_header.proofs.Pieces.{AtMost, above_none}
 

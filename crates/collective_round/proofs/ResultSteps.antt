@@ -1,6 +1,5 @@
 -- The calls of a step are those of its windows.
-use Rattle.collective_round.proofs.Words.{◌≡◌, ℕ, List, Option, flat_map-map, flat_map, DiskCall, with_end, overlays, loads, load_calls, store_calls, told_of, Told, arith, nat_tests}
-use Rattle.std.specs.Prelude.{map}
+use Rattle.collective_round.proofs.Words.{◌≡◌, ℕ, List, Option, flat_map-map, flat_map, DiskCall, with_end, overlays, loads, load_calls, store_calls, told_of, Told, arith, nat_tests, map}
 
 pub stores_are : (ws : List (List ℕ)) → flat_map store_calls (map told_of ws) ≡ flat_map overlays ws
 stores_are ws = flat_map-map store_calls told_of ws

@@ -1,6 +1,5 @@
 -- The windows of a part stand one after another, begin and end with a covered byte, and have each covered byte once.
-use Rattle.exchange_crew.proofs.Words.{◌≡◌, ℕ, zero, suc, ◌+◌, ◌-◌, ◌/◌, ◌<◌, ◌≤◌, ◌⊎◌, min, inl, inr, refl, sym, ◌∙◌, ap, subst, List, [], ◌∷◌, ◌++◌, length, Bool, true, false, not, arith, flat_map-map, flat_map, nat_lt, ◌==◌, range_with_len, ltb-true, ltb-false, eqb-true, lt-ltb, leb-true, le-leb, Extent, Owned, first_of, last_of, hull_len, not_empty, windows, is_empty, In, ranges, HaveSame, IsAscending, joined, told_of, IsCover, spans, windows_have, filter_ascends, in_left, in_right, in_either, in_flat, flat_in, in_range, range_low, any_in, in_any, first_least, last_most, div_grows, equal_true, no_both, in_filter, filter_in, in_map, map_in, same_ascending, spans_ascend, window_short, LiesIn, bytes_in, window_told, round_windows, told_window, IsCovered, in_ranges, ranges_in, hole_short, AreTurns, HaveWindows, IsTurn, LieOnPart, Told, share, nat_tests}
-use Rattle.std.specs.Prelude.{map}
+use Rattle.exchange_crew.proofs.Words.{◌≡◌, ℕ, zero, suc, ◌+◌, ◌-◌, ◌/◌, ◌<◌, ◌≤◌, ◌⊎◌, min, inl, inr, refl, sym, ◌∙◌, ap, subst, List, [], ◌∷◌, ◌++◌, length, Bool, true, false, not, arith, flat_map-map, flat_map, nat_lt, ◌==◌, range_with_len, ltb-true, ltb-false, eqb-true, lt-ltb, leb-true, le-leb, Extent, Owned, first_of, last_of, hull_len, not_empty, windows, is_empty, In, ranges, HaveSame, IsAscending, joined, told_of, IsCover, spans, windows_have, filter_ascends, in_left, in_right, in_either, in_flat, flat_in, in_range, range_low, any_in, in_any, first_least, last_most, div_grows, equal_true, no_both, in_filter, filter_in, in_map, map_in, same_ascending, spans_ascend, window_short, LiesIn, bytes_in, window_told, round_windows, told_window, IsCovered, in_ranges, ranges_in, hole_short, AreTurns, HaveWindows, IsTurn, LieOnPart, Told, share, nat_tests, map}
 
 -- ---- numbers in order, one list after another
 

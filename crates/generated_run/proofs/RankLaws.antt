@@ -1,6 +1,5 @@
 -- What the calls of a rank keep.
-use Rattle.generated_run.proofs.Words.{◌≡◌, ℕ, zero, suc, ◌+◌, ◌-◌, ◌*◌, ◌^◌, ◌<◌, ◌≤◌, List, [], ◌∷◌, ◌++◌, length, map, sum, replicate, Bool, true, refl, sym, ap, subst, ◌∙◌, le-leb, lt-ltb, arith, ℤ, neg_ℤ, ◌<ℤ◌, unsigned_abs, flat_map, list_all, range_with_len, ints, append-nil, length-append, list_all-append, length-map-range_with_len, and_from, pieces_long, Call, Every, Bput, Bits, Numbers, are_different, is_given, is_lawful_call, is_number, kind_numbers, posted_ids, values_in_call, first_row, is_counted, precip_at, temp_at, sum_cons, calls_of_rank, columns_of, precip_band, region_of_band, temp_band, nat_tests}
-use Rattle.std.specs.Prelude.{pos, codes}
+use Rattle.generated_run.proofs.Words.{◌≡◌, ℕ, zero, suc, ◌+◌, ◌-◌, ◌*◌, ◌^◌, ◌<◌, ◌≤◌, List, [], ◌∷◌, ◌++◌, length, map, sum, replicate, Bool, true, refl, sym, ap, subst, ◌∙◌, le-leb, lt-ltb, arith, ℤ, neg_ℤ, ◌<ℤ◌, unsigned_abs, flat_map, list_all, range_with_len, ints, append-nil, length-append, list_all-append, length-map-range_with_len, and_from, pieces_long, Call, Every, Bput, Bits, Numbers, are_different, is_given, is_lawful_call, is_number, kind_numbers, posted_ids, values_in_call, first_row, is_counted, precip_at, temp_at, sum_cons, calls_of_rank, columns_of, precip_band, region_of_band, temp_band, nat_tests, pos, codes}
 use Rattle.nc_base.specs.declared.request.Call.TheVariants as call
 use Rattle.generated_run.proofs.Ranges.{pieces_pass, range_differs, range_passes}
 

@@ -1,7 +1,5 @@
 -- Rows of values that rise by one, and behind the greatest begin again at the least: one run, or two.
-use Rattle.generated_run.proofs.Words.{◌≡◌, ℕ, zero, suc, ◌+◌, ◌-◌, ◌*◌, ◌^◌, ◌%◌, ◌<◌, ◌≤◌, List, [], ◌∷◌, ◌++◌, map, min, refl, sym, ap, ◌∙◌, append_assoc, arith, ℤ, ◌-ℤ◌, range_with_len, ints, flat_map-append, BitRun, NumberRun, bits_of_run, bits_of_runs, numbers_of_run, numbers_of_runs, precip_at, temp_at, depths, precip_row, temp_row, temps, nat_tests}
-use Rattle.std.proofs.Common.{append-nil}
-use Rattle.std.specs.Prelude.{pos}
+use Rattle.generated_run.proofs.Words.{◌≡◌, ℕ, zero, suc, ◌+◌, ◌-◌, ◌*◌, ◌^◌, ◌%◌, ◌<◌, ◌≤◌, List, [], ◌∷◌, ◌++◌, map, min, refl, sym, ap, ◌∙◌, append_assoc, arith, ℤ, ◌-ℤ◌, range_with_len, ints, flat_map-append, BitRun, NumberRun, bits_of_run, bits_of_runs, numbers_of_run, numbers_of_runs, precip_at, temp_at, depths, precip_row, temp_row, temps, nat_tests, append-nil, pos}
 
 -- lists that agree value by value
 maps_agree : {A : Type 0} (f g : ℕ → A) (a b n : ℕ) → ((k : ℕ) → k < n → f (a + k) ≡ g (b + k)) → map f (range_with_len a n) ≡ map g (range_with_len b n)

@@ -1,6 +1,5 @@
 -- Entries that are collected out of a buffer, each into its blob of a table.
-use Rattle.get_exchange.proofs.Words.{◌≡◌, ℕ, zero, suc, ◌+◌, ◌-◌, ◌<◌, ◌≤◌, sym, ◌∙◌, ap, subst, List, [], ◌∷◌, ◌++◌, length, take, drop, get_or, set, false, ◌&&◌, arith, fold-append, map-append, get_or_default, length-take, get_or-set_same, get_or-set_other, take_more, get_or-map, map-set_same, ◌==◌, and_from, equal_true, and_first, and_second, no_both, Owned, length-written_inside, written, Cell, write_cells, In, in_filter, filter_in, AreFilled, buffer_cell, part_in, blob_at, of_request, with_blob, AreAsLong, FitTable, HasCollected, AreServed, served_in, filter-append, nat_tests, eqb-true, eqb-false}
-use Rattle.std.specs.Prelude.{map}
+use Rattle.get_exchange.proofs.Words.{◌≡◌, ℕ, zero, suc, ◌+◌, ◌-◌, ◌<◌, ◌≤◌, sym, ◌∙◌, ap, subst, List, [], ◌∷◌, ◌++◌, length, take, drop, get_or, set, false, ◌&&◌, arith, fold-append, map-append, get_or_default, length-take, get_or-set_same, get_or-set_other, take_more, get_or-map, map-set_same, ◌==◌, and_from, equal_true, and_first, and_second, no_both, Owned, length-written_inside, written, Cell, write_cells, In, in_filter, filter_in, AreFilled, buffer_cell, part_in, blob_at, of_request, with_blob, AreAsLong, FitTable, HasCollected, AreServed, served_in, filter-append, nat_tests, eqb-true, eqb-false, map}
 
 -- ---- the entries of a request
 

@@ -1,6 +1,5 @@
 -- Hulls that were read and collected, in whatever order, make each blob the file's bytes of its entries.
-use Rattle.get_exchange.proofs.Words.{◌≡◌, ℕ, zero, suc, ◌+◌, ◌-◌, ◌^◌, ◌<◌, ◌≤◌, inl, inr, refl, sym, ◌∙◌, ap, subst, List, [], ◌∷◌, ◌++◌, length, map, true, append_assoc, arith, fold-append, append-nil, ext_get_or, replicate, Owned, at, read, written, Cell, said_at, said_by, Says, write_cells, IsOneValued, IsWithin, read_at, read_long, got_cell, In, extents, EndBelow, says_left, says_right, says_cases, in_extents, same_said, said_in_any_order, append_within, said_by_joined, got_cells, places_of, buffer_cell, part_in, IsCovered, IsRead, got_says, says_got, read_as, read_once, parts_within, whole_parts, buffer_cells, got_whole, blob_at, got_in_hull, of_request, FitTable, HasCollected, HasRead, HaveOnePlaces, log_cells, told_in, HasCollectedLog, Log, Told, AreServed, in_served, served_in, nat_tests}
-use Rattle.std.proofs.Common.{flat_map}
+use Rattle.get_exchange.proofs.Words.{◌≡◌, ℕ, zero, suc, ◌+◌, ◌-◌, ◌^◌, ◌<◌, ◌≤◌, inl, inr, refl, sym, ◌∙◌, ap, subst, List, [], ◌∷◌, ◌++◌, length, map, true, append_assoc, arith, fold-append, append-nil, ext_get_or, replicate, Owned, at, read, written, Cell, said_at, said_by, Says, write_cells, IsOneValued, IsWithin, read_at, read_long, got_cell, In, extents, EndBelow, says_left, says_right, says_cases, in_extents, same_said, said_in_any_order, append_within, said_by_joined, got_cells, places_of, buffer_cell, part_in, IsCovered, IsRead, got_says, says_got, read_as, read_once, parts_within, whole_parts, buffer_cells, got_whole, blob_at, got_in_hull, of_request, FitTable, HasCollected, HasRead, HaveOnePlaces, log_cells, told_in, HasCollectedLog, Log, Told, AreServed, in_served, served_in, nat_tests, flat_map}
 use Rattle.get_exchange.proofs.CollectLaws.{fit_request, in_request, request_in}
 
 -- ---- one hull

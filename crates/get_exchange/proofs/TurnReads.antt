@@ -1,6 +1,5 @@
 -- Hulls of a part that are read and collected one after another: what was done and what is left to be done are the whole.
-use Rattle.get_exchange.proofs.Words.{◌≡◌, ℕ, ◌+◌, ◌-◌, inr, sym, ◌∙◌, ap, subst, List, [], ◌∷◌, ◌++◌, Option, append_assoc, append-nil, map-append, IfSome, Owned, DiskCall, with_end-nil, with_end-with_end, with_end, read, IsWalk, load_calls, In, in_either, entries_left, IsPast, AreAsLong, FitTable, HaveOnePlaces, AreInFront, IsAt, LieOnPart, told_in, HasCollectedLog, HasReadTurn, HasReadTurns, Log, Told, turns_ahead, ReadWalk, at_next, served_now, arith, nat_tests, ◌^◌, EndBelow, extents, Window, WindowWalk, told_window, IsDue, due_now}
-use Rattle.std.proofs.Common.{flat_map}
+use Rattle.get_exchange.proofs.Words.{◌≡◌, ℕ, ◌+◌, ◌-◌, inr, sym, ◌∙◌, ap, subst, List, [], ◌∷◌, ◌++◌, Option, append_assoc, append-nil, map-append, IfSome, Owned, DiskCall, with_end-nil, with_end-with_end, with_end, read, IsWalk, load_calls, In, in_either, entries_left, IsPast, AreAsLong, FitTable, HaveOnePlaces, AreInFront, IsAt, LieOnPart, told_in, HasCollectedLog, HasReadTurn, HasReadTurns, Log, Told, turns_ahead, ReadWalk, at_next, served_now, arith, nat_tests, ◌^◌, EndBelow, extents, Window, WindowWalk, told_window, IsDue, due_now, flat_map}
 use Rattle.get_exchange.proofs.CollectLaws.{fit_as_long}
 use Rattle.get_exchange.proofs.ReadLaws.{hull_collected, log_joined, log_one}
 

@@ -1,6 +1,5 @@
 -- The dataset of a script, as it is known when the ranks begin.
-use Rattle.plan_cli.proofs.Words.{◌≡◌, ℕ, ◌==◌, true, false, List, [], length, Option, refl, sym, subst, ap, ◌∙◌, IfOk, IfSome, Ok, Err, Result, both_ways, HeaderErr, Header, Script, HasFault, is_sound, IsApplied, IsOpeningOf, Opening, created_header, creation_fault, front, Stop, created-faultless, fault-none, fault-some, header-changed, header-kept, opened-faultless, redefined_sound, IsOpenedFile, IsOpening, Prepared}
-use Rattle.std.specs.Prelude.{None}
+use Rattle.plan_cli.proofs.Words.{◌≡◌, ℕ, ◌==◌, true, false, List, [], length, Option, refl, sym, subst, ap, ◌∙◌, IfOk, IfSome, Ok, Err, Result, both_ways, HeaderErr, Header, Script, HasFault, is_sound, IsApplied, IsOpeningOf, Opening, created_header, creation_fault, front, Stop, created-faultless, fault-none, fault-some, header-changed, header-kept, opened-faultless, redefined_sound, IsOpenedFile, IsOpening, Prepared, None}
 use Rattle.dataset_start.specs.Dataset.{header_of_run, redefinition_fault}
 use Rattle.plan_cli.proofs.FrontLaws.{as_opened}
 

@@ -1,6 +1,5 @@
 -- A part whose windows are overlaid with the entries, one after another.
-use Rattle.put_exchange.proofs.Words.{◌≡◌, ℕ, ◌+◌, ◌≤◌, inl, inr, refl, sym, ◌∙◌, ap, subst, List, [], ◌∷◌, length, Option, flat_map, IfSome, Owned, DiskCall, with_end-nil, after, with_end, BothTold, said_by, IsOneValued, store_calls, IsBetween, In, Source, cell_of, IsPast, covered_place, TurnWalk, ArePieces, put_part, cells_in, put_window, IsFilledBy, Told, turns_ahead, IsTurnWalk, HaveWindows, IsTurn, LieOnPart, AreInFront, AreServed, IsAt, at_next, served_are, served_covered, served_now}
-use Rattle.std.specs.Prelude.{map}
+use Rattle.put_exchange.proofs.Words.{◌≡◌, ℕ, ◌+◌, ◌≤◌, inl, inr, refl, sym, ◌∙◌, ap, subst, List, [], ◌∷◌, length, Option, flat_map, IfSome, Owned, DiskCall, with_end-nil, after, with_end, BothTold, said_by, IsOneValued, store_calls, IsBetween, In, Source, cell_of, IsPast, covered_place, TurnWalk, ArePieces, put_part, cells_in, put_window, IsFilledBy, Told, turns_ahead, IsTurnWalk, HaveWindows, IsTurn, LieOnPart, AreInFront, AreServed, IsAt, at_next, served_are, served_covered, served_now, map}
 use Rattle.put_exchange.proofs.PieceLaws.{pieces_found, served_picked}
 use Rattle.put_exchange.proofs.PutLaws.{IsPutSoFar, told_begin, told_between, told_end, told_more, told_next}
 use Rattle.put_exchange.proofs.ServeLaws.{calls_more}

@@ -1,6 +1,5 @@
 -- A window that is put on a part: each byte is old or new, and once no window is ahead each byte that the entries say is new.
-use Rattle.put_exchange.proofs.Words.{◌≡◌, ℕ, ◌+◌, ◌-◌, ◌<◌, ◌≤◌, ◌⊎◌, inl, inr, refl, sym, ◌∙◌, ap, subst, List, [], ◌∷◌, length, drop, Bool, true, false, Option, Some, None, arith, Result, Err, length-take, ltb-true, ltb-false, nat_lt, IfSome, enumerate_from, no_none_some, Owned, after, BothTold, at, Cell, byte_or, said_at, said_by, write_cells, moved_down, IsFrom, IsWithin, IsOneValued, Says, cells_said, IsBetween, In, Source, cell_of, clips, IsPart, between_next, says_cases, says_left, says_right, cells_long, one_said, said_is, same_file, clips_from, clips_in, clips_within, moved_said, none_below, none_past, within_lowered, within_more, from_less, put_part, HasPut, cells_in, put_window, Told, HaveWindows, entry_cells, nat_tests, DiskGhosts, PutPlan, Extent, StepErr, IsLater, part_state, planned_turns, source_in, AllZip, zip, zip_same}
-use Rattle.std.specs.Prelude.{map}
+use Rattle.put_exchange.proofs.Words.{◌≡◌, ℕ, ◌+◌, ◌-◌, ◌<◌, ◌≤◌, ◌⊎◌, inl, inr, refl, sym, ◌∙◌, ap, subst, List, [], ◌∷◌, length, drop, Bool, true, false, Option, Some, None, arith, Result, Err, length-take, ltb-true, ltb-false, nat_lt, IfSome, enumerate_from, no_none_some, Owned, after, BothTold, at, Cell, byte_or, said_at, said_by, write_cells, moved_down, IsFrom, IsWithin, IsOneValued, Says, cells_said, IsBetween, In, Source, cell_of, clips, IsPart, between_next, says_cases, says_left, says_right, cells_long, one_said, said_is, same_file, clips_from, clips_in, clips_within, moved_said, none_below, none_past, within_lowered, within_more, from_less, put_part, HasPut, cells_in, put_window, Told, HaveWindows, entry_cells, nat_tests, DiskGhosts, PutPlan, Extent, StepErr, IsLater, part_state, planned_turns, source_in, AllZip, zip, zip_same, map}
 
 -- ---- which entry says a byte
 

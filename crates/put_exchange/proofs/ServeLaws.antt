@@ -1,7 +1,6 @@
 -- A helper that took the planned messages has served its part.
 use Rattle.std.proofs.lemmas.List.{drop_more}
-use Rattle.put_exchange.proofs.Words.{◌≡◌, ℕ, ◌+◌, ◌<◌, ◌≤◌, refl, sym, ◌∙◌, ap, subst, List, [], ◌∷◌, ◌++◌, length, Option, Result, Ok, Err, append_assoc, arith, append-nil, length-append, flat_map, IfSome, IsOk, IsErr, OnOk, Owned, DiskCall, with_end-nil, after, with_end, BothTold, said_by, IsOneValued, store_calls, IsBetween, In, Source, cell_of, covered_place, in_map, entry_in, told_window, pieces_in, ArePieces, put_part, cells_in, messages_in, messages_of, Sent, turn_due, Carry, HasPutTaken, HasTaken, IsFilledBy, Told, AreTurns, HaveWindows, IsTurn, Due, counts_due, turns_due, zero, suc, drop, get_or, nat_tests}
-use Rattle.std.specs.Prelude.{map}
+use Rattle.put_exchange.proofs.Words.{◌≡◌, ℕ, ◌+◌, ◌<◌, ◌≤◌, refl, sym, ◌∙◌, ap, subst, List, [], ◌∷◌, ◌++◌, length, Option, Result, Ok, Err, append_assoc, arith, append-nil, length-append, flat_map, IfSome, IsOk, IsErr, OnOk, Owned, DiskCall, with_end-nil, after, with_end, BothTold, said_by, IsOneValued, store_calls, IsBetween, In, Source, cell_of, covered_place, in_map, entry_in, told_window, pieces_in, ArePieces, put_part, cells_in, messages_in, messages_of, Sent, turn_due, Carry, HasPutTaken, HasTaken, IsFilledBy, Told, AreTurns, HaveWindows, IsTurn, Due, counts_due, turns_due, zero, suc, drop, get_or, nat_tests, map}
 use Rattle.put_exchange.proofs.PieceLaws.{pieces_are, pieces_covered, pieces_found, pieces_picked}
 use Rattle.put_exchange.proofs.PutLaws.{IsPutSoFar, told_begin, told_end, told_more, told_next, told_nothing}
 use Rattle.put_exchange.proofs.SentLaws.{messages_carry}

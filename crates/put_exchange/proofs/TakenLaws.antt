@@ -1,6 +1,5 @@
 -- Messages that were taken off a line, and laid one after another.
-use Rattle.put_exchange.proofs.Words.{◌≡◌, ℕ, arith, ◌+◌, ◌<◌, inl, refl, sym, ◌∙◌, ap, List, [], ◌∷◌, ◌++◌, length, take, get_or, append_assoc, fold-append, drop-append_seam, take-append_seam, append-nil, length-append, map-append, take_more, flat_map-append, Extent, Owned, Cell, write_cells, moved_down, Source, cell_of, clip, clips, in_left, in_right, Sent, pieces_in_all, HasLaid, nat_tests}
-use Rattle.std.specs.Prelude.{map}
+use Rattle.put_exchange.proofs.Words.{◌≡◌, ℕ, arith, ◌+◌, ◌<◌, inl, refl, sym, ◌∙◌, ap, List, [], ◌∷◌, ◌++◌, length, take, get_or, append_assoc, fold-append, drop-append_seam, take-append_seam, append-nil, length-append, map-append, take_more, flat_map-append, Extent, Owned, Cell, write_cells, moved_down, Source, cell_of, clip, clips, in_left, in_right, Sent, pieces_in_all, HasLaid, nat_tests, map}
 
 -- ---- lists of what was taken
 

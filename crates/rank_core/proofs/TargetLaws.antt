@@ -1,6 +1,5 @@
 -- What a call on a variable comes to, as its parts find it out.
-use Rattle.rank_core.proofs.Words.{◌≡◌, ℕ, ◌<◌, ◌≤◌, refl, sym, ap, subst, ◌∙◌, List, [], ◌∷◌, length, Bool, true, false, cond, ltb, Option, None, Some, Result, Ok, Err, IfSome, arith, filter, slice_get, IfErr, IfErr-weaker, IfOk-weaker, on_ok_weaker, OnOk, le-ltb, lt-ltb, CallErr, Code, Header, Var, Post, Direction, Form, Given, Region, Values, IsMapped, IsRangeRefusal, IsRefusal, product, most_elements, data_bytes, data_code, direction_of, find_var, is_varn, part_posts, parts_code, check, check_parts, check_some, check_var, elements_of_all, has_element, part_regions, widen, capped, parts_code_at, Target, look_of, some_unfit, ComesTo, HasValues, IsCode, Ranked, IsTarget, IsTargetOf}
-use Rattle.std.proofs.Common.{IfOk}
+use Rattle.rank_core.proofs.Words.{◌≡◌, ℕ, ◌<◌, ◌≤◌, refl, sym, ap, subst, ◌∙◌, List, [], ◌∷◌, length, Bool, true, false, cond, ltb, Option, None, Some, Result, Ok, Err, IfSome, arith, filter, slice_get, IfErr, IfErr-weaker, IfOk-weaker, on_ok_weaker, OnOk, le-ltb, lt-ltb, CallErr, Code, Header, Var, Post, Direction, Form, Given, Region, Values, IsMapped, IsRangeRefusal, IsRefusal, product, most_elements, data_bytes, data_code, direction_of, find_var, is_varn, part_posts, parts_code, check, check_parts, check_some, check_var, elements_of_all, has_element, part_regions, widen, capped, parts_code_at, Target, look_of, some_unfit, ComesTo, HasValues, IsCode, Ranked, IsTarget, IsTargetOf, IfOk}
 use Rattle.nc_base.specs.declared.answer.CallErr.TheVariants as refusal
 use Rattle.nc_base.specs.declared.answer.Code.TheVariants as code
 use Rattle.nc_base.specs.declared.request.Form.TheVariants as form

@@ -1,6 +1,5 @@
 -- The bytes between slabs.
-use Rattle.redef_laws.proofs.Words.{◌≡◌, ℕ, zero, suc, ◌+◌, ◌-◌, ◌<◌, ◌≤◌, refl, ◌∙◌, ap, inl, inr, List, [], ◌∷◌, ◌++◌, length, Bool, true, false, cond, ◌&&◌, ◌||◌, arith, append-nil, div_below, filter, flat_map, nat_le, nat_lt, ◌==◌, range_with_len, list_any, length-range_with_len, or_left, or_cases, lt-ltb, le-ltb, le-leb, lt-leb, and_right, equal_above, equal_true, range_append, DiskCall, Slab, run_before, runs, stores, first_of, In, HaveSame, range_low, range_high, in_either, filter_same, filter_none, filter_all, gaps, IsRisen, filter-append, any_member, nat_tests, either}
-use Rattle.std.proofs.Common.{not}
+use Rattle.redef_laws.proofs.Words.{◌≡◌, ℕ, zero, suc, ◌+◌, ◌-◌, ◌<◌, ◌≤◌, refl, ◌∙◌, ap, inl, inr, List, [], ◌∷◌, ◌++◌, length, Bool, true, false, cond, ◌&&◌, ◌||◌, arith, append-nil, div_below, filter, flat_map, nat_le, nat_lt, ◌==◌, range_with_len, list_any, length-range_with_len, or_left, or_cases, lt-ltb, le-ltb, le-leb, lt-leb, and_right, equal_above, equal_true, range_append, DiskCall, Slab, run_before, runs, stores, first_of, In, HaveSame, range_low, range_high, in_either, filter_same, filter_none, filter_all, gaps, IsRisen, filter-append, any_member, nat_tests, either, not}
 use Rattle.redef_laws.proofs.ChainLaws.{risen_past}
 
 -- x is one of the slab's bytes in the new file

@@ -1,6 +1,5 @@
 -- The slabs of a sound header's variables: each holds a byte, and no two of them share one.
-use Rattle.redef_laws.proofs.Words.{◌≡◌, ℕ, zero, suc, ◌+◌, ◌<◌, ◌≤◌, inl, inr, ◌⊎◌, List, [], ◌∷◌, Bool, true, false, cond, ◌||◌, Some, arith, cases_lt, nat_tests, mul-le, slice_get, nat_lt, nat_le, ◌==◌, AllByRecursion, size_pos, Header, Var, product, without_record, is_record, slab, recsize, meet, header_len, is_sound, none_from, none_shared, past_header, none_later, not_zero, ltb-false}
-use Rattle.std.specs.Prelude.{drop}
+use Rattle.redef_laws.proofs.Words.{◌≡◌, ℕ, zero, suc, ◌+◌, ◌<◌, ◌≤◌, inl, inr, ◌⊎◌, List, [], ◌∷◌, Bool, true, false, cond, ◌||◌, Some, arith, cases_lt, nat_tests, mul-le, slice_get, nat_lt, nat_le, ◌==◌, AllByRecursion, size_pos, Header, Var, product, without_record, is_record, slab, recsize, meet, header_len, is_sound, none_from, none_shared, past_header, none_later, not_zero, ltb-false, drop}
 
 -- ---- one variable
 

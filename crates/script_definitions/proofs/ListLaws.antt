@@ -1,6 +1,5 @@
 -- The bytes of values, one after another.
-use Rattle.script_definitions.proofs.Words.{◌≡◌, ◌∙◌, ℕ, suc, ◌+◌, List, [], ◌∷◌, ◌++◌, length, flat_map, append-nil, refl, sym, ap, ap₂, arith, add-one, option_map, slice_get, range_with_len, flat_map-append, NcType, Values, Numbers, Text, Bits, ext, count_of, ext_of, value_at, external_bytes, range_push}
-use Rattle.std.specs.Prelude.{Option, Some}
+use Rattle.script_definitions.proofs.Words.{◌≡◌, ◌∙◌, ℕ, suc, ◌+◌, List, [], ◌∷◌, ◌++◌, length, flat_map, append-nil, refl, sym, ap, ap₂, arith, add-one, option_map, slice_get, range_with_len, flat_map-append, NcType, Values, Numbers, Text, Bits, ext, count_of, ext_of, value_at, external_bytes, range_push, Option, Some}
 use Rattle.nc_base.specs.declared.request.Value.TheVariants as value
 
 pub bytes_more : (t : NcType) (values : Values) (now next : List ℕ) (n : ℕ) → now ≡ flat_map (λ k. ext_of t (value_at values k)) (range_with_len 0 n)

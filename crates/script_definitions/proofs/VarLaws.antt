@@ -1,6 +1,5 @@
 -- An attribute more of one variable.
-use Rattle.script_definitions.proofs.Words.{◌≡◌, ◌<◌, ◌∙◌, ℕ, zero, suc, List, [], ◌∷◌, ◌++◌, length, get_or, slice_set, Some, refl, sym, ap, arith, Var, Attr, var_names, with_attr_at}
-use Rattle.std.proofs.Common.{slice_get}
+use Rattle.script_definitions.proofs.Words.{◌≡◌, ◌<◌, ◌∙◌, ℕ, zero, suc, List, [], ◌∷◌, ◌++◌, length, get_or, slice_set, Some, refl, sym, ap, arith, Var, Attr, var_names, with_attr_at, slice_get}
 
 pub names_kept : (vars : List Var) (k : ℕ) (v w : Var) → v ≡ get_or vars k v → w.name ≡ v.name → k < length vars → var_names (slice_set vars k w) ≡ var_names vars
 names_kept [] k v w at same h = refl

@@ -1,6 +1,5 @@
 -- The file, its record count and its device calls in a meeting.
-use Rattle.turn_run.proofs.Words.{◌≡◌, ℕ, ◌<◌, ◌≤◌, refl, sym, ◌∙◌, ap, subst, List, [], ◌++◌, length, max, Bool, true, false, cond, Option, Some, None, inl, inr, append_assoc, arith, nat_tests, append-nil, flat_map, nat_lt, if◌then◌else◌, IfSome, Pair, Batch, Post, Hints, DiskCall, after, with_end, needed_now, collective_windows, get_bytes, loads, put_calls, store_records, Counted, Setting, end_for, needs, raised, told, is_sound, with_records, Puts, after_round, counted, gets_in, puts_in, ArePuts, IsCount, IsRise, met, met_calls, no_need, raised_records, with_end-with_end}
-use Rattle.std.specs.Prelude.{◌⊎◌}
+use Rattle.turn_run.proofs.Words.{◌≡◌, ℕ, ◌<◌, ◌≤◌, refl, sym, ◌∙◌, ap, subst, List, [], ◌++◌, length, max, Bool, true, false, cond, Option, Some, None, inl, inr, append_assoc, arith, nat_tests, append-nil, flat_map, nat_lt, if◌then◌else◌, IfSome, Pair, Batch, Post, Hints, DiskCall, after, with_end, needed_now, collective_windows, get_bytes, loads, put_calls, store_records, Counted, Setting, end_for, needs, raised, told, is_sound, with_records, Puts, after_round, counted, gets_in, puts_in, ArePuts, IsCount, IsRise, met, met_calls, no_need, raised_records, with_end-with_end, ◌⊎◌}
 use Rattle.turn_run.proofs.CountLaws.{count_longer, count_max, rise_longer}
 use Rattle.turn_run.proofs.MeetPosts.{needed_rise}
 use Rattle.turn_run.proofs.WrittenTwice.{counted_twice}

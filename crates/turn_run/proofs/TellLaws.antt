@@ -1,10 +1,9 @@
 -- What is told of steps, one after another, and of a whole run.
-use Rattle.turn_run.proofs.Words.{IfSome_then, ◌≡◌, ◌+◌, ℕ, refl, sym, ◌∙◌, ap, subst, List, [], ◌∷◌, ◌++◌, length, map, max, replicate, set, take, true, Option, Some, None, append_assoc, length-append, arith, append-nil, append_cancel_left, map-append, fold-append, slice_get, fold, enumerate_from, Header, Batch, Call, Hints, Script, DiskCall, Mark, Meet, Solo, Offer, with_end, needed_now, Counted, Setting, is_lawful, told_of, Going, after_mark, first_state, setting_of, counted, puts_in, step_to, Arrived, Stand, point, arrived_all, stand_of, HasGone, HasLed, IsLed, Stage, rank_stage, first_runner, counts_along, told_marks, told_over, HasTold, HasToldMore, Runner, entry_set, with_end-with_end, with_end-nil, gone_up, arrival_step, if_some_at}
+use Rattle.turn_run.proofs.Words.{IfSome_then, ◌≡◌, ◌+◌, ℕ, refl, sym, ◌∙◌, ap, subst, List, [], ◌∷◌, ◌++◌, length, map, max, replicate, set, take, true, Option, Some, None, append_assoc, length-append, arith, append-nil, append_cancel_left, map-append, fold-append, slice_get, fold, enumerate_from, Header, Batch, Call, Hints, Script, DiskCall, Mark, Meet, Solo, Offer, with_end, needed_now, Counted, Setting, is_lawful, told_of, Going, after_mark, first_state, setting_of, counted, puts_in, step_to, Arrived, Stand, point, arrived_all, stand_of, HasGone, HasLed, IsLed, Stage, rank_stage, first_runner, counts_along, told_marks, told_over, HasTold, HasToldMore, Runner, entry_set, with_end-with_end, with_end-nil, gone_up, arrival_step, if_some_at, take-append_seam}
 use Rattle.turn_run.proofs.CutLaws.{solo_at}
 use Rattle.turn_run.proofs.StageLaws.{some_each, gone_beside}
 use Rattle.turn_run.proofs.MeetStep.{meet_at, met_count, IsTaken}
 use Rattle.turn_run.proofs.TurnRuns.{first_stage}
-use Rattle.list_laws.proofs.Std.{take-append_seam}
 
 -- ---- nothing, and one step
 

@@ -1,7 +1,6 @@
 -- Whether regions meet is the same in any order and without those that have no element, and the sweep over regions in the order of
 -- their first elements finds it.
-use Rattle.vara_extents.proofs.Words.{◌≡◌, ℕ, zero, suc, ◌+◌, ◌*◌, ◌<◌, ◌≤◌, ◌∙◌, ap, sym, refl, inl, inr, ◌⊎◌, List, [], ◌∷◌, length, drop, get_or, subst, Bool, true, false, ltb, ◌||◌, max, min, arith, filter, slice_cmp, IsStrictWeakOrder, swap, IsPermutation, IsSortedBy, is_lt, nat_cmp, both_ways, ltb-true, lt-ltb, and_from, and_parts, or_parts, cases_eq, nat_list_cmp_total, mul-le, get_or-drop, get_or_default, length-drop, length-swap, swapped_from_swap, All-head, All-tail, ranks_by, sorted_far, IsPermutation-keeps, IsPermutation-sym, drop-cons, no_false, Region, product, has_element, boxes_meet, is_past, meets_any, some_meet, AreByStart, BeginsBy, begins_past, led_by, slice_get, unwrap_or, nat_tests}
-use Rattle.std.specs.List.{All}
+use Rattle.vara_extents.proofs.Words.{◌≡◌, ℕ, zero, suc, ◌+◌, ◌*◌, ◌<◌, ◌≤◌, ◌∙◌, ap, sym, refl, inl, inr, ◌⊎◌, List, [], ◌∷◌, length, drop, get_or, subst, Bool, true, false, ltb, ◌||◌, max, min, arith, filter, slice_cmp, IsStrictWeakOrder, swap, IsPermutation, IsSortedBy, is_lt, nat_cmp, both_ways, ltb-true, lt-ltb, and_from, and_parts, or_parts, cases_eq, nat_list_cmp_total, mul-le, get_or-drop, get_or_default, length-drop, length-swap, swapped_from_swap, All-head, All-tail, ranks_by, sorted_far, IsPermutation-keeps, IsPermutation-sym, drop-cons, no_false, Region, product, has_element, boxes_meet, is_past, meets_any, some_meet, AreByStart, BeginsBy, begins_past, led_by, slice_get, unwrap_or, nat_tests, All}
 
 -- ---- past the last index of a box
 

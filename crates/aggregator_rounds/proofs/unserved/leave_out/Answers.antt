@@ -1,6 +1,5 @@
 -- No end is too large for a word, so that the test is that of the ends.
-use Rattle.aggregator_rounds.proofs.Words.{rules, ◌∙◌, ◌+◌, nat_lt, filter_same}
-use Rattle.std.specs.Prelude.{min}
+use Rattle.aggregator_rounds.proofs.Words.{rules, ◌∙◌, ◌+◌, nat_lt, filter_same, min}
 use Rattle.aggregator_rounds.proofs.PastSteps.{filter_ends}
 use Rattle.aggregator_rounds.proofs.unserved.leave_out.Goals as goal
 

@@ -1,5 +1,4 @@
-use Rattle.cdf_header.proofs.Words.{◌≡◌, ℕ, ◌<◌, ◌≤◌, true, sym, ap, subst, ◌∙◌, arith, get_or, inl, inr, nat_lt, cases_lt, get_or_default, common_steps, Span}
-use Rattle.std.specs.Prelude.{false}
+use Rattle.cdf_header.proofs.Words.{◌≡◌, ℕ, ◌<◌, ◌≤◌, true, sym, ap, subst, ◌∙◌, arith, get_or, inl, inr, nat_lt, cases_lt, get_or_default, common_steps, Span, false}
 use Rattle.cdf_header.proofs.spans.first_overlapped.Goals as goal
 
 -- the span that is reached now, and one ahead of it

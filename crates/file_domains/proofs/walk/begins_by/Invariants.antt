@@ -1,6 +1,5 @@
 -- What is below the lower end begins by the place, and what is from the upper end on begins past it.
-use Rattle.file_domains.proofs.Words.{◌≡◌, ℕ, ◌-◌, ◌<◌, ◌≤◌, length, true, false, nat_le, Extent}
-use Rattle.std.specs.Prelude.{slice_index_or}
+use Rattle.file_domains.proofs.Words.{◌≡◌, ℕ, ◌-◌, ◌<◌, ◌≤◌, length, true, false, nat_le, Extent, slice_index_or}
 use Rattle.file_domains.proofs.walk.begins_by.Given as goal
 
 abbrev pub invariant-halves : goal.invariant-halves

@@ -1,5 +1,4 @@
-use Rattle.generated_run.proofs.Words.{rules, SFits, ℕ, List, [], ◌∷◌, ◌++◌, codes, decimal, map, sum, ap, ◌∙◌, ℤ, w128, signed_decimal, to_z-of_z, call_got, call_put, over_calls, refusals, sum_given, line, then_append}
-use Rattle.std.specs.Prelude.{fold, pos, ◌+ℤ◌}
+use Rattle.generated_run.proofs.Words.{rules, SFits, ℕ, List, [], ◌∷◌, ◌++◌, codes, decimal, map, sum, ap, ◌∙◌, ℤ, w128, signed_decimal, to_z-of_z, call_got, call_put, over_calls, refusals, sum_given, line, then_append, fold, pos, ◌+ℤ◌}
 use Rattle.generated_run.proofs.summary.push_answers.Goals as goal
 
 pub returns : goal.returns

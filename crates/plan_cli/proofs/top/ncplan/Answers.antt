@@ -1,5 +1,4 @@
-use Rattle.plan_cli.proofs.Words.{◌≡◌, ap, rules, Option, Some, sym, subst, ◌∙◌, EndsAs, seen_at, form_of, named_by, texts, wanted_of, Wanted}
-use Rattle.std.proofs.Common.{option_map}
+use Rattle.plan_cli.proofs.Words.{◌≡◌, ap, rules, Option, Some, sym, subst, ◌∙◌, EndsAs, seen_at, form_of, named_by, texts, wanted_of, Wanted, option_map}
 use Rattle.plan_cli.proofs.top.ncplan.Goals as goal
 
 pub returns-in-Some-clause-ends : goal.returns-in-Some-clause-ends

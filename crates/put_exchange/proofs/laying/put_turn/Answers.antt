@@ -1,6 +1,5 @@
 -- The hull as it is written is the old one with the bytes of what was taken.
-use Rattle.put_exchange.proofs.Words.{◌≡◌, ◌∙◌, ◌+◌, List, ap, length, refl, calls_more, rules, arith, common_steps, after, cell_of, clips_from, clips_within, told_window, window_told_by, window_refused_by, Owned, Cell, write_cells, moved_down, Source, cells_in, put_window, Carry, IsFilledBy, err_not_ok}
-use Rattle.std.specs.Prelude.{map}
+use Rattle.put_exchange.proofs.Words.{◌≡◌, ◌∙◌, ◌+◌, List, ap, length, refl, calls_more, rules, arith, common_steps, after, cell_of, clips_from, clips_within, told_window, window_told_by, window_refused_by, Owned, Cell, write_cells, moved_down, Source, cells_in, put_window, Carry, IsFilledBy, err_not_ok, map}
 use Rattle.put_exchange.proofs.PutLaws.{told_kept, told_whole}
 use Rattle.put_exchange.proofs.laying.put_turn.Goals as goal
 

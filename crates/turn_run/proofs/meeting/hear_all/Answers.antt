@@ -1,6 +1,5 @@
 -- One more rank has heard.
-use Rattle.turn_run.proofs.Words.{◌≡◌, ℕ, sym, ◌∙◌, subst, map, length, List, Some, get_or, arith, slice_get, IfSome, same_Some, slice_get_within, slice_get-get_or, wanted, reply_of, IsAnswered, on_err, left_more, each_more, HasHeard}
-use Rattle.std.proofs.Common.{length-set}
+use Rattle.turn_run.proofs.Words.{◌≡◌, ℕ, sym, ◌∙◌, subst, map, length, List, Some, get_or, arith, slice_get, IfSome, same_Some, slice_get_within, slice_get-get_or, wanted, reply_of, IsAnswered, on_err, left_more, each_more, HasHeard, length-set}
 use Rattle.turn_run.proofs.SaidMeet.{heard_part}
 use Rattle.turn_run.proofs.meeting.hear_all.Goals as goal
 

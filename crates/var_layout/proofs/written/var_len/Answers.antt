@@ -1,5 +1,4 @@
-use Rattle.var_layout.proofs.Words.{◌≡◌, ℕ, ◌*◌, ap, ◌∙◌, arith, byte_len, count_width}
-use Rattle.std.specs.Prelude.{length}
+use Rattle.var_layout.proofs.Words.{◌≡◌, ℕ, ◌*◌, ap, ◌∙◌, arith, byte_len, count_width, length}
 use Rattle.var_layout.proofs.WrittenLengths.{variable_len}
 use Rattle.var_layout.proofs.written.var_len.Goals as goal
 

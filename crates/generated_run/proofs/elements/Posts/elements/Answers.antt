@@ -1,5 +1,4 @@
-use Rattle.generated_run.proofs.Words.{◌≡◌, ℕ, List, Option, sym, ap, subst, ◌∙◌, option_map, option_copied, Bor, Call, Given, elements_given, posted_elements}
-use Rattle.std.proofs.Common.{IfOk}
+use Rattle.generated_run.proofs.Words.{◌≡◌, ℕ, List, Option, sym, ap, subst, ◌∙◌, option_map, option_copied, Bor, Call, Given, elements_given, posted_elements, IfOk}
 use Rattle.generated_run.proofs.PostLaws.{elements_of, found_are}
 use Rattle.generated_run.proofs.elements.Posts.elements.Goals as goal
 

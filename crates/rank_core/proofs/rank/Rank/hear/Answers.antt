@@ -1,5 +1,4 @@
-use Rattle.rank_core.proofs.Words.{◌≤◌, subst, sym, arith, Option, as_open, IsOpen, OpenOffer}
-use Rattle.std.specs.Prelude.{IfSome}
+use Rattle.rank_core.proofs.Words.{◌≤◌, subst, sym, arith, Option, as_open, IsOpen, OpenOffer, IfSome}
 use Rattle.rank_core.proofs.RequestLaws.{requests_more}
 use Rattle.rank_core.proofs.rank.Rank.hear.Goals as goal
 

@@ -1,5 +1,4 @@
-use Rattle.request_queue.proofs.Words.{◌≡◌, ◌∷◌, ◌++◌, [], refl, sym, ◌∙◌, ap, subst, ℕ, List, arith, None, map, false, cond-false, Posted, status_of, Queued, with_request, Waiting, as_posted, is_null, is_buffered, posted_of, Accounts, Request, Posting, Account}
-use Rattle.std.proofs.Common.{option_map}
+use Rattle.request_queue.proofs.Words.{◌≡◌, ◌∷◌, ◌++◌, [], refl, sym, ◌∙◌, ap, subst, ℕ, List, arith, None, map, false, cond-false, Posted, status_of, Queued, with_request, Waiting, as_posted, is_null, is_buffered, posted_of, Accounts, Request, Posting, Account, option_map}
 use Rattle.request_queue.proofs.PostedLaws.{posted-push, is_null-push, waiting-push, count-push, accounts-push, new_lacks}
 use Rattle.request_queue.proofs.queue.Queue.push.Goals as goal
 

@@ -1,5 +1,4 @@
-use Rattle.request_queue.proofs.Words.{◌≡◌, ◌≤◌, ◌-◌, ◌^◌, ◌∷◌, ◌++◌, [], min, map, refl, sym, ◌∙◌, ap, subst, ℕ, List, arith, None, Some, Option, false, length, common_steps, Account, Post, Posted, Waiting, status_of, bytes_in, buffer_code, Posting, Request, Queued, with_request, rank_with, as_posted, is_null, posted_of, Accounts, claimed, claim_code}
-use Rattle.std.proofs.Common.{option_map}
+use Rattle.request_queue.proofs.Words.{◌≡◌, ◌≤◌, ◌-◌, ◌^◌, ◌∷◌, ◌++◌, [], min, map, refl, sym, ◌∙◌, ap, subst, ℕ, List, arith, None, Some, Option, false, length, common_steps, Account, Post, Posted, Waiting, status_of, bytes_in, buffer_code, Posting, Request, Queued, with_request, rank_with, as_posted, is_null, posted_of, Accounts, claimed, claim_code, option_map}
 use Rattle.nc_base.specs.declared.answer.Code.TheVariants as code
 use Rattle.nc_base.specs.declared.request.PostKind.TheVariants as kind
 use Rattle.request_queue.proofs.PostedLaws.{held_posted, posted-push, is_null-push, waiting-push, count-push, new_lacks}
