@@ -7,7 +7,7 @@ pub returns-then-self-gt0-clause-refused : goal.returns-then-self-gt0-clause-ref
 returns-then-self-gt0-clause-refused c =
     let a = c.self.inside in
     let pending : detach_code (rank_with (attached_by a.room (posted_of a.history.items a.waiting))) ≡ code.EPendingBput =
-    detach_is a.room _ a.waiting true c.self.invariant.waiting (c.is_none.ensures ∙ ap not c.if-is_none.false)
+    detach_is a.room (posted_of a.history.items a.waiting) a.waiting true c.self.invariant.waiting (c.is_none.ensures ∙ ap not c.if-is_none.false)
     (lt-ltb 0 (count_by is_buffered a.waiting) (omega (arith, c.self.invariant.buffered))) in (
       sym pending ∙ ap (λ (q : Queued). detach_code (rank_with q)) c.self.view_is,
       λ e. cc,
@@ -17,4 +17,4 @@ pub returns-clause-right : goal.returns-clause-right
 returns-clause-right c =
     let a = c.self.inside in
     sym (ap (λ (q : Queued). detach_code (rank_with q)) c.self.view_is)
-    ∙ detach_is a.room _ a.waiting false c.self.invariant.waiting (c.is_none.ensures ∙ ap not c.if-is_none.false) (le-ltb 0 (count_by is_buffered a.waiting) (omega (arith, c.self.invariant.buffered)))
+    ∙ detach_is a.room (posted_of a.history.items a.waiting) a.waiting false c.self.invariant.waiting (c.is_none.ensures ∙ ap not c.if-is_none.false) (le-ltb 0 (count_by is_buffered a.waiting) (omega (arith, c.self.invariant.buffered)))
