@@ -6,7 +6,7 @@ pub use Rattle.std.proofs.lemmas.List.{append_assoc}
 pub use Rattle.std.proofs.lemmas.List.Concat.{flat_map-append}
 pub use Rattle.std.specs.List.{filter, flat_map, zip}
 pub use Rattle.std.specs.Prelude.{bytes_eq}
-pub use Rattle.list_laws.proofs.Common.{then_append}
+pub use Rattle.list_laws.proofs.Common.{either, no_none_some, then_append}
 pub use Rattle.list_laws.proofs.Types.{Call, Header, Var}
 pub use Rattle.printed_text.specs.declared.words.TheConstants.{PAIRS}
 pub use Rattle.printed_text.specs.Digits.{FindsNames, FindsPosts, named_digits}

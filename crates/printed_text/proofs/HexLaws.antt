@@ -1,5 +1,5 @@
 -- Hexadecimal digits, two at a time.
-use Rattle.printed_text.proofs.Cited.{◌≡◌, ℕ, zero, suc, ◌+◌, ◌-◌, ◌*◌, ◌/◌, ◌%◌, ◌<◌, ◌≤◌, Bool, true, ◌&&◌, T, eqb, eqb→eq, eq-zero-or-pos, and_l, and_r, List, [], ◌∷◌, ◌++◌, length, take, drop, set, get_or, refl, sym, ap, ◌∙◌, inl, inr, arith, append_assoc, drop-set, take-set-le, take-set_at, take-append_seam, length-append, length-set, length-take-le, hex, hex_digit, PAIRS}
+use Rattle.printed_text.proofs.Cited.{◌≡◌, ℕ, zero, suc, ◌+◌, ◌-◌, ◌*◌, ◌/◌, ◌%◌, ◌<◌, ◌≤◌, Bool, true, ◌&&◌, T, eqb, eqb→eq, eq-zero-or-pos, and_l, and_r, List, [], ◌∷◌, ◌++◌, length, take, drop, set, get_or, refl, ap, ◌∙◌, inl, inr, arith, append_assoc, drop-set, take-set-le, take-set_at, take-append_seam, length-append, length-set, length-take-le, hex, hex_digit, PAIRS}
 use Rattle.printed_text.proofs.WordLaws.{hex_last}
 
 -- ---- the table
@@ -33,10 +33,7 @@ hex_two n x some =
 
 length_hex : (n x : ℕ) → length (hex n x) ≡ n
 length_hex zero x = refl
-length_hex (suc n) x =
-    let more : length (hex n (x / 16) ++ hex_digit (x % 16) ∷ []) ≡ length (hex n (x / 16)) + 1 = length-append (hex n (x / 16)) (hex_digit (x % 16) ∷ []) in
-    let all : length (hex n (x / 16) ++ hex_digit (x % 16) ∷ []) ≡ suc n = omega (arith, more, length_hex n (x / 16)) in
-    all
+length_hex (suc n) x = simp (length-append, length_hex n (x / 16)) (omega arith)
 
 -- a pair goes before what is written
 pub pair_next : (start left x : ℕ) (text next : List ℕ) → 0 < left → start + 2 * left ≤ length text
@@ -52,18 +49,11 @@ pair_next start left x text next some within written =
     let long : at + 1 < length text = omega arith in
     let short : at < length half = omega (arith, length-set text (at + 1) low) in
     let here : at + 1 + 1 ≡ start + 2 * left = omega arith in
-    let before : take start next ≡ take start text = ap (take start) written ∙ take-set-le start half at high (omega arith) ∙ take-set-le start text (at + 1) low (omega arith) in
-    let after : drop at next ≡ high ∷ low ∷ last =
-    ap (drop at) written ∙ drop-set half at high short ∙ ap (λ (t : List ℕ). high ∷ t) (drop-set text (at + 1) low long) ∙ ap (λ (n : ℕ). high ∷ low ∷ drop n text) here
-    in
+    let before : take start next ≡ take start text = rw (written, take-set-le start half at high (omega arith), take-set-le start text (at + 1) low (omega arith)) in
+    let after : drop at next ≡ high ∷ low ∷ last = rw (written, drop-set half at high short, drop-set text (at + 1) low long, here) in
     let fewer : 2 * left - 2 ≡ 2 * (left - 1) = omega arith in
-    let digits : hex (2 * left) x ≡ front ++ high ∷ low ∷ [] = hex_two (2 * left) x (omega arith) ∙ ap (λ (n : ℕ). hex n (x / 256) ++ high ∷ low ∷ []) fewer in
-    ap (λ (t : List ℕ). take start text ++ t ++ last) digits
-    ∙ append_assoc (take start text) (front ++ high ∷ low ∷ []) last
-    ∙ ap (λ (t : List ℕ). take start text ++ t) (append_assoc front (high ∷ low ∷ []) last)
-    ∙ sym (append_assoc (take start text) front (high ∷ low ∷ last))
-    ∙ ap (λ (t : List ℕ). t ++ front ++ high ∷ low ∷ last) (sym before)
-    ∙ ap (λ (t : List ℕ). take start next ++ front ++ t) (sym after)
+    let digits : hex (2 * left) x ≡ front ++ high ∷ low ∷ [] = rw (hex_two (2 * left) x (omega arith), fewer) in
+    simp (digits, before, after, append_assoc)
 
 -- ---- what is written into a text
 
@@ -83,18 +73,8 @@ odd_there start n m x end d old next within here one digit written =
     let front : take start (set old (start + m) d) ≡ take start old = take-set-le start old (start + m) d (omega arith) in
     let back : drop (start + m) (set old (start + m) d) ≡ d ∷ last = drop-set old (start + m) d within in
     let fewer : n - 1 ≡ m = omega arith in
-    let all : hex n x ≡ hex m (x / 16) ++ d ∷ [] =
-    hex_last n x (omega arith) ∙ ap (λ (k : ℕ). hex k (x / 16) ++ hex_digit (x % 16) ∷ []) fewer ∙ ap (λ (c : ℕ). hex m (x / 16) ++ c ∷ []) (sym digit)
-    in
-    let whole : next ≡ take start old ++ hex n x ++ last =
-    written
-    ∙ ap (λ (t : List ℕ). t ++ hex m (x / 16) ++ drop (start + m) (set old (start + m) d)) front
-    ∙ ap (λ (t : List ℕ). take start old ++ hex m (x / 16) ++ t) back
-    ∙ append_assoc (take start old) (hex m (x / 16)) (d ∷ last)
-    ∙ ap (λ (t : List ℕ). take start old ++ t) (sym (append_assoc (hex m (x / 16)) (d ∷ []) last))
-    ∙ sym (append_assoc (take start old) (hex m (x / 16) ++ d ∷ []) last)
-    ∙ ap (λ (t : List ℕ). take start old ++ t ++ last) (sym all)
-    in
+    let all : hex n x ≡ hex m (x / 16) ++ d ∷ [] = rw (hex_last n x (omega arith), fewer, digit) in
+    let whole : next ≡ take start old ++ hex n x ++ last = simp (written, front, back, all, append_assoc) in
     digits_there start n x end old next last (omega arith) here whole
 
 -- a blank and an x before them
@@ -104,7 +84,4 @@ pattern_there at old text digits within written =
     let one : at + 1 < length (set old at 32) = omega (arith, length-set old at 32) in
     let second : take (at + 2) (set (set old at 32) (at + 1) 120) ≡ take (at + 1) (set old at 32) ++ 120 ∷ [] = take-set_at (set old at 32) (at + 1) (at + 2) 120 (omega arith) one in
     let first : take (at + 1) (set old at 32) ≡ take at old ++ 32 ∷ [] = take-set_at old at (at + 1) 32 (omega arith) (omega arith) in
-    written
-    ∙ ap (λ (t : List ℕ). t ++ digits) (second ∙ ap (λ (t : List ℕ). t ++ 120 ∷ []) first)
-    ∙ append_assoc (take at old ++ 32 ∷ []) (120 ∷ []) digits
-    ∙ append_assoc (take at old) (32 ∷ []) (120 ∷ digits)
+    simp (written, second, first, append_assoc)

@@ -1,5 +1,5 @@
 -- Where variables lie.
-use Rattle.printed_text.proofs.Cited.{◌≡◌, ◌+◌, ◌^◌, ◌<◌, ℕ, List, [], ◌∷◌, ◌++◌, length, take, get_or, Bool, true, false, cond, Some, sym, ap, ◌∙◌, arith, filter, flat_map, append-nil, append_assoc, flat_map-append, filter_more, slice_get-get_or, slab_below, Header, Var, is_sound, slab, vsize, var_kept}
+use Rattle.printed_text.proofs.Cited.{◌≡◌, ◌+◌, ◌^◌, ◌<◌, ℕ, List, ◌++◌, length, take, get_or, Bool, true, false, Some, sym, ap, ◌∙◌, arith, filter, flat_map, append-nil, append_assoc, flat_map-append, filter_more, slice_get-get_or, slab_below, Header, Var, is_sound, slab, vsize, var_kept}
 use Rattle.std.specs.List.{slice_get}
 
 -- a variable of a sound header ends within a file
@@ -15,22 +15,9 @@ var_ends header vars k v sound same within here =
 -- an item that is listed, and one that is not
 pub listed_more : {A : Type 0} (f : A → List ℕ) (p : A → Bool) (front now next : List ℕ) (xs : List A) (k : ℕ) (v : A) → k < length xs → v ≡ get_or xs k v
     → now ≡ front ++ flat_map f (filter p (take k xs)) → p v ≡ true → next ≡ now ++ f v → next ≡ front ++ flat_map f (filter p (take (k + 1) xs))
-listed_more {A} f p front now next xs k v h e so_far passes pushed =
-    pushed
-    ∙ ap (λ (t : List ℕ). t ++ f v) so_far
-    ∙ append_assoc front (flat_map f (filter p (take k xs))) (f v)
-    ∙ ap (λ (t : List ℕ). front ++ (flat_map f (filter p (take k xs)) ++ t)) (sym (append-nil (f v)))
-    ∙ ap (λ (t : List ℕ). front ++ t) (sym (flat_map-append f (filter p (take k xs)) (v ∷ [])))
-    ∙ ap (λ (t : Bool). front ++ flat_map f (filter p (take k xs) ++ cond t (v ∷ []) [])) (sym passes)
-    ∙ ap (λ (w : A). front ++ flat_map f (filter p (take k xs) ++ cond (p w) (w ∷ []) [])) e
-    ∙ ap (λ (ws : List A). front ++ flat_map f ws) (sym (filter_more p xs k v h))
+listed_more f p front now next xs k v h e so_far passes pushed =
+    rw (pushed, so_far, filter_more p xs k v h, ← e, passes, flat_map-append, append-nil) (append_assoc front (flat_map f (filter p (take k xs))) (f v))
 
 pub unlisted_more : {A : Type 0} (f : A → List ℕ) (p : A → Bool) (front now next : List ℕ) (xs : List A) (k : ℕ) (v : A) → k < length xs → v ≡ get_or xs k v
     → now ≡ front ++ flat_map f (filter p (take k xs)) → p v ≡ false → next ≡ now → next ≡ front ++ flat_map f (filter p (take (k + 1) xs))
-unlisted_more {A} f p front now next xs k v h e so_far fails same =
-    same
-    ∙ so_far
-    ∙ ap (λ (ws : List A). front ++ flat_map f ws) (sym (append-nil (filter p (take k xs))))
-    ∙ ap (λ (t : Bool). front ++ flat_map f (filter p (take k xs) ++ cond t (v ∷ []) [])) (sym fails)
-    ∙ ap (λ (w : A). front ++ flat_map f (filter p (take k xs) ++ cond (p w) (w ∷ []) [])) e
-    ∙ ap (λ (ws : List A). front ++ flat_map f ws) (sym (filter_more p xs k v h))
+unlisted_more f p front now next xs k v h e so_far fails same = rw (same, so_far, filter_more p xs k v h, ← e, fails, append-nil)
