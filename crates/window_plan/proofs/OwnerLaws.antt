@@ -1,24 +1,15 @@
 -- Whose the bytes of a hull are, by the entries that may have some.
-use Rattle.window_plan.proofs.Words.{◌≡◌, ℕ, ◌+◌, ◌-◌, ◌≤◌, inl, inr, refl, sym, ◌∙◌, ap, List, [], ◌∷◌, ◌++◌, Bool, true, false, cond, max, min, arith, nat_tests, flat_map-append, append-nil, nat_lt, Extent, Owned, IsPast, In, owner_between, owner_in, owners_in, Owner}
+use Rattle.window_plan.proofs.Words.{◌≡◌, ℕ, ◌+◌, ◌-◌, ◌≤◌, inl, inr, refl, sym, ◌∙◌, ap, List, [], ◌∷◌, ◌++◌, false, max, min, arith, nat_tests, flat_map-append, append-nil, nat_lt, Extent, Owned, IsPast, In, owner_between, owner_in, owners_in, Owner}
 
 no_owner : (rank at stop : ℕ) → stop ≤ at → owner_between rank at stop ≡ []
-no_owner rank at stop h = by_test (nat_lt at stop) (grind (arith, nat_tests))
-  where
-    owner : Owner
-    owner = record { rank = rank; extent = record { at = at; len = stop - at } }
-
-    by_test : (t : Bool) → t ≡ false → cond t (owner ∷ []) [] ≡ []
-    by_test true e = absurd cc
-    by_test false e = refl
+no_owner rank at stop h = let past : nat_lt at stop ≡ false = grind (arith, nat_tests) in rw past
 
 -- what ends before a hull has none of its bytes
 past_owners : (hull : Extent) (place : ℕ) (whole left : List Owned) → place ≤ hull.at → IsPast place whole left → owners_in hull whole ≡ owners_in hull left
 past_owners hull place [] left l h = ap (λ (os : List Owned). owners_in hull os) (sym h)
 past_owners hull place (o ∷ whole) left l (inl h) =
     let end = h.0 in
-    ap (λ (os : List Owner). os ++ owners_in hull whole)
-    (no_owner o.rank (max o.extent.at hull.at) (min (o.extent.at + o.extent.len) (hull.at + hull.len)) (omega arith))
-    ∙ past_owners hull place whole left l h.1
+    rw (no_owner o.rank (max o.extent.at hull.at) (min (o.extent.at + o.extent.len) (hull.at + hull.len)) (omega arith)) (past_owners hull place whole left l h.1)
 past_owners hull place (o ∷ whole) left l (inr h) =
     ap (λ (os : List Owner). owner_in hull o ++ os) (past_owners hull place whole h.0 l h.2) ∙ ap (λ (os : List Owned). owners_in hull os) (sym h.1)
 
@@ -27,16 +18,11 @@ later_owners : (hull : Extent) (rest : List Owned) → ((o : Owned) → In rest 
 later_owners hull [] h = refl
 later_owners hull (o ∷ rest) h =
     let begin = h o (inl refl) in
-    ap (λ (os : List Owner). os ++ owners_in hull rest)
-    (no_owner o.rank (max o.extent.at hull.at) (min (o.extent.at + o.extent.len) (hull.at + hull.len)) (omega arith))
-    ∙ later_owners hull rest (λ p m. h p (inr m))
+    rw (no_owner o.rank (max o.extent.at hull.at) (min (o.extent.at + o.extent.len) (hull.at + hull.len)) (omega arith)) (later_owners hull rest (λ p m. h p (inr m)))
 
 -- the owners of a hull's bytes are those by the entries that may have bytes of it
 pub served_owners : (hull : Extent) (place stop : ℕ) (list left served rest : List Owned) → IsPast place list left → left ≡ served ++ rest
     → ((o : Owned) → In rest o → stop ≤ o.extent.at) → place ≤ hull.at → hull.at + hull.len ≤ stop → owners_in hull list ≡ owners_in hull served
 served_owners hull place stop list left served rest past joined later low high =
-    past_owners hull place list left low past
-    ∙ ap (λ (os : List Owned). owners_in hull os) joined
-    ∙ flat_map-append (owner_in hull) served rest
-    ∙ ap (λ (os : List Owner). owners_in hull served ++ os) (later_owners hull rest (λ o m. let l = later o m in omega arith))
-    ∙ append-nil (owners_in hull served)
+    let none = later_owners hull rest (λ o m. let l = later o m in omega arith) in
+    rw (past_owners hull place list left low past, joined, flat_map-append (owner_in hull) served rest, none, append-nil (owners_in hull served))

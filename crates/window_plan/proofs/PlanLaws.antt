@@ -6,12 +6,7 @@ use Rattle.window_plan.proofs.OwnerLaws.{served_owners}
 
 told_more : (plans : List WindowPlan) (plan : WindowPlan) (t : Told) (ahead later whole : List Told) → told_plan plan ≡ t → ahead ≡ t ∷ later
     → map told_plan plans ++ ahead ≡ whole → map told_plan (plans ++ plan ∷ []) ++ later ≡ whole
-told_more plans plan t ahead later whole e next h =
-    ap (λ (ts : List Told). ts ++ later) (map-append told_plan plans (plan ∷ []))
-    ∙ append_assoc (map told_plan plans) (told_plan plan ∷ []) later
-    ∙ ap (λ (u : Told). map told_plan plans ++ u ∷ later) e
-    ∙ ap (λ (ts : List Told). map told_plan plans ++ ts) (sym next)
-    ∙ h
+told_more plans plan t ahead later whole e next h = rw (map-append told_plan plans (plan ∷ []), append_assoc (map told_plan plans) (told_plan plan ∷ []) later, e) (rw next at h)
 
 pub all_told : (plans : List WindowPlan) (ahead whole : List Told) → ahead ≡ [] → map told_plan plans ++ ahead ≡ whole → map told_plan plans ≡ whole
 all_told plans ahead whole none h = sym (append-nil (map told_plan plans)) ∙ ap (λ (ts : List Told). map told_plan plans ++ ts) (sym none) ∙ h
@@ -25,15 +20,12 @@ shared_more : (list : List Owned) (plans : List WindowPlan) (w : WindowPlan) →
 shared_more list plans w h e v m =
     elim (in_either plans (w ∷ []) v m) [
       | inl i ↦ h v i
-      | inr i ↦ elim i [
-        | inl same ↦ subst (λ (u : WindowPlan). u.owners ≡ owners_in u.hull list) same e
-        | inr n ↦ absurd n
-      ]
+      | inr i ↦ elim i [ inl same ↦ subst (λ (u : WindowPlan). u.owners ≡ owners_in u.hull list) same e | inr n ↦ absurd n ]
     ]
 
 plan_shared : (list served : List Owned) (w : Window) (plan : WindowPlan) → plan ≡ plan_of w served → owners_in w.hull list ≡ owners_in w.hull served
     → plan.owners ≡ owners_in plan.hull list
-plan_shared list served w plan e same = subst (λ (u : WindowPlan). u.owners ≡ owners_in u.hull list) (sym e) (sym same)
+plan_shared list served w plan e same = rw e (sym same)
 
 -- ---- the windows of a domain
 

@@ -1,5 +1,5 @@
 -- The words of this crate's proofs, from where they stand.
-pub use Rattle.list_laws.proofs.Std.{Bool, List, [], ap, append-nil, append_assoc, arith, cond, false, flat_map-append, flat_map_more, get_or, inl, inr, length, map, map-append, max, min, nat_lt, nat_tests, range_with_len, refl, rules, subst, suc, sym, take, take_more, true, ℕ, ◌++◌, ◌+◌, ◌-◌, ◌<◌, ◌^◌, ◌∙◌, ◌∷◌, ◌≡◌, ◌≤◌}
+pub use Rattle.list_laws.proofs.Std.{List, [], ap, append-nil, append_assoc, arith, false, flat_map-append, flat_map_more, get_or, inl, inr, length, map, map-append, max, min, nat_lt, nat_tests, range_with_len, refl, rules, subst, suc, sym, take, take_more, ℕ, ◌++◌, ◌+◌, ◌-◌, ◌<◌, ◌^◌, ◌∙◌, ◌∷◌, ◌≡◌, ◌≤◌}
 pub use Rattle.std.specs.List.{flat_map}
 pub use Rattle.aggregator_rounds.proofs.PastSteps.{all_left, past_twice, walk_begin}
 pub use Rattle.aggregator_rounds.proofs.SplitSteps.{entry_ends, extents_left, sorted_right}
@@ -13,7 +13,6 @@ pub use Rattle.data_sieving.specs.Walked.{AreLeft, IsNext, LieAcross, entries_in
 pub use Rattle.exchange_crew.proofs.DomainTurns.{domain_turns}
 pub use Rattle.exchange_crew.proofs.TurnLaws.{at_begin, at_next, front_carried, left_ends, left_filled, left_sorted, served_now, turn_limit}
 pub use Rattle.exchange_crew.specs.Cursor.{AreInFront, IsAt}
-pub use Rattle.exchange_crew.specs.Hulls.{AreTurns}
 pub use Rattle.exchange_crew.specs.Turns.{Told, turns_ahead, turns_of}
 pub use Rattle.file_domains.specs.Rounds.{IsWalk}
 pub use Rattle.file_domains.specs.declared.walk.Window.{Window}

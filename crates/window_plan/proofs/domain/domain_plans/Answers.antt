@@ -1,5 +1,5 @@
 -- Each window is planned by the entries that may have bytes in it.
-use Rattle.window_plan.proofs.Words.{◌+◌, ◌++◌, ◌∙◌, sym, ap, subst, List, map, min, arith, entries_left, told_window, all_left, walk_begin, sorted_right, Owned, AreInFront, AreTurns, Told, turns_ahead, turns_of, domain_turns, at_begin, front_carried, left_ends, left_filled, left_sorted, served_now, turn_limit, told_plan, AreShared, WindowPlan}
+use Rattle.window_plan.proofs.Words.{◌+◌, ◌<◌, ◌^◌, ◌++◌, ◌∙◌, sym, ap, subst, List, map, min, arith, entries_left, told_window, all_left, walk_begin, sorted_right, AreInFront, turns_ahead, turns_of, domain_turns, at_begin, front_carried, left_ends, left_filled, left_sorted, served_now, turn_limit, told_plan, WindowPlan}
 use Rattle.exchange_crew.proofs.TurnLaws.{served_ends}
 use Rattle.window_plan.proofs.PlanLaws.{all_told, none_shared, planned_next, IsPlanning}
 use Rattle.window_plan.proofs.domain.domain_plans.Goals as goal
@@ -14,39 +14,29 @@ windows-init c =
     record {
       walk = c.domain_windows-windows.ensures.ready;
       here = at_begin list left room 0 (turns_ahead c.domain_windows-windows.result) (walk_begin list left whole) (λ t m. omega arith)
-          (subst (λ (ts : List Told). AreTurns list room ts) (sym c.domain_windows-windows.ensures.windows)
-          (domain_turns c.args.size c.args.domain list c.args.cover.now plan.some plan.covers plan.cover_bytes));
+          (rw c.domain_windows-windows.ensures.windows (domain_turns c.args.size c.args.domain list c.args.cover.now plan.some plan.covers plan.cover_bytes));
       told = ap (λ (ps : List WindowPlan). map told_plan ps ++ turns_ahead c.domain_windows-windows.result) c.new-plans.ensures.items ∙ c.domain_windows-windows.ensures.windows;
-      shared = subst (λ (ps : List WindowPlan). AreShared list ps) (sym c.new-plans.ensures.items) (none_shared list);
+      shared = rw c.new-plans.ensures.items (none_shared list);
     }
 
 pub overflow_add-stop : goal.overflow_add-stop
 overflow_add-stop c =
-    let limit = turn_limit c.args.list.now (entries_left c.windows.entries) (min c.args.size c.args.domain.len) (turns_ahead c.windows.windows) (turns_ahead c.next_window.new.windows)
-    (told_window c.in-Some.window) c.requires.plan.ends c.windows.invariant.here c.in-Some.ensures.some in
+    let limit : c.in-Some.window.hull.at + c.in-Some.window.hull.len < 2 ^ 62 = turn_limit _ _ _ _ _ _ c.requires.plan.ends c.windows.invariant.here c.in-Some.ensures.some in
     omega arith
 
 pub ahead_before-fresh-requires : goal.ahead_before-fresh-requires
 ahead_before-fresh-requires c = record {
-  sorted = sorted_right c.windows.entries.carried.items c.windows.entries.ahead.now
-      (left_sorted c.args.list.now (entries_left c.windows.entries) (min c.args.size c.args.domain.len) (turns_ahead c.windows.windows) (turns_ahead c.next_window.new.windows)
-      (told_window c.in-Some.window) c.requires.plan.sorted c.windows.invariant.here c.in-Some.ensures.some);
+  sorted = sorted_right c.windows.entries.carried.items c.windows.entries.ahead.now (left_sorted _ _ _ _ _ _ c.requires.plan.sorted c.windows.invariant.here c.in-Some.ensures.some);
 }
 
 pub plan_window-requires-clause-hull : goal.plan_window-requires-clause-hull
-plan_window-requires-clause-hull c =
-    turn_limit c.args.list.now (entries_left c.windows.entries) (min c.args.size c.args.domain.len) (turns_ahead c.windows.windows) (turns_ahead c.next_window.new.windows)
-    (told_window c.in-Some.window) c.requires.plan.ends c.windows.invariant.here c.in-Some.ensures.some
+plan_window-requires-clause-hull c = turn_limit _ _ _ _ _ _ c.requires.plan.ends c.windows.invariant.here c.in-Some.ensures.some
 
 pub pass-requires-clause-ends : goal.pass-requires-clause-ends
-pass-requires-clause-ends c =
-    left_ends c.args.list.now (entries_left c.windows.entries) (min c.args.size c.args.domain.len) (turns_ahead c.windows.windows) (turns_ahead c.next_window.new.windows)
-    (told_window c.in-Some.window) c.requires.plan.ends c.windows.invariant.here c.in-Some.ensures.some
+pass-requires-clause-ends c = left_ends _ _ _ _ _ _ c.requires.plan.ends c.windows.invariant.here c.in-Some.ensures.some
 
 pub pass-requires-clause-filled : goal.pass-requires-clause-filled
-pass-requires-clause-filled c =
-    left_filled c.args.list.now (entries_left c.windows.entries) (min c.args.size c.args.domain.len) (turns_ahead c.windows.windows) (turns_ahead c.next_window.new.windows)
-    (told_window c.in-Some.window) c.requires.plan.filled c.windows.invariant.here c.in-Some.ensures.some
+pass-requires-clause-filled c = left_filled _ _ _ _ _ _ c.requires.plan.filled c.windows.invariant.here c.in-Some.ensures.some
 
 pub returns-clause-told : goal.returns-clause-told
 returns-clause-told c =
@@ -54,32 +44,21 @@ returns-clause-told c =
     ∙ all_told c.windows.plans.items (turns_ahead c.windows.windows) (turns_of c.args.size c.args.domain c.args.cover.now) c.in_default.ensures.none c.windows.invariant.told
 
 pub returns-clause-shared : goal.returns-clause-shared
-returns-clause-shared c = subst (λ (ps : List WindowPlan). AreShared c.args.list.now ps) (sym c.fitted.ensures) c.windows.invariant.shared
+returns-clause-shared c = rw c.fitted.ensures c.windows.invariant.shared
 
 pub plan_window-requires-clause-ends : goal.plan_window-requires-clause-ends
 plan_window-requires-clause-ends c =
     let w = c.in-Some.window in
     let stop = w.hull.at + w.hull.len in
-    let room = min c.args.size c.args.domain.len in
-    let left = entries_left c.windows.entries in
-    let begun = c.as_slice.result.now ++ c.ahead_before-fresh.result.now in
-    let front = subst (λ (os : List Owned). AreInFront stop left (os ++ c.ahead_before-fresh.result.now)) (sym c.as_slice.ensures.value)
-    (front_carried stop c.windows.entries.carried.items c.windows.entries.ahead.now c.ahead_before-fresh.result.now c.ahead_before-fresh.ensures) in
-    served_ends c.args.list.now begun w.hull.at stop
-    (served_now c.args.list.now left begun room (turns_ahead c.windows.windows) (turns_ahead c.next_window.new.windows) (told_window w) c.windows.invariant.here c.in-Some.ensures.some front)
-    c.requires.plan.ends
+    let front : AreInFront stop (entries_left c.windows.entries) (c.as_slice.result.now ++ c.ahead_before-fresh.result.now) =
+    rw c.as_slice.ensures.value (front_carried stop c.windows.entries.carried.items c.windows.entries.ahead.now c.ahead_before-fresh.result.now c.ahead_before-fresh.ensures) in
+    served_ends c.args.list.now _ w.hull.at stop (served_now _ _ _ _ _ _ (told_window w) c.windows.invariant.here c.in-Some.ensures.some front) c.requires.plan.ends
 
 pub windows-preserved : goal.windows-preserved
 windows-preserved c =
     let w = c.in-Some.window in
     let stop = w.hull.at + w.hull.len in
-    let room = min c.args.size c.args.domain.len in
-    let whole = turns_of c.args.size c.args.domain c.args.cover.now in
-    let left = entries_left c.windows.entries in
-    let later = entries_left c.pass.new.self in
-    let begun = c.as_slice.result.now ++ c.ahead_before-fresh.result.now in
-    let front = subst (λ (os : List Owned). AreInFront stop left (os ++ c.ahead_before-fresh.result.now)) (sym c.as_slice.ensures.value)
-    (front_carried stop c.windows.entries.carried.items c.windows.entries.ahead.now c.ahead_before-fresh.result.now c.ahead_before-fresh.ensures) in
-    subst (λ (ps : List WindowPlan). IsPlanning c.args.list.now room whole c.next_window.new.windows later ps) (sym {A = List WindowPlan} c.in_ok-push.ensures.items)
-    (planned_next c.args.list.now room whole c.windows.windows c.next_window.new.windows left later begun c.windows.plans.items w c.in_ok-plan_window.field-0
-    c.windows.invariant c.in-Some.ensures.ready c.in-Some.ensures.some front c.pass.ensures.past c.in_ok-plan_window.ensures)
+    let front : AreInFront stop (entries_left c.windows.entries) (c.as_slice.result.now ++ c.ahead_before-fresh.result.now) =
+    rw c.as_slice.ensures.value (front_carried stop c.windows.entries.carried.items c.windows.entries.ahead.now c.ahead_before-fresh.result.now c.ahead_before-fresh.ensures) in
+    subst (λ (ps : List WindowPlan). IsPlanning c.args.list.now (min c.args.size c.args.domain.len) (turns_of c.args.size c.args.domain c.args.cover.now) c.next_window.new.windows (entries_left c.pass.new.self) ps) (sym {A = List WindowPlan} c.in_ok-push.ensures.items)
+    (planned_next _ _ _ _ c.next_window.new.windows _ (entries_left c.pass.new.self) _ _ w _ c.windows.invariant c.in-Some.ensures.ready c.in-Some.ensures.some front c.pass.ensures.past c.in_ok-plan_window.ensures)

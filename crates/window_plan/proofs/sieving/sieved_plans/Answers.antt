@@ -1,5 +1,5 @@
 -- Each window is planned by the entries that may have bytes in it.
-use Rattle.window_plan.proofs.Words.{◌++◌, ◌∷◌, [], ◌∙◌, refl, sym, ap, subst, List, ℕ, map, arith, entries_left, past_twice, all_left, walk_begin, entry_windows, entries_in, windows_from, IsNext, none_carried, walk_ready, hull_end, served_ends, all_windows, goes_on, told_of, told_plan, AreShared, WindowPlan}
+use Rattle.window_plan.proofs.Words.{◌++◌, ◌∷◌, [], ◌∙◌, refl, sym, ap, subst, List, ℕ, map, arith, entries_left, past_twice, all_left, walk_begin, entry_windows, entries_in, windows_from, IsNext, none_carried, walk_ready, hull_end, served_ends, all_windows, goes_on, told_of, told_plan, WindowPlan}
 use Rattle.window_plan.proofs.PlanLaws.{none_shared, sieved_end, sieved_next, IsSieving}
 use Rattle.window_plan.proofs.sieving.sieved_plans.Goals as goal
 
@@ -13,7 +13,7 @@ windows-init c =
         past = walk_begin list left whole;
         told = ap (λ (ps : List WindowPlan). map told_plan ps ++ map told_of (windows_from c.args.size 0 list)) c.in_ok-plans.ensures.items
             ∙ ap (λ (ws : List (List ℕ)). map told_of ws) (sym (all_windows c.args.size list));
-        shared = subst (λ (ps : List WindowPlan). AreShared list ps) (sym c.in_ok-plans.ensures.items) (none_shared list);
+        shared = rw c.in_ok-plans.ensures.items (none_shared list);
       };
       left = walk_ready list left c.args.size whole c.requires.sorted c.requires.ends c.requires.filled c.requires.some;
       across = none_carried c.new.result.carried.items c.new.ensures.carried;
@@ -55,4 +55,4 @@ returns-clause-told c =
     c.in_default.ensures.none h
 
 pub returns-clause-shared : goal.returns-clause-shared
-returns-clause-shared c = subst (λ (ps : List WindowPlan). AreShared c.args.list.now ps) (sym c.fitted.ensures) c.windows.invariant.sieving.shared
+returns-clause-shared c = rw c.fitted.ensures c.windows.invariant.sieving.shared
