@@ -27,33 +27,29 @@ pub divided_more : (hints : Hints) (list : List Owned) (cover domains : List Ext
     → AreDivided hints list cover domains (count + 1) (plans ++ plan ∷ [])
 divided_more hints list cover domains count none plans plan l extent number here h = record {
   many = (let long = length_push plans plan in let many = h.many in omega arith);
-  extents = map-append (λ (d : DomainPlan). d.extent) plans (plan ∷ [])
-      ∙ ap (λ (es : List Extent). es ++ plan.extent ∷ []) h.extents ∙ ap (λ (e : Extent). take count domains ++ e ∷ []) extent ∙ sym next;
-  numbered = map-append (λ (d : DomainPlan). d.aggregator) plans (plan ∷ [])
-      ∙ ap (λ (ns : List (Option ℕ)). ns ++ plan.aggregator ∷ []) h.numbered
-      ∙ ap (λ (n : Option ℕ). map Some (range_with_len 0 count) ++ n ∷ []) number
-      ∙ sym (map-append Some (range_with_len 0 count) (count ∷ []))
-      ∙ ap (λ (ns : List ℕ). map Some ns) (sym (range_next count));
+  extents = rw (map-append (λ (d : DomainPlan). d.extent) plans (plan ∷ []), h.extents, extent, next);
+  numbered = rw (map-append (λ (d : DomainPlan). d.aggregator) plans (plan ∷ []), h.numbered, number, range_next count, map-append Some (range_with_len 0 count) (count ∷ []));
   each = λ d m. elim (in_either plans (plan ∷ []) d m) [
     | inl i ↦ h.each d i
     | inr i ↦ elim i [ inl same ↦ subst (λ (p : DomainPlan). IsDomainPlan hints list cover p) same here | inr n ↦ absurd n ]
   ];
-  told = ap (λ (ws : List WindowPlan). map told_plan ws) (flat_map-append (λ (d : DomainPlan). d.windows) plans (plan ∷ []))
-      ∙ map-append told_plan (windows_in plans) (windows_in (plan ∷ []))
-      ∙ ap (λ (ts : List Told). ts ++ map told_plan (windows_in (plan ∷ []))) h.told
-      ∙ ap (λ (ts : List Told). flat_map turns (take count domains) ++ ts)
-      (ap (λ (ws : List WindowPlan). map told_plan ws) (one_plan plan) ∙ here.windows ∙ ap turns extent ∙ sym (append-nil (turns domain)))
-      ∙ sym (flat_map-append turns (take count domains) (domain ∷ []))
-      ∙ ap (λ (es : List Extent). flat_map turns es) (sym next);
+  told = rw (
+    flat_map-append (λ (d : DomainPlan). d.windows) plans (plan ∷ []),
+    map-append told_plan (windows_in plans) (windows_in (plan ∷ [])),
+    h.told,
+    one_plan plan,
+    here.windows,
+    extent,
+    next,
+    flat_map-append turns (take count domains) (get_or domains count none ∷ []),
+    append-nil (turns (get_or domains count none)),
+  );
 }
   where
     turns : Extent → List Told
     turns d = turns_of hints.cb_buffer d cover
 
-    domain : Extent
-    domain = get_or domains count none
-
-    next : take (count + 1) domains ≡ take count domains ++ domain ∷ []
+    next : take (count + 1) domains ≡ take count domains ++ get_or domains count none ∷ []
     next = take_more domains count none l
 
 pub all_divided : (hints : Hints) (list : List Owned) (cover domains : List Extent) (plans : List DomainPlan)
@@ -69,15 +65,14 @@ all_divided hints list cover domains plans covers bytes div windows h =
       domains = subst (λ (es : List Extent). AreDomains cover es) (sym (h.extents ∙ all)) div;
       numbered = h.numbered ∙ ap (λ (n : ℕ). map Some (range_with_len 0 n)) (sym h.many);
       each = h.each;
-      windows = h.told ∙ ap (λ (es : List Extent). flat_map (λ d. turns_of hints.cb_buffer d cover) es) all ∙ windows
-          ∙ ap (λ (xs : List ℕ). map told_of (collective_windows hints xs)) (cover_in_order cover (ranges list) covers bytes);
+      windows = rw (h.told, all, windows, cover_in_order cover (ranges list) covers bytes);
     }
 
 pub divided_all : (hints : Hints) (list : List Owned) (cover domains : List Extent) (count : ℕ) (plans : List DomainPlan) → length domains ≤ count → count ≤ length domains
     → AreDivided hints list cover domains count plans → AreDivided hints list cover domains (length domains) plans
 divided_all hints list cover domains count plans over within h =
     let last : count ≡ length domains = omega arith in
-    subst (λ (n : ℕ). AreDivided hints list cover domains n plans) last h
+    rw last at h
 
 -- what holds of a value where there is one
 pub ok_so : {T E : Type 0} {P Q : T → Type 0} (r : Result T E) → ((x : T) → P x → Q x) → IfOk r P → IfOk r Q
@@ -98,8 +93,7 @@ pub reach_is : (windows : List WindowPlan) (first last : WindowPlan) → slice_g
 reach_is [] first last e f = no_none_some first e
 reach_is (w ∷ ws) first last e f =
     let index : length ws ≡ length (w ∷ ws) - 1 = omega arith in
-    ap (λ (v : WindowPlan). from_to v.hull.at (min (last.hull.at + last.hull.len) (2 ^ 64 - 1))) (sym (same_Some w first e))
-    ∙ ap (λ (end : ℕ). from_to w.hull.at (min end (2 ^ 64 - 1))) (sym (last_ends w ws last (ap (λ (k : ℕ). slice_get (w ∷ ws) k) index ∙ f)))
+    rw (← same_Some w first e, last_ends w ws last (rw index f))
 
 -- the windows of one range are those that stand in it
 range_windows : (windows : List WindowPlan) → windows_in (in_one_range windows) ≡ windows
@@ -123,11 +117,6 @@ pub domain_more : (f : WindowPlan → List DiskCall) (domains : List DomainPlan)
     → old ≡ begun ++ flat_map f (windows_in (take i domains)) → new ≡ old ++ flat_map f windows → windows ≡ (get_or domains i none).windows
     → new ≡ begun ++ flat_map f (windows_in (take (i + 1) domains))
 domain_more f domains i none begun old new windows l before more own =
-    more
-    ∙ ap (λ (calls : List DiskCall). calls ++ flat_map f windows) before
-    ∙ append_assoc begun (flat_map f (windows_in (take i domains))) (flat_map f windows)
-    ∙ ap (λ (calls : List DiskCall). begun ++ calls)
-    (sym (flat_map-append f (windows_in (take i domains)) windows)
-    ∙ ap (λ (ws : List WindowPlan). flat_map f (windows_in (take i domains) ++ ws)) (own ∙ sym (append-nil (get_or domains i none).windows))
-    ∙ ap (λ (ws : List WindowPlan). flat_map f ws) (sym (flat_map-append (λ (d : DomainPlan). d.windows) (take i domains) (get_or domains i none ∷ [])))
-    ∙ ap (λ (ds : List DomainPlan). flat_map f (windows_in ds)) (sym (take_more domains i none l)))
+    let last = get_or domains i none in
+    rw (more, before, own, take_more domains i none l, flat_map-append (λ (d : DomainPlan). d.windows) (take i domains) (last ∷ []), append-nil last.windows, flat_map-append f (windows_in (take i domains)) last.windows)
+    (append_assoc begun (flat_map f (windows_in (take i domains))) (flat_map f last.windows))

@@ -1,5 +1,5 @@
 -- The calls of a step's puts and gets are those of the model.
-use Rattle.step_plan.proofs.Words.{◌≡◌, ℕ, ◌≤◌, refl, sym, ◌∙◌, ap, subst, List, [], ◌∷◌, ◌++◌, max, Option, Some, None, arith, append-nil, flat_map, Pair, Header, Batch, Extent, Owned, Post, Hints, DiskCall, collective_windows, get_bytes, grow_to, in_order, loads, overlays, sieving_windows, end_for, told, Setting, needed_now, needed_by, bytes_of, Puts, spans, ranges, HaveSame, IsCover, IsGetPlan, source_of, AreLaid, AreSorted, gets_in, puts_in, puts_of_batch, setting, order_by, cover_ends, laid_calls_by, laid_needs, none_windows, same_order, shared_calls, shared_needs, get_calls, put_calls, HaveGetDomains, HaveGetWindows, grow_call, windows_in, AreDomainPlans, AreSievedPlans, DomainPlan}
+use Rattle.step_plan.proofs.Words.{◌≡◌, ℕ, ◌≤◌, refl, sym, ◌∙◌, ap, subst, List, [], ◌∷◌, ◌++◌, max, Option, Some, None, arith, append-nil, flat_map, Pair, Header, Batch, Extent, Owned, Post, Hints, collective_windows, get_bytes, grow_to, in_order, loads, overlays, sieving_windows, end_for, told, Setting, needed_now, needed_by, bytes_of, Puts, spans, ranges, HaveSame, IsCover, IsGetPlan, source_of, AreLaid, AreSorted, gets_in, puts_in, puts_of_batch, setting, order_by, cover_ends, laid_calls_by, laid_needs, none_windows, same_order, shared_calls, shared_needs, get_calls, put_calls, HaveGetDomains, HaveGetWindows, grow_call, windows_in, AreDomainPlans, AreSievedPlans, DomainPlan}
 use Rattle.serial_spec.specs.DeviceCalls as device
 use Rattle.step_plan.proofs.DomainLaws.{loads_told, stores_told}
 
@@ -10,9 +10,7 @@ pub refused_calls : (s : Setting) (cut : List ℕ → List (List ℕ)) (puts : P
 refused_calls s cut puts size pair e = sym (shared_calls s cut puts size pair e)
 
 pub refused_size : (s : Setting) (puts : Puts) (size : ℕ) (pair : Pair) → told s puts ≡ Some pair → end_for s 0 ≤ size → size ≡ max size (end_for s (needed_now s puts))
-refused_size s puts size pair e long =
-    let still : size ≡ max size (end_for s 0) = omega arith in
-    still ∙ ap (λ (n : ℕ). max size (end_for s n)) (sym (shared_needs s puts pair e))
+refused_size s puts size pair e long = rw (shared_needs s puts pair e) (omega arith)
 
 -- ---- puts that are laid
 
@@ -24,9 +22,7 @@ laid_plans : (s : Setting) (cut : List ℕ → List (List ℕ)) (source : ℕ �
     → flat_map put_calls (windows_in domains) ≡ flat_map overlays (cut (in_order (ranges list))) → grow_call grow ≡ grow_to size (end_for s n)
     → grow_call grow ++ flat_map put_calls (windows_in domains) ≡ device.put_calls s cut puts size
 laid_plans s cut source puts size n grow list domains none empty long is laid windows grown =
-    ap (λ (calls : List DiskCall). calls ++ flat_map put_calls (windows_in domains)) grown
-    ∙ ap (λ (calls : List DiskCall). grow_to size (end_for s n) ++ calls) windows
-    ∙ sym (laid_calls_by s cut puts size n (ranges list) none empty long is laid.bytes)
+    rw (grown, windows) (sym (laid_calls_by s cut puts size n (ranges list) none empty long is laid.bytes))
 
 pub collective_calls : (header : Header) (hints : Hints) (batches : List Batch) (size n : ℕ) (grow : Option ℕ) (list : List Owned) (domains : List DomainPlan)
     → told (setting header hints) (puts_in batches) ≡ None → end_for (setting header hints) 0 ≤ size → n ≡ needed_by header (puts_in batches)

@@ -17,11 +17,11 @@ pub use Rattle.collective_round.specs.declared.entries.PutList.{PutList}
 pub use Rattle.collective_round.specs.declared.entries.PutList.TheVariants.{Laid}
 pub use Rattle.exchange_crew.specs.Turns.{Told, turns_of}
 pub use Rattle.get_exchange.specs.Gets.{IsGetPlan}
-pub use Rattle.list_laws.proofs.Common.{next_numbered, no_none_some, range_push}
+pub use Rattle.list_laws.proofs.Common.{if_some_at, next_numbered, no_none_some, range_push}
 pub use Rattle.list_laws.proofs.Types.{Batch, DiskCall, Extent, Get, Header, Hints, OverlapRule, Owned, Pair, Post, Put, Var}
-pub use Rattle.overlay_laws.proofs.Common.{EndBelow, HaveSame, In, IsCover, cover_in_order, in_either, load_calls, ranges, read_in, store_calls, told_of}
-pub use Rattle.serial_spec.proofs.Common.{Puts, Setting, bytes_of, collective_windows, end_for, end_of, get_bytes, greatest, grow_to, header_len, in_order, loads, needed, needed_by, needed_now, overlays, sieving_windows, spans, told}
-pub use Rattle.step_plan.specs.Asked.{asked_by_all, asked_of, asked_with, pieces_of_some, some_asked, with_piece}
+pub use Rattle.overlay_laws.proofs.Common.{HaveSame, In, IsCover, cover_in_order, in_either, load_calls, ranges, read_in, store_calls, told_of}
+pub use Rattle.serial_spec.proofs.Common.{Puts, Setting, bytes_of, collective_windows, end_for, get_bytes, greatest, grow_to, in_order, loads, needed, needed_by, needed_now, overlays, sieving_windows, spans, told}
+pub use Rattle.step_plan.specs.Asked.{asked_by_all, asked_of, asked_with, some_asked, with_piece}
 pub use Rattle.step_plan.specs.Phases.{HaveGetDomains, HaveGetWindows}
 pub use Rattle.step_plan.specs.Phases.HavePutDomains.{laid, refused}
 pub use Rattle.step_plan.specs.Steps.{AreDivided, AreDomainPlans, AreSievedPlans, IsDomainPlan, grow_call, in_one_range, last_end, loads_in, reach_of, stores_in, windows_in}

@@ -1,8 +1,7 @@
 -- Puts with a pair come to nothing; others are laid.
-use Rattle.step_plan.proofs.Words.{◌^◌, ◌<◌, ◌∙◌, ℕ, refl, sym, ap, subst, max, ◌++◌, collective_windows, header_len, end_of, puts_in, setting, laid_needs, puts_needed, shared_needs, list_laid, list_shared, refused, laid, grow_call}
+use Rattle.step_plan.proofs.Words.{◌∙◌, refl, sym, ap, max, collective_windows, puts_in, setting, laid_needs, puts_needed, shared_needs, list_laid, list_shared, refused, laid}
 use Rattle.serial_spec.specs.DeviceCalls as device
 use Rattle.step_plan.specs.Steps as steps
-use Rattle.step_plan.specs.declared.plan.Puts.{Puts}
 use Rattle.step_plan.proofs.PhaseLaws.{collective_calls, laid_size, refused_calls, refused_size}
 use Rattle.step_plan.proofs.meeting.put_domains.Goals as goal
 
@@ -12,42 +11,38 @@ collective_domains-requires-clause-sorted c =
 
 pub end_of-end-requires-clause-below : goal.end_of-end-requires-clause-below
 end_of-end-requires-clause-below c =
-    subst (λ (n : ℕ). end_of c.args.dataset.now.header.now (header_len c.args.dataset.now.header.now) n < 2 ^ 62) (sym c.records_needed-needed.ensures)
-    (puts_needed c.args.dataset.now.header.now (puts_in c.args.batches.now) c.requires.sound c.requires.puts).1
+    rw c.records_needed-needed.ensures (puts_needed c.args.dataset.now.header.now (puts_in c.args.batches.now) c.requires.sound c.requires.puts).1
 
 -- ---- a pair
 
 pub returns-in-Shared : goal.returns-in-Shared
 returns-in-Shared c =
-    let header = c.args.dataset.now.header.now in
-    let hints = c.args.dataset.now.hints.now in
-    let s = setting header hints in
+    let d = c.args.dataset.now in
+    let s = setting d.header.now d.hints.now in
     let puts = puts_in c.args.batches.now in
-    let shared = list_shared header hints.overlap 0 c.args.batches.now c.args.batches.now c.in_ok-pair.field-0 c.in-Shared.pair refl c.in-Shared.is c.in_ok-pair.ensures in
-    record {
-      overlap = ap (λ (p : Puts). p.overlap) c.refused.ensures ∙ sym shared;
-      domains = refused c.in-Shared.pair shared (ap (λ (p : Puts). p.domains) c.refused.ensures);
-      needed = ap (λ (p : Puts). p.needed) c.refused.ensures ∙ sym (shared_needs s puts c.in-Shared.pair shared);
-      size = ap (λ (p : Puts). p.size) c.refused.ensures ∙ refused_size s puts c.args.size c.in-Shared.pair shared c.requires.long;
-      calls = ap (λ (p : Puts). grow_call p.grow ++ steps.stores_in p.domains) c.refused.ensures
-          ∙ refused_calls s (collective_windows hints) puts c.args.size c.in-Shared.pair shared;
-    }
+    let shared = list_shared d.header.now d.hints.now.overlap 0 c.args.batches.now c.args.batches.now c.in_ok-pair.field-0 c.in-Shared.pair refl c.in-Shared.is c.in_ok-pair.ensures in
+    rw c.refused.ensures (record {
+      overlap = sym shared;
+      domains = refused c.in-Shared.pair shared refl;
+      needed = sym (shared_needs s puts c.in-Shared.pair shared);
+      size = refused_size s puts c.args.size c.in-Shared.pair shared c.requires.long;
+      calls = refused_calls s (collective_windows d.hints.now) puts c.args.size c.in-Shared.pair shared;
+    })
 
 -- ---- none
 
 pub returns-in_ok-domains-in-Laid : goal.returns-in_ok-domains-in-Laid
 returns-in_ok-domains-in-Laid c =
-    let header = c.args.dataset.now.header.now in
-    let hints = c.args.dataset.now.hints.now in
-    let s = setting header hints in
+    let d = c.args.dataset.now in
+    let s = setting d.header.now d.hints.now in
     let puts = puts_in c.args.batches.now in
     let needed = c.records_needed-needed.result in
-    let here = list_laid header hints.overlap 0 c.args.batches.now c.args.batches.now c.in_ok-pair.field-0 c.in-Laid.list refl c.in-Laid.is c.in_ok-pair.ensures in
+    let here = list_laid d.header.now d.hints.now.overlap 0 c.args.batches.now c.args.batches.now c.in_ok-pair.field-0 c.in-Laid.list refl c.in-Laid.is c.in_ok-pair.ensures in
     record {
       overlap = sym here.0;
       domains = laid c.in-Laid.list here.0 here.1 c.in_ok-domains-in-Laid.ensures;
       needed = c.records_needed-needed.ensures ∙ sym (laid_needs s puts here.0);
       size = c.max.ensures ∙ ap (max c.args.size) c.end_of-end.ensures ∙ laid_size s puts c.args.size needed here.0 c.records_needed-needed.ensures;
-      calls = collective_calls header hints c.args.batches.now c.args.size needed c.grown.result c.in-Laid.list c.in_ok-domains-in-Laid.domains here.0 c.requires.long
+      calls = collective_calls d.header.now d.hints.now c.args.batches.now c.args.size needed c.grown.result c.in-Laid.list c.in_ok-domains-in-Laid.domains here.0 c.requires.long
           c.records_needed-needed.ensures here.1 c.in_ok-domains-in-Laid.ensures (c.grown.ensures ∙ ap (device.grow_to c.args.size) c.end_of-end.ensures);
     }

@@ -1,9 +1,8 @@
 -- Puts with a pair come to nothing; others are laid.
-use Rattle.step_plan.proofs.Words.{◌^◌, ◌<◌, ◌∙◌, ℕ, sym, ap, subst, max, List, ◌++◌, sieving_windows, header_len, end_of, puts_of_batch, setting, laid_needs, lawful, puts_needed, shared_needs, Post, In, own_puts, own_once, own_shared, grow_call}
+use Rattle.step_plan.proofs.Words.{◌∙◌, sym, ap, subst, max, List, sieving_windows, puts_of_batch, setting, laid_needs, lawful, puts_needed, shared_needs, Post, In, own_puts, own_once, own_shared, refl}
 use Rattle.serial_spec.specs.DeviceCalls as device
 use Rattle.step_plan.specs.Phases.HavePutWindows.{refused, laid}
 use Rattle.step_plan.specs.Steps as steps
-use Rattle.step_plan.specs.declared.plan.Puts.{Puts}
 use Rattle.step_plan.proofs.PhaseLaws.{laid_size, refused_calls, refused_size, sieved_calls}
 use Rattle.step_plan.proofs.SoloLaws.{few_alone, own_laid, own_list, own_needs}
 use Rattle.step_plan.proofs.solo.put_windows.Goals as goal
@@ -31,45 +30,39 @@ sieved_domain-requires-clause-sorted c =
 
 pub end_of-end-requires-clause-below : goal.end_of-end-requires-clause-below
 end_of-end-requires-clause-below c =
-    subst (λ (n : ℕ). end_of c.args.dataset.now.header.now (header_len c.args.dataset.now.header.now) n < 2 ^ 62) (sym (own_needs c.args.dataset.now.header.now c.args.rank c.args.batch.now c.as_slice.result.now c.records_needed_by-needed.result c.as_slice.ensures c.records_needed_by-needed.ensures))
-    (puts_needed c.args.dataset.now.header.now (puts_of_batch (c.args.rank, c.args.batch.now)) c.requires.sound c.requires.puts).1
+    rw (own_needs c.args.dataset.now.header.now c.args.rank c.args.batch.now c.as_slice.result.now c.records_needed_by-needed.result c.as_slice.ensures c.records_needed_by-needed.ensures) (puts_needed c.args.dataset.now.header.now (puts_of_batch (c.args.rank, c.args.batch.now)) c.requires.sound c.requires.puts).1
 
 -- ---- a pair
 
 pub returns-in-Shared : goal.returns-in-Shared
 returns-in-Shared c =
-    let header = c.args.dataset.now.header.now in
-    let hints = c.args.dataset.now.hints.now in
-    let s = setting header hints in
+    let d = c.args.dataset.now in
+    let s = setting d.header.now d.hints.now in
     let puts = puts_of_batch (c.args.rank, c.args.batch.now) in
-    let shared = own_shared header hints.overlap c.args.rank c.args.batch.now c.from_ref.result.now c.in_ok-pair.field-0 c.in-Shared.pair c.from_ref.ensures.value c.in-Shared.is
-    c.in_ok-pair.ensures in
-    record {
-      overlap = ap (λ (p : Puts). p.overlap) c.refused.ensures ∙ sym shared;
-      windows = refused c.in-Shared.pair shared (ap (λ (p : Puts). p.domains) c.refused.ensures);
-      needed = ap (λ (p : Puts). p.needed) c.refused.ensures ∙ sym (shared_needs s puts c.in-Shared.pair shared);
-      size = ap (λ (p : Puts). p.size) c.refused.ensures ∙ refused_size s puts c.args.size c.in-Shared.pair shared c.requires.long;
-      calls = ap (λ (p : Puts). grow_call p.grow ++ steps.stores_in p.domains) c.refused.ensures
-          ∙ refused_calls s (sieving_windows hints.wr_buffer) puts c.args.size c.in-Shared.pair shared;
-    }
+    let shared = own_shared d.header.now d.hints.now.overlap c.args.rank c.args.batch.now c.from_ref.result.now c.in_ok-pair.field-0 c.in-Shared.pair c.from_ref.ensures.value c.in-Shared.is c.in_ok-pair.ensures in
+    rw c.refused.ensures (record {
+      overlap = sym shared;
+      windows = refused c.in-Shared.pair shared refl;
+      needed = sym (shared_needs s puts c.in-Shared.pair shared);
+      size = refused_size s puts c.args.size c.in-Shared.pair shared c.requires.long;
+      calls = refused_calls s (sieving_windows d.hints.now.wr_buffer) puts c.args.size c.in-Shared.pair shared;
+    })
 
 -- ---- none
 
 pub returns-in_ok-domains-in-Laid : goal.returns-in_ok-domains-in-Laid
 returns-in_ok-domains-in-Laid c =
-    let header = c.args.dataset.now.header.now in
-    let hints = c.args.dataset.now.hints.now in
-    let s = setting header hints in
+    let d = c.args.dataset.now in
+    let s = setting d.header.now d.hints.now in
     let puts = puts_of_batch (c.args.rank, c.args.batch.now) in
     let needed = c.records_needed_by-needed.result in
-    let here = own_laid header hints.overlap c.args.rank c.args.batch.now c.from_ref.result.now c.in_ok-pair.field-0 c.in-Laid.list c.from_ref.ensures.value c.in-Laid.is
-    c.in_ok-pair.ensures in
-    let needs = own_needs header c.args.rank c.args.batch.now c.as_slice.result.now needed c.as_slice.ensures c.records_needed_by-needed.ensures in
+    let here = own_laid d.header.now d.hints.now.overlap c.args.rank c.args.batch.now c.from_ref.result.now c.in_ok-pair.field-0 c.in-Laid.list c.from_ref.ensures.value c.in-Laid.is c.in_ok-pair.ensures in
+    let needs = own_needs d.header.now c.args.rank c.args.batch.now c.as_slice.result.now needed c.as_slice.ensures c.records_needed_by-needed.ensures in
     record {
       overlap = sym here.0;
       windows = laid c.in-Laid.list here.0 here.1 c.in_ok-domains-in-Laid.ensures;
       needed = needs ∙ sym (laid_needs s puts here.0);
       size = c.max.ensures ∙ ap (max c.args.size) c.end_of-end.ensures ∙ laid_size s puts c.args.size needed here.0 needs;
-      calls = sieved_calls header hints c.args.rank c.args.batch.now c.args.size needed c.grown.result c.in-Laid.list c.in_ok-domains-in-Laid.domains here.0 c.requires.long needs
+      calls = sieved_calls d.header.now d.hints.now c.args.rank c.args.batch.now c.args.size needed c.grown.result c.in-Laid.list c.in_ok-domains-in-Laid.domains here.0 c.requires.long needs
           here.1 c.in_ok-domains-in-Laid.ensures (c.grown.ensures ∙ ap (device.grow_to c.args.size) c.end_of-end.ensures);
     }
