@@ -1,5 +1,6 @@
 -- Who comes to a meeting, and with which call.
 use Rattle.run_plan.proofs.Words.{◌≡◌, ℕ, suc, ◌+◌, ◌<◌, ◌^◌, refl, sym, ◌∙◌, ap, List, [], ◌∷◌, ◌++◌, length, map, drop, get_or, Option, Some, None, append_assoc, arith, drop_more, length-map, slice_get, enumerate_from, value_of_some, Answer, Header, Call, Script, Mark, Offer, Going, blank, AllBeside, AreNear, Arrived, Caller, AreRunners, HaveArrived, arrived, arrived_all, Runner, arrived_held, AllHold, comes, free, holding, Comes, caller, caller_at, meeting_callers, runner_caller}
+
 use Rattle.join_laws.proofs.AlikeLaws.{as_many}
 
 -- ---- few calls are answered
@@ -19,9 +20,7 @@ pub one_more : (runners : List Runner) (i : ℕ) (x : Runner) (done now whole : 
     → done ++ map runner_caller (enumerate_from i (drop i runners)) ≡ whole → now ++ map runner_caller (enumerate_from (i + 1) (drop (i + 1) runners)) ≡ whole
 one_more runners i x done now whole l is step all =
     let rest = map runner_caller (enumerate_from (i + 1) (drop (i + 1) runners)) in
-    ap (λ (cs : List Caller). cs ++ rest) step ∙ append_assoc done (runner_caller (i, x) ∷ []) rest
-    ∙ ap (λ (y : Runner). done ++ map runner_caller (enumerate_from i (y ∷ drop (i + 1) runners))) is
-    ∙ ap (λ (ys : List Runner). done ++ map runner_caller (enumerate_from i ys)) (sym (drop_more runners i x l)) ∙ all
+    rw (step, append_assoc done (runner_caller (i, x) ∷ []) rest) (rw (drop_more runners i x l, ← is) at all)
 
 -- ---- those of the run
 

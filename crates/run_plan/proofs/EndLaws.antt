@@ -1,5 +1,5 @@
 -- The end of a plan.
-use Rattle.run_plan.proofs.Words.{◌≡◌, ℕ, refl, sym, ◌∙◌, ap, subst, List, [], ◌++◌, length, map, max, true, Option, fold, nat_lt, replicate, IfOk, Result, Ok, Err, Answer, Header, Extent, Script, DiskCall, run_calls, store_records, raised, IsLegal, greatest, is_lawful, close_by, serial_from, setting_of, End, raised_records, map_map, counted, rises, blank, AreAlikeEnds, IsLike, close_alike, same_beside, ended_from, first_stand, step_to, Arrived, Stand, first_up, ranks_lawful, count_call, StepPlan, AreFree, AreRunners, HaveArrived, arrived_all, first_runner, Runner, are_over, ended_legal, map_ended, AreOver, most_known, calls_from_first, first_stage, serial_from_first, told_end, calls_in, order_in, plan_stage, AreStepsOf, HasPlannedAll, IsFollowed, without_values, HasEnded, IsPlanOf, RunPlan, Progress}
+use Rattle.run_plan.proofs.Words.{◌≡◌, ℕ, refl, sym, ◌∙◌, ap, subst, List, [], ◌++◌, length, map, max, true, Option, fold, nat_lt, replicate, Answer, Header, Extent, Script, DiskCall, run_calls, store_records, raised, greatest, is_lawful, close_by, serial_from, setting_of, End, raised_records, map_map, counted, rises, blank, AreAlikeEnds, IsLike, close_alike, same_beside, ended_from, first_stand, step_to, Arrived, Stand, first_up, ranks_lawful, count_call, StepPlan, AreFree, AreRunners, HaveArrived, arrived_all, first_runner, Runner, are_over, ended_legal, map_ended, AreOver, most_known, calls_from_first, first_stage, serial_from_first, told_end, calls_in, order_in, plan_stage, AreStepsOf, HasPlannedAll, IsFollowed, without_values, HasEnded, IsPlanOf, RunPlan, Progress}
 use Rattle.serial_spec.specs.RankMachine as machine
 use Rattle.run_plan.proofs.NearLaws.{same_without_values}
 
@@ -46,8 +46,7 @@ plan_ends script header file steps size later count close first last lawful long
     let stand : Stand = (counted file from, arrived_all header script.calls first) in
     let b = plan_stage later count (arrived_all header script.calls last) in
     let followed : IsFollowed script.hints s steps b stand =
-    subst (λ (ms : List StepPlan). IsFollowed script.hints s ms b stand) (sym planned.grown)
-    (planned.led stand (record { long = long; like = record { records = refl; beside = same_beside (arrived_all header script.calls first) } })) in
+    rw planned.grown (planned.led stand (record { long = long; like = record { records = refl; beside = same_beside (arrived_all header script.calls first) } })) in
     let end = fold (step_to s) stand (order_in steps) in
     let ends = ranks_end script header count last end each over followed.beside.like in
     let closing : count_call close ≡ store_records s (nat_lt end.0.records (ended_from s stand (order_in steps)).records) =
@@ -65,7 +64,7 @@ pub are_planned : (script : Script) (header : Header) (size : ℕ) (before : Lis
     → HasPlannedAll script.hints (setting_of script header) before at.steps (plan_stage size header.records (arrived_all header script.calls first)) (plan_stage at.size at.records (arrived_all header script.calls last))
     → HasEnded header opening at last plan → IsPlanOf script header size plan
 are_planned script header size before opening at first last plan lawful firsts none runners free arrived planned end = record {
-  legal = subst (λ (steps : List StepPlan). IsLegal script (order_in steps)) (sym end.steps) (ended_legal script header at.size (order_in at.steps) last lawful runners free arrived);
+  legal = rw end.steps (ended_legal script header at.size (order_in at.steps) last lawful runners free arrived);
   calls = λ file long. (ending file long).calls_are;
   each = λ file long. (ending file long).each;
   records = λ file long. end.records ∙ (ending file long).alike.records;
@@ -79,7 +78,5 @@ are_planned script header size before opening at first last plan lawful firsts n
 
     ending : (file : List ℕ) → length file ≡ size → IsEnding script header file plan.steps (calls_in plan.steps ++ count_call plan.close) (told_end (max at.records (most_known last)) last)
     ending file long =
-        subst (λ (steps : List StepPlan). IsEnding script header file steps (calls_in steps ++ count_call plan.close) (told_end (max at.records (most_known last)) last)) (sym end.steps)
-        (plan_ends script header file at.steps size at.size at.records plan.close first last lawful long firsts each (are_over script last free arrived)
-        (subst (λ (steps : List StepPlan). HasPlannedAll script.hints (setting_of script header) steps at.steps (plan_stage size header.records (arrived_all header script.calls first))
-        (plan_stage at.size at.records (arrived_all header script.calls last))) none planned) end.close)
+        rw end.steps
+        (plan_ends script header file at.steps size at.size at.records plan.close first last lawful long firsts each (are_over script last free arrived) (rw none at planned) end.close)

@@ -1,5 +1,5 @@
 -- How long the file is after a step.
-use Rattle.run_plan.proofs.Words.{◌≡◌, ℕ, ◌+◌, ◌≤◌, refl, sym, ◌∙◌, ap, subst, List, length, max, Bool, true, false, cond, Option, Some, None, arith, nat_lt, ◌==◌, byte_len, w32, w64, Pair, longer, after_puts, end_for, raised, told, Counted, Setting, count, header_len, needed_now, needed_by, with_records, Puts, is_sound, length-written_inside, longer_long, count_long, puts_are_cells, cells_of_puts, puts_room, cells_long, ArePuts, field_inside, covered_below, laid_needs, shared_needs}
+use Rattle.run_plan.proofs.Words.{◌≡◌, ℕ, ◌≤◌, refl, sym, ◌∙◌, ap, List, length, max, Bool, true, false, cond, Option, Some, None, arith, nat_lt, either, ◌==◌, byte_len, w32, w64, Pair, longer, after_puts, end_for, raised, told, Counted, Setting, count, header_len, needed_now, needed_by, with_records, Puts, is_sound, length-written_inside, longer_long, count_long, puts_are_cells, cells_of_puts, puts_room, cells_long, ArePuts, field_inside, covered_below, laid_needs, shared_needs}
 
 -- puts make the file as long as their records need, and no longer
 pub puts_long : (s : Setting) (puts : Puts) (file : List ℕ) → is_sound s.header ≡ true → ArePuts s.header puts → end_for s 0 ≤ length file
@@ -7,9 +7,7 @@ pub puts_long : (s : Setting) (puts : Puts) (file : List ℕ) → is_sound s.hea
 puts_long s puts file sound are long = by_pair (told s puts) refl
   where
     by_pair : (o : Option Pair) → told s puts ≡ o → length (after_puts s puts o file) ≡ max (length file) (end_for s (needed_now s puts))
-    by_pair (Some pair) e =
-        let still : length file ≡ max (length file) (end_for s 0) = omega arith in
-        still ∙ ap (λ (n : ℕ). max (length file) (end_for s n)) (sym (shared_needs s puts pair e))
+    by_pair (Some pair) e = rw (shared_needs s puts pair e) (omega arith)
     by_pair None e =
         let end = end_for s (needed_by s.header puts) in
         let whole = longer file end in
@@ -25,15 +23,12 @@ width_few true = omega arith
 width_few false = omega arith
 
 count_few : (version n : ℕ) → length (count version n) ≤ 8
-count_few version n = subst (λ (k : ℕ). k ≤ 8) (sym (count_long version n)) (width_few (version == 5))
+count_few version n = rw (count_long version n) (width_few (version == 5))
 
 -- the write of a count keeps the length
 pub raised_long : (s : Setting) (c : Counted) (n : ℕ) → end_for s 0 ≤ length c.file → length (raised s c n).file ≡ length c.file
-raised_long s c n long = by_test (nat_lt c.records n)
-  where
-    inside : 4 + length (count s.header.version n) ≤ length c.file
-    inside = let field = field_inside s.header in let few = count_few s.header.version n in omega arith
-
-    by_test : (t : Bool) → length (cond t (record { file = with_records s.header.version c.file n; records = n }) c).file ≡ length c.file
-    by_test true = length-written_inside c.file 4 (count s.header.version n) inside
-    by_test false = refl
+raised_long s c n long =
+    let field = field_inside s.header in
+    let few = count_few s.header.version n in
+    either (λ (x : Counted). length x.file ≡ length c.file) (nat_lt c.records n) (record { file = with_records s.header.version c.file n; records = n }) c
+    (λ e. length-written_inside c.file 4 (count s.header.version n) (omega arith)) (λ e. refl)

@@ -1,5 +1,6 @@
 -- Steps that are planned, one after another.
-use Rattle.run_plan.proofs.Words.{◌≡◌, ℕ, ◌<◌, refl, sym, ◌∙◌, ap, subst, List, [], ◌∷◌, ◌++◌, length, set, true, Some, append_assoc, arith, flat_map-append, fold-append, append-nil, map-append, set-set, fold, slice_get, list_all, Header, Hints, Script, DiskCall, Mark, Setting, is_lawful, setting_of, all_joined, entry_set, set_own, is_solo_of, calls_over, step_calls, step_to, Arrived, Stand, ranks_lawful, file_calls, StepPlan, calls_of, arrived, arrived_all, IsGrownBy, Runner, calls_there, get_arrived, set_arrived, calls_in, order_in, plan_stage, rank_plan, AreStepsOf, Follows, HasPlanned, HasPlannedAll, IsBeside, PlanStage, RankPlan}
+use Rattle.run_plan.proofs.Words.{◌≡◌, ℕ, ◌<◌, refl, sym, ◌∙◌, ap, List, [], ◌∷◌, ◌++◌, length, set, true, Some, append_assoc, arith, flat_map-append, fold-append, append-nil, map-append, set-set, fold, slice_get, Header, Hints, Script, DiskCall, Mark, Setting, is_lawful, setting_of, all_joined, entry_set, set_own, is_solo_of, calls_over, step_calls, step_to, Arrived, Stand, ranks_lawful, file_calls, StepPlan, calls_of, arrived, arrived_all, IsGrownBy, Runner, calls_there, get_arrived, set_arrived, calls_in, order_in, plan_stage, rank_plan, AreStepsOf, Follows, HasPlanned, HasPlannedAll, PlanStage, RankPlan}
+
 use Rattle.run_laws.proofs.ArrivalLaws.{calls_split}
 
 -- ---- one list of steps after another
@@ -22,11 +23,9 @@ follows_then : (hints : Hints) (s : Setting) (steps more : List StepPlan) (a b c
 follows_then hints s steps more a b c first second stand beside =
     let one = first stand beside in
     let two = second (fold (step_to s) stand (order_in steps)) one.beside in
-    let last = ap (λ (ms : List Mark). fold (step_to s) stand ms) (order_joined steps more) ∙ fold-append (step_to s) stand (order_in steps) (order_in more) in
     record {
-      beside = subst (λ (x : Stand). IsBeside c x) (sym last) two.beside;
-      over = ap (λ (ms : List Mark). calls_over hints s stand ms) (order_joined steps more) ∙ calls_split hints s stand (order_in steps) (order_in more)
-          ∙ (λ i. one.over i ++ two.over i) ∙ sym (calls_joined steps more);
+      beside = rw (order_joined steps more, fold-append (step_to s) stand (order_in steps) (order_in more)) two.beside;
+      over = rw (order_joined steps more, calls_split hints s stand (order_in steps) (order_in more), one.over, two.over) (sym (calls_joined steps more));
       each = each_joined hints s steps more stand one.each two.each;
     }
 
@@ -42,22 +41,19 @@ planned_same hints s r steps size from to e = record {
   more = [];
   grown = sym (append-nil steps);
   own = refl;
-  led = λ records ranks g.
-      subst (λ (others : List Arrived). Follows hints s [] (plan_stage size records ranks) (plan_stage size records others))
-      (sym (set_own ranks r to (g ∙ ap (λ (a : Arrived). Some a) e))) (follows_none hints s (plan_stage size records ranks));
+  led = λ records ranks g. rw (set_own ranks r to (g ∙ ap (λ (a : Arrived). Some a) e)) (follows_none hints s (plan_stage size records ranks));
 }
 
 pub planned_then : (hints : Hints) (s : Setting) (r : ℕ) (a b c : RankPlan) → HasPlanned hints s r a b → HasPlanned hints s r b c → HasPlanned hints s r a c
 planned_then hints s r a b c first second = record {
   more = first.more ++ second.more;
   grown = second.grown ∙ ap (λ (ms : List StepPlan). ms ++ second.more) first.grown ∙ append_assoc a.steps first.more second.more;
-  own = ap (λ (ms : List Mark). list_all (is_solo_of r) ms) (order_joined first.more second.more)
-      ∙ all_joined (is_solo_of r) (order_in first.more) (order_in second.more) first.own second.own;
+  own = rw (order_joined first.more second.more) (all_joined (is_solo_of r) (order_in first.more) (order_in second.more) first.own second.own);
   led = λ records ranks g.
       let one = first.led records ranks g in
       let two = second.led records (set ranks r b.rank) (entry_set ranks r a.rank b.rank g) in
       follows_then hints s first.more second.more (plan_stage a.size records ranks) (plan_stage b.size records (set ranks r b.rank)) (plan_stage c.size records (set ranks r c.rank)) one
-      (subst (λ (others : List Arrived). Follows hints s second.more (plan_stage b.size records (set ranks r b.rank)) (plan_stage c.size records others)) (set-set ranks r b.rank c.rank) two);
+      (rw (set-set ranks r b.rank c.rank) at two);
 }
 
 pub planned_grown : (hints : Hints) (s : Setting) (r : ℕ) (a b : RankPlan) → HasPlanned hints s r a b → IsGrownBy r (order_in a.steps) (order_in b.steps)
@@ -87,8 +83,7 @@ one_of_all script header runners n was runner before now size later lawful l e g
     record {
       more = g.more;
       grown = g.grown;
-      led = subst (λ (ranks : List Arrived). Follows script.hints (setting_of script header) g.more (plan_stage size records (arrived_all header script.calls runners)) (plan_stage later records ranks))
-          (sym (set_arrived header script.calls runners n (calls_of script n) runner there))
+      led = rw (set_arrived header script.calls runners n (calls_of script n) runner there)
           (g.led records (arrived_all header script.calls runners) (get_arrived header script.calls runners n (calls_of script n) was there e));
     }
   where

@@ -1,5 +1,5 @@
 -- A meeting that is planned.
-use Rattle.run_plan.proofs.Words.{◌≡◌, ℕ, ◌≤◌, refl, sym, ◌∙◌, ap, subst, List, [], ◌∷◌, ◌++◌, length, max, true, Option, arith, flat_map, nat_lt, Pair, Batch, Call, Hints, DiskCall, Meet, Offer, collective_windows, get_bytes, loads, meeting_calls, put_calls, store_records, after_puts, end_for, meeting, told, Counted, Setting, needed_now, offers_of, is_sound, raised_records, counted, gets_in, puts_in, ArePuts, offers_beside, count_call, file_calls, grow_call, windows_in, FilePlan, StepPlan, arrived_all, batches_of, held_offers, met, Runner, met_calls_are, met_is, offers_are, meeting_callers, plan_stage, Follows, HasPlannedAll, IsMeetingPlan, FitsGets, HaveDone, IsTaken, meeting_alike}
+use Rattle.run_plan.proofs.Words.{◌≡◌, ℕ, ◌≤◌, refl, sym, ◌∙◌, ap, subst, List, [], ◌∷◌, ◌++◌, length, max, true, Option, arith, flat_map, nat_lt, Pair, Batch, Call, Hints, DiskCall, Meet, Offer, collective_windows, get_bytes, loads, meeting_calls, put_calls, store_records, after_puts, end_for, told, Counted, Setting, needed_now, offers_of, is_sound, raised_records, counted, gets_in, puts_in, ArePuts, offers_beside, count_call, file_calls, grow_call, windows_in, FilePlan, StepPlan, arrived_all, batches_of, held_offers, met, Runner, met_calls_are, met_is, offers_are, meeting_callers, plan_stage, Follows, HasPlannedAll, IsMeetingPlan, FitsGets, HaveDone, IsTaken, meeting_alike}
 use Rattle.window_plan.specs.Windows as window
 use Rattle.run_plan.proofs.CallerLaws.{callers_beside}
 use Rattle.run_plan.proofs.FileLengths.{puts_long, raised_long}
@@ -51,8 +51,7 @@ meeting_planned hints s steps calls runners now batches known r n k size later p
         let asked : batches ≡ batches_of (offers_of ps) = t.offered ∙ ap (λ (os : List Offer). batches_of os) (sym offers) in
         record {
           beside = record {
-            long = ap (λ (os : List Offer). length (meeting s os c).0.file) offers ∙ ap (λ (x : Counted). length x.file) file
-                ∙ met_long s batches known size later c sound are long grows beside.long;
+            long = rw (offers, file) (met_long s batches known size later c sound are long grows beside.long);
             like = meeting_alike s k t d p count rows (c, ps) beside.like;
           };
           over = ap (λ (cs : List DiskCall). cs ++ [])

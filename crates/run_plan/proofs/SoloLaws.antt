@@ -1,5 +1,5 @@
 -- A step of one rank that is planned.
-use Rattle.run_plan.proofs.Words.{◌≡◌, ℕ, ◌≤◌, refl, sym, ◌∙◌, ap, subst, List, [], ◌∷◌, ◌++◌, length, map, max, set, true, Option, Some, None, append-nil, flat_map, slice_get, list_all, Hints, DiskCall, Mark, Solo, Offer, Reply, get_bytes, gets_of, loads, put_calls, sieving_windows, after_puts, end_for, puts_of, told, Setting, needed_now, wanted, advance, hears, Going, is_sound, ArePuts, is_solo_of, offer_at, Arrived, Stand, one_of, count_call, file_calls, grow_call, windows_in, FilePlan, StepPlan, alone_alike, call_alone, step_at, caller, plan_stage, rank_plan, Follows, HasPlanned, IsSoloOf, IsSoloPlan}
+use Rattle.run_plan.proofs.Words.{◌≡◌, ℕ, ◌≤◌, refl, sym, ◌∙◌, ap, subst, List, [], ◌∷◌, ◌++◌, length, map, max, set, true, Some, None, append-nil, flat_map, slice_get, list_all, Hints, DiskCall, Mark, Solo, Offer, Reply, get_bytes, gets_of, loads, put_calls, sieving_windows, after_puts, end_for, puts_of, told, Setting, needed_now, wanted, advance, hears, Going, is_sound, ArePuts, is_solo_of, Arrived, Stand, one_of, count_call, file_calls, grow_call, windows_in, FilePlan, StepPlan, alone_alike, call_alone, step_at, caller, plan_stage, rank_plan, Follows, HasPlanned, IsSoloPlan, Option, offer_at, IsSoloOf}
 use Rattle.window_plan.specs.Windows as window
 use Rattle.run_plan.proofs.FileLengths.{puts_long}
 use Rattle.run_plan.proofs.NearLaws.{offer_beside}
@@ -22,9 +22,9 @@ alone_planned hints s r n steps size later t o step reply to sound are long mark
         → Follows hints s (record step { mark = Solo r n } ∷ []) (plan_stage size count ranks) (plan_stage later count (set ranks r to))
     follow count ranks g (c, ps) beside =
         let there = offer_beside ps ranks r t o beside.like.beside g in
+        let offered : offer_at ps r ≡ Some o = ap (λ (m : Option Arrived). elim m [ None ↦ None | Some a ↦ a.1 ]) there.1 in
         let wide : length (after_puts s (puts_of (r, o)) (told s (puts_of (r, o))) c.file) ≡ later =
-        puts_long s (puts_of (r, o)) c.file sound are (subst (λ (k : ℕ). end_for s 0 ≤ k) (sym beside.long) long)
-        ∙ ap (λ (k : ℕ). max k (end_for s (needed_now s (puts_of (r, o))))) beside.long ∙ sym grows in
+        rw (puts_long s (puts_of (r, o)) c.file sound are (rw beside.long long), beside.long) (sym grows) in
         record {
           beside = record {
             long = ap (λ (x : Stand). length x.0.file) (step_at s r n c ps there.0 o there.1) ∙ wide;
@@ -34,11 +34,8 @@ alone_planned hints s r n steps size later t o step reply to sound are long mark
               (call_alone hints s r n c ps there.0 o there.1
               ∙ ap (λ (k : ℕ). put_calls s (sieving_windows hints.wr_buffer) (puts_of (r, o)) k ++ flat_map loads (sieving_windows hints.rd_buffer (get_bytes s (gets_of o)))) beside.long
               ∙ sym device);
-          each = (record { callers = callers; file = subst (λ (m : Option Offer). IsSoloOf s.header hints r m step.file) (sym (offered ps there.0 there.1)) plan }, tt);
+          each = (record { callers = callers; file = subst (λ (m : Option Offer). IsSoloOf s.header hints r m step.file) (sym offered) plan }, tt);
         }
-      where
-        offered : (ps : List Arrived) (u : Going) → slice_get ps r ≡ Some (u, Some o) → offer_at ps r ≡ Some o
-        offered ps u e = ap (λ (m : Option Arrived). elim m [ None ↦ None | Some a ↦ a.1 ]) e
 
     led : (count : ℕ) (ranks : List Arrived) → slice_get ranks r ≡ Some (t, Some o) → Follows hints s (step ∷ []) (plan_stage size count ranks) (plan_stage later count (set ranks r to))
     led count ranks g =

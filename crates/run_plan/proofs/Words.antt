@@ -1,6 +1,6 @@
 -- The words of this crate's proofs, from where they stand.
-pub use Rattle.list_laws.proofs.Std.{Bool, IfOk, List, None, Option, Some, [], ap, append-nil, append_assoc, arith, byte_len, cond, drop, drop_more, enumerate_from, false, flat_map, flat_map-append, fold, fold-append, get_or, inl, inr, length, length-map, list_all, map, map-append, max, nat_lt, refl, rules, same_Some, set, set-set, slice_get, slice_get_within, slice_index_or, subst, suc, sym, take, true, true≢false, w32, w64, with_items_is, zero, ℕ, ◌++◌, ◌+◌, ◌-◌, ◌<◌, ◌==◌, ◌^◌, ◌∙◌, ◌∷◌, ◌≡◌, ◌≤◌}
-pub use Rattle.std.specs.Prelude.{Err, Ok, Result, replicate}
+pub use Rattle.list_laws.proofs.Std.{Bool, List, None, Option, Some, [], ap, append-nil, append_assoc, arith, byte_len, cond, drop, drop_more, enumerate_from, false, flat_map, flat_map-append, fold, fold-append, get_or, inl, inr, length, length-map, list_all, map, map-append, max, nat_lt, refl, rules, same_Some, set, set-set, slice_get, slice_get_within, slice_index_or, subst, suc, sym, take, true, true≢false, w32, w64, with_items_is, zero, ℕ, ◌++◌, ◌+◌, ◌-◌, ◌<◌, ◌==◌, ◌^◌, ◌∙◌, ◌∷◌, ◌≡◌, ◌≤◌}
+pub use Rattle.std.specs.Prelude.{replicate}
 pub use Rattle.collective_round.proofs.GetLaws.{batch_gets, zero_row, zero_rows}
 pub use Rattle.collective_round.proofs.NeedLaws.{field_inside, greatest_more}
 pub use Rattle.collective_round.proofs.PutLaws.{covered_below, laid_needs, rises, shared_needs}
@@ -8,7 +8,7 @@ pub use Rattle.collective_round.specs.Blobs.{blobs_for}
 pub use Rattle.collective_round.specs.Rounds.{ArePuts, counted, gets_in, puts_in}
 pub use Rattle.join_laws.proofs.StandsAlike.{close_alike, offers_beside, same_beside}
 pub use Rattle.join_laws.specs.Alike.{AllBeside, AreAlikeEnds, AreNear, IsLike, blank, blank_item}
-pub use Rattle.list_laws.proofs.Common.{all_joined, entry_set, map_map, set_own, value_of_some}
+pub use Rattle.list_laws.proofs.Common.{all_joined, either, entry_set, map_map, set_own, value_of_some}
 pub use Rattle.list_laws.proofs.Types.{Answer, Batch, Call, DiskCall, Extent, Header, Hints, Item, Mark, Meet, Offer, Pair, Post, Reply, Script, Solo}
 pub use Rattle.overlay_laws.proofs.Common.{In, cells_long, cells_of_puts, puts_room}
 pub use Rattle.run_laws.proofs.ArrivalLaws.{first_up}
@@ -17,12 +17,12 @@ pub use Rattle.run_laws.proofs.TogetherLaws.{call_number}
 pub use Rattle.run_laws.proofs.WayLaws.{one_of}
 pub use Rattle.run_laws.specs.Ahead.{is_solo_of}
 pub use Rattle.run_laws.specs.Arrivals.{Arrived, Stand, calls_over, ended_from, first_stand, offer_at, step_calls, step_to}
-pub use Rattle.run_laws.specs.Ways.{AsksAlone, IsOnWay, meetings}
-pub use Rattle.run_plan.specs.Planned.{AreStepsOf, Follows, HasPlanned, HasPlannedAll, IsBeside, IsFollowed, IsMeetingPlan, IsSoloOf, IsSoloPlan, PlanStage, RankPlan, caller, caller_at, calls_in, meeting_callers, order_in, plan_stage, rank_plan, runner_caller}
+pub use Rattle.run_laws.specs.Ways.{IsOnWay, meetings}
+pub use Rattle.run_plan.specs.Planned.{AreStepsOf, Follows, HasPlanned, HasPlannedAll, IsFollowed, IsMeetingPlan, IsSoloOf, IsSoloPlan, PlanStage, RankPlan, caller, caller_at, calls_in, meeting_callers, order_in, plan_stage, rank_plan, runner_caller}
 pub use Rattle.run_plan.specs.Runs.{HasEnded, IsPlanOf, greatest_known, item_without_values, without_values}
 pub use Rattle.run_plan.specs.declared.run.RunPlan.{RunPlan}
 pub use Rattle.run_plan.specs.declared.steps.Progress.{Progress}
-pub use Rattle.serial_spec.proofs.Common.{Counted, End, Going, IsLegal, Puts, Setting, advance, after_puts, close_by, collective_windows, count, count_long, end_for, get_bytes, gets_of, greatest, header_len, hears, is_lawful, is_sound, lawful_hints, length-written_inside, loads, longer, longer_long, meeting, meeting_calls, most_calls, needed_by, needed_now, needs, offers_of, put_calls, puts_are_cells, puts_of, raised, raised_records, run_calls, serial_from, setting_of, sieving_windows, store_records, told, wanted, with_records}
+pub use Rattle.serial_spec.proofs.Common.{Counted, End, Going, Puts, Setting, advance, after_puts, close_by, collective_windows, count, count_long, end_for, get_bytes, gets_of, greatest, header_len, hears, is_lawful, is_sound, lawful_hints, length-written_inside, loads, longer, longer_long, meeting_calls, most_calls, needed_by, needed_now, needs, offers_of, put_calls, puts_are_cells, puts_of, raised, raised_records, run_calls, serial_from, setting_of, sieving_windows, store_records, told, wanted, with_records}
 pub use Rattle.step_plan.specs.Steps.{count_call, file_calls, grow_call, windows_in}
 pub use Rattle.step_plan.specs.declared.plan.Caller.{Caller}
 pub use Rattle.step_plan.specs.declared.plan.FilePlan.{FilePlan}

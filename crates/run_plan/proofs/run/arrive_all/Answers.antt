@@ -1,5 +1,5 @@
 -- One rank more has arrived.
-use Rattle.run_plan.proofs.Words.{◌≡◌, ◌<◌, ◌≤◌, ◌+◌, ℕ, refl, sym, ◌∙◌, subst, Some, None, arith, slice_get, slice_index_or, slice_get_within, setting_of, ranks_lawful, IsCount, calls_of, HasArrived, arrived, arrived_all, Runner, count_longer, below_other, get_at, grown_meetings, runners_step, set_each, order_in, plan_stage, rank_plan, HasPlannedAll}
+use Rattle.run_plan.proofs.Words.{◌≡◌, ◌<◌, ◌≤◌, ◌+◌, ℕ, refl, ◌∙◌, Some, None, arith, slice_get, slice_index_or, slice_get_within, ranks_lawful, calls_of, HasArrived, arrived, arrived_all, Runner, count_longer, below_other, get_at, grown_meetings, runners_step, set_each, order_in, plan_stage}
 use Rattle.run_plan.proofs.FollowLaws.{all_none, all_then, one_of_all, planned_grown}
 use Rattle.run_plan.proofs.run.arrive_all.Goals as goal
 
@@ -39,7 +39,7 @@ loop-number-preserved g c =
     let before = c.loop-number.invariant in
     let done = c.in_ok-arrive.ensures in
     let there : slice_get runners n ≡ Some was = get_at runners n c.index-runners-number.result (omega arith) in
-    let grown = planned_grown script.hints (setting_of script header) n (rank_plan old.steps old.size (arrived header (calls_of script n) was)) (rank_plan now.steps now.size (arrived header (calls_of script n) runner)) done.planned in
+    let grown = planned_grown _ _ n _ _ done.planned in
     let long = (ranks_lawful script c.requires.lawful).one_each in
     let further = before.longer in
     let more = done.longer in
@@ -61,14 +61,7 @@ returns-clause-arrived g c r runner e = let l = slice_get_within c.loop-number.r
 
 pub returns-clause-records : goal.returns-clause-records
 returns-clause-records g c =
-    subst (λ (n : ℕ). IsCount c.args.lent.now.header.now c.loop-number.progress.size n) (sym c.loop-number.invariant.count)
-    (count_longer c.args.lent.now.header.now _ _ c.args.progress.now.records c.loop-number.invariant.longer c.requires.records)
+    rw c.loop-number.invariant.count (count_longer c.args.lent.now.header.now _ _ c.args.progress.now.records c.loop-number.invariant.longer c.requires.records)
 
 pub returns-clause-planned : goal.returns-clause-planned
-returns-clause-planned g c =
-    let header = c.args.lent.now.header.now in
-    let script = c.args.lent.now.script.now in
-    subst (λ (n : ℕ). HasPlannedAll script.hints (setting_of script header) c.args.progress.now.steps c.loop-number.progress.steps
-    (plan_stage c.args.progress.now.size c.args.progress.now.records (arrived_all header script.calls c.args.runners.now))
-    (plan_stage c.loop-number.progress.size n (arrived_all header script.calls c.loop-number.runners))) (sym c.loop-number.invariant.count)
-    (c.loop-number.invariant.planned c.args.progress.now.records)
+returns-clause-planned g c = rw c.loop-number.invariant.count (c.loop-number.invariant.planned c.args.progress.now.records)

@@ -1,14 +1,13 @@
 -- The plan of a run, from its first stage to its end.
-use Rattle.run_plan.proofs.Words.{refl, sym, ◌∙◌, subst, List, rules, with_items_is, StepPlan, AreRunners, Runner, first_count, first_free, first_runners, order_in, HasEnded}
+use Rattle.run_plan.proofs.Words.{refl, ◌∙◌, subst, List, rules, with_items_is, Runner, first_count, first_free, first_runners, HasEnded}
 use Rattle.run_plan.proofs.EndLaws.{are_planned}
 use Rattle.run_plan.proofs.run.plan_run.Goals as goal
 use Rattle.step_plan.proofs.DomainLaws.{ok_so}
 
 pub hold_meetings-requires-clause-runners : goal.hold_meetings-requires-clause-runners
 hold_meetings-requires-clause-runners g c =
-    subst (λ (steps : List StepPlan). AreRunners c.args.script.now c.args.header.now c.args.opening.size (order_in steps) c.deref_mut.result.now) (sym c.new-2.ensures)
-    (first_runners c.args.script.now c.args.header.now c.args.opening.size c.args.header.now.records c.deref_mut.result.now c.requires.lawful c.requires.sound
-    refl c.requires.long (c.deref_mut.ensures.value ∙ c.in_ok-runners.ensures))
+    rw c.new-2.ensures
+    (first_runners c.args.script.now c.args.header.now c.args.opening.size c.args.header.now.records c.deref_mut.result.now c.requires.lawful c.requires.sound refl c.requires.long (c.deref_mut.ensures.value ∙ c.in_ok-runners.ensures))
 
 pub hold_meetings-requires-clause-free : goal.hold_meetings-requires-clause-free
 hold_meetings-requires-clause-free g c =

@@ -1,5 +1,5 @@
 -- The meeting is planned, and each rank has heard zeros.
-use Rattle.run_plan.proofs.Words.{ℕ, [], ◌∷◌, ◌++◌, refl, sym, ◌∙◌, ap, subst, List, length, map, arith, Meet, setting_of, lawful_hints, puts_in, batch_gets, zero_rows, ranks_lawful, StepPlan, arrived_all, count_begins, free_after, have_done, runners_after, table_long, taken_by, to_hear, meets_job, meets_rise, met_number, order_in, plan_stage, HasPlannedAll}
+use Rattle.run_plan.proofs.Words.{ℕ, [], ◌∷◌, ◌++◌, refl, sym, ◌∙◌, ap, length, map, arith, Meet, setting_of, lawful_hints, puts_in, batch_gets, zero_rows, ranks_lawful, StepPlan, count_begins, free_after, have_done, runners_after, table_long, taken_by, to_hear, meets_job, meets_rise, met_number, order_in}
 use Rattle.run_plan.proofs.CallerLaws.{few_answers}
 use Rattle.run_plan.proofs.CountSteps.{grown, met_counted}
 use Rattle.run_plan.proofs.FollowLaws.{order_more}
@@ -65,22 +65,13 @@ returns g c =
       records = counted;
       planned =
           let file = c.in_ok-planned.planned.file in
+          let p = c.in_ok-planned.ensures in
           let step : StepPlan = record { mark = Meet c.args.number; callers = c.in_ok-callers.callers; file = file } in
-          subst (λ (steps : List StepPlan). HasPlannedAll script.hints s c.args.progress.now.steps steps
-          (plan_stage c.args.progress.now.size c.args.progress.now.records (arrived_all header script.calls c.args.runners.now))
-          (plan_stage c.add.new.self.size c.in_ok-planned.planned.records (arrived_all header script.calls c.hear_all.new.runners))) (sym c.in_ok-add.ensures.steps)
+          rw c.in_ok-add.ensures.steps
           (meeting_planned script.hints s c.args.progress.now.steps script.calls c.args.runners.now c.hear_all.new.runners batches c.in_ok-job.known c.args.progress.now.records c.in_ok-planned.planned.records c.args.number
           c.args.progress.now.size c.add.new.self.size file.overlap c.in_ok-zeros.zeros step c.requires.sound job.puts
-          (count_begins header c.args.progress.now.size c.args.progress.now.records c.requires.records) (taken_by c.requires.lawful c.requires.runners c.requires.met same c.in_ok-job.ensures.known)
+          (count_begins _ _ _ c.requires.records) (taken_by c.requires.lawful c.requires.runners c.requires.met same c.in_ok-job.ensures.known)
           (have_done c.requires.runners c.requires.met c.requires.arrived c.in_ok-job.ensures.freed c.in_ok-hear_all.ensures.all wide) c.in_ok-planned.ensures.overlap c.in_ok-planned.ensures.records rows refl size
-          (meet_device script.hints s batches c.args.progress.now.size c.args.progress.now.records c.in_ok-planned.planned.records file c.in_ok-planned.ensures.put_calls c.in_ok-planned.ensures.count_calls
-          c.in_ok-planned.ensures.get_calls)
-          (record {
-            overlap = c.in_ok-planned.ensures.overlap;
-            asked_put = c.in_ok-planned.ensures.asked_put;
-            asked_get = c.in_ok-planned.ensures.asked_get;
-            put_domains = c.in_ok-planned.ensures.put_domains;
-            get_domains = c.in_ok-planned.ensures.get_domains;
-          })
-          c.in_ok-callers.ensures);
+          (meet_device script.hints s batches c.args.progress.now.size c.args.progress.now.records c.in_ok-planned.planned.records file p.put_calls p.count_calls p.get_calls)
+          (record { overlap = p.overlap; asked_put = p.asked_put; asked_get = p.asked_get; put_domains = p.put_domains; get_domains = p.get_domains }) c.in_ok-callers.ensures);
     }
