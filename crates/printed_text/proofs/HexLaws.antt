@@ -1,5 +1,5 @@
 -- Hexadecimal digits, two at a time.
-use Rattle.printed_text.proofs.Cited.{◌≡◌, ℕ, zero, suc, ◌+◌, ◌-◌, ◌*◌, ◌/◌, ◌%◌, ◌<◌, ◌≤◌, Bool, true, ◌&&◌, T, eqb, eqb→eq, eq-zero-or-pos, and_l, and_r, List, [], ◌∷◌, ◌++◌, length, take, drop, set, get_or, refl, ap, ◌∙◌, inl, inr, arith, append_assoc, drop-set, take-set-le, take-set_at, take-append_seam, length-append, length-set, length-take-le, hex, hex_digit, PAIRS}
+use Rattle.printed_text.proofs.Cited.{◌≡◌, ℕ, zero, suc, ◌+◌, ◌-◌, ◌*◌, ◌/◌, ◌%◌, ◌<◌, ◌≤◌, Bool, true, ◌&&◌, T, eqb, eqb→eq, eq-zero-or-pos, and_l, and_r, List, [], ◌∷◌, ◌++◌, length, take, drop, set, get_or, refl, inl, inr, arith, append_assoc, drop-set, take-set-le, take-set_at, take-append_seam, length-append, length-set, length-take-le, hex, hex_digit, PAIRS}
 use Rattle.printed_text.proofs.WordLaws.{hex_last}
 
 -- ---- the table
@@ -63,7 +63,7 @@ pub digits_there : (start n x end : ℕ) (old next rest : List ℕ) → start �
 digits_there start n x end old next rest within here written =
     let front : List ℕ = take start old ++ hex n x in
     let long : end ≡ length front = omega (arith, length-append (take start old) (hex n x), length-take-le start old within, length_hex n x, here) in
-    ap (take end) written ∙ ap (λ (k : ℕ). take k (front ++ rest)) long ∙ take-append_seam front rest
+    rw (written, long) (take-append_seam front rest)
 
 -- an odd number of them, of which the last one is written first
 pub odd_there : (start n m x end d : ℕ) (old next : List ℕ) → start + m < length old → end ≡ start + n → n ≡ m + 1 → d ≡ hex_digit (x % 16)

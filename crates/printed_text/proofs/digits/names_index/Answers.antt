@@ -1,4 +1,4 @@
-use Rattle.printed_text.proofs.Cited.{◌≡◌, ℕ, drop, subst, arith, FindsNames}
+use Rattle.printed_text.proofs.Cited.{◌≡◌, drop, arith, FindsNames}
 use Rattle.printed_text.proofs.DigitLaws.{names_none}
 use Rattle.printed_text.proofs.IndexLaws.{at_end, one_earlier}
 use Rattle.printed_text.proofs.digits.names_index.Goals as goal
@@ -12,6 +12,4 @@ loop-k-preserved c =
     (c.in_ok-put_name.ensures (drop c.loop-k.k c.args.vars.now) c.loop-k.invariant)
 
 pub returns : goal.returns
-returns c =
-    let none : c.loop-k.k ≡ 0 = omega arith in
-    subst (λ (k : ℕ). FindsNames (drop k c.args.vars.now) c.loop-k.index) none c.loop-k.invariant
+returns c = let none : c.loop-k.k ≡ 0 = omega arith in rw none at c.loop-k.invariant
