@@ -13,12 +13,9 @@ joined_push (x ∷ y ∷ ws) w =
 -- one item more, with the comma before it
 pub array_more : {A : Type 0} (f : A → List ℕ) (front : List ℕ) (xs : List A) (i : ℕ) (d : A) → i < length xs
     → front ++ joined 44 (map f (take (i + 1) xs)) ≡ ((front ++ joined 44 (map f (take i xs))) ++ comma i) ++ f (get_or xs i d)
-array_more {A} f front xs i d h =
+array_more f front xs i d h =
     let whole : length (map f (take i xs)) ≡ i = grind (arith, common_steps) in
-    ap (λ (ws : List (List ℕ)). front ++ joined 44 ws) (map_more f xs i d h)
-    ∙ ap (λ (t : List ℕ). front ++ t) (joined_push (map f (take i xs)) (f (get_or xs i d)))
-    ∙ ap (λ (n : ℕ). front ++ (joined 44 (map f (take i xs)) ++ (comma n ++ f (get_or xs i d)))) whole
-    ∙ sym (append_assoc (front ++ joined 44 (map f (take i xs))) (comma i) (f (get_or xs i d)) ∙ append_assoc front (joined 44 (map f (take i xs))) (comma i ++ f (get_or xs i d)))
+    simp (map_more f xs i d h, joined_push (map f (take i xs)) (f (get_or xs i d)), whole, append_assoc)
 
 -- the last members of an object
 pub closed_end : (ms : List (List ℕ)) → joined 44 ms ++ 125 ∷ [] ≡ closed ms
@@ -46,21 +43,13 @@ document_closed ms ns h k =
     ∙ sym (append_assoc (joined 44 ms) (44 ∷ closed ns) (10 ∷ []))
     ∙ ap (λ (t : List ℕ). t ++ 10 ∷ []) (closed_more ms ns h k)
 
--- an item that goes last
-pub item_pushed : {A : Type 0} (f : A → List ℕ) (front now with_comma next : List ℕ) (xs : List A) (i : ℕ) (x : A) → i < length xs → x ≡ get_or xs i x
-    → now ≡ front ++ joined 44 (map f (take i xs)) → with_comma ≡ now ++ comma i → next ≡ with_comma ++ f x → next ≡ front ++ joined 44 (map f (take (i + 1) xs))
-item_pushed {A} f front now with_comma next xs i x within here so_far separated pushed =
-    pushed
-    ∙ ap (λ (t : List ℕ). t ++ f x) separated
-    ∙ ap (λ (t : List ℕ). (t ++ comma i) ++ f x) so_far
-    ∙ ap (λ (y : A). ((front ++ joined 44 (map f (take i xs))) ++ comma i) ++ f y) here
-    ∙ sym (array_more f front xs i x within)
-
--- the same of an item that is copied
+-- an item that is copied, and goes last
 pub copy_pushed : {A : Type 0} (f : A → List ℕ) (front now with_comma next : List ℕ) (xs : List A) (i : ℕ) (d : A) → i < length xs
     → now ≡ front ++ joined 44 (map f (take i xs)) → with_comma ≡ now ++ comma i → next ≡ with_comma ++ f (get_or xs i d) → next ≡ front ++ joined 44 (map f (take (i + 1) xs))
-copy_pushed {A} f front now with_comma next xs i d within so_far separated pushed =
-    pushed
-    ∙ ap (λ (t : List ℕ). t ++ f (get_or xs i d)) separated
-    ∙ ap (λ (t : List ℕ). (t ++ comma i) ++ f (get_or xs i d)) so_far
-    ∙ sym (array_more f front xs i d within)
+copy_pushed f front now with_comma next xs i d within so_far separated pushed = rw (pushed, separated, so_far) (sym (array_more f front xs i d within))
+
+-- the same of an item that is read
+pub item_pushed : {A : Type 0} (f : A → List ℕ) (front now with_comma next : List ℕ) (xs : List A) (i : ℕ) (x : A) → i < length xs → x ≡ get_or xs i x
+    → now ≡ front ++ joined 44 (map f (take i xs)) → with_comma ≡ now ++ comma i → next ≡ with_comma ++ f x → next ≡ front ++ joined 44 (map f (take (i + 1) xs))
+item_pushed f front now with_comma next xs i x within here so_far separated pushed =
+    copy_pushed f front now with_comma next xs i x within so_far separated (rw (← here) pushed)

@@ -1,5 +1,5 @@
 -- Texts in which nothing is escaped.
-use Rattle.plan_text.proofs.Cited.{◌≡◌, ℕ, zero, suc, ◌+◌, ◌/◌, ◌%◌, ◌<◌, ◌==◌, List, [], ◌∷◌, ◌++◌, Bool, true, false, cond, Option, Some, None, refl, sym, ap, ◌∙◌, arith, decimal, codes, lt-ltb, le-leb, ne_eqb, slice_get, flat_map, digit_glyph, digits, digits_onto, flat_map-append, Call, Form, PostKind, Iput, Iget, Bput, Mark, Meet, Solo, call_word, form_word, kind_word, mark_word, with_all, json_character, json_text, word_in, word_of_some}
+use Rattle.plan_text.proofs.Cited.{◌≡◌, ℕ, zero, suc, ◌+◌, ◌/◌, ◌%◌, ◌<◌, ◌==◌, List, [], ◌∷◌, ◌++◌, Bool, true, false, Option, Some, None, either, refl, ap, ◌∙◌, arith, decimal, codes, lt-ltb, le-leb, ne_eqb, slice_get, flat_map, digit_glyph, digits, digits_onto, flat_map-append, Call, Form, PostKind, Iput, Iget, Bput, Mark, Meet, Solo, call_word, form_word, kind_word, mark_word, with_all, json_character, json_text, word_in, word_of_some}
 use Rattle.std.proofs.lemmas.List.{append_assoc}
 use Rattle.nc_base.specs.declared.request.Call.TheVariants as call
 use Rattle.nc_base.specs.declared.request.Form.TheVariants as form
@@ -10,19 +10,11 @@ IsPlain text = flat_map json_character text ≡ text
 
 append_plain : (xs ys : List ℕ) → IsPlain xs → IsPlain ys → IsPlain (xs ++ ys)
 append_plain xs ys h k =
-    flat_map-append json_character xs ys
-    ∙ ap (λ (t : List ℕ). t ++ flat_map json_character ys) h
-    ∙ ap (λ (t : List ℕ). xs ++ t) k
+    rw (flat_map-append json_character xs ys, h, k)
 
 -- such a text between quotes
 pub text_pushed : (o x y z word : List ℕ) → IsPlain word → x ≡ o ++ 34 ∷ [] → y ≡ x ++ word → z ≡ y ++ 34 ∷ [] → z ≡ o ++ json_text word
-text_pushed o x y z word plain e f g =
-    g
-    ∙ ap (λ (t : List ℕ). t ++ 34 ∷ []) f
-    ∙ ap (λ (t : List ℕ). (t ++ word) ++ 34 ∷ []) e
-    ∙ append_assoc (o ++ 34 ∷ []) word (34 ∷ [])
-    ∙ append_assoc o (34 ∷ []) (word ++ 34 ∷ [])
-    ∙ ap (λ (t : List ℕ). o ++ 34 ∷ (t ++ 34 ∷ [])) (sym plain)
+text_pushed o x y z word plain e f g = simp (g, f, e, plain, append_assoc)
 
 -- ---- numbers
 
@@ -34,17 +26,14 @@ digit_plain d h =
 
 digits_plain : (k n : ℕ) (acc : List ℕ) → IsPlain acc → IsPlain (digits_onto k 10 false n acc)
 digits_plain zero n acc h = h
-digits_plain (suc k) n acc h = by (n / 10 == 0) (digits_plain k (n / 10) (digit_glyph false (n % 10) ∷ acc) one)
+digits_plain (suc k) n acc h =
+    let next = digit_glyph false (n % 10) ∷ acc in
+    either IsPlain (n / 10 == 0) next (digits_onto k 10 false (n / 10) next) (λ e. one) (λ e. digits_plain k (n / 10) next one)
   where
     one : IsPlain (digit_glyph false (n % 10) ∷ acc)
     one =
         ap (λ (t : List ℕ). t ++ flat_map json_character acc) (digit_plain (n % 10) (omega arith))
         ∙ ap (λ (t : List ℕ). digit_glyph false (n % 10) ∷ t) h
-
-    by : (b : Bool) → IsPlain (digits_onto k 10 false (n / 10) (digit_glyph false (n % 10) ∷ acc))
-        → IsPlain (cond b (digit_glyph false (n % 10) ∷ acc) (digits_onto k 10 false (n / 10) (digit_glyph false (n % 10) ∷ acc)))
-    by true more = one
-    by false more = more
 
 decimal_plain : (n : ℕ) → IsPlain (decimal n)
 unfolding digits
