@@ -1,6 +1,5 @@
 -- Who comes to a meeting, and with which call.
-use Rattle.run_plan.proofs.Words.{◌≡◌, ℕ, suc, ◌+◌, ◌<◌, ◌^◌, refl, sym, ◌∙◌, ap, List, [], ◌∷◌, ◌++◌, length, map, drop, get_or, Option, Some, None, append_assoc, arith, drop_more, length-map, slice_get, enumerate_from, value_of_some, Answer, Header, Call, Script, Mark, Offer, Going, blank, AllBeside, AreNear, Arrived, Caller, AreRunners, HaveArrived, arrived, arrived_all, Runner, arrived_held, AllHold, comes, free, holding, Comes, caller, caller_at, meeting_callers, runner_caller}
-
+use Rattle.run_plan.proofs.Words.{◌≡◌, ℕ, suc, ◌+◌, ◌<◌, ◌^◌, refl, sym, ◌∙◌, List, [], ◌∷◌, ◌++◌, length, map, drop, get_or, Option, Some, None, append_assoc, arith, drop_more, slice_get, enumerate_from, value_of_some, Header, Call, Script, Mark, Offer, AllBeside, Arrived, Caller, AreRunners, HaveArrived, arrived, arrived_all, Runner, arrived_held, AllHold, comes, free, holding, Comes, caller, caller_at, meeting_callers, runner_caller}
 use Rattle.join_laws.proofs.AlikeLaws.{as_many}
 
 -- ---- few calls are answered

@@ -1,6 +1,5 @@
 -- Steps that are planned, one after another.
-use Rattle.run_plan.proofs.Words.{◌≡◌, ℕ, ◌<◌, refl, sym, ◌∙◌, ap, List, [], ◌∷◌, ◌++◌, length, set, true, Some, append_assoc, arith, flat_map-append, fold-append, append-nil, map-append, set-set, fold, slice_get, Header, Hints, Script, DiskCall, Mark, Setting, is_lawful, setting_of, all_joined, entry_set, set_own, is_solo_of, calls_over, step_calls, step_to, Arrived, Stand, ranks_lawful, file_calls, StepPlan, calls_of, arrived, arrived_all, IsGrownBy, Runner, calls_there, get_arrived, set_arrived, calls_in, order_in, plan_stage, rank_plan, AreStepsOf, Follows, HasPlanned, HasPlannedAll, PlanStage, RankPlan}
-
+use Rattle.run_plan.proofs.Words.{◌≡◌, ℕ, ◌<◌, refl, sym, ◌∙◌, ap, List, [], ◌∷◌, ◌++◌, length, set, true, Some, append_assoc, arith, flat_map-append, fold-append, append-nil, map-append, set-set, fold, slice_get, Header, Hints, Script, Setting, is_lawful, setting_of, all_joined, entry_set, set_own, is_solo_of, step_to, Arrived, Stand, ranks_lawful, file_calls, StepPlan, calls_of, arrived, arrived_all, IsGrownBy, Runner, calls_there, get_arrived, set_arrived, calls_in, order_in, plan_stage, rank_plan, AreStepsOf, Follows, HasPlanned, HasPlannedAll, PlanStage, RankPlan}
 use Rattle.run_laws.proofs.ArrivalLaws.{calls_split}
 
 -- ---- one list of steps after another

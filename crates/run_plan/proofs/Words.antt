@@ -1,5 +1,5 @@
 -- The words of this crate's proofs, from where they stand.
-pub use Rattle.list_laws.proofs.Std.{Bool, List, None, Option, Some, [], ap, append-nil, append_assoc, arith, byte_len, cond, drop, drop_more, enumerate_from, false, flat_map, flat_map-append, fold, fold-append, get_or, inl, inr, length, length-map, list_all, map, map-append, max, nat_lt, refl, rules, same_Some, set, set-set, slice_get, slice_get_within, slice_index_or, subst, suc, sym, take, true, true≢false, w32, w64, with_items_is, zero, ℕ, ◌++◌, ◌+◌, ◌-◌, ◌<◌, ◌==◌, ◌^◌, ◌∙◌, ◌∷◌, ◌≡◌, ◌≤◌}
+pub use Rattle.list_laws.proofs.Std.{Bool, List, None, Option, Some, [], ap, append-nil, append_assoc, arith, byte_len, cond, drop, drop_more, enumerate_from, false, flat_map, flat_map-append, fold, fold-append, get_or, inl, inr, length, list_all, map, map-append, max, nat_lt, refl, rules, same_Some, set, set-set, slice_get, slice_get_within, slice_index_or, subst, suc, sym, take, true, true≢false, w32, w64, with_items_is, zero, ℕ, ◌++◌, ◌+◌, ◌-◌, ◌<◌, ◌==◌, ◌^◌, ◌∙◌, ◌∷◌, ◌≡◌, ◌≤◌}
 pub use Rattle.std.specs.Prelude.{replicate}
 pub use Rattle.collective_round.proofs.GetLaws.{batch_gets, zero_row, zero_rows}
 pub use Rattle.collective_round.proofs.NeedLaws.{field_inside, greatest_more}
@@ -7,7 +7,7 @@ pub use Rattle.collective_round.proofs.PutLaws.{covered_below, laid_needs, rises
 pub use Rattle.collective_round.specs.Blobs.{blobs_for}
 pub use Rattle.collective_round.specs.Rounds.{ArePuts, counted, gets_in, puts_in}
 pub use Rattle.join_laws.proofs.StandsAlike.{close_alike, offers_beside, same_beside}
-pub use Rattle.join_laws.specs.Alike.{AllBeside, AreAlikeEnds, AreNear, IsLike, blank, blank_item}
+pub use Rattle.join_laws.specs.Alike.{AllBeside, AreAlikeEnds, IsLike, blank, blank_item}
 pub use Rattle.list_laws.proofs.Common.{all_joined, either, entry_set, map_map, set_own, value_of_some}
 pub use Rattle.list_laws.proofs.Types.{Answer, Batch, Call, DiskCall, Extent, Header, Hints, Item, Mark, Meet, Offer, Pair, Post, Reply, Script, Solo}
 pub use Rattle.overlay_laws.proofs.Common.{In, cells_long, cells_of_puts, puts_room}
@@ -16,7 +16,7 @@ pub use Rattle.run_laws.proofs.LawfulLaws.{ranks_lawful}
 pub use Rattle.run_laws.proofs.TogetherLaws.{call_number}
 pub use Rattle.run_laws.proofs.WayLaws.{one_of}
 pub use Rattle.run_laws.specs.Ahead.{is_solo_of}
-pub use Rattle.run_laws.specs.Arrivals.{Arrived, Stand, calls_over, ended_from, first_stand, offer_at, step_calls, step_to}
+pub use Rattle.run_laws.specs.Arrivals.{Arrived, Stand, ended_from, first_stand, offer_at, step_to}
 pub use Rattle.run_laws.specs.Ways.{IsOnWay, meetings}
 pub use Rattle.run_plan.specs.Planned.{AreStepsOf, Follows, HasPlanned, HasPlannedAll, IsFollowed, IsMeetingPlan, IsSoloOf, IsSoloPlan, PlanStage, RankPlan, caller, caller_at, calls_in, meeting_callers, order_in, plan_stage, rank_plan, runner_caller}
 pub use Rattle.run_plan.specs.Runs.{HasEnded, IsPlanOf, greatest_known, item_without_values, without_values}

@@ -1,5 +1,5 @@
 -- The words of this crate's proofs, from where they stand.
-pub use Rattle.list_laws.proofs.Std.{IfOk, IfSome, List, None, Option, Some, [], ap, append-nil, append_assoc, arith, drop, enumerate_from, flat_map, flat_map-append, flat_map-map, fold, get_or, inl, inr, length, length_push, map, map-append, max, range_with_len, refl, same_Some, slice_get, subst, suc, sym, take, take_all, take_more, ℕ, ◌++◌, ◌+◌, ◌-◌, ◌<◌, ◌^◌, ◌∙◌, ◌∷◌, ◌≡◌, ◌≤◌}
+pub use Rattle.list_laws.proofs.Std.{IfOk, IfSome, List, None, Option, Some, [], ap, append-nil, append_assoc, arith, drop, enumerate_from, flat_map, flat_map-append, flat_map-map, fold, get_or, inl, inr, length, length_push, map, map-append, max, range_with_len, refl, same_Some, slice_get, subst, sym, take, take_all, take_more, ℕ, ◌++◌, ◌+◌, ◌-◌, ◌<◌, ◌^◌, ◌∙◌, ◌∷◌, ◌≡◌, ◌≤◌}
 pub use Rattle.std.specs.Prelude.{Err, Ok, Result, min}
 pub use Rattle.collective_round.proofs.BatchLaws.{batch_needed, one_batch, own_puts}
 pub use Rattle.collective_round.proofs.GetLaws.{batch_gets, order_by}
@@ -17,7 +17,7 @@ pub use Rattle.collective_round.specs.declared.entries.PutList.{PutList}
 pub use Rattle.collective_round.specs.declared.entries.PutList.TheVariants.{Laid}
 pub use Rattle.exchange_crew.specs.Turns.{Told, turns_of}
 pub use Rattle.get_exchange.specs.Gets.{IsGetPlan}
-pub use Rattle.list_laws.proofs.Common.{if_some_at, next_numbered, no_none_some, range_push}
+pub use Rattle.list_laws.proofs.Common.{if_some_at, next_numbered, no_none_some}
 pub use Rattle.list_laws.proofs.Types.{Batch, DiskCall, Extent, Get, Header, Hints, OverlapRule, Owned, Pair, Post, Put, Var}
 pub use Rattle.overlay_laws.proofs.Common.{HaveSame, In, IsCover, cover_in_order, in_either, load_calls, ranges, read_in, store_calls, told_of}
 pub use Rattle.serial_spec.proofs.Common.{Puts, Setting, bytes_of, collective_windows, end_for, get_bytes, greatest, grow_to, in_order, loads, needed, needed_by, needed_now, overlays, sieving_windows, spans, told}

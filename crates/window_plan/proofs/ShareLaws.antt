@@ -1,5 +1,5 @@
 -- The shares of ranks, counted one owner after another.
-use Rattle.window_plan.proofs.Words.{◌≡◌, ℕ, suc, ◌+◌, ◌-◌, ◌^◌, ◌<◌, sym, ◌∙◌, ap, List, [], ◌∷◌, ◌++◌, length, take, get_or, max, min, arith, flat_map_more, take_more, range_with_len, range_push, bytes_for, own_bytes, ranks_in, share_of, Owner, Share}
+use Rattle.window_plan.proofs.Words.{◌≡◌, ℕ, ◌+◌, ◌-◌, ◌^◌, ◌<◌, sym, ◌∙◌, ap, List, [], ◌∷◌, ◌++◌, length, take, get_or, max, min, arith, flat_map_more, take_more, range_with_len, bytes_for, own_bytes, ranks_in, share_of, Owner, Share}
 use Rattle.std.specs.Prelude.{flat_map}
 use Rattle.list_laws.proofs.Ranges.{range_next}
 
