@@ -1,5 +1,5 @@
 -- What goes between ranks and aggregators, one thing more.
-use Rattle.plan_sums.proofs.Words.{◌≡◌, ◌<◌, ℕ, ◌+◌, ◌-◌, ◌^◌, refl, sym, ◌∙◌, ap, List, [], ◌∷◌, ◌++◌, length, map, take, get_or, min, Bool, true, false, cond, arith, ◌==◌, filter, flat_map, range_with_len, sum_by, append-nil, append_assoc, map-append, take_more, filter-append, flat_map-map, sum_by_push, flat_map-append, Direction, Put, Get, Share, WindowPlan, windows_in, DomainPlan, StepPlan, bytes_of, cell, cells_in, domains_in, is_served_by, shares_by, shares_in, shares_of, some_cell, phase_of, cell_of, served_by, Cell, Served}
+use Rattle.plan_sums.proofs.Words.{◌≡◌, ◌<◌, ℕ, ◌+◌, ◌-◌, ◌^◌, refl, sym, ◌∙◌, ap, List, [], ◌∷◌, ◌++◌, length, map, take, get_or, min, Bool, true, false, cond, arith, ◌==◌, filter, flat_map, range_with_len, sum_by, append-nil, append_assoc, map-append, take_more, filter-append, flat_map-map, sum_by_push, flat_map-append, Direction, Put, Get, Share, windows_in, DomainPlan, StepPlan, bytes_of, cell, cells_in, domains_in, is_served_by, shares_by, shares_in, shares_of, some_cell, phase_of, cell_of, served_by, Cell, Served}
 use Rattle.plan_sums.proofs.ListLaws.{flat_next, flat_push}
 use Rattle.list_laws.proofs.Ranges.{range_next}
 
@@ -25,32 +25,24 @@ share_more rank shares s bytes own now before is sum = by_test (s.rank == rank) 
 pub shares_join : (aggregator : ℕ) (xs ys : List DomainPlan)
     → shares_in (filter (is_served_by aggregator) (xs ++ ys)) ≡ shares_in (filter (is_served_by aggregator) xs) ++ shares_in (filter (is_served_by aggregator) ys)
 shares_join aggregator xs ys =
-    ap shares_in (filter-append (is_served_by aggregator) xs ys)
-    ∙ ap (λ (ws : List WindowPlan). flat_map shares_of ws) (flat_map-append (λ (d : DomainPlan). d.windows) (filter (is_served_by aggregator) xs) (filter (is_served_by aggregator) ys))
-    ∙ flat_map-append shares_of (windows_in (filter (is_served_by aggregator) xs)) (windows_in (filter (is_served_by aggregator) ys))
+    rw (filter-append (is_served_by aggregator) xs ys, flat_map-append (λ (d : DomainPlan). d.windows) (filter (is_served_by aggregator) xs) (filter (is_served_by aggregator) ys))
+    (flat_map-append shares_of (windows_in (filter (is_served_by aggregator) xs)) (windows_in (filter (is_served_by aggregator) ys)))
 
 -- of one step more
 pub step_more : (aggregator : ℕ) (direction : Direction) (steps : List StepPlan) (i : ℕ) (step : StepPlan) (domains : List DomainPlan) (old new : List Share) → i < length steps
     → step ≡ get_or steps i step → old ≡ shares_by aggregator direction (take i steps) → domains ≡ (phase_of direction step).domains
     → new ≡ old ++ shares_in (filter (is_served_by aggregator) domains) → new ≡ shares_by aggregator direction (take (i + 1) steps)
 step_more aggregator direction steps i step domains old new there is before own more =
-    more
-    ∙ ap (λ (ss : List Share). ss ++ shares_in (filter (is_served_by aggregator) domains)) before
-    ∙ sym (shares_join aggregator (domains_in direction (take i steps)) domains)
-    ∙ ap (λ (ds : List DomainPlan). shares_in (filter (is_served_by aggregator) ds))
-    (ap (λ (ds : List DomainPlan). domains_in direction (take i steps) ++ ds) own ∙ flat_next (λ (s : StepPlan). (phase_of direction s).domains) steps i step there is)
+    rw (more, before, own, ← flat_next (λ (s : StepPlan). (phase_of direction s).domains) steps i step there is)
+    (sym (shares_join aggregator (domains_in direction (take i steps)) (phase_of direction step).domains))
 
 -- of one domain more
 pub domain_more : (aggregator : ℕ) (domains : List DomainPlan) (i : ℕ) (d : DomainPlan) (begun old new : List Share) → i < length domains → d ≡ get_or domains i d
     → old ≡ begun ++ shares_in (filter (is_served_by aggregator) (take i domains)) → new ≡ old ++ shares_in (filter (is_served_by aggregator) (d ∷ []))
     → new ≡ begun ++ shares_in (filter (is_served_by aggregator) (take (i + 1) domains))
 domain_more aggregator domains i d begun old new there is before more =
-    more
-    ∙ ap (λ (ss : List Share). ss ++ shares_in (filter (is_served_by aggregator) (d ∷ []))) before
-    ∙ append_assoc begun _ _
-    ∙ ap (λ (ss : List Share). begun ++ ss) (sym (shares_join aggregator (take i domains) (d ∷ []))
-    ∙ ap (λ (ds : List DomainPlan). shares_in (filter (is_served_by aggregator) ds))
-    (ap (λ (x : DomainPlan). take i domains ++ x ∷ []) is ∙ sym (take_more domains i d there)))
+    rw (more, before, take_more domains i d there, ← is, shares_join aggregator (take i domains) (d ∷ []))
+    (append_assoc begun (shares_in (filter (is_served_by aggregator) (take i domains))) (shares_in (filter (is_served_by aggregator) (d ∷ []))))
 
 -- ---- one rank or aggregator more
 
@@ -58,20 +50,10 @@ pub served_more : (steps : List StepPlan) (n : ℕ) (puts gets : List Share) (ol
     → old ≡ map (served_by steps) (range_with_len 0 n) → new ≡ old ++ record { aggregator = n; puts = puts; gets = gets } ∷ []
     → new ≡ map (served_by steps) (range_with_len 0 (n + 1))
 served_more steps n puts gets old new given taken before more =
-    let made : Served = record { aggregator = n; puts = puts; gets = gets } in
-    let one : made ≡ served_by steps n = λ i. record { aggregator = n; puts = given i; gets = taken i } in
-    more
-    ∙ ap (λ (served : Served). old ++ served ∷ []) one
-    ∙ ap (λ (all : List Served). all ++ served_by steps n ∷ []) before
-    ∙ sym (ap (λ (ks : List ℕ). map (served_by steps) ks) (range_next n) ∙ map-append (served_by steps) (range_with_len 0 n) (n ∷ []))
+    rw (more, before, given, taken, range_next n, map-append (served_by steps) (range_with_len 0 n) (n ∷ []))
 
 pub rank_more : (steps : List StepPlan) (rank nodes : ℕ) (all : List Served) (old new : List Cell) → all ≡ map (served_by steps) (range_with_len 0 nodes)
     → old ≡ cells_in steps rank nodes → new ≡ old ++ flat_map (λ served. some_cell (cell_of rank served)) all → new ≡ cells_in steps (rank + 1) nodes
 rank_more steps rank nodes all old new are before more =
-    more
-    ∙ ap (λ (cells : List Cell). cells ++ flat_map (λ served. some_cell (cell_of rank served)) all) before
-    ∙ ap (λ (cells : List Cell). cells_in steps rank nodes ++ cells)
-    (ap (λ (served : List Served). flat_map (λ one. some_cell (cell_of rank one)) served) are
-    ∙ flat_map-map (λ (served : Served). some_cell (cell_of rank served)) (served_by steps) (range_with_len 0 nodes))
-    ∙ sym (ap (λ (ks : List ℕ). flat_map (λ r. flat_map (λ a. some_cell (cell steps r a)) (range_with_len 0 nodes)) ks) (range_next rank)
-    ∙ flat_push (λ (r : ℕ). flat_map (λ a. some_cell (cell steps r a)) (range_with_len 0 nodes)) (range_with_len 0 rank) rank)
+    rw (more, before, are, flat_map-map (λ (served : Served). some_cell (cell_of rank served)) (served_by steps) (range_with_len 0 nodes), range_next rank)
+    (sym (flat_push (λ (r : ℕ). flat_map (λ a. some_cell (cell steps r a)) (range_with_len 0 nodes)) (range_with_len 0 rank) rank))

@@ -1,8 +1,8 @@
 -- The words of this crate's proofs, from where they stand.
-pub use Rattle.list_laws.proofs.Std.{Bool, List, [], ap, append-nil, arith, cond, false, filter, filter-append, flat_map, flat_map-append, flat_map-map, flat_map_more, fold, get_or, length, map, map-append, max, min, range_with_len, refl, suc, sum_by_push, sym, take, take_more, true, ℕ, ◌++◌, ◌+◌, ◌-◌, ◌<◌, ◌==◌, ◌^◌, ◌∙◌, ◌∷◌, ◌≡◌}
+pub use Rattle.list_laws.proofs.Std.{Bool, List, [], ap, append-nil, arith, cond, false, filter, filter-append, flat_map, flat_map-append, flat_map-map, flat_map_more, fold, get_or, length, map, map-append, max, min, range_with_len, refl, sum_by_push, sym, take, take_more, true, ℕ, ◌++◌, ◌+◌, ◌-◌, ◌<◌, ◌==◌, ◌^◌, ◌∙◌, ◌∷◌, ◌≡◌}
 pub use Rattle.std.proofs.lemmas.List.{append_assoc}
 pub use Rattle.std.specs.List.{count_by, sum_by}
-pub use Rattle.list_laws.proofs.Common.{long_push, range_push}
+pub use Rattle.list_laws.proofs.Common.{long_push}
 pub use Rattle.list_laws.proofs.Types.{Direction, DiskCall, Extent, Get, Grow, Put}
 pub use Rattle.plan_sums.specs.Cells.{bytes_of, cell, cells_in, domains_in, is_served_by, shares_by, shares_in, shares_of, some_cell}
 pub use Rattle.plan_sums.specs.Naive.{asked_in, naive_sum, phase_of}
@@ -23,4 +23,3 @@ pub use Rattle.step_plan.specs.declared.plan.DomainPlan.{DomainPlan}
 pub use Rattle.step_plan.specs.declared.plan.Phase.{Phase}
 pub use Rattle.step_plan.specs.declared.plan.StepPlan.{StepPlan}
 pub use Rattle.window_plan.specs.declared.plan.Share.{Share}
-pub use Rattle.window_plan.specs.declared.plan.WindowPlan.{WindowPlan}
