@@ -1,5 +1,6 @@
 -- What the moves and the zeros keep of a file.
-use Rattle.redef_mover.proofs.Words.{◌≡◌, ℕ, ◌+◌, ◌-◌, ◌≤◌, inl, inr, refl, sym, ◌∙◌, subst, List, [], ◌∷◌, ◌++◌, length, Option, Some, None, Result, Ok, Err, arith, IfSome, OnOk, OnErr, IsTrue, PartlyWritten, after, BothTold, In, in_left, changes, Slab, at, written, at-written_before, at-written_after, length-written_inside, IsBeside, IsKept, IsOutside, IsUnmoved, cleared, slab_moved, window, nat_tests, eqb-true}
+use Rattle.redef_mover.proofs.Words.{◌≡◌, ℕ, ◌+◌, ◌≤◌, inl, inr, refl, sym, ◌∙◌, subst, List, [], ◌∷◌, ◌++◌, length, Option, Some, None, Result, Ok, Err, arith, IfSome, OnOk, OnErr, IsTrue, PartlyWritten, after, BothTold, In, in_left, changes, Slab, at, written, at-written_before, at-written_after, length-written_inside, IsBeside, IsKept, IsOutside, IsUnmoved, cleared, slab_moved, window, nat_tests, ◌-◌, eqb-true}
+use borrow.Author.Tests.{eqb-true}
 use Rattle.redef_mover.proofs.ClearLaws.{cleared_after, cleared_before, cleared_long}
 use Rattle.redef_mover.proofs.SlabLaws.{moved_after, moved_before, moved_long}
 use Rattle.redef_mover.proofs.WindowLaws.{upper}
@@ -29,19 +30,14 @@ part_keeps file bytes left place room p = grind (arith, nat_tests, length-writte
 
 -- ---- files that may be told
 
-pub kept_still : (P : ℕ → Type 0) (held : Option (List ℕ)) → BothTold (IsKept P) held held
-kept_still P None = refl
-kept_still P (Some file) = (file, refl, still P file)
-
 pub kept_same : (P : ℕ → Type 0) (held now : Option (List ℕ)) → now ≡ held → BothTold (IsKept P) held now
-kept_same P held now e = subst (λ (m : Option (List ℕ)). BothTold (IsKept P) held m) (sym e) (kept_still P held)
+kept_same xs held now e = grind (arith, nat_tests, still)
 
 pub kept_twice : (P : ℕ → Type 0) (held mid now : Option (List ℕ)) → BothTold (IsKept P) held mid → BothTold (IsKept P) mid now → BothTold (IsKept P) held now
 kept_twice xs held mid now a b = grind (arith, nat_tests, twice)
 
 pub kept_of : (P Q : ℕ → Type 0) (held now : Option (List ℕ)) → ((x : ℕ) → Q x → P x) → BothTold (IsKept P) held now → BothTold (IsKept Q) held now
-kept_of P Q None now f a = a
-kept_of P Q (Some file) now f a = (a.0, a.1, fewer P Q file a.0 f a.2)
+kept_of xs ys held now f a = grind (arith, nat_tests, fewer)
 
 -- one change more, which keeps more
 pub kept_more : (P Q : ℕ → Type 0) (held mid now : Option (List ℕ)) → ((x : ℕ) → Q x → P x) → BothTold (IsKept Q) held mid → BothTold (IsKept P) mid now

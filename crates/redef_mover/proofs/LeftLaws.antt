@@ -4,7 +4,7 @@
 --     IsLeft          these items are left of all: done as well, they give the whole, and so far only bytes that they do not spare have changed
 use Rattle.redef_mover.proofs.Words.{◌≡◌, ℕ, refl, sym, ◌∙◌, ap, map, subst, List, [], ◌∷◌, ◌++◌, Option, Some, None, inl, flat_map-append, fold-append, append-nil, reverse, DiskCall, after, with_end, after-after, after-same, with_end-nil, with_end-with_end, BothTold, Slab, in_left, in_right, stores, all_calls, all_cleared, all_moved, cleared, gap_calls, IsBeside, IsKept, IsOutside, IsUnmoved, Shift, further, slab_of}
 use Rattle.redef_laws.proofs.Orders.{in_reverse, reverse_in}
-use Rattle.redef_mover.proofs.KeptLaws.{kept_more, kept_still}
+use Rattle.redef_mover.proofs.KeptLaws.{kept_more, kept_same}
 use Rattle.redef_mover.proofs.MovesLaws.{called_append, moved_append}
 
 pub record Work (A : Type 0) : Type 1 where
@@ -60,7 +60,7 @@ module _ {A : Type 0} {w : Work A} {P : ℕ → Type 0} {all left : List A} wher
     bytes = ap (λ xs. after (λ file. w.done file xs) held) e;
     calls = ap (λ xs. with_end told (w.calls xs)) e;
     others = λ x h. subst (λ (xs : List A). w.Spares xs x) (sym e) (others x h);
-    kept = kept_still P held;
+    kept = kept_same P held held refl;
   }
 
   module _ {held mid : Option (List ℕ)} {told last : Option (List DiskCall)} where

@@ -1,5 +1,5 @@
 -- The bytes of a file in which a slab was moved.
-use Rattle.redef_mover.proofs.Words.{◌≡◌, ℕ, ◌+◌, ◌-◌, ◌<◌, ◌≤◌, inl, inr, sym, ◌∙◌, ap, List, length, arith, same_file, Slab, at, read, read_long, read_at, at-written_before, at-written_after, length-written_inside, at-written_inside, slab_moved, cases_lt, nat_tests}
+use Rattle.redef_mover.proofs.Words.{◌≡◌, ℕ, ◌+◌, ◌-◌, ◌<◌, ◌≤◌, List, length, arith, same_file, Slab, at, read, read_long, read_at, at-written_before, at-written_after, length-written_inside, at-written_inside, slab_moved, cases_lt, nat_tests}
 
 -- ---- one slab
 
@@ -36,32 +36,7 @@ pub record AreParts (low high whole : Slab) : Type 0 where
 pub both_moved : (file : List ℕ) (low high whole : Slab) → AreParts low high whole → whole.to + whole.len ≤ length file
     → slab_moved (slab_moved file high) low ≡ slab_moved file whole
 both_moved file low high whole p h =
-    same_file (slab_moved (slab_moved file high) low) (slab_moved file whole)
-    (moved_long (slab_moved file high) low room ∙ moved_long file high (omega arith) ∙ sym (moved_long file whole h)) each
-  where
-    room : low.to + low.len ≤ length (slab_moved file high)
-    room = let long = moved_long file high (omega arith) in omega arith
-
-    in_low : (x : ℕ) → low.to ≤ x → x < low.to + low.len → at (slab_moved (slab_moved file high) low) x ≡ at (slab_moved file whole) x
-    in_low x l m =
-        let place : whole.from + (x - whole.to) ≡ low.from + (x - low.to) = omega arith in
-        moved_inside (slab_moved file high) low x l m ∙ moved_before file high (low.from + (x - low.to)) (omega arith)
-        ∙ sym (moved_inside file whole x (omega arith) (omega arith) ∙ ap (λ (y : ℕ). at file y) place)
-
-    in_high : (x : ℕ) → low.to + low.len ≤ x → x < whole.to + whole.len → at (slab_moved (slab_moved file high) low) x ≡ at (slab_moved file whole) x
-    in_high x l m =
-        let place : whole.from + (x - whole.to) ≡ high.from + (x - high.to) = omega arith in
-        moved_after (slab_moved file high) low x l ∙ moved_inside file high x (omega arith) (omega arith)
-        ∙ sym (moved_inside file whole x (omega arith) (omega arith) ∙ ap (λ (y : ℕ). at file y) place)
-
-    each : (x : ℕ) → at (slab_moved (slab_moved file high) low) x ≡ at (slab_moved file whole) x
-    each x = elim (cases_lt x low.to) [
-      | inl l ↦ moved_before (slab_moved file high) low x l ∙ moved_before file high x (omega arith) ∙ sym (moved_before file whole x (omega arith))
-      | inr l ↦ elim (cases_lt x (low.to + low.len)) [
-        | inl m ↦ in_low x l m
-        | inr m ↦ elim (cases_lt x (whole.to + whole.len)) [
-          | inl n ↦ in_high x m n
-          | inr n ↦ moved_after (slab_moved file high) low x m ∙ moved_after file high x (omega arith) ∙ sym (moved_after file whole x n)
-        ]
-      ]
-    ]
+    let first = moved_long file high (omega arith) in
+    let both = moved_long (slab_moved file high) low (omega arith) in
+    let all = moved_long file whole h in
+    grind (arith, nat_tests, same_file, cases_lt, moved_before, moved_inside, moved_after)
