@@ -1,5 +1,5 @@
 -- The bytes of a file with zeros in a gap, and the windows of a gap.
-use Rattle.redef_mover.proofs.Words.{◌≡◌, ℕ, zero, suc, ◌+◌, ◌-◌, ◌*◌, ◌<◌, ◌≤◌, min, inl, inr, refl, sym, ◌∙◌, ap, List, [], ◌∷◌, ◌++◌, length, map, take, drop, get_or, arith, flat_map, replicate, range_with_len, drop_of_length-le, drop_more, length-replicate, take-replicate, same_file, Slab, stores, at, written, at-written_before, at-written_after, length-written_inside, at-written_inside, gaps, Shift, Slabs, behind, cleared, further, gaps_before, listed, slab_of, slabs_at, AreClearable, AreSpaced, windows_of, count_is, stores_before, cases_lt, nat_tests}
+use Rattle.redef_mover.proofs.Words.{◌≡◌, ℕ, zero, suc, ◌+◌, ◌-◌, ◌*◌, ◌<◌, ◌≤◌, min, refl, sym, ◌∙◌, ap, subst, List, [], ◌∷◌, ◌++◌, length, map, take, drop, get_or, arith, flat_map, replicate, range_with_len, drop_of_length-le, drop_more, length-replicate, take-replicate, same_file, Slab, stores, at, written, at-written_before, at-written_after, length-written_inside, at-written_inside, gaps, Shift, Slabs, behind, cleared, further, gaps_before, listed, slab_of, slabs_at, AreClearable, AreSpaced, windows_of, count_is, stores_before, cases_lt, nat_tests}
 use Rattle.redef_mover.proofs.MovesLaws.{map_id, no_further}
 
 -- ---- one gap
@@ -28,23 +28,10 @@ cleared_inside file x n y h k = let bytes = zeros_long n in at-written_inside fi
 
 both_cleared : (file : List ℕ) (x a b c : ℕ) → c ≡ a + b → x + c ≤ length file → cleared (cleared file (x, a)) (x + a, b) ≡ cleared file (x, c)
 both_cleared file x a b c e h =
-    same_file (cleared (cleared file (x, a)) (x + a, b)) (cleared file (x, c))
-    (cleared_long (cleared file (x, a)) (x + a) b room ∙ cleared_long file x a (omega arith) ∙ sym (cleared_long file x c h)) each
-  where
-    room : x + a + b ≤ length (cleared file (x, a))
-    room = let long = cleared_long file x a (omega arith) in omega arith
-
-    each : (y : ℕ) → at (cleared (cleared file (x, a)) (x + a, b)) y ≡ at (cleared file (x, c)) y
-    each y = elim (cases_lt y x) [
-      | inl l ↦ cleared_before (cleared file (x, a)) (x + a) b y (omega arith) ∙ cleared_before file x a y l ∙ sym (cleared_before file x c y l)
-      | inr l ↦ elim (cases_lt y (x + a)) [
-        | inl m ↦ cleared_before (cleared file (x, a)) (x + a) b y m ∙ cleared_inside file x a y l m ∙ sym (cleared_inside file x c y l (omega arith))
-        | inr m ↦ elim (cases_lt y (x + c)) [
-          | inl n ↦ cleared_inside (cleared file (x, a)) (x + a) b y m (omega arith) ∙ sym (cleared_inside file x c y l n)
-          | inr n ↦ cleared_after (cleared file (x, a)) (x + a) b y (omega arith) ∙ cleared_after file x a y m ∙ sym (cleared_after file x c y n)
-        ]
-      ]
-    ]
+    let first = cleared_long file x a (omega arith) in
+    let both = cleared_long (cleared file (x, a)) (x + a) b (omega arith) in
+    let whole = cleared_long file x c h in
+    grind (arith, nat_tests, same_file, cases_lt, cleared_before, cleared_inside, cleared_after)
 
 -- the bytes of a window are zeros
 pub window_zeros : (zeros bytes : List ℕ) (n : ℕ) → zeros ≡ replicate (length zeros) 0 → n ≤ length zeros → bytes ≡ take n zeros → bytes ≡ replicate n 0
@@ -114,12 +101,14 @@ spaced_rest at end (s ∷ ss) others h = spaced_rest (s.to + s.len) end ss other
 abbrev pub above : Slabs → ℕ → List Slab
 above slabs r = flat_map (slabs_at slabs.step slabs.records.items) (range_with_len r (slabs.count - r))
 
-pub next_record : (slabs : Slabs) (r a b : ℕ) → r < slabs.count → a ≡ r * slabs.step.old → b ≡ r * slabs.step.new
-    → above slabs r ≡ map (further a b) (map slab_of slabs.records.items) ++ above slabs (r + 1)
-next_record slabs r a b l e f = grind (arith, nat_tests)
+pub next_record : (slabs : Slabs) (xs : List Shift) (r a b : ℕ) → xs ≡ slabs.records.items → r < slabs.count → a ≡ r * slabs.step.old → b ≡ r * slabs.step.new
+    → above slabs r ≡ map (further a b) (map slab_of xs) ++ above slabs (r + 1)
+next_record slabs xs r a b is l e f =
+    subst (λ (ss : List Shift). above slabs r ≡ map (further a b) (map slab_of ss) ++ above slabs (r + 1)) (sym is) (grind (arith, nat_tests))
 
-pub fixed_first : (slabs : Slabs) (a b : ℕ) → a ≡ 0 → b ≡ 0 → listed slabs ≡ map (further a b) (map slab_of slabs.fixed.items) ++ above slabs 0
-fixed_first slabs a b e f = grind (arith, nat_tests, map_id, no_further)
+pub fixed_first : (slabs : Slabs) (xs : List Shift) (a b : ℕ) → xs ≡ slabs.fixed.items → a ≡ 0 → b ≡ 0 → listed slabs ≡ map (further a b) (map slab_of xs) ++ above slabs 0
+fixed_first slabs xs a b is e f =
+    subst (λ (ss : List Shift). listed slabs ≡ map (further a b) (map slab_of ss) ++ above slabs 0) (sym is) (grind (arith, nat_tests, map_id, no_further))
 
 -- the slabs in front can be cleared
 pub front_clearable : (long z room at end : ℕ) (ss others all : List Slab) → all ≡ ss ++ others → AreSpaced at end all → end ≤ long → min z end ≤ room

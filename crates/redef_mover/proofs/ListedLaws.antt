@@ -37,8 +37,8 @@ steps_are old new slabs a b e none risen short r l = by_records slabs.records.it
     by_records [] k = let count : slabs.count ≡ 0 = none k in absurd (omega arith)
     by_records (x ∷ xs) k =
         let some : 0 < length slabs.records.items = omega (arith, ap (λ (ys : List Shift). length ys) k) in
-        let there = record_listed slabs r (r * slabs.step.old) (r * slabs.step.new)
-        (further (r * slabs.step.old) (r * slabs.step.new) (slab_of (get_or slabs.records.items 0 first))) l refl refl
+        let there = record_listed slabs slabs.records.items r (r * slabs.step.old) (r * slabs.step.new)
+        (further (r * slabs.step.old) (r * slabs.step.new) (slab_of (get_or slabs.records.items 0 first))) refl l refl refl
         (in_record (r * slabs.step.old) (r * slabs.step.new) slabs.records.items 0 first some) in
         let risen_there = subst (λ (ss : List Slab). In ss (further (r * slabs.step.old) (r * slabs.step.new) (slab_of (get_or slabs.records.items 0 first)))) e there in
         let high = short (further (r * slabs.step.old) (r * slabs.step.new) (slab_of (get_or slabs.records.items 0 first))) risen_there in

@@ -1,5 +1,5 @@
 -- Slabs moved one after another: what is left to be moved gives the whole.
-use Rattle.redef_mover.proofs.Words.{◌≡◌, ℕ, ◌+◌, ◌*◌, ◌<◌, refl, ◌∙◌, ap, List, [], ◌∷◌, ◌++◌, length, map, take, get_or, append_assoc, arith, filter, flat_map, reverse, range_with_len, fold-append, flat_map-append, append-nil, map-append, reverse-append, take_more, filter-append, entry_in, in_map, map_map, range_append, Slab, In, in_flat, in_left, in_range, in_right, changes, Shift, Slabs, all_calls, all_moved, further, listed, slab_calls, slab_moved, slab_of, slabs_at, nat_tests}
+use Rattle.redef_mover.proofs.Words.{◌≡◌, ℕ, ◌+◌, ◌*◌, ◌<◌, refl, ◌∙◌, ap, List, [], ◌∷◌, ◌++◌, length, map, take, get_or, append_assoc, arith, subst, sym, filter, flat_map, reverse, range_with_len, fold-append, flat_map-append, append-nil, map-append, reverse-append, take_more, filter-append, entry_in, in_map, map_map, range_append, Slab, In, in_flat, in_left, in_range, in_right, changes, Shift, Slabs, all_calls, all_moved, further, listed, slab_calls, slab_moved, slab_of, slabs_at, nat_tests}
 use Rattle.std.specs.Prelude.{fold}
 
 -- ---- two lists of slabs
@@ -31,10 +31,11 @@ in_record a b ss k d h = in_map (further a b) (map slab_of ss) (slab_of (get_or 
 abbrev pub below : Slabs → ℕ → List Slab
 below slabs n = reverse (map slab_of slabs.fixed.items ++ flat_map (slabs_at slabs.step slabs.records.items) (range_with_len 0 n))
 
-pub record_first : (slabs : Slabs) (r n a b : ℕ) → n ≡ r + 1 → a ≡ r * slabs.step.old → b ≡ r * slabs.step.new
-    → below slabs n ≡ reverse (map (further a b) (map slab_of slabs.records.items)) ++ below slabs r
-record_first slabs r n a b e f g =
-    grind (
+pub record_first : (slabs : Slabs) (xs : List Shift) (r n a b : ℕ) → xs ≡ slabs.records.items → n ≡ r + 1 → a ≡ r * slabs.step.old → b ≡ r * slabs.step.new
+    → below slabs n ≡ reverse (map (further a b) (map slab_of xs)) ++ below slabs r
+record_first slabs xs r n a b is e f g =
+    subst (λ (ss : List Shift). below slabs n ≡ reverse (map (further a b) (map slab_of ss)) ++ below slabs r) (sym is)
+    (grind (
       arith,
       nat_tests,
       range_append 0 r 1,
@@ -42,7 +43,7 @@ record_first slabs r n a b e f g =
       append-nil (slabs_at slabs.step slabs.records.items (0 + r)),
       append_assoc,
       reverse-append,
-    )
+    ))
 
 pub no_further : (a b : ℕ) (s : Slab) → a ≡ 0 → b ≡ 0 → further a b s ≡ s
 no_further a b s e f = grind (arith, nat_tests)
@@ -51,14 +52,18 @@ pub map_id : {A : Type 0} (f : A → A) (xs : List A) → ((x : A) → f x ≡ x
 map_id f [] h = refl
 map_id f (x ∷ xs) h = λ t. h x t ∷ map_id f xs h t
 
-pub fixed_last : (slabs : Slabs) (n a b : ℕ) → n ≡ 0 → a ≡ 0 → b ≡ 0 → below slabs n ≡ reverse (map (further a b) (map slab_of slabs.fixed.items))
-fixed_last slabs n a b e f g = grind (arith, nat_tests, append-nil (map slab_of slabs.fixed.items), map_id, no_further)
+pub fixed_last : (slabs : Slabs) (xs : List Shift) (n a b : ℕ) → xs ≡ slabs.fixed.items → n ≡ 0 → a ≡ 0 → b ≡ 0 → below slabs n ≡ reverse (map (further a b) (map slab_of xs))
+fixed_last slabs xs n a b is e f g =
+    subst (λ (ss : List Shift). below slabs n ≡ reverse (map (further a b) (map slab_of ss))) (sym is) (grind (arith, nat_tests, append-nil (map slab_of slabs.fixed.items), map_id, no_further))
 
 -- ---- each slab is one of those listed
 
-pub fixed_listed : (slabs : Slabs) (a b : ℕ) (s : Slab) → a ≡ 0 → b ≡ 0 → In (map (further a b) (map slab_of slabs.fixed.items)) s → In (listed slabs) s
-fixed_listed slabs a b s e f h = grind (arith, nat_tests, in_left, map_id, no_further)
+pub fixed_listed : (slabs : Slabs) (xs : List Shift) (a b : ℕ) (s : Slab) → xs ≡ slabs.fixed.items → a ≡ 0 → b ≡ 0 → In (map (further a b) (map slab_of xs)) s → In (listed slabs) s
+fixed_listed slabs xs a b s is e f =
+    subst (λ (ss : List Shift). In (map (further a b) (map slab_of ss)) s → In (listed slabs) s) (sym is) (λ h. grind (arith, nat_tests, in_left, map_id, no_further))
 
-pub record_listed : (slabs : Slabs) (r a b : ℕ) (s : Slab) → r < slabs.count → a ≡ r * slabs.step.old → b ≡ r * slabs.step.new
-    → In (map (further a b) (map slab_of slabs.records.items)) s → In (listed slabs) s
-record_listed slabs r a b s l e f h = grind (arith, nat_tests, in_range 0 slabs.count r (omega arith) (omega arith), in_right, in_flat)
+pub record_listed : (slabs : Slabs) (xs : List Shift) (r a b : ℕ) (s : Slab) → xs ≡ slabs.records.items → r < slabs.count → a ≡ r * slabs.step.old → b ≡ r * slabs.step.new
+    → In (map (further a b) (map slab_of xs)) s → In (listed slabs) s
+record_listed slabs xs r a b s is l e f =
+    subst (λ (ss : List Shift). In (map (further a b) (map slab_of ss)) s → In (listed slabs) s) (sym is)
+    (λ h. grind (arith, nat_tests, in_range 0 slabs.count r (omega arith) (omega arith), in_right, in_flat))

@@ -1,18 +1,18 @@
 -- The gaps of the fixed variables come first, then those of record after record, then the last one.
-use Rattle.opening_plan.proofs.Words.{◌∙◌, ◌+◌, ◌^◌, sym, refl, ap, subst, List, ◌++◌, arith, gaps, Slab, Shift, gap_calls, gaps_before, listed, AreSpaced, above, fixed_first, gaps_on, next_record, spaced_front, spaced_on}
+use Rattle.opening_plan.proofs.Words.{◌+◌, ◌^◌, refl, subst, List, ◌++◌, arith, gaps, Slab, gap_calls, gaps_before, listed, AreSpaced, above, fixed_first, gaps_on, next_record, spaced_front, spaced_on}
 use Rattle.opening_plan.proofs.CallLaws.{slabs_further, spaced_wider, zeros_left}
 use Rattle.opening_plan.proofs.zeros.push_zeros.Goals as goal
 
 pub push_gaps-requires-clause-spaced : goal.push_gaps-requires-clause-spaced
 push_gaps-requires-clause-spaced c =
-    let split = fixed_first c.args.slabs.now 0 0 refl refl ∙ ap (λ (ss : List Shift). slabs_further 0 0 ss ++ above c.args.slabs.now 0) (sym c.deref.ensures.value) in
+    let split = fixed_first c.args.slabs.now c.deref.result.now 0 0 c.deref.ensures.value refl refl in
     spaced_wider c.args.first c.args.end (2 ^ 62) (slabs_further 0 0 c.deref.result.now) (omega arith)
     (spaced_front c.args.first c.args.end (slabs_further 0 0 c.deref.result.now) (above c.args.slabs.now 0)
     (subst (λ (xs : List Slab). AreSpaced c.args.first c.args.end xs) split c.requires.spaced))
 
 pub loop-record-init : goal.loop-record-init
 loop-record-init c =
-    let split = fixed_first c.args.slabs.now 0 0 refl refl ∙ ap (λ (ss : List Shift). slabs_further 0 0 ss ++ above c.args.slabs.now 0) (sym c.deref.ensures.value) in
+    let split = fixed_first c.args.slabs.now c.deref.result.now 0 0 c.deref.ensures.value refl refl in
     let fixed = slabs_further 0 0 c.deref.result.now in
     record {
       spaced = spaced_on c.args.first c.in_ok-at.at c.args.end fixed (above c.args.slabs.now 0) (listed c.args.slabs.now) split c.in_ok-at.ensures.place c.requires.spaced;
@@ -28,8 +28,7 @@ push_gaps-requires-in-loop-record-clause-spaced c =
     let a = c.times.result.old in
     let b = c.times.result.new in
     let ss = c.deref-in-loop-record.result.now in
-    let split = next_record c.args.slabs.now c.loop-record.record a b c.loop-record-test.true c.times.ensures.old c.times.ensures.new
-    ∙ ap (λ (xs : List Shift). slabs_further a b xs ++ above c.args.slabs.now (c.loop-record.record + 1)) (sym c.deref-in-loop-record.ensures.value) in
+    let split = next_record c.args.slabs.now c.deref-in-loop-record.result.now c.loop-record.record a b c.deref-in-loop-record.ensures.value c.loop-record-test.true c.times.ensures.old c.times.ensures.new in
     spaced_wider c.loop-record.at c.args.end (2 ^ 62) (slabs_further a b ss) (omega arith)
     (spaced_front c.loop-record.at c.args.end (slabs_further a b ss) (above c.args.slabs.now (c.loop-record.record + 1))
     (subst (λ (xs : List Slab). AreSpaced c.loop-record.at c.args.end xs) split c.loop-record.invariant.spaced))
@@ -41,8 +40,7 @@ loop-record-preserved c =
     let own = slabs_further a b c.deref-in-loop-record.result.now in
     let next = above c.args.slabs.now (c.loop-record.record + 1) in
     let all = above c.args.slabs.now c.loop-record.record in
-    let split = next_record c.args.slabs.now c.loop-record.record a b c.loop-record-test.true c.times.ensures.old c.times.ensures.new
-    ∙ ap (λ (xs : List Shift). slabs_further a b xs ++ above c.args.slabs.now (c.loop-record.record + 1)) (sym c.deref-in-loop-record.ensures.value) in
+    let split = next_record c.args.slabs.now c.deref-in-loop-record.result.now c.loop-record.record a b c.deref-in-loop-record.ensures.value c.loop-record-test.true c.times.ensures.old c.times.ensures.new in
     record {
       spaced = spaced_on c.loop-record.at c.in_ok-at-2.at c.args.end own next all split c.in_ok-at-2.ensures.place c.loop-record.invariant.spaced;
       calls = zeros_left (c.args.calls.now.items ++ gap_calls c.args.window (gaps c.args.first c.args.end (listed c.args.slabs.now)))

@@ -1,17 +1,9 @@
 -- The gaps of the fixed variables come first, then those of record after record, then the last one.
-use Rattle.redef_mover.proofs.Words.{◌≡◌, ◌∙◌, ◌+◌, ◌*◌, ◌-◌, ◌<◌, ◌≤◌, sym, refl, ap, List, [], ◌∷◌, ◌++◌, flat_map, range_with_len, ℕ, arith, on_ok_weaker, gaps, Shift, Slabs, listed, slabs_at}
+use Rattle.redef_mover.proofs.Words.{◌≡◌, ◌∙◌, ◌-◌, ◌≤◌, refl, ap, [], ◌∷◌, flat_map, range_with_len, ℕ, arith, on_ok_weaker, gaps, Slabs, slabs_at}
 use Rattle.redef_mover.proofs.KeptLaws.{beside_front, kept_of}
 use Rattle.redef_mover.proofs.ClearLaws.{above, fixed_first, front_clearable, gaps_on, next_record, spaced_on}
-use Rattle.redef_mover.proofs.LeftLaws.{alone, last_bytes, last_calls, last_kept, none_done, one_gap, part_done, part_kept, placed}
+use Rattle.redef_mover.proofs.LeftLaws.{alone, last_bytes, last_calls, last_kept, none_done, one_gap, part_done, part_kept}
 use Rattle.redef_mover.proofs.gaps.clear_gaps.Goals as goal
-
--- the slabs in front of those that are left
-front_of : (slabs : Slabs) (xs : List Shift) → xs ≡ slabs.fixed.items → listed slabs ≡ placed 0 0 xs ++ above slabs 0
-front_of slabs xs is = fixed_first slabs 0 0 refl refl ∙ ap (λ (ss : List Shift). placed 0 0 ss ++ above slabs 0) (sym is)
-
-next_of : (slabs : Slabs) (xs : List Shift) (r a b : ℕ) → xs ≡ slabs.records.items → r < slabs.count → a ≡ r * slabs.step.old → b ≡ r * slabs.step.new
-    → above slabs r ≡ placed a b xs ++ above slabs (r + 1)
-next_of slabs xs r a b is l e f = next_record slabs r a b l e f ∙ ap (λ (ss : List Shift). placed a b ss ++ above slabs (r + 1)) (sym is)
 
 last_gap : (slabs : Slabs) (r at end : ℕ) → slabs.count ≤ r → gaps at end (above slabs r) ≡ (at, end - at) ∷ []
 last_gap slabs r at end l =
@@ -19,11 +11,11 @@ last_gap slabs r at end l =
 
 pub clear_before-requires-clause-clearable : goal.clear_before-requires-clause-clearable
 clear_before-requires-clause-clearable g c κs within =
-    front_clearable _ _ _ _ c.args.end _ _ _ (front_of c.args.slabs.now c.deref.result.now c.deref.ensures.value) c.requires.spaced c.requires.inside c.requires.room
+    front_clearable _ _ _ _ c.args.end _ _ _ (fixed_first c.args.slabs.now c.deref.result.now 0 0 c.deref.ensures.value refl refl) c.requires.spaced c.requires.inside c.requires.room
 
 pub loop-record-init : goal.loop-record-init
 loop-record-init g c =
-    let split = front_of c.args.slabs.now c.deref.result.now c.deref.ensures.value in
+    let split = fixed_first c.args.slabs.now c.deref.result.now 0 0 c.deref.ensures.value refl refl in
     record {
       from = c.in_ok-at.ensures.from;
       len = c.in_ok-at.ensures.len;
@@ -38,13 +30,13 @@ clear_before-requires-in-loop-record-clause-clearable g c κs within =
     let inside = c.requires.inside in
     let same = c.loop-record.invariant.len in
     front_clearable _ _ _ _ c.args.end _ _ _
-    (next_of c.args.slabs.now c.deref-in-loop-record.result.now c.loop-record.record _ _ c.deref-in-loop-record.ensures.value c.loop-record-test.true c.times-offset.ensures.old c.times-offset.ensures.new)
+    (next_record c.args.slabs.now c.deref-in-loop-record.result.now c.loop-record.record _ _ c.deref-in-loop-record.ensures.value c.loop-record-test.true c.times-offset.ensures.old c.times-offset.ensures.new)
     c.loop-record.invariant.spaced (omega arith) c.requires.room
 
 pub loop-record-preserved : goal.loop-record-preserved
 loop-record-preserved g c =
     let split =
-    next_of c.args.slabs.now c.deref-in-loop-record.result.now c.loop-record.record _ _ c.deref-in-loop-record.ensures.value c.loop-record-test.true c.times-offset.ensures.old c.times-offset.ensures.new in
+    next_record c.args.slabs.now c.deref-in-loop-record.result.now c.loop-record.record _ _ c.deref-in-loop-record.ensures.value c.loop-record-test.true c.times-offset.ensures.old c.times-offset.ensures.new in
     let later = c.in_ok-at-2.ensures.cause.later in
     let before = c.loop-record.invariant.faults in
     record {
@@ -58,13 +50,13 @@ loop-record-preserved g c =
 
 pub returns-in_err-at-clause-kept : goal.returns-in_err-at-clause-kept
 returns-in_err-at-clause-kept g c =
-    let split = front_of c.args.slabs.now c.deref.result.now c.deref.ensures.value in
+    let split = fixed_first c.args.slabs.now c.deref.result.now 0 0 c.deref.ensures.value refl refl in
     kept_of _ _ _ _ (λ x h. beside_front _ _ _ _ (gaps_on _ _ _ _ _ _ split refl) h) c.in_err-at.ensures.kept
 
 pub returns-in_err-at-2-clause-kept : goal.returns-in_err-at-2-clause-kept
 returns-in_err-at-2-clause-kept g c =
     let split =
-    next_of c.args.slabs.now c.deref-in-loop-record.result.now c.loop-record.record _ _ c.deref-in-loop-record.ensures.value c.loop-record-test.true c.times-offset.ensures.old c.times-offset.ensures.new in
+    next_record c.args.slabs.now c.deref-in-loop-record.result.now c.loop-record.record _ _ c.deref-in-loop-record.ensures.value c.loop-record-test.true c.times-offset.ensures.old c.times-offset.ensures.new in
     part_kept _ _ _ _ (gaps_on c.loop-record.at _ c.args.end _ _ _ split refl) (λ x h. h) c.loop-record.invariant.left c.in_err-at-2.ensures.kept
 
 pub returns-clause-bytes : goal.returns-clause-bytes

@@ -1,17 +1,8 @@
 -- The last of the records that are left is moved; the fixed variables come last.
-use Rattle.redef_mover.proofs.Words.{◌≡◌, ◌∙◌, ◌+◌, ◌-◌, ◌*◌, ◌<◌, ◌≤◌, sym, refl, subst, ap, ◌++◌, List, ℕ, arith, reverse, on_ok_weaker, Slab, In, Shift, Slabs, listed, AreMovable}
+use Rattle.redef_mover.proofs.Words.{◌≡◌, ◌∙◌, ◌-◌, refl, List, ℕ, arith, reverse, on_ok_weaker, Slab, In, listed, AreMovable}
 use Rattle.redef_mover.proofs.LeftLaws.{last_bytes, last_calls, last_kept, none_done, part_done, part_kept, placed, turned, unturned}
-use Rattle.redef_mover.proofs.MovesLaws.{below, fixed_last, fixed_listed, record_first, record_listed}
+use Rattle.redef_mover.proofs.MovesLaws.{fixed_last, fixed_listed, record_first, record_listed}
 use Rattle.redef_mover.proofs.moving.move_all.Goals as goal
-
--- the slabs of the last record that is left, and those of the fixed variables
-last_of : (slabs : Slabs) (xs : List Shift) (r a b : ℕ) → xs ≡ slabs.records.items → 0 < r → a ≡ (r - 1) * slabs.step.old → b ≡ (r - 1) * slabs.step.new
-    → below slabs r ≡ reverse (placed a b xs) ++ below slabs (r - 1)
-last_of slabs xs r a b is some e f =
-    record_first slabs (r - 1) r a b (omega arith) e f ∙ ap (λ (ss : List Shift). reverse (placed a b ss) ++ below slabs (r - 1)) (sym is)
-
-fixed_of : (slabs : Slabs) (xs : List Shift) (r : ℕ) → xs ≡ slabs.fixed.items → r ≤ 0 → below slabs r ≡ reverse (placed 0 0 xs)
-fixed_of slabs xs r is end = fixed_last slabs r 0 0 (omega arith) refl refl ∙ ap (λ (ss : List Shift). reverse (placed 0 0 ss)) (sym is)
 
 some_movable : (long now z room more : ℕ) (some all : List Slab) → AreMovable long z room all → now ≡ long → more ≡ room → ((s : Slab) → In some s → In all s)
     → AreMovable now z more some
@@ -25,13 +16,12 @@ some_movable long now z room more some all h e f within s i =
 pub move_slabs-requires-clause-movable : goal.move_slabs-requires-clause-movable
 move_slabs-requires-clause-movable g c κs within =
     some_movable _ _ c.args.size _ _ (placed c.times.result.old c.times.result.new c.deref.result.now) (listed c.args.slabs.now) c.requires.slabs.movable c.loop-record.invariant.len (omega arith)
-    (λ s i. record_listed c.args.slabs.now (c.loop-record.record - 1) c.times.result.old c.times.result.new s (omega arith) c.times.ensures.old c.times.ensures.new
-    (subst (λ (ss : List Shift). In (placed c.times.result.old c.times.result.new ss) s) c.deref.ensures.value i))
+    (λ s i. record_listed c.args.slabs.now c.deref.result.now (c.loop-record.record - 1) c.times.result.old c.times.result.new s c.deref.ensures.value (omega arith) c.times.ensures.old c.times.ensures.new i)
 
 pub move_slabs-requires-2-clause-movable : goal.move_slabs-requires-2-clause-movable
 move_slabs-requires-2-clause-movable g c κs within =
     some_movable _ _ c.args.size _ _ (placed 0 0 c.deref-2.result.now) (listed c.args.slabs.now) c.requires.slabs.movable c.loop-record.invariant.len (omega arith)
-    (λ s i. fixed_listed c.args.slabs.now 0 0 s refl refl (subst (λ (ss : List Shift). In (placed 0 0 ss) s) c.deref-2.ensures.value i))
+    (λ s i. fixed_listed c.args.slabs.now c.deref-2.result.now 0 0 s c.deref-2.ensures.value refl refl i)
 
 pub loop-record-init : goal.loop-record-init
 loop-record-init g c = record {
@@ -49,7 +39,7 @@ loop-record-preserved g c =
       from = c.in_ok-move_slabs.ensures.from;
       len = c.in_ok-move_slabs.ensures.len ∙ c.loop-record.invariant.len;
       left = part_done _ (reverse (placed c.times.result.old c.times.result.new c.deref.result.now)) _ _ _
-          (last_of c.args.slabs.now c.deref.result.now c.loop-record.record _ _ c.deref.ensures.value (omega arith) c.times.ensures.old c.times.ensures.new) (λ x h. unturned _ x h)
+          (record_first c.args.slabs.now c.deref.result.now (c.loop-record.record - 1) c.loop-record.record _ _ c.deref.ensures.value (omega arith) c.times.ensures.old c.times.ensures.new) (λ x h. unturned _ x h)
           c.loop-record.invariant.left c.in_ok-move_slabs.ensures.bytes c.in_ok-move_slabs.ensures.calls c.in_ok-move_slabs.ensures.kept;
       faults = omega arith;
     }
@@ -57,20 +47,20 @@ loop-record-preserved g c =
 pub returns-clause-bytes : goal.returns-clause-bytes
 returns-clause-bytes g c =
     on_ok_weaker c.move_slabs-2.result
-    (last_bytes _ _ (fixed_of c.args.slabs.now c.deref-2.result.now c.loop-record.record c.deref-2.ensures.value (omega arith)) c.loop-record.invariant.left) c.move_slabs-2.ensures.bytes
+    (last_bytes _ _ (fixed_last c.args.slabs.now c.deref-2.result.now c.loop-record.record 0 0 c.deref-2.ensures.value (omega arith) refl refl) c.loop-record.invariant.left) c.move_slabs-2.ensures.bytes
 
 pub returns-clause-calls : goal.returns-clause-calls
 returns-clause-calls g c =
     on_ok_weaker c.move_slabs-2.result
-    (last_calls _ _ (fixed_of c.args.slabs.now c.deref-2.result.now c.loop-record.record c.deref-2.ensures.value (omega arith)) c.loop-record.invariant.left) c.move_slabs-2.ensures.calls
+    (last_calls _ _ (fixed_last c.args.slabs.now c.deref-2.result.now c.loop-record.record 0 0 c.deref-2.ensures.value (omega arith) refl refl) c.loop-record.invariant.left) c.move_slabs-2.ensures.calls
 
 pub returns-in_err-move_slabs-clause-kept : goal.returns-in_err-move_slabs-clause-kept
 returns-in_err-move_slabs-clause-kept g c =
     part_kept _ (reverse (placed c.times.result.old c.times.result.new c.deref.result.now)) _ _
-    (last_of c.args.slabs.now c.deref.result.now c.loop-record.record _ _ c.deref.ensures.value (omega arith) c.times.ensures.old c.times.ensures.new) (λ x h. unturned _ x h)
+    (record_first c.args.slabs.now c.deref.result.now (c.loop-record.record - 1) c.loop-record.record _ _ c.deref.ensures.value (omega arith) c.times.ensures.old c.times.ensures.new) (λ x h. unturned _ x h)
     c.loop-record.invariant.left c.in_err-move_slabs.ensures.kept
 
 pub returns-clause-kept : goal.returns-clause-kept
 returns-clause-kept g c =
-    last_kept _ _ _ (fixed_of c.args.slabs.now c.deref-2.result.now c.loop-record.record c.deref-2.ensures.value (omega arith)) (λ x h. unturned _ x h)
+    last_kept _ _ _ (fixed_last c.args.slabs.now c.deref-2.result.now c.loop-record.record 0 0 c.deref-2.ensures.value (omega arith) refl refl) (λ x h. unturned _ x h)
     c.loop-record.invariant.left c.move_slabs-2.ensures.kept
