@@ -1,5 +1,5 @@
 -- What an opening is: its calls, and how long the file is then.
-use Rattle.opening_plan.proofs.Words.{◌≡◌, ◌==◌, ℕ, ◌<◌, ◌≤◌, ◌^◌, max, min, refl, sym, ◌∙◌, ap, subst, List, [], ◌∷◌, ◌++◌, length, append_assoc, Bool, true, false, arith, flat_map, reverse, append-nil, Header, Extra, Script, DiskCall, Grow, Load, Store, Slab, grow_to, head_load, move_calls, opening_calls, redefining_calls, zero_calls, longer, canon, header_len, end_of, brought, redefined, start, is_sound, and_first, holds_or_not, inl, inr, and_second, within_is, longer-enough, longer_long, In, filled_long, IsApplied, gaps, rising, new_end, applied_shifted, applied_risen, applied_falls, applied_zeros, applied_moved, rising_all, written, all_calls, gap_calls, slab_calls, has_laws, relocated, HasLaws, carried_is, risen_up, IsKept, blank_file, dataset_end, empty_end, fill_calls_if, filled_if, first_calls, kept_created, kept_hints, no_extras, some_extras, start-created, redefined_sound, long_enough, records_kept, same_end, added_calls, carry_calls, AreLow}
+use Rattle.opening_plan.proofs.Words.{◌≡◌, ◌==◌, ℕ, ◌<◌, ◌≤◌, ◌^◌, max, min, refl, sym, ◌∙◌, ap, subst, List, [], ◌∷◌, ◌++◌, length, append_assoc, Bool, true, false, arith, flat_map, reverse, append-nil, Header, Script, DiskCall, Grow, Load, Store, Slab, grow_to, head_load, move_calls, opening_calls, zero_calls, longer, canon, header_len, end_of, brought, redefined, start, is_sound, and_first, holds_or_not, inl, inr, and_second, within_is, longer-enough, longer_long, In, filled_long, IsApplied, gaps, rising, new_end, all_calls, gap_calls, slab_calls, has_laws, relocated, HasLaws, carried_is, risen_up, IsKept, blank_file, dataset_end, empty_end, fill_calls_if, filled_if, first_calls, kept_created, kept_hints, no_extras, some_extras, start-created, redefined_sound, long_enough, records_kept, same_end, added_calls, carry_calls, AreLow}
 
 -- ---- the first bytes
 
@@ -63,11 +63,6 @@ nothing_added script old new e = rw (no_extras script e, added_calls) refl
 
 pub something_added : (script : Script) (old new : Header) → (script.extra ≡ [] → ⊥) → added_calls script old new ≡ carry_calls script.hints.wr_buffer old new
 something_added script old new h = rw (some_extras script h, added_calls) refl
-
-pub laws_of : (old new : Header) → (extras : List Extra) × IsApplied old extras new → HasLaws old new
-laws_of old new (extras, h) =
-    has_laws old new extras h (written old new extras h) (applied_shifted old new extras h) (rising_all old new) (applied_risen old new extras h)
-    (applied_falls old new extras h) (λ z some. applied_zeros old new extras h z some) (λ file moved m. applied_moved old new extras h file moved m)
 
 pub rising_low : (old new : Header) → HasLaws old new → (ss : List Slab) → ss ≡ rising old new → AreLow ss
 rising_low old new h ss e s i =
@@ -137,7 +132,7 @@ module _ (script : Script) (old new : Header) (opened : script.fresh ≡ false) 
 
   changed_size : (length script.extra == 0) ≡ false → (file : List ℕ) → max (length file) (new_end old new) ≡ length (start script new (brought script old new file))
   changed_size x file =
-      let laws = laws_of old new (script.extra, applied x) in
+      let laws = has_laws old new (script.extra, applied x) in
       let long = longer-enough (redefined file old new) (dataset_end new) (omega (arith, same_end old new script.extra (applied x).made, long_enough old new file)) in
       sym (redefined_size old new file laws) ∙ sym (ap (λ f. length f) (start_changed script old new file opened x ∙ long))
 

@@ -15,10 +15,7 @@ pub use Rattle.list_laws.proofs.Common.{and_first, and_second, holds_or_not, if_
 pub use Rattle.list_laws.proofs.Types.{DiskCall, Extra, Grow, Header, Load, Script, Store}
 pub use Rattle.opening_plan.specs.Opening.{AreLow, added_calls, carry_calls}
 pub use Rattle.overlay_laws.proofs.Common.{In, count_is, stores_before}
-pub use Rattle.redef_laws.proofs.AppliedLaws.{applied_falls, applied_moved, applied_risen, applied_shifted, applied_zeros}
 pub use Rattle.redef_laws.proofs.MovedLaws.{writable_is_sound}
-pub use Rattle.redef_laws.proofs.RisingLaws.{rising_all}
-pub use Rattle.redef_laws.proofs.WrittenLaws.{written}
 pub use Rattle.redef_laws.specs.Applied.{IsApplied}
 pub use Rattle.redef_laws.specs.RisingSlabs.{gaps, rising}
 pub use Rattle.redef_laws.specs.Shifted.{new_end}

@@ -1,6 +1,7 @@
 -- From the laws of a redefinition to what a relocation asks and promises.
-use Rattle.redef_mover.proofs.Words.{◌≡◌, ◌↔◌, ℕ, ◌<◌, refl, ◌∙◌, ap, List, [], ◌∷◌, true, arith, filter, flat_map, reverse, and_first, Header, Extra, Slab, highest_first, move_calls, slabs, zero_calls, header_len, is_writable, added, redefined, with_extra, sound_end, In, IsApplied, changes, gaps, rising, IsRisen, new_end, AreShifted, IsMoved, all_calls, gap_calls, slab_calls, carried, carry_calls, IsCarriable, relocation_calls, nat_tests}
+use Rattle.redef_mover.proofs.Words.{◌≡◌, ◌↔◌, ℕ, ◌<◌, ◌∙◌, ap, List, [], arith, filter, flat_map, reverse, and_first, Header, Extra, Slab, highest_first, move_calls, slabs, zero_calls, header_len, redefined, sound_end, In, IsApplied, applied_falls, applied_moved, applied_risen, applied_shifted, applied_zeros, rising_all, changes, gaps, rising, new_end, IsMoved, all_calls, gap_calls, slab_calls, carried, carry_calls, IsCarriable, relocation_calls, nat_tests}
 use Rattle.nc_base.specs.declared.script.Extra.TheVariants as extra
+use Rattle.redef_laws.proofs.WrittenLaws.{written}
 use Rattle.redef_mover.proofs.CarryLaws.{carried_is}
 use Rattle.serial_spec.proofs.AddedLaws.{records_stay}
 
@@ -9,20 +10,7 @@ use Rattle.serial_spec.proofs.AddedLaws.{records_stay}
 pub same_records : (old new : Header) (extras : List Extra) → IsApplied old extras new → new.records ≡ old.records
 same_records old new extras h = ap (λ (k : Header). k.records) h.made ∙ records_stay old extras
 
--- ---- what a relocation asks
-
-pub carriable : (old new : Header) (extras : List Extra) → IsApplied old extras new → is_writable new ≡ true
-    → AreShifted (header_len old) (header_len new) (new_end old new) (slabs old new) → ((s : Slab) → In (rising old new) s ↔ In (slabs old new) s)
-    → IsRisen (header_len old) (header_len new) (rising old new) → IsCarriable old new
-carriable old new extras h writable shifted all risen =
-    let count = same_records old new extras h in
-    record {
-      sound = and_first _ _ (and_first _ _ (and_first _ _ (and_first _ _ h.redefinable)));
-      writable = writable;
-      low = sound_end new old.records (and_first _ _ (and_first _ _ (and_first _ _ (and_first _ _ writable)))) (omega arith);
-      risen = risen;
-      inside = λ s i. (shifted.each s ((all s).0 i)).inside;
-    }
+-- ---- what is proved of it
 
 -- what is proved of a redefinition: it can be carried out, its slabs are those of the model, in the order of its calls, and a file with
 -- each slab at its new place is the redefined one
@@ -33,13 +21,23 @@ pub record HasLaws (old new : Header) : Type 0 where
   pub zeros : (z : ℕ) → 0 < z → zero_calls z old new ≡ gap_calls z (gaps (header_len new) (new_end old new) (rising old new))
   pub moved : (file left : List ℕ) → IsMoved old new file left → left ≡ redefined file old new
 
-pub has_laws : (old new : Header) (extras : List Extra) → IsApplied old extras new → is_writable new ≡ true
-    → AreShifted (header_len old) (header_len new) (new_end old new) (slabs old new) → ((s : Slab) → In (rising old new) s ↔ In (slabs old new) s)
-    → IsRisen (header_len old) (header_len new) (rising old new)
-    → highest_first (filter changes (slabs old new)) ≡ filter changes (reverse (rising old new))
-    → ((z : ℕ) → 0 < z → zero_calls z old new ≡ gap_calls z (gaps (header_len new) (new_end old new) (rising old new)))
-    → ((file moved : List ℕ) → IsMoved old new file moved → moved ≡ redefined file old new) → HasLaws old new
-has_laws old new extras h writable shifted all risen falls zeros moved = grind (arith, nat_tests, carriable old new extras h writable shifted all risen)
+pub has_laws : (old new : Header) → (extras : List Extra) × IsApplied old extras new → HasLaws old new
+has_laws old new (extras, h) =
+    let ready = written old new extras h in
+    let count = same_records old new extras h in
+    record {
+      carriable = record {
+        sound = and_first _ _ (and_first _ _ (and_first _ _ (and_first _ _ h.redefinable)));
+        writable = ready;
+        low = sound_end new old.records (and_first _ _ (and_first _ _ (and_first _ _ (and_first _ _ ready)))) (omega arith);
+        risen = applied_risen old new extras h;
+        inside = λ s i. ((applied_shifted old new extras h).each s ((rising_all old new s).0 i)).inside;
+      };
+      all = λ s. rising_all old new s;
+      falls = applied_falls old new extras h;
+      zeros = λ z some. applied_zeros old new extras h z some;
+      moved = λ file left m. applied_moved old new extras h file left m;
+    }
 
 -- ---- what a relocation promises
 
