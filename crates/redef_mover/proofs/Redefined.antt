@@ -201,34 +201,30 @@ past_sizes : (old new : Header) (extras : List Extra) → extras_fault old extra
 past_sizes old new extras none made small =
     grind (arith, nat_tests, past_extras old extras none, size_kept (added old extras) (begins_by_number (added old extras) (length old.vars)), second_told, none_before_map)
 
-pub fault_of_begin : (old new left : Header) (extras : List Extra) (places : List (ℕ × ℕ)) (e : RedefErr) → extras_fault old extras ≡ None → new ≡ added old extras
-    → option_map (λ x. redef.Layout x) (size_fault new) ≡ None → places ≡ capped_pairs (begins_by_number new (length old.vars)) → left ≡ with_begins new places
-    → option_map (λ (b : ℕ × ℕ). redef.Layout (layout.BeginRange b.0)) (find (is_bad_begin left) places) ≡ Some e → redefined_fault old extras ≡ Some e
-fault_of_begin old new left extras places e none made small placed begun_left told =
-    let header = added old extras in
-    let found = begins_by_number header (length old.vars) in
-    let same : places ≡ capped_pairs found = placed ∙ ap (λ (h : Header). capped_pairs (begins_by_number h (length old.vars))) made in
-    let left_is : left ≡ with_begins header (capped_pairs found) = begun_left ∙ ap (λ (h : Header). with_begins h places) made ∙ ap (λ ps. with_begins header ps) same in
-    past_sizes old new extras none made small
-    ∙ sym (same_first header found found (λ k. redef.Layout (layout.BeginRange k)))
-    ∙ sym (ap (λ (h : Header). option_map (λ (b : ℕ × ℕ). redef.Layout (layout.BeginRange b.0)) (find (is_bad_begin h) places)) left_is
-    ∙ ap (λ ps. option_map (λ (b : ℕ × ℕ). redef.Layout (layout.BeginRange b.0)) (find (is_bad_begin (with_begins header (capped_pairs found))) ps)) same)
-    ∙ told
+module _ (old new left : Header) (extras : List Extra) (places : List (ℕ × ℕ)) (none : extras_fault old extras ≡ None) (made : new ≡ added old extras)
+    (small : option_map (λ x. redef.Layout x) (size_fault new) ≡ None) (placed : places ≡ capped_pairs (begins_by_number new (length old.vars))) (begun : left ≡ with_begins new places) where
+  same : places ≡ capped_pairs (begins_by_number (added old extras) (length old.vars))
+  same = placed ∙ ap (λ (h : Header). capped_pairs (begins_by_number h (length old.vars))) made
 
-pub no_fault : (old new left : Header) (extras : List Extra) (places : List (ℕ × ℕ)) → extras_fault old extras ≡ None → new ≡ added old extras
-    → option_map (λ x. redef.Layout x) (size_fault new) ≡ None → places ≡ capped_pairs (begins_by_number new (length old.vars)) → left ≡ with_begins new places
-    → find (is_bad_begin left) places ≡ None → (redefined_fault old extras ≡ None) × (left ≡ redefined_header old extras)
-no_fault old new left extras places none made small placed begun_left good =
-    let header = added old extras in
-    let found = begins_by_number header (length old.vars) in
-    let same : places ≡ capped_pairs found = placed ∙ ap (λ (h : Header). capped_pairs (begins_by_number h (length old.vars))) made in
-    let left_is : left ≡ with_begins header (capped_pairs found) = begun_left ∙ ap (λ (h : Header). with_begins h places) made ∙ ap (λ ps. with_begins header ps) same in
-    let clean : find (is_bad_begin (with_begins header (capped_pairs found))) (capped_pairs found) ≡ None =
-    sym (ap (λ (h : Header). find (is_bad_begin h) places) left_is ∙ ap (λ ps. find (is_bad_begin (with_begins header (capped_pairs found))) ps) same) ∙ good in
-    let exact = none_first header found clean in (
-      past_sizes old new extras none made small ∙ ap (λ (o : Option (ℕ × ℕ)). option_map (λ (b : ℕ × ℕ). redef.Layout (layout.BeginRange b.0)) o) exact,
-      left_is ∙ capped_none header found exact,
-    )
+  left_is : left ≡ with_begins (added old extras) (capped_pairs (begins_by_number (added old extras) (length old.vars)))
+  left_is = begun ∙ ap (λ (h : Header). with_begins h places) made ∙ ap (λ ps. with_begins (added old extras) ps) same
+
+  pub fault_of_begin : (e : RedefErr) → option_map (λ (b : ℕ × ℕ). redef.Layout (layout.BeginRange b.0)) (find (is_bad_begin left) places) ≡ Some e → redefined_fault old extras ≡ Some e
+  fault_of_begin e told =
+      let header = added old extras in
+      let found = begins_by_number header (length old.vars) in
+      past_sizes old new extras none made small
+      ∙ sym (same_first header found found (λ k. redef.Layout (layout.BeginRange k)))
+      ∙ (λ i. option_map (λ (b : ℕ × ℕ). redef.Layout (layout.BeginRange b.0)) (find (is_bad_begin (sym left_is i)) (sym same i))) ∙ told
+
+  pub no_fault : find (is_bad_begin left) places ≡ None → (redefined_fault old extras ≡ None) × (left ≡ redefined_header old extras)
+  no_fault good =
+      let header = added old extras in
+      let found = begins_by_number header (length old.vars) in
+      let exact = none_first header found ((λ i. find (is_bad_begin (sym left_is i)) (sym same i)) ∙ good) in (
+        past_sizes old new extras none made small ∙ ap (λ (o : Option (ℕ × ℕ)). option_map (λ (b : ℕ × ℕ). redef.Layout (layout.BeginRange b.0)) o) exact,
+        left_is ∙ capped_none header found exact,
+      )
 
 pub length_kept : (header left : Header) (found : List (ℕ × ℕ)) → left ≡ with_begins header found → length left.vars ≡ length header.vars
 length_kept header left found e = ap (λ (h : Header). length h.vars) e ∙ rebegun_long found 0 header.vars

@@ -42,7 +42,7 @@ returns-in_err-check_begins-clause-refused c =
     let left = err_from_is_err_and c.from_residual-in_err-check_begins.result c.from_residual-in_err-check_begins.ensures.1 in
     subst (λ r. IfErr r (λ e. (e ≡ fault.Memory) ⊎ (redefined_fault old c.args.extra.now ≡ Some e))) (sym left.1)
     (passed_on _ _ left.0 _ left.2
-    (fault_of_begin old new c.set_begins.new.header c.args.extra.now places _ c.in_ok-new.ensures.added.0 c.in_ok-new.ensures.added.1 (sym c.in_ok-len.ensures.fault) placed begun)
+    (fault_of_begin old new c.set_begins.new.header c.args.extra.now places c.in_ok-new.ensures.added.0 c.in_ok-new.ensures.added.1 (sym c.in_ok-len.ensures.fault) placed begun _)
     c.in_err-check_begins.ensures.refused)
 
 pub returns-clause-applied : goal.returns-clause-applied
