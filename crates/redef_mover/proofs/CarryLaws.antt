@@ -1,5 +1,5 @@
 -- What a relocation makes of a file, byte by byte.
-use Rattle.redef_mover.proofs.Words.{◌≡◌, ℕ, ◌+◌, ◌-◌, ◌<◌, ◌≤◌, max, ◌⊎◌, inl, inr, refl, sym, ◌∙◌, ap, subst, List, [], ◌∷◌, ◌++◌, length, take, drop, Bool, true, false, cond, arith, filter, not, ◌==◌, reverse, fold-append, reverse-append, take_at, Header, Slab, slabs, at, longer, canon, header_len, at-longer, at-written_after, length-written_inside, written-inside, longer_long, In, changes, gaps, rising, IsRisen, new_end, IsMoved, all_cleared, all_moved, cleared, slab_moved, AreSpaced, carried, IsCarriable, nat_tests, eqb-true}
+use Rattle.redef_mover.proofs.Words.{◌≡◌, ℕ, ◌+◌, ◌-◌, ◌<◌, ◌≤◌, max, ◌⊎◌, inl, inr, refl, sym, ◌∙◌, ap, subst, List, [], ◌∷◌, ◌++◌, length, take, drop, Bool, true, false, cond, arith, filter, not, ◌==◌, reverse, fold-append, reverse-append, take_at, Header, Slab, slabs, at, longer, canon, header_len, at-longer, at-written_after, length-written_inside, written-inside, longer_long, In, changes, gaps, rising, IsRisen, new_end, IsBeside, IsMoved, IsOutside, all_cleared, all_moved, cleared, slab_moved, AreSpaced, carried, IsCarriable, nat_tests, eqb-true}
 use Rattle.std.specs.Prelude.{fold}
 use Rattle.redef_mover.proofs.ClearLaws.{cleared_after, cleared_before, cleared_inside, cleared_long, spaced_low}
 use Rattle.redef_mover.proofs.SlabLaws.{moved_after, moved_before, moved_inside, moved_long, moved_nowhere}
@@ -80,35 +80,37 @@ up_inside file a b end (t ∷ ss) s d r h (inr i) l =
 
 -- ---- zeros in the gaps
 
-bare_long : (file : List ℕ) (b end : ℕ) (ss : List Slab) → AreSpaced b end ss → end ≤ length file → length (all_cleared file (gaps b end ss)) ≡ length file
-bare_long file b end [] h l = cleared_long file b (end - b) (omega (arith, h, l))
-bare_long file b end (s ∷ ss) h l =
-    let low : b ≤ s.to = h.0 in
-    let inside = spaced_low (s.to + s.len) end ss h.1 in
-    let first = cleared_long file b (s.to - b) (omega arith) in
-    bare_long (cleared file (b, s.to - b)) (s.to + s.len) end ss h.1 (omega arith) ∙ first
+pub gap_low : (b end : ℕ) (ss : List Slab) (g : ℕ × ℕ) → AreSpaced b end ss → In (gaps b end ss) g → b ≤ g.0
+gap_low b end [] g h (inl e) = subst (λ (f : ℕ × ℕ). b ≤ f.0) e (omega arith)
+gap_low b end [] g h (inr i) = absurd i
+gap_low b end (s ∷ ss) g h (inl e) = subst (λ (f : ℕ × ℕ). b ≤ f.0) e (omega arith)
+gap_low b end (s ∷ ss) g h (inr i) = let low : b ≤ s.to = h.0 in let rest = gap_low (s.to + s.len) end ss g h.1 i in omega arith
 
-bare_before : (file : List ℕ) (b end : ℕ) (ss : List Slab) (x : ℕ) → AreSpaced b end ss → x < b → at (all_cleared file (gaps b end ss)) x ≡ at file x
-bare_before file b end [] x h l = cleared_before file b (end - b) x l
-bare_before file b end (s ∷ ss) x h l =
-    grind (arith, nat_tests, bare_before (cleared file (b, s.to - b)) (s.to + s.len) end ss x h.1 (omega arith), cleared_before file b (s.to - b) x l)
+pub gap_high : (b end : ℕ) (ss : List Slab) (g : ℕ × ℕ) → AreSpaced b end ss → In (gaps b end ss) g → g.0 + g.1 ≤ end
+gap_high b end [] g h (inl e) = subst (λ (f : ℕ × ℕ). f.0 + f.1 ≤ end) e (let low : b ≤ end = h in omega arith)
+gap_high b end [] g h (inr i) = absurd i
+gap_high b end (s ∷ ss) g h (inl e) = grind (arith, nat_tests, spaced_low (s.to + s.len) end ss h.1)
+gap_high b end (s ∷ ss) g h (inr i) = gap_high (s.to + s.len) end ss g h.1 i
 
-bare_after : (file : List ℕ) (b end : ℕ) (ss : List Slab) (x : ℕ) → AreSpaced b end ss → end ≤ x → at (all_cleared file (gaps b end ss)) x ≡ at file x
-bare_after file b end [] x h l = cleared_after file b (end - b) x (omega (arith, h, l))
-bare_after file b end (s ∷ ss) x h l = grind (arith, nat_tests, bare_after (cleared file (b, s.to - b)) (s.to + s.len) end ss x h.1 l, spaced_low, cleared_after)
+-- a gap is beside each slab
+pub gap_beside : (b end : ℕ) (ss : List Slab) (s : Slab) (g : ℕ × ℕ) (x : ℕ) → AreSpaced b end ss → In ss s → In (gaps b end ss) g → s.to ≤ x → x < s.to + s.len → IsOutside g.0 g.1 x
+gap_beside b end [] s g x h i j l k = absurd i
+gap_beside b end (t ∷ ss) s g x h i (inl e) l k = grind (arith, nat_tests, spaced_from t.to end (t ∷ ss) s (omega arith, h.1) i)
+gap_beside b end (t ∷ ss) s g x h (inl e) (inr j) l k = grind (arith, nat_tests, gap_low (t.to + t.len) end ss g h.1 j)
+gap_beside b end (t ∷ ss) s g x h (inr i) (inr j) l k = gap_beside (t.to + t.len) end ss s g x h.1 i j l k
 
-bare_inside : (file : List ℕ) (b end : ℕ) (ss : List Slab) (s : Slab) (x : ℕ) → AreSpaced b end ss → In ss s → s.to ≤ x → x < s.to + s.len
-    → at (all_cleared file (gaps b end ss)) x ≡ at file x
-bare_inside file b end [] s x h i l m = absurd i
-bare_inside file b end (t ∷ ss) s x h (inl e) l m =
-    let low : b ≤ t.to = h.0 in
-    let to : t.to ≡ s.to = ap (λ (u : Slab). u.to) e in
-    let len : t.len ≡ s.len = ap (λ (u : Slab). u.len) e in
-    bare_before (cleared file (b, t.to - b)) (t.to + t.len) end ss x h.1 (omega arith) ∙ cleared_after file b (t.to - b) x (omega arith)
-bare_inside file b end (t ∷ ss) s x h (inr i) l m =
-    let low : b ≤ t.to = h.0 in
-    let first = spaced_from (t.to + t.len) end ss s h.1 i in
-    bare_inside (cleared file (b, t.to - b)) (t.to + t.len) end ss s x h.1 i l m ∙ cleared_after file b (t.to - b) x (omega arith)
+-- what is in no gap stays
+cleared_beside : (file : List ℕ) (gs : List (ℕ × ℕ)) (x : ℕ) → IsBeside gs x → at (all_cleared file gs) x ≡ at file x
+cleared_beside file [] x h = refl
+cleared_beside file (g ∷ gs) x h =
+    let one : at (cleared file g) x ≡ at file x = elim (h g (inl refl)) [ inl l ↦ cleared_before file g.0 g.1 x l | inr l ↦ cleared_after file g.0 g.1 x l ] in
+    cleared_beside (cleared file g) gs x (λ f i. h f (inr i)) ∙ one
+
+cleared_whole : (file : List ℕ) (gs : List (ℕ × ℕ)) → ((g : ℕ × ℕ) → In gs g → g.0 + g.1 ≤ length file) → length (all_cleared file gs) ≡ length file
+cleared_whole file [] h = refl
+cleared_whole file (g ∷ gs) h =
+    let one : length (cleared file g) ≡ length file = cleared_long file g.0 g.1 (h g (inl refl)) in
+    cleared_whole (cleared file g) gs (λ f i. omega (arith, one, h f (inr i))) ∙ one
 
 bare_zero : (file : List ℕ) (b end : ℕ) (ss : List Slab) (x : ℕ) → AreSpaced b end ss → b ≤ x → x < end
     → ((s : Slab) → In ss s → (x < s.to) ⊎ (s.to + s.len ≤ x)) → at (all_cleared file (gaps b end ss)) x ≡ 0
@@ -116,15 +118,12 @@ bare_zero file b end [] x h l m bare = cleared_inside file b (end - b) x l (omeg
 bare_zero file b end (s ∷ ss) x h l m bare = elim (bare s (inl refl)) [
   | inl k ↦
       (let low : b ≤ s.to = h.0 in
-      bare_before (cleared file (b, s.to - b)) (s.to + s.len) end ss x h.1 (omega arith) ∙ cleared_inside file b (s.to - b) x l (omega arith))
+      cleared_beside (cleared file (b, s.to - b)) (gaps (s.to + s.len) end ss) x (λ g i. inl (omega (arith, k, gap_low (s.to + s.len) end ss g h.1 i)))
+      ∙ cleared_inside file b (s.to - b) x l (omega arith))
   | inr k ↦ bare_zero (cleared file (b, s.to - b)) (s.to + s.len) end ss x h.1 k m (λ t i. bare t (inr i))
 ]
 
 -- ---- the whole
-
--- the file before the header is written
-abbrev bodied : Header → Header → List ℕ → List ℕ
-bodied old new file = all_cleared (all_moved (longer file (new_end old new)) (reverse (rising old new))) (gaps (header_len new) (new_end old new) (rising old new))
 
 head_first : (old new : Header) → header_len new ≤ new_end old new
 head_first old new = omega arith
@@ -138,62 +137,33 @@ carriable_spaced old new ss b end h e f g =
 pub carried_is : (old new : Header) (file : List ℕ) → IsCarriable old new → ((s : Slab) → In (slabs old new) s → In (rising old new) s)
     → ((s : Slab) → In (rising old new) s → In (slabs old new) s) → IsMoved old new file (carried old new file)
 carried_is old new file h back forth =
-    record { long = long; head = head; moved = moved; bare = bare; past = past }
-  where
-    spaced : AreSpaced (header_len new) (new_end old new) (rising old new)
-    spaced = risen_spaced (header_len old) (header_len new) (new_end old new) (rising old new) h.risen (head_first old new) h.inside
-
-    room : new_end old new ≤ length (longer file (new_end old new))
-    room = let whole = longer_long file (new_end old new) in omega arith
-
-    ups : all_moved (longer file (new_end old new)) (reverse (rising old new)) ≡ up_moved (longer file (new_end old new)) (rising old new)
-    ups = all_up (longer file (new_end old new)) (header_len new) (new_end old new) (rising old new) spaced room
-
-    moved_room : length (all_moved (longer file (new_end old new)) (reverse (rising old new))) ≡ max (length file) (new_end old new)
-    moved_room =
-        ap (λ (f : List ℕ). length f) ups
-        ∙ up_long (longer file (new_end old new)) (header_len new) (new_end old new) (rising old new) spaced room
-        ∙ longer_long file (new_end old new)
-
-    body_long : length (bodied old new file) ≡ max (length file) (new_end old new)
-    body_long =
-        bare_long (all_moved (longer file (new_end old new)) (reverse (rising old new))) (header_len new) (new_end old new) (rising old new) spaced
-        (let whole = moved_room in omega arith)
-        ∙ moved_room
-
-    head_room : 0 + length (canon new) ≤ length (bodied old new file)
-    head_room = let whole = body_long in let first = head_first old new in omega arith
-
-    long : length (carried old new file) ≡ max (length file) (new_end old new)
-    long = length-written_inside (bodied old new file) 0 (canon new) head_room ∙ body_long
-
-    head : take (header_len new) (carried old new file) ≡ canon new
-    head = ap (λ (f : List ℕ). take (header_len new) f) (written-inside (bodied old new file) 0 (canon new) head_room)
-        ∙ take_at (canon new) (drop (0 + length (canon new)) (bodied old new file)) (header_len new) refl
-
-    body : (x : ℕ) → header_len new ≤ x → at (carried old new file) x ≡ at (bodied old new file) x
-    body x l = at-written_after (bodied old new file) (canon new) 0 x (omega arith)
-
-    moved : (s : Slab) → In (slabs old new) s → (d : ℕ) → d < s.len → at (carried old new file) (s.to + d) ≡ at file (s.from + d)
-    moved s i d l =
-        let there = back s i in
-        let low = spaced_from (header_len new) (new_end old new) (rising old new) s spaced there in
-        body (s.to + d) (omega arith)
-        ∙ bare_inside (all_moved (longer file (new_end old new)) (reverse (rising old new))) (header_len new) (new_end old new) (rising old new) s (s.to + d) spaced there (omega arith) (omega arith)
-        ∙ ap (λ (f : List ℕ). at f (s.to + d)) ups
-        ∙ up_inside (longer file (new_end old new)) (header_len old) (header_len new) (new_end old new) (rising old new) s d h.risen spaced there l
-        ∙ at-longer file (new_end old new) (s.from + d)
-
-    bare : (x : ℕ) → header_len new ≤ x → x < new_end old new → ((s : Slab) → In (slabs old new) s → (x < s.to) ⊎ (s.to + s.len ≤ x)) → at (carried old new file) x ≡ 0
-    bare x l m none =
-        body x l
-        ∙ bare_zero (all_moved (longer file (new_end old new)) (reverse (rising old new))) (header_len new) (new_end old new) (rising old new) x spaced l m (λ s i. none s (forth s i))
-
-    past : (x : ℕ) → new_end old new ≤ x → at (carried old new file) x ≡ at file x
-    past x l =
-        let first = head_first old new in
-        body x (omega arith)
-        ∙ bare_after (all_moved (longer file (new_end old new)) (reverse (rising old new))) (header_len new) (new_end old new) (rising old new) x spaced l
-        ∙ ap (λ (f : List ℕ). at f x) ups
-        ∙ up_after (longer file (new_end old new)) (header_len new) (new_end old new) (rising old new) x spaced l
-        ∙ at-longer file (new_end old new) x
+    let first = header_len new in
+    let end = new_end old new in
+    let ss = rising old new in
+    let full = longer file end in
+    let up = up_moved full ss in
+    let body = all_cleared up (gaps first end ss) in
+    let whole : length full ≡ max (length file) end = longer_long file end in
+    let low : first ≤ end = head_first old new in
+    let room : end ≤ length full = omega (arith, whole) in
+    let spaced : AreSpaced first end ss = risen_spaced (header_len old) first end ss h.risen low h.inside in
+    let moved : length up ≡ length full = up_long full first end ss spaced room in
+    let long : length body ≡ length full = cleared_whole up (gaps first end ss) (λ g i. omega (arith, moved, room, gap_high first end ss g spaced i)) ∙ moved in
+    let head : 0 + length (canon new) ≤ length body = omega (arith, long, room, low) in
+    let behind : (x : ℕ) → first ≤ x → at (written body 0 (canon new)) x ≡ at body x = λ x l. at-written_after body (canon new) 0 x (omega arith) in
+    subst (λ (f : List ℕ). IsMoved old new file (written (all_cleared f (gaps first end ss)) 0 (canon new))) (sym (all_up full first end ss spaced room))
+    (record {
+      long = length-written_inside body 0 (canon new) head ∙ long ∙ whole;
+      head = ap (λ (f : List ℕ). take first f) (written-inside body 0 (canon new) head) ∙ take_at (canon new) (drop (0 + length (canon new)) body) first refl;
+      moved = λ s i d l.
+          behind (s.to + d) (omega (arith, spaced_from first end ss s spaced (back s i)))
+          ∙ cleared_beside up (gaps first end ss) (s.to + d) (λ g j. gap_beside first end ss s g (s.to + d) spaced (back s i) j (omega arith) (omega arith))
+          ∙ up_inside full (header_len old) first end ss s d h.risen spaced (back s i) l
+          ∙ at-longer file end (s.from + d);
+      bare = λ x l m none. behind x l ∙ bare_zero up first end ss x spaced l m (λ s i. none s (forth s i));
+      past = λ x l.
+          behind x (omega (arith, low, l))
+          ∙ cleared_beside up (gaps first end ss) x (λ g i. inr (omega (arith, l, gap_high first end ss g spaced i)))
+          ∙ up_after full first end ss x spaced l
+          ∙ at-longer file end x;
+    })

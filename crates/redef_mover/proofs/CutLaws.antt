@@ -1,7 +1,7 @@
 -- A relocation that was cut off: what it may have changed of a file.
-use Rattle.redef_mover.proofs.Words.{◌≡◌, ℕ, ◌+◌, ◌-◌, ◌<◌, ◌≤◌, max, ◌⊎◌, inl, inr, refl, sym, ◌∙◌, ap, subst, List, [], ◌∷◌, length, get_or, Option, Some, None, arith, not, IfSome, IsTrue, nat_tests, common_steps, Header, PartlyWritten, after, BothTold, In, changes, gaps, rising, new_end, IsMoved, Slab, at, longer, written, canon, header_len, redefined, IsLengthened, IsTornRedefinition, at-longer, at-written_after, get_or-written_within, length-written_inside, longer_long, IsBeside, IsKept, IsOutside, IsUnmoved, AreSpaced, IsCarriable, IsPartlyCarried, KeepsPlaces, told_as}
+use Rattle.redef_mover.proofs.Words.{◌≡◌, ℕ, ◌+◌, ◌-◌, ◌<◌, ◌≤◌, max, inl, inr, sym, ◌∙◌, ap, subst, List, [], ◌∷◌, length, get_or, Option, Some, None, arith, IfSome, IsTrue, nat_tests, common_steps, Header, PartlyWritten, after, BothTold, In, changes, gaps, rising, new_end, IsMoved, Slab, at, longer, canon, header_len, redefined, IsLengthened, IsTornRedefinition, at-longer, at-written_after, get_or-written_within, length-written_inside, longer_long, IsBeside, IsKept, IsOutside, IsUnmoved, AreSpaced, IsCarriable, IsPartlyCarried, KeepsPlaces, told_as}
 use Rattle.redef_mover.proofs.ClearLaws.{spaced_low}
-use Rattle.redef_mover.proofs.CarryLaws.{carriable_spaced, carried_is, spaced_from}
+use Rattle.redef_mover.proofs.CarryLaws.{carriable_spaced, carried_is, gap_beside, gap_high, gap_low, spaced_from}
 use Rattle.redef_mover.proofs.AppliedLaws.{HasLaws, relocated}
 
 -- ---- bytes that neither moves nor zeros change
@@ -33,25 +33,6 @@ spared_unmoved : (b end : ℕ) (ss : List Slab) (x : ℕ) → AreSpaced b end ss
 spared_unmoved b end ss x h (before l) t i c = let low = spaced_from b end ss t h i in inl (omega arith)
 spared_unmoved b end ss x h (past l) t i c = let high = high_of b end ss t h i in inr (omega arith)
 spared_unmoved b end ss x h (in_place s i e l k) t j c = two_beside b end ss s t x h i j e c l k
-
-gap_low : (b end : ℕ) (ss : List Slab) (g : ℕ × ℕ) → AreSpaced b end ss → In (gaps b end ss) g → b ≤ g.0
-gap_low b end [] g h (inl e) = subst (λ (f : ℕ × ℕ). b ≤ f.0) e (omega arith)
-gap_low b end [] g h (inr i) = absurd i
-gap_low b end (s ∷ ss) g h (inl e) = subst (λ (f : ℕ × ℕ). b ≤ f.0) e (omega arith)
-gap_low b end (s ∷ ss) g h (inr i) = let low : b ≤ s.to = h.0 in let rest = gap_low (s.to + s.len) end ss g h.1 i in omega arith
-
-gap_high : (b end : ℕ) (ss : List Slab) (g : ℕ × ℕ) → AreSpaced b end ss → In (gaps b end ss) g → g.0 + g.1 ≤ end
-gap_high b end [] g h (inl e) = subst (λ (f : ℕ × ℕ). f.0 + f.1 ≤ end) e (let low : b ≤ end = h in omega arith)
-gap_high b end [] g h (inr i) = absurd i
-gap_high b end (s ∷ ss) g h (inl e) = grind (arith, nat_tests, spaced_low (s.to + s.len) end ss h.1)
-gap_high b end (s ∷ ss) g h (inr i) = gap_high (s.to + s.len) end ss g h.1 i
-
--- a gap is beside each slab
-gap_beside : (b end : ℕ) (ss : List Slab) (s : Slab) (g : ℕ × ℕ) (x : ℕ) → AreSpaced b end ss → In ss s → In (gaps b end ss) g → s.to ≤ x → x < s.to + s.len → IsOutside g.0 g.1 x
-gap_beside b end [] s g x h i j l k = absurd i
-gap_beside b end (t ∷ ss) s g x h i (inl e) l k = grind (arith, nat_tests, spaced_from t.to end (t ∷ ss) s (omega arith, h.1) i)
-gap_beside b end (t ∷ ss) s g x h (inl e) (inr j) l k = grind (arith, nat_tests, gap_low (t.to + t.len) end ss g h.1 j)
-gap_beside b end (t ∷ ss) s g x h (inr i) (inr j) l k = gap_beside (t.to + t.len) end ss s g x h.1 i j l k
 
 spared_beside : (b end : ℕ) (ss : List Slab) (x : ℕ) → AreSpaced b end ss → Spared b end ss x → IsBeside (gaps b end ss) x
 spared_beside b end ss x h (before l) g i = let low = gap_low b end ss g h i in inl (omega arith)
@@ -124,9 +105,14 @@ module _ (old new : Header) (b end : ℕ) (ss : List Slab) (k : StandFor old new
   way_headed file mid left bytes place c p room w q = record {
     long = omega (arith, length_same, w.long);
     short = omega (arith, length_same, w.short, k.last);
-    head = λ x l. by_head x l (plain.each x);
-    past = λ x l. by_rest x (omega (arith, spaced_low b end ss spaced, k.first, k.last, l)) (plain.each x) ∙ w.spared x (past (omega (arith, l, k.last)));
-    stays = λ s i e x l m. by_rest x (omega (arith, spaced_from b end ss s spaced (member s i), k.first, l)) (plain.each x) ∙ w.spared x (in_place s (member s i) e l m);
+    head = λ x l. elim (plain.each x) [
+      | inl e ↦ inl (e ∙ w.spared x (before (omega (arith, l, k.first))))
+      | inr e ↦
+          (let same : x - 0 ≡ x = omega arith in
+          inr (e ∙ get_or-written_within mid 0 (canon new) x (omega arith) (omega arith) (omega arith) ∙ ap (λ (y : ℕ). get_or (canon new) y 0) same))
+    ];
+    past = λ x l. by_rest x (omega (arith, spaced_low b end ss spaced, k.first, k.last, l)) ∙ w.spared x (past (omega (arith, l, k.last)));
+    stays = λ s i e x l m. by_rest x (omega (arith, spaced_from b end ss s spaced (member s i), k.first, l)) ∙ w.spared x (in_place s (member s i) e l m);
   }
     where
       plain : PartlyWritten 0 (canon new) mid left
@@ -135,15 +121,8 @@ module _ (old new : Header) (b end : ℕ) (ss : List Slab) (k : StandFor old new
       length_same : length left ≡ length mid
       length_same = plain.len ∙ length-written_inside mid 0 (canon new) (omega arith)
 
-      by_head : (x : ℕ) → x < header_len new → (at left x ≡ at mid x) ⊎ (at left x ≡ at (written mid 0 (canon new)) x) → (at left x ≡ at file x) ⊎ (at left x ≡ at (canon new) x)
-      by_head x l (inl e) = inl (e ∙ w.spared x (before (omega (arith, l, k.first))))
-      by_head x l (inr e) =
-          let same : x - 0 ≡ x = omega arith in
-          inr (e ∙ get_or-written_within mid 0 (canon new) x (omega arith) (omega arith) (omega arith) ∙ ap (λ (y : ℕ). get_or (canon new) y 0) same)
-
-      by_rest : (x : ℕ) → header_len new ≤ x → (at left x ≡ at mid x) ⊎ (at left x ≡ at (written mid 0 (canon new)) x) → at left x ≡ at mid x
-      by_rest x l (inl e) = e
-      by_rest x l (inr e) = e ∙ at-written_after mid (canon new) 0 x (omega arith)
+      by_rest : (x : ℕ) → header_len new ≤ x → at left x ≡ at mid x
+      by_rest x l = elim (plain.each x) [ inl e ↦ e | inr e ↦ e ∙ at-written_after mid (canon new) 0 x (omega arith) ]
 
   -- ---- one call more
 
@@ -190,14 +169,9 @@ torn old new file left h p =
     record {
       long = p.long;
       short = omega arith;
-      head = λ x l. by_head m x l (p.head x l);
+      head = λ x l. elim (p.head x l) [ inl e ↦ inl e | inr e ↦ inr (e ∙ head_at old new file m x l) ];
       past = λ x l k. p.past x l;
     }
-  where
-    by_head : IsMoved old new file (redefined file old new) → (x : ℕ) → x < header_len new → (at left x ≡ at file x) ⊎ (at left x ≡ at (canon new) x)
-        → (at left x ≡ at file x) ⊎ (at left x ≡ at (redefined file old new) x)
-    by_head m x l (inl e) = inl e
-    by_head m x l (inr e) = inr (e ∙ head_at old new file m x l)
 
 keeps : (old new : Header) (file left : List ℕ) → HasLaws old new → IsPartlyCarried old new file left → KeepsPlaces old new file left
 keeps old new file left h p s i e d l = grind (arith, nat_tests)
