@@ -7,16 +7,6 @@ use Rattle.nc_classic_c.specs.Sizes.{fits}
 use Rattle.nc_classic_c.proofs.Filling.{filled_whole}
 use Rattle.serial_spec.proofs.SpellingLaws.{writable_is_sound}
 
--- ---- begins and records
-
-laid : (header : Header) (align : Align) (records : ℕ) (now : Header) (t : Bool) → None ≡ layout_fault header align → now ≡ laid_header header align → fits records now ≡ t
-    → cond t None (Some (of_whole cause.TooLarge)) ≡ place_refusal header align records
-laid header align records now t h e f = grind (arith, nat_tests)
-
-pub placed : (header : Header) (align : Align) (records : ℕ) (now : Header) → None ≡ layout_fault header align → now ≡ laid_header header align → fits records now ≡ true
-    → None ≡ place_refusal header align records
-placed header align records now h e f = laid header align records now true h e f
-
 -- ---- the whole
 
 pub place_told : (D : NcvHeaderDef) (header : Header) (align : Align) (o : Option Unmade) → None ≡ argument_refusal D → None ≡ definition_refusal D
@@ -26,14 +16,7 @@ place_told D header align o a d e f h = grind (arith, nat_tests)
 pub version_right : (D : NcvHeaderDef) → is_asked D ≡ true → is_version D.version ≡ true
 version_right D h = and_first _ _ (and_first _ (is_align D.var_align) h)
 
-pub made_is : (D : NcvHeaderDef) (header now : Header) (align : Align) → header ≡ header_of D → align ≡ align_of D → now ≡ placed_header header align D.records → now ≡ made_header D
-made_is D header now align e f h = grind (arith, nat_tests)
-
 -- ---- room for the bytes
-
-pub no_room : (D : NcvHeaderDef) (room : ℕ) (bytes : List ℕ) → refusal_of D ≡ None → bytes ≡ canon (made_header D) → room < length bytes
-    → why_unmade D room ≡ Some (of_whole cause.Room)
-no_room D room bytes h e l = grind (arith, nat_tests)
 
 module _ (D : NcvHeaderDef) (len : ℕ) (bytes old new : List ℕ) (h : refusal_of D ≡ None) (e : bytes ≡ canon (made_header D)) (w : is_writable (made_header D) ≡ true)
     (law : (header : Header) (more : List ℕ) → is_writable header ≡ true → BeginsWith (take (2 ^ 20) (canon header ++ more)) header (header_len header)) (l : len ≡ length bytes) where
