@@ -49,14 +49,10 @@ module _ (seed size : ℕ) where
       (order : List Mark) (count : ℕ) (end : RunEnd) → script ≡ script_made seed size → IsReady script header before.held held_mid before.calls calls_mid
       → order ≡ end.order → end.fault ≡ Some fault → HasCut script header held_mid now.held count end → MadeCutOff seed size fault before now order
   made_cut fault script header before now held_mid calls_mid order count end is ready same failed cut =
-      let fresh : script.fresh ≡ true = ap (λ (s : Script). s.fresh) is ∙ made_fresh seed size in
       let alone : (length script.extra == 0) ≡ true = ap (λ (s : Script). length s.extra == 0) is ∙ made_alone seed size in
-      let old_is : ready.old ≡ created_header script = ready.heads.created fresh in
+      let old_is : ready.old ≡ created_header script = ready.heads.created (ap (λ (s : Script). s.fresh) is ∙ made_fresh seed size) in
       let header_is : header ≡ created_header script = ready.heads.made ∙ header-kept script ready.old alone ∙ old_is in
-      let first : IfSome before.held (λ file. IsCutFile script header fault (file_at_start script ready.old header file) now.held order) =
-      cut_file fault script header before.held held_mid now.held before.calls calls_mid order count end ready same failed cut in
-      let second : IfSome before.held (λ file. IsCutFile script header fault (file_at_start script (created_header script) header file) now.held order) =
-      subst (λ (h : Header). IfSome before.held (λ file. IsCutFile script header fault (file_at_start script h header file) now.held order)) old_is first in
-      let third : IfSome before.held (λ file. IsCutFile script (created_header script) fault (file_at_start script (created_header script) (created_header script) file) now.held order) =
-      subst (λ (h : Header). IfSome before.held (λ file. IsCutFile script h fault (file_at_start script (created_header script) h file) now.held order)) header_is second in
-      subst (λ (s : Script). IfSome before.held (λ file. IsCutFile s (created_header s) fault (file_at_start s (created_header s) (created_header s) file) now.held order)) is third
+      subst (λ (s : Script). IfSome before.held (λ file. IsCutFile s (created_header s) fault (file_at_start s (created_header s) (created_header s) file) now.held order)) is
+      (subst (λ (h : Header). IfSome before.held (λ file. IsCutFile script h fault (file_at_start script (created_header script) h file) now.held order)) header_is
+      (subst (λ (h : Header). IfSome before.held (λ file. IsCutFile script header fault (file_at_start script h header file) now.held order)) old_is
+      (cut_file fault script header before.held held_mid now.held before.calls calls_mid order count end ready same failed cut)))

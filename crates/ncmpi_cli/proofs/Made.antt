@@ -58,63 +58,50 @@ told_sums seed size script header None records end r a = tt
 told_sums seed size script header (Some file) records end r a =
     ap₂ (λ (n : ℕ) (x : List (List Answer)). summary_text seed size script (record header { records = n }) end.order x) r a
 
-module _ (script : Script) (old header : Header) (order : List Mark) (alone : (length script.extra == 0) ≡ true) (old_is : old ≡ created_header script) (header_is : header ≡ created_header script) where
-  -- the headers of a created dataset to which nothing is added are its first one
-  one_end : (file : List ℕ) → end_of_run script old header file order ≡ new_end script file order
-  one_end file =
-      let own : Header = created_header script in
-      ap₂ (λ (o h : Header). end_of_run script o h file order) old_is header_is ∙ ap (λ (f : List ℕ). serial script own f order) (file-kept script own own file alone)
-
-  made_bytes : (held held_now : Option (List ℕ)) → IfSome held (λ file. held_now ≡ Some (end_of_run script old header file order).bytes)
-      → IfSome held (λ file. held_now ≡ Some (new_end script file order).bytes)
-  made_bytes held held_now h = IfSome_then held h (λ file b. b ∙ ap (λ (e : End). Some e.bytes) (one_end file))
-
-  made_calls : (held : Option (List ℕ)) (calls calls_now : Option (List DiskCall)) → IfSome held (λ file. calls_now ≡ after (λ _. all_calls script old header file order) calls)
-      → IfSome held (λ file. calls_now ≡ after (λ _. all_calls script (created_header script) (created_header script) file order) calls)
-  made_calls held calls calls_now h = IfSome_then held h (λ file c. c ∙ ap₂ (λ (o h : Header). after (λ _. all_calls script o h file order) calls) old_is header_is)
-
-  made_lines : (seed size : ℕ) (held : Option (List ℕ)) (text : List ℕ) → IfSome held (λ file. text ≡ sums seed size script header order (end_of_run script old header file order))
-      → IfSome held (λ file. text ≡ summed seed size script order (new_end script file order))
-  made_lines seed size held text h = IfSome_then held h (λ file t. t ∙ ap₂ (λ (h : Header) (e : End). sums seed size script h order e) header_is (one_end file))
+-- the headers of a created dataset to which nothing is added are its first one
+one_end : (script : Script) (old header : Header) (order : List Mark) → (length script.extra == 0) ≡ true → old ≡ created_header script → header ≡ created_header script
+    → (file : List ℕ) → end_of_run script old header file order ≡ new_end script file order
+one_end script old header order alone old_is header_is file =
+    let own : Header = created_header script in
+    ap₂ (λ (o h : Header). end_of_run script o h file order) old_is header_is ∙ ap (λ (f : List ℕ). serial script own f order) (file-kept script own own file alone)
 
 pub made_ran : (seed size : ℕ) (script : Script) (header : Header) (before now : Output) (held_mid : Option (List ℕ)) (calls_mid : Option (List DiskCall)) (faults failed records : ℕ)
     (end : RunEnd) (order : List Mark) → script ≡ script_made seed size → IsReady script header before.held held_mid before.calls calls_mid → order ≡ end.order
     → IsRun script header (seen held_mid calls_mid faults) (seen now.held now.calls failed) records end → end.fault ≡ None
     → RanMade seed size before now order (summary_text seed size script (record header { records = records }) end.order end.answers)
 made_ran seed size script header before now held_mid calls_mid faults failed records end order is ready same run whole =
-    let fresh : script.fresh ≡ true = ap (λ (s : Script). s.fresh) is ∙ made_fresh seed size in
     let alone : (length script.extra == 0) ≡ true = ap (λ (s : Script). length s.extra == 0) is ∙ made_alone seed size in
-    let old_is : ready.old ≡ created_header script = ready.heads.created fresh in
+    let old_is : ready.old ≡ created_header script = ready.heads.created (ap (λ (s : Script). s.fresh) is ∙ made_fresh seed size) in
     let header_is : header ≡ created_header script = ready.heads.made ∙ header-kept script ready.old alone ∙ old_is in
+    let one : (file : List ℕ) → end_of_run script ready.old header file end.order ≡ new_end script file end.order =
+    one_end script ready.old header end.order alone old_is header_is in
     let text : List ℕ = summary_text seed size script (record header { records = records }) end.order end.answers in
-    let bytes : IfSome before.held (λ file. now.held ≡ Some (new_end script file end.order).bytes) =
-    made_bytes script ready.old header end.order alone old_is header_is before.held now.held
-    (at_start (λ file. now.held ≡ Some (serial_from script header file end.order).bytes) script header before.held held_mid before.calls calls_mid ready (run.bytes whole)) in
-    let calls : IfSome before.held (λ file. now.calls ≡ after (λ _. all_calls script (created_header script) (created_header script) file end.order) before.calls) =
-    made_calls script ready.old header end.order alone old_is header_is before.held before.calls now.calls
-    (all_told script ready.old header before.held before.calls calls_mid now.calls end.order ready.calls
-    (at_start (λ file. now.calls ≡ with_end calls_mid (run_calls script header file end.order)) script header before.held held_mid before.calls calls_mid ready (run.calls whole))) in
-    let lines : IfSome before.held (λ file. text ≡ summed seed size script end.order (new_end script file end.order)) =
-    made_lines script ready.old header end.order alone old_is header_is seed size before.held text
-    (at_start (λ file. text ≡ sums seed size script header end.order (serial_from script header file end.order)) script header before.held held_mid before.calls calls_mid ready
-    (told_sums seed size script header held_mid records end (if_any held_mid (run.records whole)) (run.answers whole))) in
     let last : End = told_end records end in
-    let any : (file : List ℕ) → AreAlikeEnds last (new_end script file end.order) =
-    λ file. subst (λ (e : End). AreAlikeEnds last e) (one_end script ready.old header end.order alone old_is header_is file)
-    (any_end script header (seen held_mid calls_mid faults) (seen now.held now.calls failed) records end run whole (file_at_start script ready.old header file)) in
-    let sum_is : text ≡ summed seed size script end.order last =
-    ap (λ (h : Header). summary_text seed size script (record h { records = records }) end.order end.answers) header_is in
     subst (λ (o : List Mark). RanMade seed size before now o text) (sym same)
     (record {
       legal = subst (λ (s : Script). IsLegal s end.order) is (run.legal whole);
-      bytes = subst (λ (s : Script). IfSome before.held (λ file. now.held ≡ Some (new_end s file end.order).bytes)) is bytes;
-      calls = subst (λ (s : Script). IfSome before.held (λ file. now.calls ≡ after (λ _. all_calls s (created_header s) (created_header s) file end.order) before.calls)) is calls;
+      bytes = subst (λ (s : Script). IfSome before.held (λ file. now.held ≡ Some (new_end s file end.order).bytes)) is
+          (IfSome_then before.held
+          (at_start (λ file. now.held ≡ Some (serial_from script header file end.order).bytes) script header before.held held_mid before.calls calls_mid ready (run.bytes whole))
+          (λ file b. b ∙ ap (λ (e : End). Some e.bytes) (one file)));
+      calls = subst (λ (s : Script). IfSome before.held (λ file. now.calls ≡ after (λ _. all_calls s (created_header s) (created_header s) file end.order) before.calls)) is
+          (IfSome_then before.held
+          (all_told script ready.old header before.held before.calls calls_mid now.calls end.order ready.calls
+          (at_start (λ file. now.calls ≡ with_end calls_mid (run_calls script header file end.order)) script header before.held held_mid before.calls calls_mid ready (run.calls whole)))
+          (λ file d. d ∙ ap₂ (λ (o h : Header). after (λ _. all_calls script o h file end.order) before.calls) old_is header_is));
       sums = record {
         end = last;
-        alike = subst (λ (s : Script). (file : List ℕ) → AreAlikeEnds last (new_end s file end.order)) is any;
-        whole = subst (λ (s : Script). text ≡ summed seed size s end.order last) is sum_is;
+        alike = subst (λ (s : Script). (file : List ℕ) → AreAlikeEnds last (new_end s file end.order)) is
+            (λ file. subst (λ (e : End). AreAlikeEnds last e) (one file)
+            (any_end script header (seen held_mid calls_mid faults) (seen now.held now.calls failed) records end run whole (file_at_start script ready.old header file)));
+        whole = subst (λ (s : Script). text ≡ summed seed size s end.order last) is
+            (ap (λ (h : Header). summary_text seed size script (record h { records = records }) end.order end.answers) header_is);
       };
-      lines = subst (λ (s : Script). IfSome before.held (λ file. text ≡ summed seed size s end.order (new_end s file end.order))) is lines;
+      lines = subst (λ (s : Script). IfSome before.held (λ file. text ≡ summed seed size s end.order (new_end s file end.order))) is
+          (IfSome_then before.held
+          (at_start (λ file. text ≡ sums seed size script header end.order (serial_from script header file end.order)) script header before.held held_mid before.calls calls_mid ready
+          (told_sums seed size script header held_mid records end (if_any held_mid (run.records whole)) (run.answers whole)))
+          (λ file t. t ∙ ap₂ (λ (h : Header) (e : End). sums seed size script h end.order e) header_is (one file)));
     })
 
 pub made_begins : (seed size : ℕ) (script : Script) (order end_order : List Mark) → script ≡ script_made seed size → order ≡ end_order → HasBegun script end_order
