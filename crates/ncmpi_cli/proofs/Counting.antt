@@ -8,9 +8,8 @@ place : {A : Type 0} (count : ℕ → ℕ) (xs : List A) (n k d : ℕ) → k < l
 place count [] n k d h = absurd (omega (arith, h))
 place count (x ∷ xs) n zero d h = let e : n + 1 ≡ n + 0 + 1 = omega arith in ap count e
 place count (x ∷ xs) n (suc k) d h =
-    let rest : k < length xs = omega (arith, h) in
     let e : n + 1 + k + 1 ≡ n + suc k + 1 = omega arith in
-    place count xs (n + 1) k d rest ∙ ap count e
+    place count xs (n + 1) k d (omega (arith, h)) ∙ ap count e
 
 abbrev paired : (ℕ → ℕ) → ℕ → ℕ × ℕ
 paired count steps = (steps, count steps)
@@ -23,16 +22,9 @@ maps_agree {A} {B} f g (x ∷ xs) h =
 
 -- no reading has more steps than the last
 no_more : (steps : ℕ) (numbers : List ℕ) → AreReadings steps numbers → All (λ n. n ≤ steps) numbers
-no_more steps numbers r = All-from_get_or (λ n. n ≤ steps) numbers 0 each
-  where
-    each : (i : ℕ) → i < length numbers → get_or numbers i 0 ≤ steps
-    each i h =
-        let long = r.long in
-        let low : i < 17 = omega (arith, h, long) in
-        let up : i ≤ 16 = omega (arith, low) in
-        let most = r.rise i 16 up (omega arith) in
-        let last = r.last in
-        omega (arith, most, last)
+no_more steps numbers r =
+    All-from_get_or (λ n. n ≤ steps) numbers 0
+    (λ i h. let long = r.long in let most = r.rise i 16 (omega (arith, h, long)) (omega arith) in let last = r.last in omega (arith, most, last))
 
 module _ (script : Script) (header : Header) (file : List ℕ) (order : List Mark) where
   abbrev told : List ℕ
@@ -61,11 +53,8 @@ pub are_counted : (script : Script) (header : Header) (held : Option (List ℕ))
 are_counted script header None watchers run r c = tt
 are_counted script header (Some file) watchers run r c = by_seen run.seen r c
   where
-    order : List Mark
-    order = run.end.order
-
-    by_seen : (seen : Option RunReadings) → IfSome seen (λ s. (length s.readings ≡ watchers) × All (AreReadings (length order)) s.readings)
-        → IfSome seen (λ s. s.counts ≡ seen_counts (told_of script header file order))
-        → pairs_of header.records seen ≡ map (with_counts script header file order) (readings_of seen)
+    by_seen : (seen : Option RunReadings) → IfSome seen (λ s. (length s.readings ≡ watchers) × All (AreReadings (length run.end.order)) s.readings)
+        → IfSome seen (λ s. s.counts ≡ seen_counts (told_of script header file run.end.order))
+        → pairs_of header.records seen ≡ map (with_counts script header file run.end.order) (readings_of seen)
     by_seen None r c = refl
-    by_seen (Some seen) r c = ap (λ (counts : List ℕ). map (counted header.records counts) seen.readings) c ∙ same_readings script header file order seen.readings r.1
+    by_seen (Some seen) r c = ap (λ (counts : List ℕ). map (counted header.records counts) seen.readings) c ∙ same_readings script header file run.end.order seen.readings r.1

@@ -12,10 +12,9 @@ more_from f n (x ∷ xs) zero d h =
     let e : n ≡ n + 0 = omega arith in
     append-nil (watcher_lines (n, f x)) ∙ ap (λ (m : ℕ). watcher_lines (m, f x)) e
 more_from f n (x ∷ xs) (suc i) d h =
-    let low : i < length xs = omega (arith, h) in
     let e : n + 1 + i ≡ n + suc i = omega arith in
     let first : List ℕ = watcher_lines (n, f x) in
-    ap (λ (t : List ℕ). first ++ t) (more_from f (n + 1) xs i d low)
+    ap (λ (t : List ℕ). first ++ t) (more_from f (n + 1) xs i d (omega (arith, h)))
     ∙ sym (append_assoc first (lines_from (n + 1) (map f (take i xs))) (watcher_lines (n + 1 + i, f (get_or xs i d))))
     ∙ ap (λ (m : ℕ). (first ++ lines_from (n + 1) (map f (take i xs))) ++ watcher_lines (m, f (get_or xs i d))) e
 
