@@ -1,5 +1,5 @@
 -- How a list of offsets ends.
-use Rattle.ncmpi_cli.proofs.Words.{◌≡◌, ℕ, List, Option, Some, None, inl, inr, ◌⊎◌, refl, arith, IfSome, HeaderErr, HasFault, header_line, front, TellsHeader, IsFaultyFront, IsSoundFront, IsListStatus, IsOfReadHeader, IsOfHeader, line_of, status_of, nat_tests, Stop}
+use Rattle.ncmpi_cli.proofs.Words.{ap, subst, sym, ◌∙◌, ◌≡◌, ℕ, List, Option, Some, None, inl, inr, ◌⊎◌, refl, arith, IfSome, HeaderErr, HasFault, header_line, front, TellsHeader, IsFaultyFront, IsSoundFront, IsListStatus, IsOfReadHeader, IsOfHeader, line_of, status_of, nat_tests, Stop}
 use Rattle.dataset_start.specs.declared.stop.Stop.TheVariants as stops
 use Rattle.ncmpi_cli.proofs.Statuses.{IsTold}
 
@@ -20,11 +20,10 @@ module _ (held : Option (List ℕ)) where
   pub dataset : {Gives : List ℕ → Type 0} (stop : Stop) (status : ℕ) → IsTold stop status → IsOfHeader stop
       → ((e : HeaderErr) → stop ≡ stops.Header e → HasHeaderFault e) → (status ≡ status_of stop → IfSome (line_of stop) Gives)
       → status ≡ 4 → (line : List ℕ) × (TellsHeader held line × Gives line)
-  dataset (stops.Header e) status (inl own) only fault gives s = (header_line e, ((e, (fault e refl, refl)), gives own))
-  dataset stops.Disk status (inl own) only fault gives s = absurd (omega (arith, own, s))
-  dataset stops.Memory status (inl own) only fault gives s = absurd (omega (arith, own, s))
-  dataset stop status (inl own) only fault gives s = absurd only
-  dataset stop status (inr m) only fault gives s = absurd (omega (arith, m, s))
+  dataset {Gives} stop status told only fault gives s =
+      by_header stop status told only
+      (λ e x own. (header_line e, ((e, (fault e x, refl)), subst (λ (x : Stop). IfSome (line_of x) Gives) x (gives (own ∙ ap status_of (sym x))))))
+      (λ x own. absurd (omega (arith, own, s))) (λ m. absurd (omega (arith, m, s)))
 
   -- a header with a fault is refused
   pub refused : (stop : Stop) (status : ℕ) → IsTold stop status → IsOfHeader stop → (stop ≡ stops.Disk → ⊥)
