@@ -10,17 +10,15 @@ returns-in-Ok-clause-front g c = λ ended.
     let given = c.give-outcome.ensures.front ended in
     (given.0, subst (λ (t : List ℕ). g.K.Sink.given c.give-outcome.new.out ≡ with_end (g.K.Sink.given c.args.out.now) (take given.0 t)) (c.as_slice.ensures ∙ c.in-Ok.ensures) given.1)
 
-pub returns-in-Err-clause-whole : goal.returns-in-Err-clause-whole
-returns-in-Err-clause-whole g c = λ s. let is : c.tell.result.status ≡ 8 = (c.tell.ensures.unlined refl).0 in absurd (omega (arith, is, s))
-
-pub returns-in-Err-clause-front : goal.returns-in-Err-clause-front
-returns-in-Err-clause-front g c = λ s. let is : c.tell.result.status ≡ 8 = (c.tell.ensures.unlined refl).0 in absurd (omega (arith, is, s))
-
-pub returns-in-Err-clause-sink : goal.returns-in-Err-clause-sink
-returns-in-Err-clause-sink g c = λ s. let is : c.tell.result.status ≡ 8 = (c.tell.ensures.unlined refl).0 in absurd (omega (arith, is, s))
-
-pub returns-in-Err-clause-silent : goal.returns-in-Err-clause-silent
-returns-in-Err-clause-silent g c = λ _. (c.tell.ensures.unlined refl).1
-
-pub returns-in-Err-clause-statuses : goal.returns-in-Err-clause-statuses
-returns-in-Err-clause-statuses g c = inr (inr (c.tell.ensures.unlined refl).0)
+pub returns-in-Err : goal.returns-in-Err
+returns-in-Err g c =
+    let is : c.tell.result.status ≡ 8 = (c.tell.ensures.unlined refl).0 in
+    record {
+      whole = λ s. absurd (omega (arith, is, s));
+      front = λ s. absurd (omega (arith, is, s));
+      sink = λ s. absurd (omega (arith, is, s));
+      silent = λ _. (c.tell.ensures.unlined refl).1;
+      statuses = inr (inr is);
+      order = c.tell.ensures.order ∙ c.order_of-in-Err.ensures;
+      readings = c.tell.ensures.readings;
+    }
