@@ -1,9 +1,8 @@
 -- What is answered of a header that is defined, by its parts.
-use Rattle.nc_classic_c.proofs.Words.{◌≡◌, ℕ, ◌^◌, ◌<◌, ◌≤◌, List, ◌++◌, drop, take, length, true, cond, Bool, Option, Some, None, Result, Ok, Err, sym, ap, subst, ◌∙◌, IfErr, OnOk, le-ltb, second_counts, and_first, Header, Align, canon, header_len, is_version, layout_fault, is_sound, is_writable, BeginsWith, Refusal, Unmade, NcvHeaderDef, definition_refusal, filled, is_align, of_whole, laid_header, placed_header, made_header, align_of, argument_refusal, place_refusal, refusal_of, why_unmade, len_told, IsMade, IsUnmade, header_of, arith, nat_tests}
+use Rattle.nc_classic_c.proofs.Words.{◌≡◌, ℕ, ◌^◌, ◌≤◌, List, ◌++◌, drop, take, length, true, Option, None, Result, Ok, Err, sym, ap, subst, ◌∙◌, IfErr, OnOk, le-ltb, second_counts, and_first, Header, Align, canon, header_len, is_version, is_sound, is_writable, BeginsWith, Refusal, Unmade, NcvHeaderDef, definition_refusal, filled, is_align, of_whole, made_header, align_of, argument_refusal, place_refusal, refusal_of, len_told, IsMade, IsUnmade, header_of, arith, nat_tests}
 use Rattle.nc_classic_c.specs.declared.answers.Refusal.TheVariants as refusal
 use Rattle.nc_classic_c.specs.declared.causes.Cause.TheVariants as cause
 use Rattle.nc_classic_c.specs.Making.{is_asked}
-use Rattle.nc_classic_c.specs.Sizes.{fits}
 use Rattle.nc_classic_c.proofs.Filling.{filled_whole}
 use Rattle.serial_spec.proofs.SpellingLaws.{writable_is_sound}
 
