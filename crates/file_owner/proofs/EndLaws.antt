@@ -1,5 +1,5 @@
 -- What the owner's ends tell when it is done.
-use Rattle.file_owner.proofs.Words.{point, ◌≡◌, ℕ, suc, ◌+◌, ◌<◌, refl, sym, ◌∙◌, ap, subst, List, [], ◌∷◌, ◌++◌, length, map, replicate, Bool, true, Option, Some, None, arith, append-nil, length-append, length-map, length-replicate, slice_get, nat_lt, filter, IfSome, list_all, Hints, DiskCall, Mark, Offer, OwnerItem, Stop, RankItem, StepErr, with_end, In, End, Receiver, Owner, Client, free_client, given_along, offers_in, owed, own_items, served, stop_held, stops, IsGivenInPart, Setting, Arrival, is_offer, OwnerStoodAt, counted, of_fault, of_stranger, IsHaltAt, Outcome, taken_from, stopped_with, owner_at, owner_calls, run, AreSingle, GoesSo, Grows, HoldSingle, Standing, HasCutService, arrived, gained, opening, HasFailed, HasTaken, HasToldAlong, HavePut, IsCutOff, IsDone, IsDoneSo, passed, Outlets, Halt, one_if, owed_count, alike_same, alike_two, if_some_at, entry_below, entry_replicate, own_two, nat_tests, in_left, in_right}
+use Rattle.file_owner.proofs.Words.{point, ◌≡◌, ℕ, suc, ◌+◌, ◌<◌, refl, sym, ◌∙◌, ap, subst, List, [], ◌∷◌, ◌++◌, length, map, replicate, Bool, true, Option, Some, None, arith, append-nil, length-append, length-map, length-replicate, slice_get, nat_lt, filter, IfSome, list_all, same_Some, Hints, DiskCall, Mark, Offer, OwnerItem, Stop, RankItem, StepErr, with_end, In, End, Receiver, Owner, Client, free_client, given_along, offers_in, owed, own_items, served, stop_held, stops, IsGivenInPart, Setting, Arrival, is_offer, OwnerStoodAt, counted, of_fault, of_stranger, IsHaltAt, Outcome, taken_from, stopped_with, owner_at, owner_calls, run, AreSingle, GoesSo, Grows, HoldSingle, Standing, HasCutService, arrived, gained, opening, HasFailed, HasTaken, HasToldAlong, HavePut, IsCutOff, IsDone, IsDoneSo, passed, Outlets, Halt, one_if, owed_count, alike_same, alike_two, if_some_at, entry_below, entry_replicate, own_two, nat_tests, in_left, in_right}
 use Rattle.nc_outside.specs.declared.disk.Disk.{Ghosts as DiskGhosts}
 use Rattle.nc_outside.specs.declared.told.Told.{Ghosts as ToldGhosts}
 use Rattle.file_owner.specs.declared.service.Halt.TheVariants as halt
@@ -8,6 +8,9 @@ use Rattle.file_owner.proofs.OwnerRuns.{goes_on, GoesOn}
 use Rattle.file_owner.proofs.RefusedSteps.{stood_later}
 use Rattle.file_owner.proofs.StopLaws.{filter_joined, only_stops}
 use Rattle.file_owner.proofs.GainedLaws.{gained_is, have_put, arrived_is, StoppedAt, stopped_at, left_at}
+
+fault_is : (h : Halt) (e : StepErr) → Some e ≡ of_fault h → h ≡ halt.Fault e
+fault_is h e f = grind (arith, nat_tests, same_Some)
 
 -- ---- the clauses
 
@@ -38,7 +41,7 @@ module _ (hints : Hints) (s : Setting) (old now : Receiver RankItem) (left : Lis
   owes_stops : (file : List ℕ) (q : ℕ) → of_fault h ≡ None → owed s (owner_at before file) (o.first ++ o.last) q ≡ given_along s (owner_at before file) o.first q ++ stops (owner_at o.middle []) o.last q
   owes_stops file q f = grind (arith, nat_tests, on file, at file f)
 
-  pub out_done : before.order ≡ [] → of_fault h ≡ None → (file : List ℕ) → IsDone s (owner_at before file) (passed (arrived old now) (length before.lines) (gained before.lines lines)) marks (of_stranger h)
+  out_done : before.order ≡ [] → of_fault h ≡ None → (file : List ℕ) → IsDone s (owner_at before file) (passed (arrived old now) (length before.lines) (gained before.lines lines)) marks (of_stranger h)
   out_done none f file = subst (λ (xs : List Arrival). IsDone s (owner_at before file) (passed xs (length before.lines) (gained before.lines lines)) marks (of_stranger h)) (sym arrivals_are) (record {
     order = grind (arith, nat_tests, on file, at file f, append-nil (served s (owner_at before file) o.first).marks);
     stranger = sym ((on file).stranger ∙ (at file f).stranger);
@@ -59,13 +62,13 @@ module _ (hints : Hints) (s : Setting) (old now : Receiver RankItem) (left : Lis
   told_so : (m : Option (List ℕ)) → before.told ≡ m → IfSome m (λ file. GoesSo (HoldSingle before.clients × AreSingle o.first) (run s (owner_at before file) o.first) (owner_calls hints s (owner_at before file) o.first) o.run.moved.more before o.middle)
   told_so m e = subst (λ (t : Option (List ℕ)). IfSome t (λ file. GoesSo (HoldSingle before.clients × AreSingle o.first) (run s (owner_at before file) o.first) (owner_calls hints s (owner_at before file) o.first) o.run.moved.more before o.middle)) e o.run.moved.exact
 
-  pub out_bytes : of_fault h ≡ None → (m : Option (List ℕ)) → before.told ≡ m → IfSome m (λ file. IsDoneSo s (owner_at before file) (passed (arrived old now) (length before.lines) (gained before.lines lines)) held n)
+  out_bytes : of_fault h ≡ None → (m : Option (List ℕ)) → before.told ≡ m → IfSome m (λ file. IsDoneSo s (owner_at before file) (passed (arrived old now) (length before.lines) (gained before.lines lines)) held n)
   out_bytes f m e = grind (arith, nat_tests, told_so, on, at, left_at, arrivals_are, gains, owes_stops)
 
   single_first : AreSingle (arrived old now) → AreSingle o.first
   single_first alone a i = alone a (subst (λ (xs : List Arrival). In xs a) (sym arrivals_are) (in_left o.first o.last a i))
 
-  pub out_calls : of_fault h ≡ None → HoldSingle before.clients → AreSingle (arrived old now) → (m : Option (List ℕ)) → before.told ≡ m
+  out_calls : of_fault h ≡ None → HoldSingle before.clients → AreSingle (arrived old now) → (m : Option (List ℕ)) → before.told ≡ m
       → IfSome m (λ file. made ≡ with_end before.calls (owner_calls hints s (owner_at before file) (arrived old now)))
   out_calls f free alone None e = tt
   out_calls f free alone (Some file) e =
@@ -90,72 +93,7 @@ module _ (hints : Hints) (s : Setting) (old now : Receiver RankItem) (left : Lis
   all_given : (q : ℕ) → owed s (owner_at before []) o.first q ≡ given_along s (owner_at before []) o.first q ++ stops (owner_at o.middle []) [] q
   all_given q = grind (arith, nat_tests, append-nil o.first, goes_on hints s (owner_at before []) o.first [] (o.run.none_strange []))
 
-  one_item_each : (senders : ℕ) → before.clients ≡ replicate senders free_client → length before.lines ≡ senders → senders ≡ old.senders → (q : ℕ) → q < length before.lines
-      → length (gained before.lines lines q) ≡ offers_in (own_items q (o.first ++ o.last))
-  one_item_each senders clients long same q l =
-      let client = entry_below before.clients q (clients_long q l) in
-      let free : client.0.held ≡ None = ap (λ (x : Client). x.held) (entry_replicate senders q free_client client.0 (ap (λ (ss : List Client). slice_get ss q) (sym clients) ∙ client.1)) in
-      let count = owed_count s (owner_at before []) o.first q client.0 numbers client.1 in
-      let none = held_none client.0.held free in
-      let given = ap (λ (items : List OwnerItem). length items) (all_given q) ∙ length-append (given_along s (owner_at before []) o.first q) (stops (owner_at o.middle []) [] q) in
-      let like = alike_long (o.run.moved.more q) (given_along s (owner_at before []) o.first q) ((o.run.moved.alike []).given q l) in
-      let whole = ap (λ (items : List OwnerItem). length items) (gains q l) ∙ length-append (o.run.moved.more q) (stops (owner_at o.middle []) o.last q) in
-      let stops = stops_long (owner_at o.middle []) q o.last in
-      let both = offers_long q o.first o.last in
-      omega arith
-    where
-      clients_are_long : length before.clients ≡ senders
-      clients_are_long = ap (λ (ss : List Client). length ss) clients ∙ length-replicate senders free_client
-
-      clients_long : (k : ℕ) → k < length before.lines → k < length before.clients
-      clients_long k m = omega (arith, clients_are_long, long)
-
-      numbers : list_all (λ (a : Arrival). nat_lt a.0 (length before.clients)) o.first ≡ true
-      numbers = subst (λ (k : ℕ). list_all (λ (a : Arrival). nat_lt a.0 k) o.first ≡ true) (sym (clients_are_long ∙ same)) (numbers_front old.senders o.first o.last o.taken.numbers)
-
-      held_none : (m : Option Offer) → m ≡ None → one_if m ≡ 0
-      held_none m e = grind (arith, nat_tests)
-
-  pub out_failed : (senders k : ℕ) → ((file : List ℕ) → owner_at before file ≡ opening senders (counted file k)) → before.order ≡ [] → before.clients ≡ replicate senders free_client → length before.lines ≡ senders → senders ≡ old.senders
-      → of_stranger h ≡ None → HasFailed s (opening senders) k (passed (arrived old now) (length before.lines) (gained before.lines lines)) marks (of_stranger h)
-  out_failed senders k is none clients long same number = record {
-    first = o.first;
-    later = o.last;
-    all = arrivals_are;
-    cut_off = λ file. subst (λ (d : Owner). IsCutOff s d o.first (length before.lines) (gained before.lines lines) marks) (is file) (record {
-      none_strange = o.run.none_strange file;
-      order = o.order ∙ (o.run.moved.alike file).marks ∙ ap (λ (ms : List Mark). ms ++ (served s (owner_at before file) o.first).marks) none;
-      given = λ q l.
-          let stops = only_stops (slice_get o.middle.clients q) (filter is_offer (own_items q o.last)) in (
-            stops.0,
-            alike_by (gained before.lines lines q) (o.run.moved.more q ++ replicate stops.0 Stop) (given_along s (owner_at before file) o.first q ++ replicate stops.0 Stop)
-                (given_along s (owner_at before file) o.first q ++ replicate stops.0 Stop)
-                (gains q l ∙ ap (λ (items : List OwnerItem). o.run.moved.more q ++ items) stops.1) refl
-                (alike_two (o.run.moved.more q) (given_along s (owner_at before file) o.first q) (replicate stops.0 Stop) (replicate stops.0 Stop) ((o.run.moved.alike file).given q l) (alike_same (replicate stops.0 Stop))),
-          );
-    });
-    one_each = λ q l. one_item_each senders clients long same q l ∙ ap (λ (xs : List Arrival). offers_in (own_items q xs)) (sym arrivals_are);
-    stranger = number;
-  }
-
-  -- the replies are all that the owner made, and the rest are stops
-  pub out_gives : (senders : ℕ) → before.clients ≡ replicate senders free_client → length before.lines ≡ senders → senders ≡ old.senders → (file : List ℕ) → before.told ≡ Some file
-      → (q : ℕ) → q < length before.lines → (given : IsGivenInPart s (owner_at before file) o.first o.last q (gained before.lines lines q)) × (given.unheard ≡ [])
-  out_gives senders clients long same file e q l =
-      let stops = only_stops (slice_get o.middle.clients q) (filter is_offer (own_items q o.last)) in
-      let g = told_so (Some file) e in (
-        record {
-          replies = given_along s (owner_at before file) o.first q;
-          unheard = [];
-          stopped = stops.0;
-          begins = append-nil (given_along s (owner_at before file) o.first q);
-          whole = gains q l ∙ (λ i. g.given q l i ++ stops.1 i);
-          one_each = one_item_each senders clients long same q l;
-        },
-        refl,
-      )
-
-  pub out_stood : (e : StepErr) → h ≡ halt.Fault e → HoldSingle before.clients → AreSingle (arrived old now) → (file : List ℕ) → before.told ≡ Some file
+  out_stood : (e : StepErr) → h ≡ halt.Fault e → HoldSingle before.clients → AreSingle (arrived old now) → (file : List ℕ) → before.told ≡ Some file
       → (bytes : List ℕ) × (held ≡ Some bytes) × OwnerStoodAt s e (served s (owner_at before file) o.first).owner o.last bytes n
   out_stood e is free alone file there =
       let fault = subst (λ (k : Halt). IsHaltAt s o.middle o.later (stopped_with n held made marks heard lines) k) is o.halted in
@@ -172,35 +110,117 @@ module _ (hints : Hints) (s : Setting) (old now : Receiver RankItem) (left : Lis
       single_later : AreSingle o.later
       single_later a i = alone a (subst (λ (xs : List Arrival). In xs a) (sym arrivals_are) (in_right o.first o.last a (subst (λ (xs : List Arrival). In xs a) (sym o.parts) (in_left o.later o.more a i))))
 
-  pub out_cut : (senders k : ℕ) (e : StepErr) → h ≡ halt.Fault e → ((file : List ℕ) → owner_at before file ≡ opening senders (counted file k)) → before.order ≡ [] → before.clients ≡ replicate senders free_client
-      → HoldSingle before.clients → length before.lines ≡ senders → senders ≡ old.senders → (m : Option (List ℕ)) → before.told ≡ m
-      → IfSome m (λ file. HasCutService s e (opening senders (counted file k)) (passed (arrived old now) senders (gained before.lines lines)) (point marks held n))
-  out_cut senders k e is opened none clients free long same None there = tt
-  out_cut senders k e is opened none clients free long same (Some file) there =
-      subst (λ (d : Owner). HasCutService s e d (passed (arrived old now) senders (gained before.lines lines)) (point marks held n)) (opened file) (record {
-        first = o.first;
-        later = o.last;
-        all = arrivals_are;
-        left = bytes_or held;
-        told = λ alone. let at = out_stood e is free alone file there in at.1 ∙ ap (λ (xs : List ℕ). Some xs) (sym (ap bytes_or at.1));
-        service = record {
-          no_stranger = o.run.none_strange file;
-          in_order = o.order ∙ (o.run.moved.alike file).marks ∙ ap (λ (ms : List Mark). ms ++ (served s (owner_at before file) o.first).marks) none;
-          stood = λ alone.
-              let at = out_stood e is free (subst (λ (xs : List Arrival). AreSingle xs) (sym arrivals_are) alone) file there in
-              subst (λ (xs : List ℕ). OwnerStoodAt s e (served s (owner_at before file) o.first).owner o.last xs n) (sym (ap bytes_or at.1)) at.2;
-          gives = λ q l. (out_gives senders clients long same file there q (low q l)).0;
-          all_heard = λ disk q l. (out_gives senders clients long same file there q (low q l)).1;
-        };
-        all_heard = λ q l. (out_gives senders clients long same file there q (low q l)).1;
-      })
-    where
-      bytes_or : Option (List ℕ) → List ℕ
-      bytes_or None = []
-      bytes_or (Some xs) = xs
+  -- ---- from the opening
 
-      low : (q : ℕ) → q < length before.clients → q < length before.lines
-      low q l = let wide = ap (λ (ss : List Client). length ss) clients ∙ length-replicate senders free_client in omega arith
+  module _ (fault : Option StepErr) (number : Option ℕ) (as_fault : fault ≡ of_fault h) (as_number : number ≡ of_stranger h) (none : before.order ≡ [])
+      (clients : before.clients ≡ replicate old.senders free_client) (long : length before.lines ≡ old.senders) where
+    low : (q : ℕ) → q < old.senders → q < length before.lines
+    low q l = subst (λ (k : ℕ). q < k) (sym long) l
+
+    clients_long : length before.clients ≡ old.senders
+    clients_long = ap (λ (ss : List Client). length ss) clients ∙ length-replicate old.senders free_client
+
+    frees : (q : ℕ) (x : Client) → slice_get before.clients q ≡ Some x → x.held ≡ None
+    frees q x e = ap (λ (y : Client). y.held) (entry_replicate old.senders q free_client x (ap (λ (ss : List Client). slice_get ss q) (sym clients) ∙ e))
+
+    none_single : HoldSingle before.clients
+    none_single r x p e f = let no : x.held ≡ None = frees r x e in absurd cc
+
+    pub end_done : fault ≡ None → (file : List ℕ) → IsDone s (owner_at before file) (passed (arrived old now) old.senders (gained before.lines lines)) marks number
+    end_done e file =
+        subst (λ (p : ℕ × Option ℕ). IsDone s (owner_at before file) (passed (arrived old now) p.0 (gained before.lines lines)) marks p.1) (λ i. (long i, sym as_number i)) (out_done none (sym as_fault ∙ e) file)
+
+    pub end_bytes : fault ≡ None → IfSome before.told (λ file. IsDoneSo s (owner_at before file) (passed (arrived old now) old.senders (gained before.lines lines)) held n)
+    end_bytes e =
+        subst (λ (k : ℕ). IfSome before.told (λ file. IsDoneSo s (owner_at before file) (passed (arrived old now) k (gained before.lines lines)) held n)) long (out_bytes (sym as_fault ∙ e) before.told refl)
+
+    pub end_calls : fault ≡ None → AreSingle (arrived old now) → IfSome before.told (λ file. made ≡ with_end before.calls (owner_calls hints s (owner_at before file) (arrived old now)))
+    end_calls e alone = out_calls (sym as_fault ∙ e) none_single alone before.told refl
+
+    one_item_each : (q : ℕ) → q < old.senders → length (gained before.lines lines q) ≡ offers_in (own_items q (o.first ++ o.last))
+    one_item_each q l =
+        let client = entry_below before.clients q (subst (λ (k : ℕ). q < k) (sym clients_long) l) in
+        let count = owed_count s (owner_at before []) o.first q client.0 numbers client.1 in
+        let none = held_none client.0.held (frees q client.0 client.1) in
+        let given = ap (λ (items : List OwnerItem). length items) (all_given q) ∙ length-append (given_along s (owner_at before []) o.first q) (stops (owner_at o.middle []) [] q) in
+        let like = alike_long (o.run.moved.more q) (given_along s (owner_at before []) o.first q) ((o.run.moved.alike []).given q (low q l)) in
+        let whole = ap (λ (items : List OwnerItem). length items) (gains q (low q l)) ∙ length-append (o.run.moved.more q) (stops (owner_at o.middle []) o.last q) in
+        let stops = stops_long (owner_at o.middle []) q o.last in
+        let both = offers_long q o.first o.last in
+        omega arith
+      where
+        numbers : list_all (λ (a : Arrival). nat_lt a.0 (length before.clients)) o.first ≡ true
+        numbers = subst (λ (k : ℕ). list_all (λ (a : Arrival). nat_lt a.0 k) o.first ≡ true) (sym clients_long) (numbers_front old.senders o.first o.last o.taken.numbers)
+
+        held_none : (m : Option Offer) → m ≡ None → one_if m ≡ 0
+        held_none m e = grind (arith, nat_tests)
+
+    pub end_failed : (k : ℕ) (e : StepErr) → ((file : List ℕ) → owner_at before file ≡ opening old.senders (counted file k)) → fault ≡ Some e
+        → HasFailed s (opening old.senders) k (passed (arrived old now) old.senders (gained before.lines lines)) marks number
+    end_failed k e opened is = record {
+      first = o.first;
+      later = o.last;
+      all = arrivals_are;
+      cut_off = λ file. subst (λ (d : Owner). IsCutOff s d o.first old.senders (gained before.lines lines) marks) (opened file) (record {
+        none_strange = o.run.none_strange file;
+        order = o.order ∙ (o.run.moved.alike file).marks ∙ ap (λ (ms : List Mark). ms ++ (served s (owner_at before file) o.first).marks) none;
+        given = λ q l.
+            let stops = only_stops (slice_get o.middle.clients q) (filter is_offer (own_items q o.last)) in (
+              stops.0,
+              alike_by (gained before.lines lines q) (o.run.moved.more q ++ replicate stops.0 Stop) (given_along s (owner_at before file) o.first q ++ replicate stops.0 Stop)
+                  (given_along s (owner_at before file) o.first q ++ replicate stops.0 Stop)
+                  (gains q (low q l) ∙ ap (λ (items : List OwnerItem). o.run.moved.more q ++ items) stops.1) refl
+                  (alike_two (o.run.moved.more q) (given_along s (owner_at before file) o.first q) (replicate stops.0 Stop) (replicate stops.0 Stop) ((o.run.moved.alike file).given q (low q l)) (alike_same (replicate stops.0 Stop))),
+            );
+      });
+      one_each = λ q l. one_item_each q l ∙ ap (λ (xs : List Arrival). offers_in (own_items q xs)) (sym arrivals_are);
+      stranger = as_number ∙ ap of_stranger (fault_is h e (sym is ∙ as_fault));
+    }
+
+    -- the replies are all that the owner made, and the rest are stops
+    out_gives : (file : List ℕ) → before.told ≡ Some file → (q : ℕ) → q < length before.clients → (given : IsGivenInPart s (owner_at before file) o.first o.last q (gained before.lines lines)) × (given.unheard ≡ [])
+    out_gives file e q wide =
+        let l = subst (λ (k : ℕ). q < k) clients_long wide in
+        let stops = only_stops (slice_get o.middle.clients q) (filter is_offer (own_items q o.last)) in
+        let g = told_so (Some file) e in (
+          record {
+            replies = given_along s (owner_at before file) o.first q;
+            unheard = [];
+            stopped = stops.0;
+            begins = append-nil (given_along s (owner_at before file) o.first q);
+            whole = gains q (low q l) ∙ (λ i. g.given q (low q l) i ++ stops.1 i);
+            one_each = one_item_each q l;
+          },
+          refl,
+        )
+
+    pub end_cut : (e : StepErr) → fault ≡ Some e → (m : Option (List ℕ)) → before.told ≡ m
+        → IfSome m (λ file. HasCutService s e (owner_at before file) (passed (arrived old now) old.senders (gained before.lines lines)) (point marks held n))
+    end_cut e is None there = tt
+    end_cut e is (Some file) there = record {
+      first = o.first;
+      later = o.last;
+      all = arrivals_are;
+      left = bytes_or held;
+      told = λ alone. let at = stands alone in at.1 ∙ ap (λ (xs : List ℕ). Some xs) (sym (ap bytes_or at.1));
+      service = record {
+        no_stranger = o.run.none_strange file;
+        in_order = o.order ∙ (o.run.moved.alike file).marks ∙ ap (λ (ms : List Mark). ms ++ (served s (owner_at before file) o.first).marks) none;
+        stood = λ alone.
+            let at = stands (subst (λ (xs : List Arrival). AreSingle xs) (sym arrivals_are) alone) in
+            subst (λ (xs : List ℕ). OwnerStoodAt s e (served s (owner_at before file) o.first).owner o.last xs n) (sym (ap bytes_or at.1)) at.2;
+        gives = λ q l. (out_gives file there q l).0;
+        all_heard = λ disk q l. (out_gives file there q l).1;
+      };
+      all_heard = λ q l. (out_gives file there q l).1;
+    }
+      where
+        bytes_or : Option (List ℕ) → List ℕ
+        bytes_or None = []
+        bytes_or (Some xs) = xs
+
+        stands : AreSingle (arrived old now) → (bytes : List ℕ) × (held ≡ Some bytes) × OwnerStoodAt s e (served s (owner_at before file) o.first).owner o.last bytes n
+        stands alone = out_stood e (fault_is h e (sym is ∙ as_fault)) none_single alone file there
 
 -- the same where what was lent is given back
 pub outcome_given : {D T : Type 0} (disk : DiskGhosts D) (told : ToldGhosts T) (hints : Hints) (s : Setting) (old now : Receiver RankItem) (left : List Bool) (before : Standing) (out : Outlets D T) (marks : List Mark) (h : Halt)

@@ -2,7 +2,6 @@ mod Words
 pub mod AlikeLaws
 mod GainedLaws
 pub mod EndLaws
-mod HaltedLaws
 mod HaltLaws
 pub mod StopLaws
 mod ArriveSteps
