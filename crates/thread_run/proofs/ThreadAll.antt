@@ -7,8 +7,8 @@ use Rattle.thread_run.proofs.ThreadTies.{Told, begun, OwnerSide}
 if_both : {X : Type 0} {P Q R : X → Type 0} (m : Option X) → IfSome m P → IfSome m Q → ((x : X) → P x → Q x → R x) → IfSome m R
 if_both m p q f = grind (arith, nat_tests)
 
-module _ (script : Script) (header : Header) (arrivals : List Arrival) (given : ℕ → List OwnerItem) (ends : List RankEnd)
-    (sound : is_sound header ≡ true) (lawful : is_lawful script ≡ true) (t : Told script header arrivals given ends) where
+module _ {script : Script} {header : Header} {arrivals : List Arrival} {given : ℕ → List OwnerItem} {ends : List RankEnd} (t : Told script header arrivals given ends)
+    (sound : is_sound header ≡ true) (lawful : is_lawful script ≡ true) where
   -- the owner's order begins one of the script's
   pub order_begun : {held : Option (List ℕ)} {calls : Option (List DiskCall)} {faults : ℕ} {told : Option (List (Mark × ℕ))} {left : Option (List ℕ)} {made : Option (List DiskCall)} {failed records : ℕ}
       {heard : Option (List (Mark × ℕ))} {end : ServeEnd} → OwnerSide script header arrivals given script.ranks (length script.calls) held calls faults told left made failed records heard end → HasBegun script end.order
@@ -17,15 +17,15 @@ module _ (script : Script) (header : Header) (arrivals : List Arrival) (given : 
       by : (end.fault ≡ None) ⊎ ((e : StepErr) × (end.fault ≡ Some e)) → HasBegun script end.order
       by (inl none) =
           let e : end.order ≡ (run_of script header [] arrivals).marks = (o.done none []).order in
-          subst (λ (ms : List Mark). HasBegun script ms) (sym e) (begun script header arrivals given ends t [] arrivals [] (sym (append-nil arrivals)) lawful)
+          subst (λ (ms : List Mark). HasBegun script ms) (sym e) (begun t [] arrivals [] (sym (append-nil arrivals)) lawful)
       by (inr (x, some)) =
           let h = o.cut_off x some in
           let e : end.order ≡ (run_of script header [] h.first).marks = (h.cut_off []).order in
-          subst (λ (ms : List Mark). HasBegun script ms) (sym e) (begun script header arrivals given ends t [] h.first h.later h.all lawful)
+          subst (λ (ms : List Mark). HasBegun script ms) (sym e) (begun t [] h.first h.later h.all lawful)
 
   pub known_sound : (end : ServeEnd) → ((file : List ℕ) → IsDone (setting_of script header) (opening_owner script header file) (passed arrivals script.ranks given) end.order end.stranger)
       → NoneBroke ends → is_sound (record header { records = most_known_of ends }) ≡ true
-  known_sound end done whole = (finished script header arrivals given ends end.order end.stranger sound lawful t whole done).sound
+  known_sound end done whole = (finished t sound lawful end.order end.stranger whole done).sound
 
   pub run_all : {held : Option (List ℕ)} {calls : Option (List DiskCall)} {faults : ℕ} {told : Option (List (Mark × ℕ))} {held' : Option (List ℕ)} {calls' : Option (List DiskCall)} {faults' count : ℕ}
       {heard : Option (List (Mark × ℕ))} {before : ServeEnd} {left : Option (List ℕ)} {made : Option (List DiskCall)} {failed records : ℕ} {end : RunEnd}
@@ -63,15 +63,14 @@ module _ (script : Script) (header : Header) (arrivals : List Arrival) (given : 
       state file = served (setting_of script header) (opening_owner script header file) arrivals
 
       fin : end.fault ≡ None → Finished script header arrivals ends before.order
-      fin none = finished script header arrivals given ends before.order before.stranger sound lawful t (c.went none).1 (o.done (c.went none).0)
+      fin none = finished t sound lawful before.order before.stranger (c.went none).1 (o.done (c.went none).0)
 
-      fin_alike : end.fault ≡ None → (file : List ℕ)
-          → FinishedAlike script header ends before.order file (run_of script header file arrivals).owner
-      fin_alike none file = finished_alike script header arrivals given ends before.order before.stranger sound lawful t (c.went none).1 (o.done (c.went none).0) file
+      fin_alike : end.fault ≡ None → (file : List ℕ) → FinishedAlike script header ends before.order file (run_of script header file arrivals).owner
+      fin_alike none file = finished_alike t sound lawful before.order before.stranger (c.went none).1 (o.done (c.went none).0) file
 
       fin_so : end.fault ≡ None → (file : List ℕ) → IsDoneSo (setting_of script header) (opening_owner script header file) (passed arrivals script.ranks given) held' count
           → FinishedSo script header arrivals ends before.order file (run_of script header file arrivals).owner
-      fin_so none file so = finished_so script header arrivals given ends before.order before.stranger sound lawful t (c.went none).1 (o.done (c.went none).0) file held' count so
+      fin_so none file so = finished_so t sound lawful before.order before.stranger (c.went none).1 (o.done (c.went none).0) file held' count so
 
       counts : end.fault ≡ None → (file : List ℕ) → IsDoneSo (setting_of script header) (opening_owner script header file) (passed arrivals script.ranks given) held' count
           → records ≡ (serial_from script header file before.order).records

@@ -15,23 +15,23 @@ use Rattle.thread_run.proofs.ServiceCut.{Service, service_cut, service_done}
 
 -- ---- the ranks
 
-module _ (script : Script) (header : Header) (arrivals : List Arrival) (given : ℕ → List OwnerItem) (ends : List RankEnd) (sound : is_sound header ≡ true) (lawful : is_lawful script ≡ true)
-    (t : Told script header arrivals given ends) (file : List ℕ) (order : List Mark) (h : Service (setting_of script header) (opening_owner script header file) script.ranks arrivals given order) where
+module _ {script : Script} {header : Header} {arrivals : List Arrival} {given : ℕ → List OwnerItem} {ends : List RankEnd} (t : Told script header arrivals given ends) (sound : is_sound header ≡ true) (lawful : is_lawful script ≡ true)
+    (file : List ℕ) {order : List Mark} (h : Service (setting_of script header) (opening_owner script header file) script.ranks arrivals given order) where
   stopped : ℕ → ℕ
   stopped q = length (given q) - length (given_along (setting_of script header) (opening_owner script header file) h.first q)
 
-  offered_of : HasOffered script header (h.first ++ h.later) (takes script header arrivals given ends t)
-  offered_of = subst (λ (xs : List Arrival). HasOffered script header xs (takes script header arrivals given ends t)) h.all (offered_all script header arrivals given ends t)
+  offered_of : HasOffered script header (h.first ++ h.later) (takes t)
+  offered_of = subst (λ (xs : List Arrival). HasOffered script header xs (takes t)) h.all (offered_all t)
 
   own_at : (r : ℕ) → r < script.ranks → (own : List Call) × (slice_get script.calls r ≡ Some own)
   own_at r l = entry_below script.calls r (let k = t.calls in omega arith)
 
   came : (r : ℕ) → r < script.ranks
-      → Begins (takes script header arrivals given ends t r) (given_along (setting_of script header) (opening_owner script header file) h.first r
+      → Begins (takes t r) (given_along (setting_of script header) (opening_owner script header file) h.first r
       ++ replicate (length (given r) - length (given_along (setting_of script header) (opening_owner script header file) h.first r)) Stop)
   came r l =
       let own = own_at r l in
-      let o = own_of script header arrivals given ends t r own.0 own.1 in
+      let o = own_of t r own.0 own.1 in
       let g = h.gives r l in
       let long = ap (λ (items : List OwnerItem). length items) g.1 ∙ length-append (given_along (setting_of script header) (opening_owner script header file) h.first r) (replicate g.0 Stop) in
       let wide = length-replicate g.0 Stop in
@@ -46,12 +46,12 @@ module _ (script : Script) (header : Header) (arrivals : List Arrival) (given : 
       by true l = omega arith
       by false l = l
 
-  enough : (r : ℕ) → r < script.ranks → offers_in (own_items r (h.first ++ h.later)) ≤ length (takes script header arrivals given ends t r)
-  enough r l = grind (arith, nat_tests, own_at r l, own_of script header arrivals given ends t r (own_at r l).0 (own_at r l).1, offers_front)
+  enough : (r : ℕ) → r < script.ranks → offers_in (own_items r (h.first ++ h.later)) ≤ length (takes t r)
+  enough r l = grind (arith, nat_tests, own_at r l, own_of t r (own_at r l).0 (own_at r l).1, offers_front)
 
-  run : Ran (setting_of script header) (opening_owner script header file) (map (first_going header) script.calls) h.first h.later stopped (end_of_rank script header (takes script header arrivals given ends t))
+  run : Ran (setting_of script header) (opening_owner script header file) (map (first_going header) script.calls) h.first h.later stopped (end_of_rank script header (takes t))
   unfolding stopped
-  run = cut_run script header file h.first h.later (takes script header arrivals given ends t) stopped sound t.calls h.none offered_of enough came
+  run = cut_run script header file h.first h.later (takes t) stopped sound t.calls h.none offered_of enough came
 
   state_is : state_after script header file order ≡ ((run_of script header file h.first).owner.state, run.last)
   state_is = ap (λ (ms : List Mark). state_after script header file ms) h.order_is ∙ run.folded
@@ -69,22 +69,22 @@ module _ (script : Script) (header : Header) (arrivals : List Arrival) (given : 
   own_answers e whole r g end a b =
       let low : r < script.ranks = (let l = slice_get_within ends r end b in let k = t.long in omega arith) in
       let own = own_at r low in
-      let o = own_of script header arrivals given ends t r own.0 own.1 in
+      let o = own_of t r own.0 own.1 in
       let same : o.end ≡ end = same_Some o.end end (sym o.at_end ∙ b) in
       let x = entry_beside run.last (run_of script header file h.first).owner.clients r g (sym run.stands.long) a in
-      let ended : (advance header g).0 ≡ end_of_rank script header (takes script header arrivals given ends t) r =
-      last_end header x.0 g (own_items r h.later) (stopped r) (end_of_rank script header (takes script header arrivals given ends t) r) (run.stands.paired_at r x.0 g x.1 a) in
+      let ended : (advance header g).0 ≡ end_of_rank script header (takes t) r =
+      last_end header x.0 g (own_items r h.later) (stopped r) (end_of_rank script header (takes t) r) (run.stands.paired_at r x.0 g x.1 a) in
       let its : calls_of script r ≡ own.0 = ap (λ (m : Option (List Call)). elim m [ None ↦ [] | Some cs ↦ cs ]) own.1 in
-      let all : (advance header g).0.answers ≡ (rank_end header (first_going header own.0) (takes script header arrivals given ends t r)).answers =
-      ap (λ (v : Going). v.answers) ended ∙ ap (λ (cs : List Call). (rank_end header (first_going header cs) (takes script header arrivals given ends t r)).answers) its in
+      let all : (advance header g).0.answers ≡ (rank_end header (first_going header own.0) (takes t r)).answers =
+      ap (λ (v : Going). v.answers) ended ∙ ap (λ (cs : List Call). (rank_end header (first_going header cs) (takes t r)).answers) its in
       said_up header e g end.answers (subst (λ (z : RankEnd). HasSaid e (advance header g) z.answers) same (by_end own.0 o all (broke_or_not o.end.end)))
     where
       by_cause : (x : StepErr) → x ≡ e → (e ≡ fault.Disk → ⊥) → e ≡ fault.Memory
       by_cause fault.Memory f n = sym f
       by_cause fault.Disk f n = absurd (n (sym f))
 
-      by_end : (own : List Call) (o : Own header own (own_items r arrivals) (given r) ends r (puts script header arrivals given ends t r) (takes script header arrivals given ends t r))
-          → (advance header g).0.answers ≡ (rank_end header (first_going header own) (takes script header arrivals given ends t r)).answers
+      by_end : (own : List Call) (o : Own header own (own_items r arrivals) (given r) ends r (puts t r) (takes t r))
+          → (advance header g).0.answers ≡ (rank_end header (first_going header own) (takes t r)).answers
           → (o.end.end ≡ stop.Memory) ⊎ (o.end.end ≡ stop.Memory → ⊥) → HasSaid e (advance header g) o.end.answers
       by_end own o all (inl memory) =
           let b = o.attended.broken memory in
@@ -102,7 +102,7 @@ module _ (script : Script) (header : Header) (arrivals : List Arrival) (given : 
   -- ---- where it stood
 
   begun_order : HasBegun script order
-  begun_order = subst (λ (ms : List Mark). HasBegun script ms) (sym h.order_is) (begun script header arrivals given ends t file h.first h.later h.all lawful)
+  begun_order = subst (λ (ms : List Mark). HasBegun script ms) (sym h.order_is) (begun t file h.first h.later h.all lawful)
 
   may_follow : (later : List Mark) × IsLegal script (order ++ later)
   may_follow = completed script order lawful begun_order.known_ranks begun_order.each_rank
@@ -118,7 +118,7 @@ module _ (script : Script) (header : Header) (arrivals : List Arrival) (given : 
       on.marks ∙ ap (λ (ms : List Mark). (served s d h.first).marks ++ ms) (one.marks ∙ append-nil (event s (served s d h.first).owner a).marks ∙ marks)
       ∙ ap (λ (ms : List Mark). ms ++ m ∷ []) (sym h.order_is) in
       let b = subst (λ (ms : List Mark). HasBegun script ms) same
-      (begun script header arrivals given ends t file (h.first ++ a ∷ []) others (h.all ∙ ap (λ (xs : List Arrival). h.first ++ xs) is ∙ sym (append_assoc h.first (a ∷ []) others)) lawful) in
+      (begun t file (h.first ++ a ∷ []) others (h.all ∙ ap (λ (xs : List Arrival). h.first ++ xs) is ∙ sym (append_assoc h.first (a ∷ []) others)) lawful) in
       completed_by script order m lawful b.known_ranks b.each_rank
 
   stood_served : (e : StepErr) (left : List ℕ) (records : ℕ) → OwnerStoodAt (setting_of script header) e (run_of script header file h.first).owner h.later left records
@@ -126,7 +126,7 @@ module _ (script : Script) (header : Header) (arrivals : List Arrival) (given : 
   stood_served e left records at =
       subst (λ (st : Counted × List Going). StoodAt script (setting_of script header) e st order left records) (sym state_is)
       (stood_run script (setting_of script header) e (run_of script header file h.first).owner run.last order h.later left records (λ q. replicate (stopped q) Stop)
-      (end_of_rank script header (takes script header arrivals given ends t)) run.stands numbers may_follow next_mark at)
+      (end_of_rank script header (takes t)) run.stands numbers may_follow next_mark at)
     where
       numbers : list_all (λ (b : Arrival). nat_lt b.0 (length (run_of script header file h.first).owner.clients)) h.later ≡ true
       numbers =
@@ -135,118 +135,111 @@ module _ (script : Script) (header : Header) (arrivals : List Arrival) (given : 
           ap (λ (k : ℕ). list_all (λ (b : Arrival). nat_lt b.0 k) h.later) clients ∙ and_second (list_all (λ (a : Arrival). nat_lt a.0 script.ranks) h.first) _ both
 
   single : AreSingle (h.first ++ h.later)
-  single = single_begun script header (h.first ++ h.later) (takes script header arrivals given ends t) t.calls offered_of
+  single = single_begun script header (h.first ++ h.later) (takes t) t.calls offered_of
 
 -- ---- the run
 
-module _ (script : Script) (header : Header) (arrivals : List Arrival) (given : ℕ → List OwnerItem) (ends : List RankEnd) (sound : is_sound header ≡ true) (lawful : is_lawful script ≡ true)
-    (t : Told script header arrivals given ends) (file : List ℕ) where
-  abbrev owner : Owner
-  owner = opening_owner script header file
-
+module _ {script : Script} {header : Header} {arrivals : List Arrival} {given : ℕ → List OwnerItem} {ends : List RankEnd} (t : Told script header arrivals given ends) (sound : is_sound header ≡ true) (lawful : is_lawful script ≡ true)
+    (file : List ℕ) where
   pub ranks_are : script.ranks ≡ length (opening_owner script header file).clients
   ranks_are = sym t.calls ∙ sym (length-replicate (length script.calls) free_client)
 
-  as_run : (e : StepErr) (before : ServeEnd) (held : Option (List ℕ)) (count : ℕ) (left : Option (List ℕ)) (records : ℕ) (end : RunEnd) → EndOfCut header ends before e held count left records end
-      → (h : Service (setting_of script header) (opening_owner script header file) script.ranks arrivals given before.order) → (bytes : List ℕ)
-      → StoodAt script (setting_of script header) e (state_after script header file before.order) before.order bytes records → IsCutRun script header file e end.order bytes records end.answers
-  as_run e before held count left records end c h bytes at = subst (λ (ms : List Mark). IsCutRun script header file e ms bytes records end.answers) (sym c.order) (record {
-    stood = at;
-    each_rank = cut_rows script e (map (λ (x : RankEnd). x.answers) ends) end.answers (length-map ends (λ (x : RankEnd). x.answers) ∙ t.long ∙ sym t.calls) c.kept c.rows;
-    some_answers = all_answers script header arrivals given ends sound lawful t file before.order h e c.whole end.answers c.rows;
-  })
+  module _ {e : StepErr} {before : ServeEnd} {held : Option (List ℕ)} {count : ℕ} {left : Option (List ℕ)} {records : ℕ} {end : RunEnd} (c : EndOfCut header ends before e held count left records end) where
+    as_run : (h : Service (setting_of script header) (opening_owner script header file) script.ranks arrivals given before.order) → (bytes : List ℕ)
+        → StoodAt script (setting_of script header) e (state_after script header file before.order) before.order bytes records → IsCutRun script header file e end.order bytes records end.answers
+    as_run h bytes at = subst (λ (ms : List Mark). IsCutRun script header file e ms bytes records end.answers) (sym c.order) (record {
+      stood = at;
+      each_rank = cut_rows script e (map (λ (x : RankEnd). x.answers) ends) end.answers (length-map ends (λ (x : RankEnd). x.answers) ∙ t.long ∙ sym t.calls) c.kept c.rows;
+      some_answers = all_answers t sound lawful file h e c.whole end.answers c.rows;
+    })
 
-  -- the owner met a fault
-  cut_served : (x e : StepErr) (before : ServeEnd) (held : Option (List ℕ)) (count : ℕ) (left : Option (List ℕ)) (records : ℕ) (end : RunEnd) → EndOfCut header ends before e held count left records end
-      → (x ≡ e) ⊎ (e ≡ fault.Memory) → left ≡ held → records ≡ count
-      → HasCutService (setting_of script header) x (opening_owner script header file) (passed arrivals script.ranks given) (point before.order held count)
-      → (bytes : List ℕ) × (left ≡ Some bytes) × IsCutRun script header file e end.order bytes records end.answers
-  unfolding service_cut
-  cut_served x e before held count left records end c which l k service =
-      let h = service_cut (setting_of script header) (opening_owner script header file) script.ranks count x arrivals given before.order held ranks_are service in
-      let alone = single script header arrivals given ends sound lawful t file before.order h in
-      let told = service.told (subst AreSingle (sym service.all) alone) in
-      let at = stood_served script header arrivals given ends sound lawful t file before.order h x service.left count (service.service.stood alone) in (
-        service.left,
-        l ∙ told,
-        as_run e before held count left records end c h service.left
-            (subst (λ (n : ℕ). StoodAt script (setting_of script header) e (state_after script header file before.order) before.order service.left n) (sym k)
-            (stood_as which at)),
-      )
+    -- the owner met a fault
+    cut_served : (x : StepErr) → (x ≡ e) ⊎ (e ≡ fault.Memory) → left ≡ held → records ≡ count
+        → HasCutService (setting_of script header) x (opening_owner script header file) (passed arrivals script.ranks given) (point before.order held count)
+        → (bytes : List ℕ) × (left ≡ Some bytes) × IsCutRun script header file e end.order bytes records end.answers
+    unfolding service_cut
+    cut_served x which l k service =
+        let h = service_cut (setting_of script header) (opening_owner script header file) script.ranks count x arrivals given before.order held ranks_are service in
+        let alone = single t sound lawful file h in
+        let told = service.told (subst AreSingle (sym service.all) alone) in
+        let at = stood_served t sound lawful file h x service.left count (service.service.stood alone) in (
+          service.left,
+          l ∙ told,
+          as_run h service.left
+              (subst (λ (n : ℕ). StoodAt script (setting_of script header) e (state_after script header file before.order) before.order service.left n) (sym k)
+              (stood_as which at)),
+        )
 
-  -- a rank had no memory, and the owner met no fault
-  cut_broken : (e : StepErr) (before : ServeEnd) (held : Option (List ℕ)) (count : ℕ) (left : Option (List ℕ)) (records : ℕ) (end : RunEnd) → EndOfCut header ends before e held count left records end
-      → e ≡ fault.Memory → left ≡ held → records ≡ count
-      → IsDone (setting_of script header) (opening_owner script header file) (passed arrivals script.ranks given) before.order before.stranger
-      → IsDoneSo (setting_of script header) (opening_owner script header file) (passed arrivals script.ranks given) held count
-      → (bytes : List ℕ) × (left ≡ Some bytes) × IsCutRun script header file e end.order bytes records end.answers
-  cut_broken e before held count left records end c memory l k done so =
-      let s = setting_of script header in
-      let h = service_done script.hints s (opening_owner script header file) script.ranks arrivals given before.order done.order so.given in
-      let state = state_is script header arrivals given ends sound lawful t file before.order h.0 in
-      let there : (run_of script header file arrivals).owner.state ≡ (state_after script header file before.order).0 =
-      ap (λ (x : Owner). x.state) (sym h.1) ∙ sym (ap (λ (st : Counted × List Going). st.0) state) in
-      let may = may_follow script header arrivals given ends sound lawful t file before.order h.0 in (
-        (run_of script header file arrivals).owner.state.file,
-        l ∙ so.told,
-        as_run e before held count left records end c h.0 (run_of script header file arrivals).owner.state.file
-            (between may.0 may.1 memory (ap (λ (x : Counted). x.file) there) (k ∙ so.records ∙ ap (λ (x : Counted). x.records) there)),
-      )
+    -- a rank had no memory, and the owner met no fault
+    cut_broken : e ≡ fault.Memory → left ≡ held → records ≡ count
+        → IsDone (setting_of script header) (opening_owner script header file) (passed arrivals script.ranks given) before.order before.stranger
+        → IsDoneSo (setting_of script header) (opening_owner script header file) (passed arrivals script.ranks given) held count
+        → (bytes : List ℕ) × (left ≡ Some bytes) × IsCutRun script header file e end.order bytes records end.answers
+    cut_broken memory l k done so =
+        let s = setting_of script header in
+        let h = service_done script.hints s (opening_owner script header file) script.ranks arrivals given before.order done.order so.given in
+        let state = state_is t sound lawful file h.0 in
+        let there : (run_of script header file arrivals).owner.state ≡ (state_after script header file before.order).0 =
+        ap (λ (x : Owner). x.state) (sym h.1) ∙ sym (ap (λ (st : Counted × List Going). st.0) state) in
+        let may = may_follow t sound lawful file h.0 in (
+          (run_of script header file arrivals).owner.state.file,
+          l ∙ so.told,
+          as_run h.0 (run_of script header file arrivals).owner.state.file
+              (between may.0 may.1 memory (ap (λ (x : Counted). x.file) there) (k ∙ so.records ∙ ap (λ (x : Counted). x.records) there)),
+        )
 
-  -- the close was refused, or done before there was no memory
-  cut_closing : (e : StepErr) (before : ServeEnd) (held : Option (List ℕ)) (count : ℕ) (left : Option (List ℕ)) (records : ℕ) (end : RunEnd) → EndOfCut header ends before e held count left records end
-      → NoneBroke ends → BothTold (λ old now. IsTorn [] (byte_len (count_width header.version)) old (raised (as_setting header) (counted old count) (most_known_of ends)).file now) held left
-      → (records ≡ count) ⊎ (records ≡ max count (most_known_of ends))
-      → ((f : List ℕ) → IsDone (setting_of script header) (opening_owner script header f) (passed arrivals script.ranks given) before.order before.stranger)
-      → IsDoneSo (setting_of script header) (opening_owner script header file) (passed arrivals script.ranks given) held count
-      → (bytes : List ℕ) × (left ≡ Some bytes) × IsCutRun script header file e end.order bytes records end.answers
-  cut_closing e before held count left records end c whole torn which done so =
-      let s = setting_of script header in
-      let h = service_done script.hints s (opening_owner script header file) script.ranks arrivals given before.order (done file).order so.given in
-      let state = state_is script header arrivals given ends sound lawful t file before.order h.0 in
-      let there : (run_of script header file arrivals).owner.state ≡ (state_after script header file before.order).0 =
-      ap (λ (x : Owner). x.state) (sym h.1) ∙ sym (ap (λ (st : Counted × List Going). st.0) state) in
-      let fin = finished script header arrivals given ends before.order before.stranger sound lawful t whole done in
-      let last = finished_so script header arrivals given ends before.order before.stranger sound lawful t whole done file held count so in
-      let near = finished_alike script header arrivals given ends before.order before.stranger sound lawful t whole done file in
-      let st = (run_of script header file arrivals).owner.state in
-      let b = subst (λ (m : Option (List ℕ)). BothTold (λ old now. IsTorn [] (byte_len (count_width header.version)) old (raised (as_setting header) (counted old count) (most_known_of ends)).file now) m left) so.told torn in
-      let file_is : (raised (as_setting header) (counted st.file count) (most_known_of ends)).file ≡ (serial_from script header file before.order).bytes =
-      ap (λ (n : ℕ). (raised (as_setting header) (counted st.file n) (most_known_of ends)).file) so.records ∙ last.bytes in (
-        b.0,
-        b.1,
-        as_run e before held count left records end c h.0 b.0
-            (in_close fin.legal
-            (subst (λ (old : Counted). IsLeft header [] old (record { file = (serial_from script header file before.order).bytes; records = (serial_from script header file before.order).records }) b.0 records) there (
-              subst (λ (f : List ℕ). IsTorn [] (byte_len (count_width header.version)) st.file f b.0) file_is b.2,
-              by_count st.records (serial_from script header file before.order).records so.records near.records which,
-            ))),
-      )
-    where
-      by_count : (n m : ℕ) → count ≡ n → max n (most_known_of ends) ≡ m → (records ≡ count) ⊎ (records ≡ max count (most_known_of ends)) → (records ≡ n) ⊎ (records ≡ m)
-      by_count n m e f (inl q) = inl (q ∙ e)
-      by_count n m e f (inr q) = inr (q ∙ ap (λ (k : ℕ). max k (most_known_of ends)) e ∙ f)
+    -- the close was refused, or done before there was no memory
+    cut_closing : NoneBroke ends → BothTold (λ old now. IsTorn [] (byte_len (count_width header.version)) old (raised (as_setting header) (counted old count) (most_known_of ends)).file now) held left
+        → (records ≡ count) ⊎ (records ≡ max count (most_known_of ends))
+        → ((f : List ℕ) → IsDone (setting_of script header) (opening_owner script header f) (passed arrivals script.ranks given) before.order before.stranger)
+        → IsDoneSo (setting_of script header) (opening_owner script header file) (passed arrivals script.ranks given) held count
+        → (bytes : List ℕ) × (left ≡ Some bytes) × IsCutRun script header file e end.order bytes records end.answers
+    cut_closing whole torn which done so =
+        let s = setting_of script header in
+        let h = service_done script.hints s (opening_owner script header file) script.ranks arrivals given before.order (done file).order so.given in
+        let state = state_is t sound lawful file h.0 in
+        let there : (run_of script header file arrivals).owner.state ≡ (state_after script header file before.order).0 =
+        ap (λ (x : Owner). x.state) (sym h.1) ∙ sym (ap (λ (st : Counted × List Going). st.0) state) in
+        let fin = finished t sound lawful before.order before.stranger whole done in
+        let last = finished_so t sound lawful before.order before.stranger whole done file held count so in
+        let near = finished_alike t sound lawful before.order before.stranger whole done file in
+        let st = (run_of script header file arrivals).owner.state in
+        let b = subst (λ (m : Option (List ℕ)). BothTold (λ old now. IsTorn [] (byte_len (count_width header.version)) old (raised (as_setting header) (counted old count) (most_known_of ends)).file now) m left) so.told torn in
+        let file_is : (raised (as_setting header) (counted st.file count) (most_known_of ends)).file ≡ (serial_from script header file before.order).bytes =
+        ap (λ (n : ℕ). (raised (as_setting header) (counted st.file n) (most_known_of ends)).file) so.records ∙ last.bytes in (
+          b.0,
+          b.1,
+          as_run h.0 b.0
+              (in_close fin.legal
+              (subst (λ (old : Counted). IsLeft header [] old (record { file = (serial_from script header file before.order).bytes; records = (serial_from script header file before.order).records }) b.0 records) there (
+                subst (λ (f : List ℕ). IsTorn [] (byte_len (count_width header.version)) st.file f b.0) file_is b.2,
+                by_count st.records (serial_from script header file before.order).records so.records near.records which,
+              ))),
+        )
+      where
+        by_count : (n m : ℕ) → count ≡ n → max n (most_known_of ends) ≡ m → (records ≡ count) ⊎ (records ≡ max count (most_known_of ends)) → (records ≡ n) ⊎ (records ≡ m)
+        by_count n m e f (inl q) = inl (q ∙ e)
+        by_count n m e f (inr q) = inr (q ∙ ap (λ (k : ℕ). max k (most_known_of ends)) e ∙ f)
 
-  cut_at : (e : StepErr) (before : ServeEnd) (held : Option (List ℕ)) (count : ℕ) (left : Option (List ℕ)) (records : ℕ) (end : RunEnd) → EndOfCut header ends before e held count left records end
-      → EndedAt header ends before.fault e (contents_of held count) (contents_of left records)
-      → (before.fault ≡ None → (f : List ℕ) → IsDone (setting_of script header) (opening_owner script header f) (passed arrivals script.ranks given) before.order before.stranger)
-      → (before.fault ≡ None → IsDoneSo (setting_of script header) (opening_owner script header file) (passed arrivals script.ranks given) held count)
-      → ((x : StepErr) → before.fault ≡ Some x → HasCutService (setting_of script header) x (opening_owner script header file) (passed arrivals script.ranks given) (point before.order held count))
-      → (bytes : List ℕ) × (left ≡ Some bytes) × IsCutRun script header file e end.order bytes records end.answers
-  cut_at e before held count left records end c (in_closing none whole torn which) done so cut = cut_closing e before held count left records end c whole torn which (done none) (so none)
-  cut_at e before held count left records end c (as_left (inl some) l k) done so cut = cut_served e e before held count left records end c (inl refl) l k (cut e some)
-  cut_at e before held count left records end c (as_left (inr memory) l k) done so cut = by_fault before.fault refl
-    where
-      by_fault : (m : Option StepErr) → before.fault ≡ m → (bytes : List ℕ) × (left ≡ Some bytes) × IsCutRun script header file e end.order bytes records end.answers
-      by_fault None f = cut_broken e before held count left records end c memory l k (done f file) (so f)
-      by_fault (Some x) f = cut_served x e before held count left records end c (inr memory) l k (cut x f)
+    cut_at : EndedAt header ends before.fault e (contents_of held count) (contents_of left records)
+        → (before.fault ≡ None → (f : List ℕ) → IsDone (setting_of script header) (opening_owner script header f) (passed arrivals script.ranks given) before.order before.stranger)
+        → (before.fault ≡ None → IsDoneSo (setting_of script header) (opening_owner script header file) (passed arrivals script.ranks given) held count)
+        → ((x : StepErr) → before.fault ≡ Some x → HasCutService (setting_of script header) x (opening_owner script header file) (passed arrivals script.ranks given) (point before.order held count))
+        → (bytes : List ℕ) × (left ≡ Some bytes) × IsCutRun script header file e end.order bytes records end.answers
+    cut_at (in_closing none whole torn which) done so cut = cut_closing whole torn which (done none) (so none)
+    cut_at (as_left (inl some) l k) done so cut = cut_served e (inl refl) l k (cut e some)
+    cut_at (as_left (inr memory) l k) done so cut = by_fault before.fault refl
+      where
+        by_fault : (m : Option StepErr) → before.fault ≡ m → (bytes : List ℕ) × (left ≡ Some bytes) × IsCutRun script header file e end.order bytes records end.answers
+        by_fault None f = cut_broken memory l k (done f file) (so f)
+        by_fault (Some x) f = cut_served x (inr memory) l k (cut x f)
 
-pub run_cut : (script : Script) (header : Header) (arrivals : List Arrival) (given : ℕ → List OwnerItem) (ends : List RankEnd) → is_sound header ≡ true → is_lawful script ≡ true
-    → Told script header arrivals given ends → {held : Option (List ℕ)} {calls : Option (List DiskCall)} {faults : ℕ} {told : Option (List (Mark × ℕ))} {left : Option (List ℕ)} {made : Option (List DiskCall)}
+pub run_cut : {script : Script} {header : Header} {arrivals : List Arrival} {given : ℕ → List OwnerItem} {ends : List RankEnd} → Told script header arrivals given ends → is_sound header ≡ true → is_lawful script ≡ true
+    → {held : Option (List ℕ)} {calls : Option (List DiskCall)} {faults : ℕ} {told : Option (List (Mark × ℕ))} {left : Option (List ℕ)} {made : Option (List DiskCall)}
     {failed count : ℕ} {heard : Option (List (Mark × ℕ))} {before : ServeEnd} {now : Option (List ℕ)} {records : ℕ} {end : RunEnd}
     → OwnerSide script header arrivals given script.ranks (length script.calls) held calls faults told left made failed count heard before
     → ((e : StepErr) → end.fault ≡ Some e → EndOfCut header ends before e left count now records end) → HasCut script header held now records end
-run_cut script header arrivals given ends sound lawful t {held} {left} {count} {before} {now} {records} {end} o c e is = some_each held (λ file there.
-    cut_at script header arrivals given ends sound lawful t file e before left count now records end (c e is) (c e is).at o.done
+run_cut {script} {header} {arrivals} {given} t sound lawful {held} {left} {count} {before} {now} {records} {end} o c e is = some_each held (λ file there.
+    cut_at t sound lawful file (c e is) (c e is).at o.done
     (λ none. if_some_at (λ (f : List ℕ). IsDoneSo (setting_of script header) (opening_owner script header f) (passed arrivals script.ranks given) left count) held file there (o.bytes none))
     (λ x some. if_some_at (λ (f : List ℕ). HasCutService (setting_of script header) x (opening_owner script header f) (passed arrivals script.ranks given) (point before.order left count)) held file there (o.cut x some)))

@@ -25,9 +25,8 @@ pub record FinishedAlike (script : Script) (header : Header) (ends : List RankEn
   pub answers : map (map blank) (map (λ end. end.answers) ends) ≡ map (map blank) (serial_from script header file order).answers
   pub pending : map (λ end. end.pending) ends ≡ (serial_from script header file order).pending
 
-module _ (script : Script) (header : Header) (arrivals : List Arrival) (given : ℕ → List OwnerItem) (ends : List RankEnd) (order : List Mark) (stranger : Option ℕ)
-    (sound : is_sound header ≡ true) (lawful : is_lawful script ≡ true) (t : Told script header arrivals given ends) (whole : NoneBroke ends)
-    (done : (file : List ℕ) → IsDone (setting_of script header) (opening_owner script header file) (passed arrivals script.ranks given) order stranger) where
+module _ {script : Script} {header : Header} {arrivals : List Arrival} {given : ℕ → List OwnerItem} {ends : List RankEnd} (t : Told script header arrivals given ends) (sound : is_sound header ≡ true) (lawful : is_lawful script ≡ true)
+    (order : List Mark) (stranger : Option ℕ) (whole : NoneBroke ends) (done : (file : List ℕ) → IsDone (setting_of script header) (opening_owner script header file) (passed arrivals script.ranks given) order stranger) where
   alike : (file : List ℕ) (q : ℕ) → q < script.ranks → AreAlike (given q) (back_of script header file arrivals q)
   alike file q low = (done file).given q low
 
@@ -35,33 +34,32 @@ module _ (script : Script) (header : Header) (arrivals : List Arrival) (given : 
   order_is file = (done file).order
 
   joined_at : (file : List ℕ) → IsJoined script header file arrivals
-  joined_at file = joined script header arrivals given ends t (lawful_agrees script lawful) whole file (alike file)
+  joined_at file = joined t (lawful_agrees script lawful) whole file (alike file)
 
   -- ---- the ends
 
   -- one rank's end, by what came back to it
   each_end : {X : Type 0} (f : RankEnd → X) (h : Going → X) (back : ℕ → List OwnerItem)
-      → ((r : ℕ) (own : List Call) (e : slice_get script.calls r ≡ Some own) → f (own_of script header arrivals given ends t r own e).end ≡ h (rank_end header (first_going header own) (back r)))
+      → ((r : ℕ) (own : List Call) (e : slice_get script.calls r ≡ Some own) → f (own_of t r own e).end ≡ h (rank_end header (first_going header own) (back r)))
       → map f ends ≡ map h (map (λ p. rank_end header (first_going header p.1) (back p.0)) (enumerate_from 0 script.calls))
   each_end f h back k =
       rows_same f (λ (p : ℕ × List Call). h (rank_end header (first_going header p.1) (back p.0))) ends script.calls 0 (t.long ∙ sym t.calls)
       (λ r end own a e.
-      let o = own_of script header arrivals given ends t r own e in
+      let o = own_of t r own e in
       let same : r ≡ 0 + r = omega arith in
       ap f (same_Some end o.end (sym a ∙ o.at_end)) ∙ k r own e ∙ ap (λ (q : ℕ). h (rank_end header (first_going header own) (back q))) same)
       ∙ sym (map_map h (λ (p : ℕ × List Call). rank_end header (first_going header p.1) (back p.0)) (enumerate_from 0 script.calls))
 
-  fin : (file : List ℕ) (r : ℕ) (own : List Call) (e : slice_get script.calls r ≡ Some own)
-      → HasFinished header own (puts script header arrivals given ends t r) (takes script header arrivals given ends t r) (own_of script header arrivals given ends t r own e).end
-  fin file r own e = finished_of script header arrivals given ends t (lawful_agrees script lawful) whole file (alike file) r own e
+  fin : (file : List ℕ) (r : ℕ) (own : List Call) (e : slice_get script.calls r ≡ Some own) → HasFinished header own (puts t r) (takes t r) (own_of t r own e).end
+  fin file r own e = finished_of t (lawful_agrees script lawful) whole file (alike file) r own e
 
   -- the end of a rank, but for the values that its gets gave
   end_near : (file : List ℕ) (r : ℕ) (own : List Call) → slice_get script.calls r ≡ Some own
-      → AreNear (rank_end header (first_going header own) (takes script header arrivals given ends t r)) (rank_end header (first_going header own) (back_of script header file arrivals r))
+      → AreNear (rank_end header (first_going header own) (takes t r)) (rank_end header (first_going header own) (back_of script header file arrivals r))
   end_near file r own e =
-      let took = took_all script header arrivals given ends t (lawful_agrees script lawful) whole file (alike file) r own e in
+      let took = took_all t (lawful_agrees script lawful) whole file (alike file) r own e in
       subst (λ (v : List OwnerItem). AreNear (rank_end header (first_going header own) v) (rank_end header (first_going header own) (back_of script header file arrivals r))) (sym took)
-      (end_alike header (first_going header own) (given r) (back_of script header file arrivals r) (alike file r (low_rank script header arrivals given ends t r own e)))
+      (end_alike header (first_going header own) (given r) (back_of script header file arrivals r) (alike file r (low_rank t r own e)))
 
   known_is : (file : List ℕ) → most_known_of ends ≡ greatest (map (λ g. g.rank.known) (rank_ends script header file arrivals))
   known_is file = ap greatest (each_end (λ end. end.known) (λ g. g.rank.known) (back_of script header file arrivals)
@@ -77,8 +75,7 @@ module _ (script : Script) (header : Header) (arrivals : List Arrival) (given : 
   last : (file : List ℕ) → serial_from script header file order ≡ close_by (setting_of script header) (run_of script header file arrivals).owner.state (rank_ends script header file arrivals)
   last file = ap (λ (ms : List Mark). serial_from script header file ms) (order_is file) ∙ (whole_run script header file arrivals sound lawful (joined_at file)).ends
 
-  pub finished_alike : (file : List ℕ)
-      → FinishedAlike script header ends order file (run_of script header file arrivals).owner
+  pub finished_alike : (file : List ℕ) → FinishedAlike script header ends order file (run_of script header file arrivals).owner
   finished_alike file = record {
     records = ap (λ (n : ℕ). max (run_of script header file arrivals).owner.state.records n) (known_is file)
         ∙ sym (raised_records (setting_of script header) (run_of script header file arrivals).owner.state (greatest (map (λ g. g.rank.known) (rank_ends script header file arrivals)))) ∙ sym (ap (λ (e : End). e.records) (last file));
@@ -103,10 +100,8 @@ module _ (script : Script) (header : Header) (arrivals : List Arrival) (given : 
       state : Counted
       state = (run_of script header file arrivals).owner.state
 
-      back : (r : ℕ) (own : List Call) → slice_get script.calls r ≡ Some own → takes script header arrivals given ends t r ≡ back_of script header file arrivals r
-      back r own e =
-          took_all script header arrivals given ends t (lawful_agrees script lawful) whole file (alike file) r own e
-          ∙ so.given r (low_rank script header arrivals given ends t r own e)
+      back : (r : ℕ) (own : List Call) → slice_get script.calls r ≡ Some own → takes t r ≡ back_of script header file arrivals r
+      back r own e = took_all t (lawful_agrees script lawful) whole file (alike file) r own e ∙ so.given r (low_rank t r own e)
 
       calls : run_calls script header file order
           ≡ owner_calls script.hints (setting_of script header) (opening_owner script header file) arrivals

@@ -41,7 +41,7 @@ pub record Own (header : Header) (own : List Call) (arrived : List RankItem) (gi
   pub arrived_of : IsPrefix arrived put
   pub came_back : IsPrefix taken given
 
-module _ (script : Script) (header : Header) (arrivals : List Arrival) (given : ℕ → List OwnerItem) (ends : List RankEnd) (t : Told script header arrivals given ends) where
+module _ {script : Script} {header : Header} {arrivals : List Arrival} {given : ℕ → List OwnerItem} {ends : List RankEnd} (t : Told script header arrivals given ends) where
   put_in : (r : ℕ) (m : Option RankEnd) → slice_get ends r ≡ m → List RankItem
   put_in r None e = []
   put_in r (Some end) e = (t.each r end e).put

@@ -5,8 +5,8 @@ use Rattle.thread_run.proofs.ServiceCut.{service_cut, service_done, Service}
 use Rattle.thread_run.proofs.ThreadCut.{ranks_are, told_is}
 use Rattle.thread_run.proofs.ThreadTies.{Told, OwnerSide}
 
-module _ (script : Script) (header : Header) (arrivals : List Arrival) (given : ℕ → List OwnerItem) (ends : List RankEnd) (sound : is_sound header ≡ true) (lawful : is_lawful script ≡ true)
-    (t : Told script header arrivals given ends) {held : Option (List ℕ)} {calls : Option (List DiskCall)} {faults : ℕ} {told : Option (List (Mark × ℕ))} {left : Option (List ℕ)} {made : Option (List DiskCall)}
+module _ {script : Script} {header : Header} {arrivals : List Arrival} {given : ℕ → List OwnerItem} {ends : List RankEnd} (t : Told script header arrivals given ends) (sound : is_sound header ≡ true) (lawful : is_lawful script ≡ true)
+    {held : Option (List ℕ)} {calls : Option (List DiskCall)} {faults : ℕ} {told : Option (List (Mark × ℕ))} {left : Option (List ℕ)} {made : Option (List DiskCall)}
     {failed count : ℕ} {heard : Option (List (Mark × ℕ))} {before : ServeEnd} (o : OwnerSide script header arrivals given script.ranks (length script.calls) held calls faults told left made failed count heard before) where
   -- with the counts, where the bytes are told
   run_counts : (file : List ℕ) → held ≡ Some file → heard ≡ with_end told (told_of script header file before.order)
@@ -17,7 +17,7 @@ module _ (script : Script) (header : Header) (arrivals : List Arrival) (given : 
           let so = if_some_at (λ (f : List ℕ). IsDoneSo (setting_of script header) (opening_owner script header f) (passed arrivals script.ranks given) left count) held file there (o.bytes none) in
           (service_done script.hints (setting_of script header) (opening_owner script header file) script.ranks arrivals given before.order (o.done none file).order so.given).0
       by_fault (Some x) some =
-          service_cut (setting_of script header) (opening_owner script header file) script.ranks count x arrivals given before.order left (ranks_are script header arrivals given ends sound lawful t file)
+          service_cut (setting_of script header) (opening_owner script header file) script.ranks count x arrivals given before.order left (ranks_are t sound lawful file)
           (if_some_at (λ (f : List ℕ). HasCutService (setting_of script header) x (opening_owner script header f) (passed arrivals script.ranks given) (point before.order left count)) held file there (o.cut x some))
 
       by_service : Service (setting_of script header) (opening_owner script header file) script.ranks arrivals given before.order → heard ≡ with_end told (told_of script header file before.order)
@@ -26,7 +26,7 @@ module _ (script : Script) (header : Header) (arrivals : List Arrival) (given : 
           a.heard
           ∙ ap (λ (more : List (Mark × ℕ)). with_end told more)
           (same_told (setting_of script header) a.first a.later h.first h.later (opening_owner script header file) (sym a.all ∙ h.all) a.none_strange h.none (sym a.order ∙ h.order_is)
-          ∙ told_is script header arrivals given ends sound lawful t file before.order h)
+          ∙ told_is t sound lawful file h)
 
   pub run_told : (order : List Mark) → order ≡ before.order → HasTold script header held told heard order
   run_told order same =

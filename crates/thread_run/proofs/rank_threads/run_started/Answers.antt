@@ -32,7 +32,7 @@ end_run-requires-clause-known g c κs within =
     let all = told_all c.requires.lawful s settled in
     let senders = c.requires.started.senders in
     let clients = senders ∙ sym all.calls in
-    λ none whole. known_sound script header arrivals given ends c.requires.sound c.requires.lawful all c.serve-served.result
+    λ none whole. known_sound all c.requires.sound c.requires.lawful c.serve-served.result
     (λ file. subst (λ (p : ℕ × ℕ). IsDone (setting_of script header) (opening p.1 (counted file header.records)) (passed arrivals p.0 given) c.serve-served.result.order c.serve-served.result.stranger)
     (λ i. (senders i, clients i)) (served.done none file)) whole
 
@@ -62,7 +62,7 @@ returns g c =
       later = served.later;
     }) in
     record {
-      run = run_all script header arrivals given ends c.requires.sound c.requires.lawful all owner (record {
+      run = run_all all c.requires.sound c.requires.lawful owner (record {
         order = end.order;
         went = end.served;
         closed = end.closed;
@@ -73,12 +73,12 @@ returns g c =
         first = end.first;
         cause = end.cause;
         later = end.later;
-      }) (run_cut script header arrivals given ends c.requires.sound c.requires.lawful all {end = c.end_run.result} owner (λ e is. record {
+      }) (run_cut all c.requires.sound c.requires.lawful {end = c.end_run.result} owner (λ e is. record {
         order = end.order;
         at = end.at e is;
         rows = end.rows e is;
         whole = λ disk. end.broke (is ∙ ap (λ (x : StepErr). Some x) disk);
         kept = λ disk. end.kept (is ∙ ap (λ (x : StepErr). Some x) disk);
       }));
-      told = run_told script header arrivals given ends c.requires.sound c.requires.lawful all owner c.end_run.result.order end.order;
+      told = run_told all c.requires.sound c.requires.lawful owner c.end_run.result.order end.order;
     }
