@@ -1,5 +1,5 @@
 -- The owner takes one item after another, and stops at last.
-use Rattle.file_owner.proofs.Words.{◌≡◌, ℕ, suc, ◌<◌, ◌≤◌, refl, sym, ◌∙◌, ap, subst, List, [], ◌∷◌, ◌++◌, length, replicate, Bool, true, false, Option, None, arith, append-nil, length-replicate, slice_get, same_Some, Header, Hints, DiskCall, Mark, OwnerItem, RankItem, StepErr, Rose, End, Receiver, free_client, is_strange, stop_held, stops, Client, Setting, Arrival, IsCount, HasFinished, HasHaltCause, HasHalted, HasSeenAll, HasServed, taken_from, stopped_with, owner_at, opening_standing, standing_at, Grows, HasDone, IsSteady, Standing, held_stops, stops_for, AllHaveEnded, HaveEnded, Halt, IsFaultAt, entry_replicate, nat_tests}
+use Rattle.file_owner.proofs.Words.{◌≡◌, ℕ, suc, ◌<◌, ◌≤◌, refl, sym, ◌∙◌, ap, subst, List, [], ◌∷◌, ◌++◌, length, replicate, Bool, true, false, Option, None, arith, append-nil, length-replicate, slice_get, same_Some, Header, Hints, DiskCall, Mark, OwnerItem, RankItem, StepErr, Rose, End, Receiver, free_client, is_strange, stop_held, stops, Client, Setting, Arrival, IsCount, of_fault, HasFinished, HasHaltCause, HasHalted, HasSeenAll, HasServed, taken_from, stopped_with, owner_at, opening_standing, standing_at, Grows, HasDone, IsSteady, Standing, held_stops, stops_for, AllHaveEnded, HaveEnded, Halt, IsFaultAt, entry_replicate, nat_tests}
 use Rattle.nc_base.specs.declared.step.StepErr.TheVariants as fault
 use Rattle.file_owner.specs.declared.owner.Owner.{Owner as Held}
 use Rattle.file_owner.specs.declared.service.Halt.TheVariants as halt
@@ -7,9 +7,6 @@ use Rattle.file_owner.proofs.RefusedSteps.{fault_none}
 use Rattle.file_owner.proofs.AlikeLaws.{lines_as, lines_none}
 use Rattle.file_owner.proofs.RunLaws.{run_more, run_none}
 use Rattle.file_owner.proofs.StopLaws.{more_none, more_one}
-
-pub served_none : (hints : Hints) (s : Setting) (old : Receiver RankItem) (flags : List Bool) (x : Standing) → HaveEnded flags [] → HasServed hints s (taken_from old old flags) x x
-served_none hints s old flags x h = record { more = []; taken = more_none old; ended = h; run = run_none hints s x }
 
 -- what one take and the step at it tell
 pub record HasTakenOne (mid now : Receiver RankItem) (left end : List Bool) (a : Arrival) : Type 0 where
@@ -83,11 +80,8 @@ pub finish_ended : (old : Receiver RankItem) (lines : List (End OwnerItem)) (fla
 finish_ended old lines flags h e all = grind (arith, nat_tests, more_none, lines_none, append-nil)
 
 -- no fault is told where there was none
-pub no_cause : (before now : ℕ) → before ≤ now → HasHaltCause before now halt.Ended
-no_cause before now l = record { later = l; failed = λ e. absurd cc }
-
-pub stranger_cause : (before now number : ℕ) → before ≤ now → HasHaltCause before now (halt.Stranger number)
-stranger_cause before now number l = record { later = l; failed = λ e. absurd cc }
+pub no_cause : (before now : ℕ) (h : Halt) → of_fault h ≡ None → before ≤ now → HasHaltCause before now h
+no_cause before now h none l = record { later = l; failed = λ e. absurd cc }
 
 pub fault_cause : (before mid now : ℕ) (e : StepErr) → before ≤ mid → mid ≤ now → (e ≡ fault.Disk → Rose mid now) → HasHaltCause before now (halt.Fault e)
 fault_cause before mid now e l k h = grind (arith, nat_tests, same_Some)

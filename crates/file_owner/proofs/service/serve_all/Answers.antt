@@ -2,14 +2,16 @@
 use Rattle.file_owner.proofs.Words.{ℕ, ◌++◌, ◌∷◌, [], Err, refl, ◌∙◌, subst, arith, dataset_setting, standing, Grows, held_stops, stops_for, AllHaveEnded}
 use Rattle.file_owner.proofs.LentLaws.{same_then}
 use Rattle.file_owner.proofs.RefusedSteps.{fault_at}
-use Rattle.file_owner.proofs.HaltLaws.{fault_cause, halt_ended, halt_fault, halt_strange, no_cause, served_more, served_none, stranger_cause}
+use Rattle.file_owner.proofs.HaltLaws.{fault_cause, halt_ended, halt_fault, halt_strange, no_cause, served_more}
+use Rattle.file_owner.proofs.RunLaws.{run_none}
+use Rattle.file_owner.proofs.StopLaws.{more_none}
+use Rattle.file_owner.specs.declared.service.Halt.TheVariants as halt
 use Rattle.file_owner.proofs.service.serve_all.Goals as goal
 
 pub loop-init : goal.loop-init
 loop-init g c = record {
   same = record { disk = refl; records = refl; told = refl; back = refl };
-  served = served_none c.args.dataset.now.hints.now (dataset_setting c.args.dataset.now) c.args.inbox.now c.args.senders.now.ended
-      (standing g.D.Disk g.T.Told c.args.owner.now c.args.out.now) c.requires.ended;
+  served = record { more = []; taken = more_none c.args.inbox.now; ended = c.requires.ended; run = run_none c.args.dataset.now.hints.now (dataset_setting c.args.dataset.now) (standing g.D.Disk g.T.Told c.args.owner.now c.args.out.now) };
   steady = c.requires.steady;
   lines = refl;
   senders = refl;
@@ -27,7 +29,7 @@ returns-then-all_ended-clause-halted g c =
     (subst (λ (k : ℕ). AllHaveEnded k c.loop.senders.ended) (c.len.ensures ∙ c.loop.invariant.lines ∙ c.requires.lines) (c.all_ended.ensures c.if-all_ended.true))
 
 pub returns-then-all_ended-clause-cause : goal.returns-then-all_ended-clause-cause
-returns-then-all_ended-clause-cause g c = no_cause (g.D.Disk.faults c.args.out.now.disk.now) (g.D.Disk.faults c.loop.out.disk.now) c.loop.invariant.later
+returns-then-all_ended-clause-cause g c = no_cause (g.D.Disk.faults c.args.out.now.disk.now) (g.D.Disk.faults c.loop.out.disk.now) halt.Ended refl c.loop.invariant.later
 
 pub returns-then-is_strange-clause-halted : goal.returns-then-is_strange-clause-halted
 returns-then-is_strange-clause-halted g c =
@@ -39,7 +41,7 @@ returns-then-is_strange-clause-halted g c =
     (subst (λ clients. Grows c.loop.out.back.now (λ q. held_stops clients q ++ stops_for (c.take-number.result ∷ []) q) c.stop_strange.new.back) c.deref-then-is_strange.ensures.value c.stop_strange.ensures)
 
 pub returns-then-is_strange-clause-cause : goal.returns-then-is_strange-clause-cause
-returns-then-is_strange-clause-cause g c = stranger_cause (g.D.Disk.faults c.args.out.now.disk.now) (g.D.Disk.faults c.loop.out.disk.now) c.take-number.result.0 c.loop.invariant.later
+returns-then-is_strange-clause-cause g c = no_cause (g.D.Disk.faults c.args.out.now.disk.now) (g.D.Disk.faults c.loop.out.disk.now) (halt.Stranger c.take-number.result.0) refl c.loop.invariant.later
 
 pub returns-in-Err-clause-halted : goal.returns-in-Err-clause-halted
 returns-in-Err-clause-halted g c =
