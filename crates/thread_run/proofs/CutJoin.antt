@@ -67,16 +67,13 @@ cut_run script header file first later taken n sound long none offered enough ca
     (record {
       long = length-replicate (length script.calls) free_client ∙ sym (length-map script.calls (first_going header));
       paired_at = λ q x g a b. paired_at q x g a b;
-      held = λ q x o a h. absurd (not_held q x o a h);
+      held = λ q x o a h. let free = entry_replicate (length script.calls) q free_client x a in let none : x.held ≡ None = ap (λ (y : Client). y.held) free in absurd cc;
       counted = omega arith;
       small = sound_small header sound;
     })
   where
     front : list_all (λ (a : Arrival). nat_lt a.0 script.ranks) first ≡ true
     front = and_first (list_all (λ (a : Arrival). nat_lt a.0 script.ranks) first) _ (sym (list_all-append (λ (a : Arrival). nat_lt a.0 script.ranks) first later) ∙ offered.numbers)
-
-    not_held : (q : ℕ) (x : Client) (o : Offer) → slice_get (replicate (length script.calls) free_client) q ≡ Some x → x.held ≡ Some o → ⊥
-    not_held q x o a h = let free = entry_replicate (length script.calls) q free_client x a in let none : x.held ≡ None = ap (λ (y : Client). y.held) free in cc
 
     paired_at : (q : ℕ) (x : Client) (g : Going) → slice_get (replicate (length script.calls) free_client) q ≡ Some x → slice_get (map (first_going header) script.calls) q ≡ Some g
         → IsPaired header x g (own_items q (first ++ later)) (given_along (setting_of script header) (opening_owner script header file) first q ++ replicate (n q) Stop) (end_of_rank script header taken q)
@@ -91,10 +88,7 @@ cut_run script header file first later taken n sound long none offered enough ca
           back = taken q;
           begins = came q low;
           stream = offered.each q own.0 own.1.0;
-          waits = λ o f. absurd (apart f);
+          waits = λ o f. let never : None ≡ Some o = f in absurd cc;
           enough = let k = enough q low in omega arith;
           ends = ap (λ (cs : List Call). rank_end header (first_going header cs) (taken q)) (sym its);
         }))
-      where
-        apart : {o : Offer} → None ≡ Some o → ⊥
-        apart f = cc

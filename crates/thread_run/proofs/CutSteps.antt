@@ -101,10 +101,7 @@ meeting_stands s d goings coming clients given end all same t = record {
         by_held x.0 x.1 g.0 g.1 (some_or_none x.0.held)
       where
         by_held : (x : Client) → slice_get clients q ≡ Some x → (g : Going) → slice_get goings q ≡ Some g → (x.held ≡ None) ⊎ ((o : Offer) × (x.held ≡ Some o)) → IsPaired s.header z h (coming q) (given q) (end q)
-        by_held x a g b (inl none) = absurd (never (sym (ap (λ (m : Option Offer). is_some m) none) ∙ passes_at holds clients all q x a))
-          where
-            never : false ≡ true → ⊥
-            never w = cc
+        by_held x a g b (inl none) = let never : false ≡ true = sym (ap (λ (m : Option Offer). is_some m) none) ∙ passes_at holds clients all q x a in absurd cc
         by_held x a g b (inr (o, k)) =
             let y = replied s (offers_held clients) d.state q o (offer_at clients q x o all a k) in
             let at_client : slice_get (map freed clients) q ≡ Some (freed x) = slice_get-map freed clients q ∙ ap (λ (m : Option Client). elim m [ None ↦ None | Some w ↦ Some (freed w) ]) a in

@@ -26,9 +26,8 @@ module _ {script : Script} {header : Header} {arrivals : List Arrival} {given : 
   own_at : (r : ℕ) → r < script.ranks → (own : List Call) × (slice_get script.calls r ≡ Some own)
   own_at r l = entry_below script.calls r (let k = t.calls in omega arith)
 
-  came : (r : ℕ) → r < script.ranks
-      → Begins (takes t r) (given_along (setting_of script header) (opening_owner script header file) h.first r
-      ++ replicate (length (given r) - length (given_along (setting_of script header) (opening_owner script header file) h.first r)) Stop)
+  came : (r : ℕ) → r < script.ranks → Begins (takes t r) (given_along (setting_of script header) (opening_owner script header file) h.first r ++ replicate (stopped r) Stop)
+  unfolding stopped
   came r l =
       let own = own_at r l in
       let o = own_of t r own.0 own.1 in
@@ -50,7 +49,6 @@ module _ {script : Script} {header : Header} {arrivals : List Arrival} {given : 
   enough r l = grind (arith, nat_tests, own_at r l, own_of t r (own_at r l).0 (own_at r l).1, offers_front)
 
   run : Ran (setting_of script header) (opening_owner script header file) (map (first_going header) script.calls) h.first h.later stopped (end_of_rank script header (takes t))
-  unfolding stopped
   run = cut_run script header file h.first h.later (takes t) stopped sound t.calls h.none offered_of enough came
 
   state_is : state_after script header file order ≡ ((run_of script header file h.first).owner.state, run.last)

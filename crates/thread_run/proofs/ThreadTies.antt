@@ -1,5 +1,5 @@
 -- What each rank's thread and the owner tell by themselves, and that it ties them.
-use Rattle.thread_run.proofs.Words.{◌≡◌, ℕ, ◌<◌, refl, sym, ◌∙◌, ap, subst, inl, inr, ◌⊎◌, List, [], ◌∷◌, ◌++◌, length, take, drop, true, Option, Some, None, arith, slice_get_within, slice_get, nat_lt, IsTrue, list_all, entry_below, Header, Call, RankEnd, RankStop, Script, OwnerItem, RankItem, own_items, Arrival, HasEnd, IsAgreed, IsJoined, IsTied, back_of, run_of, is_lawful, offered, first_going, AreAlike, HasOffered, IsBeginning, offered_alike, begun_each, begun_known, long_whole, tied_each, tied_joins, HasAttended, HasBroken, HasFinished, HasBegun, IsSettled, calls_of, NoneBroke, alike_take, alike_long, take-append-drop, length-take-le, first_of, prefix_long, front_or_all, nat_tests, ◌≤◌, IfSome, ServeEnd, DiskCall, Mark, StepErr, Rose, with_end, served, counted, setting_of, AreSingle, owner_calls, HasCutService, HasFailed, HasToldAlong, IsDone, IsDoneSo, opening, passed, point}
+use Rattle.thread_run.proofs.Words.{◌≡◌, ℕ, ◌<◌, refl, sym, ◌∙◌, ap, subst, inl, inr, ◌⊎◌, List, [], ◌∷◌, ◌++◌, length, take, drop, true, Option, Some, None, append_assoc, arith, slice_get_within, slice_get, nat_lt, IsTrue, list_all, entry_below, Header, Call, RankEnd, RankStop, Script, OwnerItem, RankItem, own_items, Arrival, HasEnd, IsAgreed, IsJoined, IsTied, back_of, run_of, is_lawful, offered, first_going, AreAlike, HasOffered, IsBeginning, offered_alike, begun_each, begun_known, long_whole, tied_each, tied_joins, HasAttended, HasBroken, HasFinished, HasBegun, IsSettled, calls_of, NoneBroke, alike_take, alike_long, take-append-drop, length-take-le, first_of, prefix_long, front_or_all, nat_tests, ◌≤◌, IfSome, ServeEnd, DiskCall, Mark, StepErr, Rose, with_end, served, counted, setting_of, AreSingle, owner_calls, HasCutService, HasFailed, HasToldAlong, IsDone, IsDoneSo, opening, passed, point}
 use mathlib.Core.List.{IsPrefix}
 use Rattle.nc_base.specs.declared.run.RankStop.TheVariants as stop
 use Rattle.nc_base.specs.declared.step.RankItem.TheVariants as item
@@ -85,10 +85,6 @@ module _ {script : Script} {header : Header} {arrivals : List Arrival} {given : 
               in_two : IsPrefix (own_items r arrivals) b.sent ⊎ (own_items r arrivals ≡ b.sent ++ item.Ended true ∷ [])
                   → IsBeginning (own_items r arrivals) (offered header (first_going header own) (takes r))
               in_two (inl (rest, f)) = (own_items r arrivals, (rest ++ b.unsent, sym (append_assoc (own_items r arrivals) rest b.unsent) ∙ ap (λ (v : List RankItem). v ++ b.unsent) f ∙ b.begins), inl refl)
-                where
-                  append_assoc : (xs ys zs : List RankItem) → (xs ++ ys) ++ zs ≡ xs ++ (ys ++ zs)
-                  append_assoc [] ys zs = refl
-                  append_assoc (x ∷ xs) ys zs = ap (λ (v : List RankItem). x ∷ v) (append_assoc xs ys zs)
               in_two (inr f) = (b.sent, (b.unsent, b.begins), inr f)
 
           by : (o.end.end ≡ stop.Memory) ⊎ (o.end.end ≡ stop.Memory → ⊥) → IsBeginning (own_items r arrivals) (offered header (first_going header own) (takes r))
