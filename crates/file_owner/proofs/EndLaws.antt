@@ -1,5 +1,5 @@
 -- What the owner's ends tell when it is done.
-use Rattle.file_owner.proofs.Words.{point, ◌≡◌, ℕ, suc, ◌+◌, ◌<◌, refl, sym, ◌∙◌, ap, subst, List, [], ◌∷◌, ◌++◌, length, map, replicate, Bool, true, Option, Some, None, arith, append-nil, length-append, length-map, length-replicate, slice_get, nat_lt, filter, IfSome, list_all, same_Some, Hints, DiskCall, Mark, Offer, OwnerItem, Stop, RankItem, StepErr, with_end, In, End, Receiver, Owner, Client, free_client, given_along, offers_in, owed, own_items, served, stop_held, stops, IsGivenInPart, Setting, Arrival, is_offer, OwnerStoodAt, counted, of_fault, of_stranger, IsHaltAt, Outcome, taken_from, stopped_with, owner_at, owner_calls, run, AreSingle, GoesSo, Grows, HoldSingle, Standing, HasCutService, arrived, gained, opening, HasFailed, HasTaken, HasToldAlong, HavePut, IsCutOff, IsDone, IsDoneSo, passed, Outlets, Halt, one_if, owed_count, alike_same, alike_two, if_some_at, entry_below, entry_replicate, own_two, nat_tests, in_left, in_right}
+use Rattle.file_owner.proofs.Words.{point, ◌≡◌, ℕ, suc, ◌+◌, ◌<◌, refl, sym, ◌∙◌, ap, subst, List, [], ◌∷◌, ◌++◌, length, map, replicate, Bool, true, Option, Some, None, arith, append-nil, length-append, length-map, length-replicate, slice_get, nat_lt, filter, IfSome, list_all, same_Some, Hints, DiskCall, Mark, OwnerItem, Stop, RankItem, StepErr, with_end, In, End, Receiver, Owner, Client, free_client, given_along, offers_in, owed, own_items, served, stop_held, stops, IsGivenInPart, Setting, Arrival, is_offer, OwnerStoodAt, counted, of_fault, of_stranger, IsHaltAt, Outcome, taken_from, stopped_with, owner_at, owner_calls, run, AreSingle, GoesSo, Grows, HoldSingle, Standing, HasCutService, arrived, gained, opening, HasFailed, HasTaken, HasToldAlong, HavePut, IsCutOff, IsDone, IsDoneSo, passed, Outlets, Halt, one_if, owed_count, alike_same, alike_two, if_some_at, entry_below, entry_replicate, own_two, nat_tests, in_left, in_right}
 use Rattle.nc_outside.specs.declared.disk.Disk.{Ghosts as DiskGhosts}
 use Rattle.nc_outside.specs.declared.told.Told.{Ghosts as ToldGhosts}
 use Rattle.file_owner.specs.declared.service.Halt.TheVariants as halt
@@ -141,7 +141,7 @@ module _ (hints : Hints) (s : Setting) (old now : Receiver RankItem) (left : Lis
     one_item_each q l =
         let client = entry_below before.clients q (subst (λ (k : ℕ). q < k) (sym clients_long) l) in
         let count = owed_count s (owner_at before []) o.first q client.0 numbers client.1 in
-        let none = held_none client.0.held (frees q client.0 client.1) in
+        let none : one_if client.0.held ≡ 0 = ap one_if (frees q client.0 client.1) in
         let given = ap (λ (items : List OwnerItem). length items) (all_given q) ∙ length-append (given_along s (owner_at before []) o.first q) (stops (owner_at o.middle []) [] q) in
         let like = alike_long (o.run.moved.more q) (given_along s (owner_at before []) o.first q) ((o.run.moved.alike []).given q (low q l)) in
         let whole = ap (λ (items : List OwnerItem). length items) (gains q (low q l)) ∙ length-append (o.run.moved.more q) (stops (owner_at o.middle []) o.last q) in
@@ -151,9 +151,6 @@ module _ (hints : Hints) (s : Setting) (old now : Receiver RankItem) (left : Lis
       where
         numbers : list_all (λ (a : Arrival). nat_lt a.0 (length before.clients)) o.first ≡ true
         numbers = subst (λ (k : ℕ). list_all (λ (a : Arrival). nat_lt a.0 k) o.first ≡ true) (sym clients_long) (numbers_front old.senders o.first o.last o.taken.numbers)
-
-        held_none : (m : Option Offer) → m ≡ None → one_if m ≡ 0
-        held_none m e = grind (arith, nat_tests)
 
     pub end_failed : (k : ℕ) (e : StepErr) → ((file : List ℕ) → owner_at before file ≡ opening old.senders (counted file k)) → fault ≡ Some e
         → HasFailed s (opening old.senders) k (passed (arrived old now) old.senders (gained before.lines lines)) marks number

@@ -79,14 +79,11 @@ heard_now header x t o y items more end free fits w = by_back w.back w.begins w.
           stream = subst (λ (m : Option Offer). IsBeginning items (to_come header m (hears header t y) back)) (sym free)
               (subst (λ (is : List RankItem). IsBeginning items is) (waiting_reply header t o y back fits)
               (subst (λ (u : OwnerItem). IsBeginning items (waiting header t o (u ∷ back))) first i));
-          waits = λ p f. absurd (none_held (sym free ∙ f));
+          waits = λ p f. let never : None ≡ Some p = sym free ∙ f in absurd cc;
           enough = let none = ap one_if free in omega arith;
           ends = ap (λ (m : Option Offer). client_end header m (hears header t y) back) free ∙ sym (waiting_end_reply header t o y back fits)
               ∙ ap (λ (u : OwnerItem). waiting_end header t o (u ∷ back)) (sym first) ∙ e;
         }
-      where
-        none_held : {p : Offer} → None ≡ Some p → ⊥
-        none_held k = cc
 
 pub sits_as : (header : Header) (x y : Client) (g : Going) (items same : List RankItem) (given more : List OwnerItem) (end : Going) → x.held ≡ y.held → items ≡ same → given ≡ more
     → IsPaired header x g items given end → IsPaired header y g same more end
