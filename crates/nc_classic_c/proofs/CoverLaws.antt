@@ -1,6 +1,5 @@
 -- The cover of extents has their bytes, and reaches from the first to the last.
-use Rattle.nc_classic_c.proofs.Words.{◌≡◌, ℕ, ◌+◌, ◌-◌, ◌≤◌, ◌^◌, List, [], ◌∷◌, length, map, true, inl, inr, ap, subst, Some, arith, flat_map, range_with_len, IsPermutation, flat_map-map, same_Some, passes_each, no_none_some, Extent, Owned, first_of, last_of, spans, at_in, In, HaveSame, ranges, extents, EndBelow, IsCover, cover_in_order, last_joined, last_of_range, range_first, same_permuted, flat_in, in_flat, in_range, range_high, each_in, in_map, map_in, NcvExtent, bytes_asked, bytes_of, end_is_low, end_of, ends_are_low, entry, nat_tests, ◌<◌, ◌∙◌, ltb-true}
-use Rattle.std.proofs.Common.{slice_get}
+use Rattle.nc_classic_c.proofs.Words.{◌≡◌, ℕ, ◌+◌, ◌-◌, ◌≤◌, ◌^◌, List, [], ◌∷◌, length, map, true, inl, inr, ap, subst, Some, arith, flat_map, range_with_len, IsPermutation, flat_map-map, same_Some, passes_each, no_none_some, Extent, Owned, first_of, last_of, spans, at_in, In, HaveSame, ranges, extents, EndBelow, IsCover, cover_in_order, last_joined, last_of_range, range_first, same_permuted, flat_in, in_flat, in_range, range_high, each_in, in_map, map_in, NcvExtent, bytes_asked, bytes_of, end_is_low, end_of, ends_are_low, entry, nat_tests, ◌<◌, ◌∙◌, ltb-true, slice_get}
 use Rattle.overlay_laws.proofs.CoverLaws.{ranges_moved}
 
 abbrev bytes : Owned → List ℕ

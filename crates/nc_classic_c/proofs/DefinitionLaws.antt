@@ -1,6 +1,5 @@
 -- Definitions that can all be taken make a header that can be laid out and written.
-use Rattle.nc_classic_c.proofs.Words.{◌≡◌, ℕ, suc, ◌+◌, ◌-◌, ◌*◌, ◌/◌, ◌%◌, ◌^◌, ◌<◌, ◌≤◌, List, [], ◌∷◌, ◌++◌, map, drop, length, Bool, true, false, cond, ◌&&◌, ◌||◌, Option, None, refl, sym, ap, subst, ◌∙◌, arith, length-append, nat_lt, nat_le, ◌==◌, slice_get, count_by, AllByRecursion, list_any, div-le_self, div-mul-le_self, mod-eq-sub-div-mul, and_from, or_parts, ltb-false, leb-false, le-leb, le-ltb, length-map, list_any-append, sum_by-cons, each_map, each_passes, each_fails, each_weaker, fails_each, both_none, none_before_map, told_else, equal_true, not_zero, Dim, Var, size_of, is_version, two_record_dims, record_later, bad_id, length_of, most_dims, most_vars, most_dims_of_var, record_limit, counts_are_small, fits_count, is_type, is_writable_dim, is_writable_attr, is_writable_list, small_field, small_count, is_unplaced, has_writable_names, has_writable_parts, kind_of, Unmade, NcvAttDef, NcvDimDef, NcvVarDef, NcvHeaderDef, type_cause, is_record_dim, is_record_id, att_cause, var_cause, first_refused, dim_refusal, att_refusal, atts_refusal, var_refusal, definition_refusal, most_atts, name_cause, dimension_of, attribute_of, variable_of, header_of, nat_tests}
-use Rattle.std.specs.Prelude.{not}
+use Rattle.nc_classic_c.proofs.Words.{◌≡◌, ℕ, suc, ◌+◌, ◌-◌, ◌*◌, ◌/◌, ◌%◌, ◌^◌, ◌<◌, ◌≤◌, List, [], ◌∷◌, ◌++◌, map, drop, length, Bool, true, false, cond, ◌&&◌, ◌||◌, Option, None, refl, sym, ap, subst, ◌∙◌, arith, length-append, nat_lt, nat_le, ◌==◌, slice_get, count_by, AllByRecursion, list_any, div-le_self, div-mul-le_self, mod-eq-sub-div-mul, and_from, or_parts, ltb-false, leb-false, le-leb, le-ltb, length-map, list_any-append, sum_by-cons, each_map, each_passes, each_fails, each_weaker, fails_each, both_none, none_before_map, told_else, equal_true, not_zero, Dim, Var, size_of, is_version, two_record_dims, record_later, bad_id, length_of, most_dims, most_vars, most_dims_of_var, record_limit, counts_are_small, fits_count, is_type, is_writable_dim, is_writable_attr, is_writable_list, small_field, small_count, is_unplaced, has_writable_names, has_writable_parts, kind_of, Unmade, NcvAttDef, NcvDimDef, NcvVarDef, NcvHeaderDef, type_cause, is_record_dim, is_record_id, att_cause, var_cause, first_refused, dim_refusal, att_refusal, atts_refusal, var_refusal, definition_refusal, most_atts, name_cause, dimension_of, attribute_of, variable_of, header_of, nat_tests, not}
 use Rattle.serial_spec.specs.HeaderBytes.{number_of}
 use Rattle.serial_spec.specs.HeaderFaults as faults
 use Rattle.nc_classic_c.specs.declared.causes.Cause.TheVariants as cause

@@ -1,7 +1,5 @@
 -- Entries of several requests, in any order, hold what the requests hold.
-use Rattle.nc_classic_c.proofs.Words.{◌≡◌, ℕ, ◌+◌, ◌<◌, ◌^◌, List, [], ◌∷◌, true, inl, inr, range_with_len, IsPermutation, and_second, Owned, Key, Holds, holdings_of_entries, shared_pair_of, same_pair, extents, EndBelow, same_permuted, holder_of, holds_by, map_in, NcvHeld, holdings, ends_low, arith, nat_tests, map_map}
-use Rattle.std.specs.Prelude.{map}
-use Rattle.serial_spec.specs.Lists.{In}
+use Rattle.nc_classic_c.proofs.Words.{◌≡◌, ℕ, ◌+◌, ◌<◌, ◌^◌, List, [], ◌∷◌, true, inl, inr, range_with_len, IsPermutation, and_second, Owned, Key, Holds, holdings_of_entries, shared_pair_of, same_pair, extents, EndBelow, same_permuted, holder_of, holds_by, map_in, NcvHeld, holdings, ends_low, arith, nat_tests, map_map, map, In}
 use Rattle.nc_classic_c.specs.Overlaps.{ends_are_low, entry}
 
 abbrev key : Owned → Key

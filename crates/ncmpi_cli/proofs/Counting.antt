@@ -1,6 +1,5 @@
 -- The counts after the steps of a run are those that its watchers' lines tell.
-use Rattle.ncmpi_cli.proofs.Words.{◌≡◌, ℕ, zero, suc, ◌+◌, ◌<◌, ◌≤◌, List, [], ◌∷◌, length, map, refl, ap, ap₂, ◌∙◌, arith, All-from_get_or, All-head, All-tail, All-weaker, get_or, IfSome, enumerate_from, Header, Script, Mark, told_of, count_after, with_counts, AreCounted, count_at, counted, pairs_of, readings_of, AreReadings, seen_counts, RunReadings, WatchedRun}
-use Rattle.std.specs.Prelude.{All, Option, Some, None}
+use Rattle.ncmpi_cli.proofs.Words.{◌≡◌, ℕ, zero, suc, ◌+◌, ◌<◌, ◌≤◌, List, [], ◌∷◌, length, map, refl, ap, ap₂, ◌∙◌, arith, All-from_get_or, All-head, All-tail, All-weaker, get_or, IfSome, enumerate_from, Header, Script, Mark, told_of, count_after, with_counts, AreCounted, count_at, counted, pairs_of, readings_of, AreReadings, seen_counts, RunReadings, WatchedRun, All, Option, Some, None}
 
 -- the k-th of the numbers that a function gives for the places of a list
 place : {A : Type 0} (count : ℕ → ℕ) (xs : List A) (n k d : ℕ) → k < length xs

@@ -1,6 +1,5 @@
 -- A run of a made script.
-use Rattle.ncmpi_cli.proofs.Words.{◌≡◌, ℕ, ◌≤◌, true, List, [], length, Option, Some, None, inr, ◌⊎◌, refl, sym, ap, ap₂, subst, ◌∙◌, arith, nat_tests, IfSome_then, IfSome, some_not_none, Result, Ok, Err, IfErr, IsErrAnd, Answer, Header, RunEnd, Script, DiskCall, Mark, after, with_end, all_calls, run_calls, IsLegal, layout_fault, End, serial, serial_from, AreAlikeEnds, HasBegun, IsRun, seen, has_counts, made_script, summary_text, header_line, layout_line, redef_line, made_counted, made_lawful, made_laid, IsMadeStatus, new_end, RanMade, script_made, summed, end_of_run, file_at_start, Output, align_of, created_header, IsKept, TellsDataset, IsReady, IsOfDataset, line_of, status_of, Stop, file-kept, header-kept}
-use Rattle.std.specs.Prelude.{◌==◌}
+use Rattle.ncmpi_cli.proofs.Words.{◌≡◌, ℕ, ◌≤◌, true, List, [], length, Option, Some, None, inr, ◌⊎◌, refl, sym, ap, ap₂, subst, ◌∙◌, arith, nat_tests, IfSome_then, IfSome, some_not_none, Result, Ok, Err, IfErr, IsErrAnd, Answer, Header, RunEnd, Script, DiskCall, Mark, after, with_end, all_calls, run_calls, IsLegal, layout_fault, End, serial, serial_from, AreAlikeEnds, HasBegun, IsRun, seen, has_counts, made_script, summary_text, header_line, layout_line, redef_line, made_counted, made_lawful, made_laid, IsMadeStatus, new_end, RanMade, script_made, summed, end_of_run, file_at_start, Output, align_of, created_header, IsKept, TellsDataset, IsReady, IsOfDataset, line_of, status_of, Stop, file-kept, header-kept, ◌==◌}
 use Rattle.dataset_start.specs.declared.stop.Stop.TheVariants as stops
 use Rattle.ncmpi_cli.proofs.Statuses.{by_cause, IsTold}
 use Rattle.ncmpi_cli.proofs.Ran.{all_told, any_end, at_start, if_any, told_end}

@@ -1,6 +1,5 @@
 -- What the watchers of a run read, by how it ended.
-use Rattle.ncmpi_cli.proofs.Words.{◌≡◌, ℕ, true, false, List, [], length, Option, Some, None, inl, inr, sym, ap, subst, arith, nat_tests, All-nil, IfSome, IsSome, Mark, HasReadings, watchers_of, GivesText, readings_of, AreReadings, Asked, Stop, RunReadings}
-use Rattle.std.specs.Prelude.{All}
+use Rattle.ncmpi_cli.proofs.Words.{◌≡◌, ℕ, true, false, List, [], length, Option, Some, None, inl, inr, sym, ap, subst, arith, nat_tests, All-nil, IfSome, IsSome, Mark, HasReadings, watchers_of, GivesText, readings_of, AreReadings, Asked, Stop, RunReadings, All}
 use Rattle.ncmpi_cli.proofs.Statuses.{IsEnded, IsTold}
 
 -- ---- where no text is given

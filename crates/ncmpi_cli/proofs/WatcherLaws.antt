@@ -1,6 +1,5 @@
 -- The lines of one watcher more.
-use Rattle.ncmpi_cli.proofs.Words.{◌≡◌, ℕ, zero, suc, ◌+◌, ◌<◌, List, [], ◌∷◌, ◌++◌, length, map, take, sym, ap, ◌∙◌, arith, append-nil, append_assoc, enumerate_from, flat_map, watch_text, watcher_lines}
-use Rattle.std.proofs.Common.{get_or}
+use Rattle.ncmpi_cli.proofs.Words.{◌≡◌, ℕ, zero, suc, ◌+◌, ◌<◌, List, [], ◌∷◌, ◌++◌, length, map, take, sym, ap, ◌∙◌, arith, append-nil, append_assoc, enumerate_from, flat_map, watch_text, watcher_lines, get_or}
 
 abbrev lines_from : ℕ → List (List (ℕ × ℕ)) → List ℕ
 lines_from n readings = flat_map watcher_lines (enumerate_from n readings)

@@ -1,6 +1,5 @@
 -- What a relocation makes of a file, byte by byte.
-use Rattle.redef_mover.proofs.Words.{◌≡◌, ℕ, ◌+◌, ◌-◌, ◌<◌, ◌≤◌, max, ◌⊎◌, inl, inr, refl, sym, ◌∙◌, ap, subst, List, [], ◌∷◌, ◌++◌, length, take, drop, Bool, true, false, cond, arith, filter, not, ◌==◌, reverse, fold-append, reverse-append, take_at, Header, Slab, slabs, at, longer, canon, header_len, at-longer, at-written_after, length-written_inside, written-inside, longer_long, In, changes, gaps, rising, IsRisen, new_end, IsBeside, IsMoved, IsOutside, all_cleared, all_moved, cleared, slab_moved, AreSpaced, carried, written, IsCarriable, nat_tests, eqb-true}
-use Rattle.std.specs.Prelude.{fold}
+use Rattle.redef_mover.proofs.Words.{◌≡◌, ℕ, ◌+◌, ◌-◌, ◌<◌, ◌≤◌, max, ◌⊎◌, inl, inr, refl, sym, ◌∙◌, ap, subst, List, [], ◌∷◌, ◌++◌, length, take, drop, Bool, true, false, cond, arith, filter, not, ◌==◌, reverse, fold-append, reverse-append, take_at, Header, Slab, slabs, at, longer, canon, header_len, at-longer, at-written_after, length-written_inside, written-inside, longer_long, In, changes, gaps, rising, IsRisen, new_end, IsBeside, IsMoved, IsOutside, all_cleared, all_moved, cleared, slab_moved, AreSpaced, carried, written, IsCarriable, nat_tests, eqb-true, fold}
 use Rattle.redef_mover.proofs.ClearLaws.{cleared_after, cleared_before, cleared_inside, cleared_long, spaced_low}
 use Rattle.redef_mover.proofs.SlabLaws.{moved_after, moved_before, moved_inside, moved_long, moved_nowhere}
 

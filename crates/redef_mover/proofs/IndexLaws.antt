@@ -1,6 +1,5 @@
 -- The index of a header's names, and what an addition makes of it.
-use Rattle.redef_mover.proofs.Words.{◌≡◌, ◌∙◌, ℕ, zero, suc, ◌+◌, ◌<◌, ◌≤◌, List, [], ◌∷◌, ◌++◌, length, get_or, map, position, set, Bool, true, false, cond, ◌&&◌, ◌||◌, Option, Some, None, is_some, bytes_eq, refl, sym, ap, subst, arith, nat_eq, Bor, BTreeMap, BTreeSet, tied_then, slice_cmp, position_from, prefix_len, option_or, option_cmp, is_eq, nat_cmp, ordering_then, ltb-false, nat_tests, same_from_decides, position_from-zero, list_any-append, find_at, position-Some, btree_map_updates_str, is_eq-slice_cmp, get_or_from_slice_get, slice_get_past, bytes_eq-Decides, position_map, second_counts, none_last, no_false, equal_below, equal_suc, entry_below, entry_set, entry_set_other, position_below, Attr, Dim, Header, Var, find_var, attrs_of_var, has_attr, with_var_attr, place_of, has_name, is_same, attrs_among, attrs_at, given, IsIndexOf, NameIndex}
-use Rattle.std.proofs.Common.{not, nat_lt, slice_get}
+use Rattle.redef_mover.proofs.Words.{◌≡◌, ◌∙◌, ℕ, zero, suc, ◌+◌, ◌<◌, ◌≤◌, List, [], ◌∷◌, ◌++◌, length, get_or, map, position, set, Bool, true, false, cond, ◌&&◌, ◌||◌, Option, Some, None, is_some, bytes_eq, refl, sym, ap, subst, arith, nat_eq, Bor, BTreeMap, BTreeSet, tied_then, slice_cmp, position_from, prefix_len, option_or, option_cmp, is_eq, nat_cmp, ordering_then, ltb-false, nat_tests, same_from_decides, position_from-zero, list_any-append, find_at, position-Some, btree_map_updates_str, is_eq-slice_cmp, get_or_from_slice_get, slice_get_past, bytes_eq-Decides, position_map, second_counts, none_last, no_false, equal_below, equal_suc, entry_below, entry_set, entry_set_other, position_below, Attr, Dim, Header, Var, find_var, attrs_of_var, has_attr, with_var_attr, place_of, has_name, is_same, attrs_among, attrs_at, given, IsIndexOf, NameIndex, not, nat_lt, slice_get}
 use Rattle.std.specs.BTreeMap as tree
 use Rattle.std.specs.BTreeSet as sorted
 

@@ -1,6 +1,5 @@
 -- Slabs moved one after another: what is left to be moved gives the whole.
-use Rattle.redef_mover.proofs.Words.{◌≡◌, ℕ, ◌+◌, ◌*◌, ◌<◌, refl, ◌∙◌, ap, List, [], ◌∷◌, ◌++◌, length, map, take, get_or, append_assoc, arith, subst, sym, filter, flat_map, reverse, range_with_len, fold-append, flat_map-append, append-nil, map-append, reverse-append, take_more, filter-append, entry_in, in_map, map_map, range_append, Slab, In, in_flat, in_left, in_range, in_right, changes, Shift, Slabs, all_calls, all_moved, further, listed, slab_calls, slab_moved, slab_of, slabs_at, nat_tests}
-use Rattle.std.specs.Prelude.{fold}
+use Rattle.redef_mover.proofs.Words.{◌≡◌, ℕ, ◌+◌, ◌*◌, ◌<◌, refl, ◌∙◌, ap, List, [], ◌∷◌, ◌++◌, length, map, take, get_or, append_assoc, arith, subst, sym, filter, flat_map, reverse, range_with_len, fold-append, flat_map-append, append-nil, map-append, reverse-append, take_more, filter-append, entry_in, in_map, map_map, range_append, Slab, In, in_flat, in_left, in_range, in_right, changes, Shift, Slabs, all_calls, all_moved, further, listed, slab_calls, slab_moved, slab_of, slabs_at, nat_tests, fold}
 
 -- ---- two lists of slabs
 

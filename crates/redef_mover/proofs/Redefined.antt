@@ -1,6 +1,5 @@
 -- The header with its new begins, and why there is none.
-use Rattle.redef_mover.proofs.Words.{◌≡◌, ℕ, zero, suc, ◌+◌, ◌-◌, ◌*◌, ◌^◌, List, [], ◌∷◌, length, take, Bool, true, false, cond, Option, Some, None, refl, sym, ap, ◌∙◌, arith, sum_by, find, option_map, slice_get, nat_lt, nat_le, not, ◌==◌, if◌then◌else◌, prefix_len, option_or, nat_tests, sum_by-cons, found_passes, found_fails, none_before_map, rebegun_len, Header, Var, Extra, LayoutErr, RedefErr, file_limit, keeps_bound, is_record, slab, vsize, record_share, record_size, is_large_var, size_fault, is_far_begin, is_bad_begin, begin_of_number, with_begins, begins_by_number, extras_fault, added, redefined_header, redefined_fault, capped, capped_pairs}
-use Rattle.std.specs.Prelude.{◌&&◌, ◌||◌}
+use Rattle.redef_mover.proofs.Words.{◌≡◌, ℕ, zero, suc, ◌+◌, ◌-◌, ◌*◌, ◌^◌, List, [], ◌∷◌, length, take, Bool, true, false, cond, Option, Some, None, refl, sym, ap, ◌∙◌, arith, sum_by, find, option_map, slice_get, nat_lt, nat_le, not, ◌==◌, if◌then◌else◌, prefix_len, option_or, nat_tests, sum_by-cons, found_passes, found_fails, none_before_map, rebegun_len, Header, Var, Extra, LayoutErr, RedefErr, file_limit, keeps_bound, is_record, slab, vsize, record_share, record_size, is_large_var, size_fault, is_far_begin, is_bad_begin, begin_of_number, with_begins, begins_by_number, extras_fault, added, redefined_header, redefined_fault, capped, capped_pairs, ◌&&◌, ◌||◌}
 use Rattle.nc_base.specs.declared.errors.LayoutErr.TheVariants as layout
 use Rattle.nc_base.specs.declared.errors.RedefErr.TheVariants as redef
 use Rattle.serial_spec.specs.Layout.{record_slabs}

@@ -1,7 +1,5 @@
 -- The slabs of the variables, listed and sorted as the code does.
-use Rattle.redef_mover.proofs.Words.{◌≡◌, ℕ, zero, suc, ◌+◌, ◌<◌, refl, sym, ◌∙◌, ap, List, [], ◌∷◌, ◌++◌, length, map, take, get_or, Bool, true, false, cond, arith, enumerate_from, zip, IsSortedByKey, IsStableByKey, nat_cmp, nat_tests, map-append, take_more, filter-append, IsNonDecreasingBy-from_sort, length-enumerate_from, Var, Slab, lowest_first, Shift, is_kind, slab_of}
-use Rattle.std.specs.List.{filter}
-use Rattle.std.proofs.Math.Seq.{take_all}
+use Rattle.redef_mover.proofs.Words.{◌≡◌, ℕ, zero, suc, ◌+◌, ◌<◌, refl, sym, ◌∙◌, ap, List, [], ◌∷◌, ◌++◌, length, map, take, get_or, Bool, true, false, cond, arith, enumerate_from, zip, IsSortedByKey, IsStableByKey, nat_cmp, nat_tests, map-append, take_more, filter-append, IsNonDecreasingBy-from_sort, length-enumerate_from, Var, Slab, lowest_first, Shift, is_kind, slab_of, filter, take_all}
 use mathlib.Core.Bool.{beq}
 use Rattle.redef_mover.proofs.Sorting.{sort_is, sorted_map, stable_is}
 

@@ -1,7 +1,5 @@
 -- The begins that are written, and the numbers of those that are found.
-use Rattle.redef_mover.proofs.Words.{◌≡◌, ℕ, zero, suc, ◌+◌, ◌-◌, ◌<◌, ◌≤◌, List, [], ◌∷◌, ◌++◌, length, take, get_or, map, Bool, true, false, cond, Some, None, refl, sym, ap, ◌∙◌, arith, filter, sum_by, find, nat_lt, nat_le, not, ◌==◌, unwrap_or, enumerate_from, inl, inr, eqb_tells, nat_tests, take_more, take_all, map-append, sum_by-cons, sum_by-append, Header, Var, header_len, is_record, slab, vsize, least, Numbered, fixed_of, records_in, old_of, new_of, begins_before, by_begin, begin_at, fixed_begins, fixed_order, record_begins, front_after, first_record, begins_by_number, begin_of_number, capped, Place, pairs, capped_pairs, HasOneEach}
-use Rattle.std.specs.Prelude.{◌&&◌}
-use Rattle.std.proofs.Math.ListN.{set}
+use Rattle.redef_mover.proofs.Words.{◌≡◌, ℕ, zero, suc, ◌+◌, ◌-◌, ◌<◌, ◌≤◌, List, [], ◌∷◌, ◌++◌, length, take, get_or, map, Bool, true, false, cond, Some, None, refl, sym, ap, ◌∙◌, arith, filter, sum_by, find, nat_lt, nat_le, not, ◌==◌, unwrap_or, enumerate_from, inl, inr, eqb_tells, nat_tests, take_more, take_all, map-append, sum_by-cons, sum_by-append, Header, Var, header_len, is_record, slab, vsize, least, Numbered, fixed_of, records_in, old_of, new_of, begins_before, by_begin, begin_at, fixed_begins, fixed_order, record_begins, front_after, first_record, begins_by_number, begin_of_number, capped, Place, pairs, capped_pairs, HasOneEach, ◌&&◌, set}
 use Rattle.redef_laws.proofs.Orders.{sorted_sum}
 use Rattle.redef_mover.proofs.Places.{Placing, fixed_placing, new_placing, old_placing}
 use Rattle.redef_mover.proofs.Ranges.{times}

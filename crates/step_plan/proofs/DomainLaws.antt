@@ -1,6 +1,5 @@
 -- One domain more is planned, and the windows of all are those of the model.
-use Rattle.step_plan.proofs.Words.{◌≡◌, ℕ, ◌+◌, ◌-◌, ◌^◌, ◌<◌, ◌≤◌, inl, inr, refl, sym, ◌∙◌, ap, subst, List, [], ◌∷◌, ◌++◌, length, map, take, Option, Some, get_or, append_assoc, arith, flat_map-append, append-nil, map-append, take_more, take_all, length_push, flat_map-map, same_Some, flat_map, IfOk, Result, Ok, Err, range_with_len, no_none_some, Extent, Owned, Hints, DiskCall, collective_windows, in_order, loads, overlays, sieving_windows, spans, load_calls, store_calls, ranges, HaveSame, told_of, IsCover, cover_in_order, in_either, turns_of, Told, AreDomains, loads_are, stores_are, get_calls, put_calls, told_plan, AreShared, WindowPlan, in_one_range, last_end, reach_of, windows_in, AreDivided, AreDomainPlans, AreSievedPlans, IsDomainPlan, DomainPlan}
-use Rattle.std.proofs.Common.{min, slice_get}
+use Rattle.step_plan.proofs.Words.{◌≡◌, ℕ, ◌+◌, ◌-◌, ◌^◌, ◌<◌, ◌≤◌, inl, inr, refl, sym, ◌∙◌, ap, subst, List, [], ◌∷◌, ◌++◌, length, map, take, Option, Some, get_or, append_assoc, arith, flat_map-append, append-nil, map-append, take_more, take_all, length_push, flat_map-map, same_Some, flat_map, IfOk, Result, Ok, Err, range_with_len, no_none_some, Extent, Owned, Hints, DiskCall, collective_windows, in_order, loads, overlays, sieving_windows, spans, load_calls, store_calls, ranges, HaveSame, told_of, IsCover, cover_in_order, in_either, turns_of, Told, AreDomains, loads_are, stores_are, get_calls, put_calls, told_plan, AreShared, WindowPlan, in_one_range, last_end, reach_of, windows_in, AreDivided, AreDomainPlans, AreSievedPlans, IsDomainPlan, DomainPlan, min, slice_get}
 use Rattle.list_laws.proofs.Ranges.{range_next}
 
 -- ---- the calls of windows that are told

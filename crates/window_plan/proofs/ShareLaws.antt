@@ -1,6 +1,5 @@
 -- The shares of ranks, counted one owner after another.
-use Rattle.window_plan.proofs.Words.{◌≡◌, ℕ, ◌+◌, ◌-◌, ◌^◌, ◌<◌, sym, ◌∙◌, ap, List, [], ◌∷◌, ◌++◌, length, take, get_or, max, min, arith, flat_map_more, take_more, range_with_len, bytes_for, own_bytes, ranks_in, share_of, Owner, Share}
-use Rattle.std.specs.Prelude.{flat_map}
+use Rattle.window_plan.proofs.Words.{◌≡◌, ℕ, ◌+◌, ◌-◌, ◌^◌, ◌<◌, sym, ◌∙◌, ap, List, [], ◌∷◌, ◌++◌, length, take, get_or, max, min, arith, flat_map_more, take_more, range_with_len, bytes_for, own_bytes, ranks_in, share_of, Owner, Share, flat_map}
 use Rattle.list_laws.proofs.Ranges.{range_next}
 
 bytes_joined : (rank : ℕ) (owners : List Owner) (o : Owner) → bytes_for rank (owners ++ o ∷ []) ≡ bytes_for rank owners + own_bytes rank o

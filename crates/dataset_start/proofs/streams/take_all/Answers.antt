@@ -1,5 +1,4 @@
-use Rattle.dataset_start.proofs.Words.{◌≡◌, ℕ, List, ◌++◌, take, Option, Some, None, sym, ap, subst, ◌∙◌, append_assoc, arith, length-take, with_front}
-use Rattle.std.proofs.Common.{length-append}
+use Rattle.dataset_start.proofs.Words.{◌≡◌, ℕ, List, ◌++◌, take, Option, Some, None, sym, ap, subst, ◌∙◌, append_assoc, arith, length-take, with_front, length-append}
 use Rattle.dataset_start.proofs.streams.take_all.Goals as goal
 
 -- what was taken, and one piece more

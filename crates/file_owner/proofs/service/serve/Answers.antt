@@ -1,6 +1,5 @@
 -- What the ends tell, from where it stopped and what came after.
-use Rattle.file_owner.proofs.Words.{◌≡◌, ℕ, refl, sym, ◌∙◌, subst, rules, List, [], Rose, counted, setting, IsCount, IsDone, Outcome, taken_from, stopped_with, opening_standing, arrived, cut_by_arrivals, done_by_arrivals, StepErr, HasFailed, opening, passed, gained, Some, None, arith}
-use Rattle.std.proofs.lemmas.Grind.{common_steps}
+use Rattle.file_owner.proofs.Words.{◌≡◌, ℕ, refl, sym, ◌∙◌, subst, rules, List, [], Rose, counted, setting, IsCount, IsDone, Outcome, taken_from, stopped_with, opening_standing, arrived, cut_by_arrivals, done_by_arrivals, StepErr, HasFailed, opening, passed, gained, Some, None, arith, common_steps}
 use Rattle.file_owner.proofs.EndLaws.{end_bytes, end_calls, end_cut, end_done, end_failed, out_put, out_records, out_taken, out_told, outcome_given}
 use Rattle.file_owner.proofs.service.serve.Goals as goal
 

@@ -1,6 +1,5 @@
 -- The extents are laid one by one.
-use Rattle.nc_classic_c.proofs.Words.{◌∙◌, List, length, ap, sym, arith, Extent, extents_left, Extents, NcvExtent, laid_at, laid_from}
-use Rattle.std.specs.Prelude.{map}
+use Rattle.nc_classic_c.proofs.Words.{◌∙◌, List, length, ap, sym, arith, Extent, extents_left, Extents, NcvExtent, laid_at, laid_from, map}
 use Rattle.nc_classic_c.specs.Extents.{shown}
 use Rattle.nc_classic_c.proofs.Filling.{item_laid, laid_whole}
 use Rattle.nc_classic_c.proofs.extents.lay.Goals as goal

@@ -1,6 +1,5 @@
 -- The extents that are left are laid next.
-use Rattle.nc_classic_c.proofs.Words.{◌≡◌, ◌+◌, length, extents_left, laid_from}
-use Rattle.std.specs.Prelude.{map}
+use Rattle.nc_classic_c.proofs.Words.{◌≡◌, ◌+◌, length, extents_left, laid_from, map}
 use Rattle.nc_classic_c.specs.Extents.{shown}
 use Rattle.nc_classic_c.proofs.extents.lay.Given as goal
 

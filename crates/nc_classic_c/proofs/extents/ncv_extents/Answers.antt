@@ -1,6 +1,5 @@
 -- The extents of the accepted region.
-use Rattle.nc_classic_c.proofs.Words.{List, inl, inr, refl, sym, ◌∙◌, length-map, Extent, extents_of, extents_left, AreLaid, direction_of}
-use Rattle.std.specs.Prelude.{map}
+use Rattle.nc_classic_c.proofs.Words.{List, inl, inr, refl, sym, ◌∙◌, length-map, Extent, extents_of, extents_left, AreLaid, direction_of, map}
 use Rattle.nc_classic_c.specs.Extents.{shown}
 use Rattle.nc_classic_c.proofs.AcceptedRegions.{few_left, region_told}
 use Rattle.nc_classic_c.proofs.Answering.{number_kept}

@@ -1,6 +1,5 @@
 -- Bytes and records are those of the same variable.
-use Rattle.nc_classic_c.proofs.Words.{◌≡◌, ℕ, ◌*◌, Option, slice_get, Var, Header, Region, product, size_of, records_of, needs_shown, NcvNeeds, arith, nat_tests}
-use Rattle.std.specs.Option.{IfSome}
+use Rattle.nc_classic_c.proofs.Words.{◌≡◌, ℕ, ◌*◌, Option, slice_get, Var, Header, Region, product, size_of, records_of, needs_shown, NcvNeeds, arith, nat_tests, IfSome}
 use Rattle.nc_classic_c.proofs.needs.needs_shown.Goals as goal
 
 abbrev needs : ℕ → ℕ → NcvNeeds

@@ -1,6 +1,5 @@
 -- One domain after another.
-use Rattle.nc_classic_c.proofs.Words.{◌+◌, ◌∙◌, List, length, drop, refl, sym, ap, arith, length-map, windows_left, spans_ascend, spans, NcvWindow, filled, laid_from, shown}
-use Rattle.std.specs.Prelude.{map}
+use Rattle.nc_classic_c.proofs.Words.{◌+◌, ◌∙◌, List, length, drop, refl, sym, ap, arith, length-map, windows_left, spans_ascend, spans, NcvWindow, filled, laid_from, shown, map}
 use Rattle.nc_classic_c.proofs.Filling.{laid_whole, part_laid}
 use Rattle.nc_classic_c.proofs.WindowLaws.{all_windows, divided, next_windows, no_windows, windows_few_in_all, windows_from}
 use Rattle.nc_classic_c.proofs.windows.lay_domains.Goals as goal

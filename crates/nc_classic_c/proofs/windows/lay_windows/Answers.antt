@@ -1,6 +1,5 @@
 -- The windows are laid one by one.
-use Rattle.nc_classic_c.proofs.Words.{◌≡◌, ◌+◌, ◌∙◌, List, length, sym, ap, arith, windows_left, Window, WindowWalk, NcvWindow, laid_at, laid_from, shown}
-use Rattle.std.specs.Prelude.{map}
+use Rattle.nc_classic_c.proofs.Words.{◌≡◌, ◌+◌, ◌∙◌, List, length, sym, ap, arith, windows_left, Window, WindowWalk, NcvWindow, laid_at, laid_from, shown, map}
 use Rattle.nc_classic_c.proofs.Filling.{item_laid}
 use Rattle.nc_classic_c.proofs.windows.lay_windows.Goals as goal
 

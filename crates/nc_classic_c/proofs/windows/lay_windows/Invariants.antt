@@ -1,6 +1,5 @@
 -- The windows that are left are laid next.
-use Rattle.nc_classic_c.proofs.Words.{◌≡◌, ◌+◌, length, windows_left, laid_from, shown}
-use Rattle.std.specs.Prelude.{map}
+use Rattle.nc_classic_c.proofs.Words.{◌≡◌, ◌+◌, length, windows_left, laid_from, shown, map}
 use Rattle.nc_classic_c.proofs.windows.lay_windows.Given as goal
 
 abbrev pub invariant-loop-window : goal.invariant-loop-window

@@ -1,6 +1,5 @@
 -- The last of the slabs that are left is moved.
-use Rattle.redef_mover.proofs.Words.{◌≡◌, ◌∙◌, ◌-◌, ◌<◌, ◌≤◌, refl, sym, subst, ◌++◌, ap, length, List, [], ◌∷◌, get_or, take, ℕ, arith, reverse, Slab, Shift, further, slab_of, AreMovable, IsMovable}
-use Rattle.std.proofs.Math.Seq.{take_all}
+use Rattle.redef_mover.proofs.Words.{◌≡◌, ◌∙◌, ◌-◌, ◌<◌, ◌≤◌, refl, sym, subst, ◌++◌, ap, length, List, [], ◌∷◌, get_or, take, ℕ, arith, reverse, Slab, Shift, further, slab_of, AreMovable, IsMovable, take_all}
 use Rattle.redef_mover.proofs.LeftLaws.{none_done, part_done, part_kept, placed, turned, whole_bytes, whole_calls}
 use Rattle.redef_mover.proofs.MovesLaws.{in_record, slab_first}
 use Rattle.redef_mover.proofs.moving.move_slabs.Goals as goal

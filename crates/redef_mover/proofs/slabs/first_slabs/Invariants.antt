@@ -1,6 +1,5 @@
 -- The slabs of the variables so far that are of the kind.
-use Rattle.redef_mover.proofs.Words.{◌≡◌, length, map, take, zip, is_record, first_slab, is_kind, slab_of}
-use Rattle.std.specs.List.{filter}
+use Rattle.redef_mover.proofs.Words.{◌≡◌, length, map, take, zip, is_record, first_slab, is_kind, slab_of, filter}
 use Rattle.redef_mover.proofs.slabs.first_slabs.Given as goal
 
 abbrev pub invariant-loop-number : goal.invariant-loop-number

@@ -1,6 +1,5 @@
 -- One thread more was told.
-use Rattle.thread_run.proofs.Words.{refl, sym, ◌∙◌, get_or, arith, IsToldToGo, slice_get_within, slice_get-get_or, left_more, each_more}
-use Rattle.std.proofs.Common.{length-set}
+use Rattle.thread_run.proofs.Words.{refl, sym, ◌∙◌, get_or, arith, IsToldToGo, slice_get_within, slice_get-get_or, left_more, each_more, length-set}
 use Rattle.thread_run.proofs.rank_threads.tell_all.Goals as goal
 
 pub loop-one-preserved : goal.loop-one-preserved
