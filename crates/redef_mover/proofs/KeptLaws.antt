@@ -1,6 +1,5 @@
 -- What the moves and the zeros keep of a file.
 use Rattle.redef_mover.proofs.Words.{◌≡◌, ℕ, ◌+◌, ◌≤◌, inl, inr, refl, sym, ◌∙◌, subst, List, [], ◌∷◌, ◌++◌, length, Option, Some, None, Result, Ok, Err, arith, IfSome, OnOk, OnErr, IsTrue, PartlyWritten, after, BothTold, In, in_left, changes, Slab, at, written, at-written_before, at-written_after, length-written_inside, IsBeside, IsKept, IsOutside, IsUnmoved, cleared, slab_moved, window, nat_tests, ◌-◌, eqb-true}
-use borrow.Author.Tests.{eqb-true}
 use Rattle.redef_mover.proofs.ClearLaws.{cleared_after, cleared_before, cleared_long}
 use Rattle.redef_mover.proofs.SlabLaws.{moved_after, moved_before, moved_long}
 use Rattle.redef_mover.proofs.WindowLaws.{upper}
