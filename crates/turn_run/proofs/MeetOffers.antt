@@ -106,7 +106,7 @@ few_brought header len offers all b m =
 own_brought : (header : Header) (len first : ℕ) (offers : List Offer) → AllByRecursion (IsFit header len) offers → IsOwnOnce (holdings header (puts_from first offers))
 own_brought header len first [] all = own_none
 own_brought header len first (o ∷ offers) all =
-    let later = puts_from (first + 1) offers in let holds = λ (p : ℕ × Post). ((p.0, p.1.id), bytes_of header p.1) in
+    let later = puts_from (first + 1) offers in let holds : ℕ × Post → Holding = λ p. ((p.0, p.1.id), bytes_of header p.1) in
     subst IsOwnOnce (sym (map-append holds (map (λ post. (first, post)) o.batch.puts) later))
     (own_append (held_by header first o.batch.puts) (holdings header later) (all.0.sound.own first) (own_brought header len (first + 1) offers all.1) (λ i j g h a b keys.
     let p = holding_at header first o.batch.puts i g a in let q = mapped_entry holds later j h b in
