@@ -1,14 +1,12 @@
 -- The calls of all ranks, printed rank by rank, are read as the same calls.
-use Rattle.script_text.proofs.Words.{Option, filter_map-append, all_joined, is_expressible_call, ◌≡◌, ◌∙◌, ℕ, zero, suc, ◌+◌, ◌≤◌, ◌<◌, List, [], ◌∷◌, ◌++◌, map, length, replicate, Bool, true, false, not, nat_lt, Ok, refl, ap, subst, append-nil, arith, codes, decimal, list_all, enumerate_from, and_parts, and_from, ne_eqb, Call, call_word, shown_call, Word, Plain, Line, is_comment, is_digit, Called, data_part, flat_map-append, nat_tests, length-replicate, AllZip, Known, None, Some, SpellsCall, SpellsCallLine, calls_in, cond, cons_option, eq-eqb, is_lawful_call, list_all-append, list_all-map, no_calls, range_with_len, sym, ◌==◌, lt-ltb}
+use Rattle.script_text.proofs.Words.{Option, filter_map-append, all_joined, is_expressible_call, ◌≡◌, ◌∙◌, ℕ, zero, suc, ◌+◌, ◌≤◌, ◌<◌, List, [], ◌∷◌, ◌++◌, map, length, Bool, true, false, not, nat_lt, refl, ap, subst, append-nil, arith, decimal, list_all, enumerate_from, and_parts, and_from, ne_eqb, Call, call_word, shown_call, Word, Plain, Line, is_comment, is_digit, flat_map-append, nat_tests, AllZip, None, Some, SpellsCall, SpellsCallLine, calls_in, cond, cons_option, eq-eqb, is_lawful_call, range_with_len, sym, ◌==◌, lt-ltb}
 use Rattle.std.proofs.Common.{flat_map}
 use Rattle.script_text.proofs.Lines.{is_line, spelled, numbered}
 use Rattle.script_text.proofs.Numerals.{decimal_numeral, decimal_plain}
 use Rattle.script_text.proofs.PrintedValues.{is_read}
 use Rattle.script_text.proofs.CallTokens.{call_tokens, call_spelled, call_plain}
-use Rattle.script_spelling.proofs.CallLinesTold.{DataTold, Going, LawfulCalls, data_told}
 use Rattle.script_text.proofs.PrintedCalls.{call_named, call_shown}
-use Rattle.script_spelling.proofs.CallLinesRead.{calls_read, from_none, words_of}
-use Rattle.script_spelling.proofs.CallCounts.{count_empty}
+use Rattle.script_spelling.proofs.CallLinesRead.{words_of}
 use Rattle.script_text.proofs.Lexing.{is_good}
 use Rattle.script_spelling.proofs.Steps.{by_test}
 
@@ -40,12 +38,8 @@ ranks_said : (a n : ℕ) (called : List (ℕ × Call)) → list_all (λ (c : ℕ
 ranks_said a zero called h = refl
 ranks_said a (suc n) called h = and_from _ _ (in_rank_said a called h) (ranks_said (a + 1) n called h)
 
-pub calls_named : (past n : ℕ) (k : Known) (lines : List Line) (r : ℕ × (Called × List Line)) → are_read lines ≡ true → data_part past (no_calls n k) lines ≡ Ok r → are_named r.1.0.calls ≡ true
-calls_named past n k lines r read h =
-    let c = calls_read past (no_calls n k) lines r h in
-    let all = subst (λ (wss : List (List Word)). list_all (list_all is_read) wss ≡ true) c.are (list_all-map (list_all is_read) words_of lines ∙ read) in
-    let own = (and_parts (list_all (list_all is_read) c.own) _ (sym (list_all-append (list_all is_read) c.own _) ∙ all)).0 in
-    ap are_named (c.calls ∙ from_none (λ j. calls_in j c.called) 0 n) ∙ ranks_said 0 n c.called (all_said c.own c.called c.spells own)
+pub calls_named : (n : ℕ) (wss : List (List Word)) (called : List (ℕ × Call)) → AllZip SpellsCallLine wss called → list_all (list_all is_read) wss ≡ true → are_named (map (λ r. calls_in r called) (range_with_len 0 n)) ≡ true
+calls_named n wss called spells read = ranks_said 0 n called (all_said wss called spells read)
 
 -- ---- printed lines of calls
 
@@ -94,7 +88,7 @@ own_shown ranks r (c ∷ cs) low lawful h =
     let more = own_shown ranks r cs low a.1 b.1 in
     (and_from _ _ (call_is_line r c low k.good) more.0, (line_spells r c low k.spells, more.1))
 
-zip_joined : {A B : Type 0} (R : A → B → Type 0) (xs : List A) (ys : List B) (more : List A) (last : List B) → AllZip R xs ys → AllZip R more last → AllZip R (xs ++ more) (ys ++ last)
+pub zip_joined : {A B : Type 0} (R : A → B → Type 0) (xs : List A) (ys : List B) (more : List A) (last : List B) → AllZip R xs ys → AllZip R more last → AllZip R (xs ++ more) (ys ++ last)
 zip_joined R [] [] more last h k = k
 zip_joined R [] (y ∷ ys) more last h k = absurd h
 zip_joined R (x ∷ xs) [] more last h k = absurd h
@@ -116,7 +110,7 @@ own_below : (ranks r : ℕ) (cs : List Call) → r < ranks → list_all (λ (c :
 own_below ranks r [] low = refl
 own_below ranks r (c ∷ cs) low = and_from _ _ (lt-ltb r ranks low) (own_below ranks r cs low)
 
-all_below : (ranks r : ℕ) (calls : List (List Call)) → r + length calls ≤ ranks → list_all (λ (c : ℕ × Call). nat_lt c.0 ranks) (called_from r calls) ≡ true
+pub all_below : (ranks r : ℕ) (calls : List (List Call)) → r + length calls ≤ ranks → list_all (λ (c : ℕ × Call). nat_lt c.0 ranks) (called_from r calls) ≡ true
 all_below ranks r [] low = refl
 all_below ranks r (own ∷ more) low = all_joined (λ (c : ℕ × Call). nat_lt c.0 ranks) (map (λ (c : Call). (r, c)) own) (called_from (r + 1) more) (own_below ranks r own (omega arith)) (all_below ranks (r + 1) more (omega arith))
 
@@ -148,29 +142,10 @@ ranks_in f r (own ∷ more) h =
     let rest = ranks_in f (r + 1) more (λ k le. h k (omega arith) ∙ (rank_in r k own more ∙ ap (λ (b : Bool). cond b own [] ++ behind k) (ne_eqb r k (omega arith)))) in
     ap (λ (cs : List Call). cs ∷ map f (range_with_len (r + 1) (length more))) first ∙ ap (λ (css : List (List Call)). own ∷ css) rest
 
-words_numbered : (n : ℕ) (wss : List (List Word)) → list_all is_line wss ≡ true → map words_of (numbered n wss) ≡ wss
+pub words_numbered : (n : ℕ) (wss : List (List Word)) → list_all is_line wss ≡ true → map words_of (numbered n wss) ≡ wss
 words_numbered n [] h = refl
 words_numbered n ([] ∷ wss) h = absurd (cc)
 words_numbered n ((w ∷ ws) ∷ wss) h = ap (λ (xs : List (List Word)). (w ∷ ws) ∷ xs) (words_numbered (n + 1) wss (and_parts (is_line (w ∷ ws)) (list_all is_line wss) h).1)
 
--- the calls of all ranks, v values having come before them
-pub record DataEnd (ranks v : ℕ) (calls : List (List Call)) : Type 0 where
-  pub long : length calls ≡ ranks
-  pub lawful : LawfulCalls ranks v calls
-  pub shown : LinesShown (call_lines 0 calls) (called_from 0 calls)
-
-pub end_from : (ranks v : ℕ) (calls : List (List Call)) → length calls ≡ ranks → ranks ≤ 64 → LawfulCalls ranks v calls → are_named calls ≡ true → DataEnd ranks v calls
-end_from ranks v calls long small lawful named = record { long = long; lawful = lawful; shown = calls_shown ranks 0 calls (omega arith) lawful.each named }
-
--- the printed calls up to `end`
-pub data_again : (past n ranks v : ℕ) (calls : List (List Call)) → DataEnd ranks v calls
-    → DataTold past (record { calls = replicate ranks []; values = v }) (numbered n (call_lines 0 calls ++ (Plain (codes "end") ∷ []) ∷ [])) calls
-data_again past n ranks v calls e =
-    let d : Called = record { calls = replicate ranks []; values = v } in
-    let wss = call_lines 0 calls ++ (Plain (codes "end") ∷ []) ∷ [] in
-    let called = called_from 0 calls in
-    let each : map (λ k. calls_in k called) (range_with_len 0 ranks) ≡ calls =
-    subst (λ (m : ℕ). map (λ k. calls_in k called) (range_with_len 0 m) ≡ calls) e.long (ranks_in (λ k. calls_in k called) 0 calls (λ k le. refl)) in
-    let going : Going ranks v calls called d = record { calls = from_none (λ k. calls_in k called) 0 ranks ∙ each; long = length-replicate ranks []; counted = omega (arith, count_empty ranks) } in
-    let words = words_numbered n wss (all_joined is_line (call_lines 0 calls) ((Plain (codes "end") ∷ []) ∷ []) e.shown.0 refl) in
-    data_told past ranks v calls (call_lines 0 calls) called (numbered n wss) d e.lawful words e.shown.1 (all_below ranks 0 calls (let long = e.long in omega arith)) going
+pub calls_again : (calls : List (List Call)) → calls ≡ map (λ k. calls_in k (called_from 0 calls)) (range_with_len 0 (length calls))
+calls_again calls = sym (ranks_in (λ k. calls_in k (called_from 0 calls)) 0 calls (λ k le. refl))

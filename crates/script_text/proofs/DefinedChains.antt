@@ -1,214 +1,255 @@
--- What is known of the definitions of a new dataset once they are read: each dimension, variable and attribute, printed after those before it, is read again.
-use Rattle.script_text.proofs.Words.{◌≡◌, cases_Bool, ◌∙◌, ℕ, zero, suc, ◌+◌, ◌≤◌, List, [], ◌∷◌, ◌++◌, map, position, length, drop, Bool, true, false, nat_lt, Option, Some, None, Ok, refl, sym, ap, subst, append_assoc, append-nil, arith, bytes_eq, codes, list_all, list_any, and_parts, and_from, or_left, or_right, list_any-append, faultless_some, NcType, Dim, Attr, Var, most_dims_of_var, most_values, Word, is_name, or_fault, reads_as, is_among, dim_line, var_head, name_list, dim_ids, is_record_dim, var_names, shape, var_line, owner_of_text, owner_place, Title, same_title, attribute, Defined, with_dim, with_var, with_title, with_attr_of_owner, att_line, dim_definition, var_definition, fill_line, definition, all_joined, nat_tests}
-use Rattle.script_spelling.proofs.Steps.{went, same_ok, tested, step_then, free_then, end_then, all_more}
-use Rattle.script_text.proofs.PrintedValues.{is_read}
-use Rattle.script_text.proofs.PrintedRegions.{kept}
-use Rattle.script_text.proofs.PrintedAttributes.{AttrAgain, AttrRead, attr_read}
-use Rattle.script_text.proofs.PrintedDefinitions.{DimAgain, dim_read, HeadAgain, head_read, names_read}
-use Rattle.script_spelling.proofs.Places.{more_ids, more_records, bytes_same, bytes_own}
-use Rattle.nc_base.specs.declared.errors.ScriptKind.TheVariants as kind
-use Rattle.script_spelling.proofs.PushedAttrs.{NameAt, count-attr, count-var, count_attrs, count_own, found_name, push_attr, pushes, count-pushed}
+-- The definitions of a new dataset in their canonical order: their lines are cut again and say them, they may stand behind one another, and they tell the dataset.
+use Rattle.script_text.proofs.Words.{◌≡◌, ◌∙◌, ℕ, List, [], ◌∷◌, ◌++◌, map, Bool, true, false, cond, Option, Some, None, refl, sym, ap, subst, append_assoc, append-nil, arith, nat_tests, bytes_eq, codes, list_any, and_from, and_left, and_right, or_from, or_left, or_right, or_parts, list_any-append, AllZip, Dim, Attr, Var, Header, Word, is_among, var_names, Title, same_title}
+use Rattle.script_spelling.specs.Statements.{Statement, DimIs, VarIs, AttIs, VarLine, owner_word, IsOwner, DimStands, VarStands, OwnerStands, Stand}
+use Rattle.script_spelling.specs.Described.{IsVarOf, ranks_in, hint_values, fills_in, dims_in, vars_in, own_attrs, attrs_of}
+use Rattle.script_spelling.proofs.Places.{name_at, bytes_same, bytes_own}
+use Rattle.std.proofs.Common.{inl, inr}
+use Rattle.list_laws.proofs.Truth.{holds_or_not}
+use Rattle.script_spelling.proofs.LinesRead.{no_colon}
+use Rattle.script_text.proofs.PrintedAttributes.{AttrAgain}
+use Rattle.script_text.proofs.StatementLines.{line_of_dim, line_of_var, line_of_att, Shown, Shows, shows_joined, att_shown}
 
--- ---- dimensions
+-- ---- what holds of each, behind those before it
 
 abbrev pub DimChain : ℕ → List Dim → List Dim → Type 0
 DimChain version front [] = Unit {0}
-DimChain version front (d ∷ ds) = DimAgain version front d × DimChain version (front ++ d ∷ []) ds
+DimChain version front (d ∷ ds) = Shown version (line_of_dim d) (DimIs d) × DimStands front d × DimChain version (front ++ d ∷ []) ds
 
-dims_pushed : (version : ℕ) (front ds : List Dim) (d : Dim) → DimChain version front ds → DimAgain version (front ++ ds) d → DimChain version front (ds ++ d ∷ [])
-dims_pushed version front [] d h k = (subst (λ xs. DimAgain version xs d) (append-nil front) k, tt)
-dims_pushed version front (x ∷ ds) d h k = (h.0, dims_pushed version (front ++ x ∷ []) ds d h.1 (subst (λ xs. DimAgain version xs d) (sym (append_assoc front (x ∷ []) ds)) k))
+-- the line of a variable
+abbrev pub line_for : List Dim → Var → VarLine
+line_for dims v = record { kind = v.kind; name = v.name; dims = map (name_at dims) v.dims }
 
--- ---- variables
-
-pub record VarAgain (version : ℕ) (dims : List Dim) (names : List (List ℕ)) (t : NcType) (n : List ℕ) (ids : List ℕ) (start : ℕ) : Type 0 where
-  pub dim_list : List (List ℕ)
-  pub named : list_all is_name dim_list ≡ true
-  pub found : dim_ids dims dim_list ≡ Some ids
-  pub few : nat_lt most_dims_of_var (length ids) ≡ false
-  pub records : list_any (is_record_dim dims) (drop 1 ids) ≡ false
-  pub head : HeadAgain version names t n
-  pub no_start : start ≡ 0
-
-abbrev pub VarOk : ℕ → List Dim → List (List ℕ) → Var → Type 0
-VarOk version dims names v = VarAgain version dims names v.kind v.name v.dims v.begin
+pub record VarOk (version : ℕ) (dims : List Dim) (names : List (List ℕ)) (v : Var) : Type 0 where
+  pub shown : Shown version (line_of_var (line_for dims v)) (VarIs (line_for dims v))
+  pub stands : VarStands false dims names (line_for dims v)
+  pub told : IsVarOf dims v.attrs (line_for dims v) v
 
 abbrev pub VarChain : ℕ → List Dim → List (List ℕ) → List Var → Type 0
 VarChain version dims names [] = Unit {0}
 VarChain version dims names (v ∷ vs) = VarOk version dims names v × VarChain version dims (names ++ v.name ∷ []) vs
-
-vars_pushed : (version : ℕ) (dims : List Dim) (names : List (List ℕ)) (vs : List Var) (v : Var) → VarChain version dims names vs → VarOk version dims (names ++ var_names vs) v → VarChain version dims names (vs ++ v ∷ [])
-vars_pushed version dims names [] v h k = (subst (λ ns. VarOk version dims ns v) (append-nil names) k, tt)
-vars_pushed version dims names (x ∷ vs) v h k =
-    (h.0, vars_pushed version dims (names ++ x.name ∷ []) vs v h.1 (subst (λ ns. VarOk version dims ns v) (sym (append_assoc names (x.name ∷ []) (var_names vs))) k))
-
-vars_more : (version : ℕ) (dims more : List Dim) (names : List (List ℕ)) (vs : List Var) → VarChain version dims names vs → VarChain version (dims ++ more) names vs
-vars_more version dims more names [] h = tt
-vars_more version dims more names (v ∷ vs) h =
-    grind (
-      arith,
-      nat_tests,
-      vars_more version dims more (names ++ v.name ∷ []) vs h.1,
-      more_ids dims more h.0.dim_list v.dims h.0.found,
-      more_records dims more h.0.dim_list v.dims h.0.found h.0.records,
-    )
-
--- ---- attributes
-
-abbrev pub attr_names : List Attr → List (List ℕ)
-attr_names list = map (λ (a : Attr). a.name) list
 
 -- the attributes of one owner, after others of these names
 abbrev pub AttrChain : ℕ → List (List ℕ) → List Attr → Type 0
 AttrChain version names [] = Unit {0}
 AttrChain version names (a ∷ list) = AttrAgain version a × (is_among a.name names ≡ false) × AttrChain version (names ++ a.name ∷ []) list
 
-attrs_pushed : (version : ℕ) (names : List (List ℕ)) (list : List Attr) (a : Attr) → AttrChain version names list → AttrAgain version a → is_among a.name (names ++ attr_names list) ≡ false → AttrChain version names (list ++ a ∷ [])
-attrs_pushed version names [] a h k fresh = (k, subst (λ ns. is_among a.name ns ≡ false) (append-nil names) fresh, tt)
-attrs_pushed version names (x ∷ list) a h k fresh =
-    (h.0, h.1, attrs_pushed version (names ++ x.name ∷ []) list a h.2 k (subst (λ ns. is_among a.name ns ≡ false) (sym (append_assoc names (x.name ∷ []) (attr_names list))) fresh))
+abbrev pub OwnChains : ℕ → List Var → Type 0
+OwnChains version [] = Unit {0}
+OwnChains version (v ∷ vs) = AttrChain version [] v.attrs × OwnChains version vs
 
--- each has its title
-abbrev titled : List Title → List ℕ → List Attr → Bool
-titled titles owner list = list_all (λ (a : Attr). list_any (same_title (owner, a.name)) titles) list
+pub record DefinedOk (version : ℕ) (header : Header) : Type 0 where
+  pub dims : DimChain version [] header.dims
+  pub vars : VarChain version header.dims [] header.vars
+  pub attrs : AttrChain version [] header.attrs
+  pub own : OwnChains version header.vars
 
-titled_fresh : (titles : List Title) (owner n : List ℕ) (list : List Attr) → titled titles owner list ≡ true → list_any (same_title (owner, n)) titles ≡ false → is_among n (attr_names list) ≡ false
-titled_fresh titles owner n [] h fresh = refl
-titled_fresh titles owner n (a ∷ list) h fresh =
-    let both = and_parts (list_any (same_title (owner, a.name)) titles) (titled titles owner list) h in
-    grind (arith, nat_tests, titled_fresh titles owner n list both.1 fresh, both.0, bytes_same n a.name, cases_Bool (bytes_eq n a.name))
+-- ---- their lines and statements
 
-titled_more : (titles more : List Title) (owner : List ℕ) (list : List Attr) → titled titles owner list ≡ true → titled (titles ++ more) owner list ≡ true
-titled_more titles more owner list h = grind (arith, nat_tests, all_more, list_any-append, or_left)
+abbrev pub lines_of_own : List Var → List (List Word)
+lines_of_own [] = []
+lines_of_own (v ∷ vs) = map (line_of_att (Some v.name)) v.attrs ++ lines_of_own vs
 
-titled_new : (titles : List Title) (owner n : List ℕ) → list_any (same_title (owner, n)) (titles ++ (owner, n) ∷ []) ≡ true
-titled_new titles owner n = list_any-append (same_title (owner, n)) titles ((owner, n) ∷ []) ∙ or_right _ _ (or_left _ _ (and_from _ _ (bytes_own owner) (bytes_own n)))
+abbrev own_statements : List Var → List Statement
+own_statements [] = []
+own_statements (v ∷ vs) = map (λ (a : Attr). AttIs (Some v.name) a) v.attrs ++ own_statements vs
 
-titled_pushed : (titles : List Title) (owner : List ℕ) (list : List Attr) (a : Attr) → titled titles owner list ≡ true → titled (titles ++ (owner, a.name) ∷ []) owner (list ++ a ∷ []) ≡ true
-titled_pushed titles owner list a h = grind (arith, nat_tests, all_joined, titled_more, and_from, titled_new)
+abbrev pub definition_lines : Header → List (List Word)
+definition_lines h = map line_of_dim h.dims ++ (map (λ v. line_of_var (line_for h.dims v)) h.vars ++ (map (line_of_att None) h.attrs ++ lines_of_own h.vars))
 
--- the attributes of the variables
-abbrev pub OwnChains : ℕ → List Title → List Var → Type 0
-OwnChains version titles [] = Unit {0}
-OwnChains version titles (v ∷ vs) = AttrChain version [] v.attrs × (titled titles v.name v.attrs ≡ true) × OwnChains version titles vs
+abbrev pub definition_statements : Header → List Statement
+definition_statements h =
+    map (λ (d : Dim). DimIs d) h.dims ++ (map (λ (v : Var). VarIs (line_for h.dims v)) h.vars ++ (map (λ (a : Attr). AttIs None a) h.attrs ++ own_statements h.vars))
 
-own_more : (version : ℕ) (titles more : List Title) (vs : List Var) → OwnChains version titles vs → OwnChains version (titles ++ more) vs
-own_more version titles more [] h = tt
-own_more version titles more (v ∷ vs) h = (h.0, titled_more titles more v.name v.attrs h.1, own_more version titles more vs h.2)
+dims_shown : (version : ℕ) (front ds : List Dim) → DimChain version front ds → Shows version (map line_of_dim ds) (map (λ (d : Dim). DimIs d) ds)
+dims_shown version front [] h = (refl, tt)
+dims_shown version front (d ∷ ds) h = let more = dims_shown version (front ++ d ∷ []) ds h.2 in (and_from _ _ h.0.0 more.0, (h.0.1, more.1))
 
-own_pushed : (version : ℕ) (titles : List Title) (vs : List Var) (v : Var) → v.attrs ≡ [] → OwnChains version titles vs → OwnChains version titles (vs ++ v ∷ [])
-own_pushed version titles [] v none h = (subst (AttrChain version []) (sym none) tt, ap (titled titles v.name) none, tt)
-own_pushed version titles (x ∷ vs) v none h = (h.0, h.1, own_pushed version titles vs v none h.2)
+vars_shown : (version : ℕ) (dims : List Dim) (names : List (List ℕ)) (vs : List Var) → VarChain version dims names vs → Shows version (map (λ v. line_of_var (line_for dims v)) vs) (map (λ (v : Var). VarIs (line_for dims v)) vs)
+vars_shown version dims names [] h = (refl, tt)
+vars_shown version dims names (v ∷ vs) h = let more = vars_shown version dims (names ++ v.name ∷ []) vs h.1 in (and_from _ _ h.0.shown.0 more.0, (h.0.shown.1, more.1))
 
-vars_attr : (version : ℕ) (dims : List Dim) (names : List (List ℕ)) (k : ℕ) (a : Attr) (vs : List Var) → VarChain version dims names vs → VarChain version dims names (push_attr k a vs)
-vars_attr version dims names k a [] h = tt
-vars_attr version dims names zero a (v ∷ vs) h = (h.0, h.1)
-vars_attr version dims names (suc k) a (v ∷ vs) h = (h.0, vars_attr version dims (names ++ v.name ∷ []) k a vs h.1)
+atts_shown : (version : ℕ) (o : Option (List ℕ)) (names : List (List ℕ)) (list : List Attr) → IsOwner o → AttrChain version names list → Shows version (map (line_of_att o) list) (map (λ (a : Attr). AttIs o a) list)
+atts_shown version o names [] is h = (refl, tt)
+atts_shown version o names (a ∷ list) is h =
+    let first = att_shown version o a is h.0 in
+    let more = atts_shown version o (names ++ a.name ∷ []) list is h.2 in
+    (and_from _ _ first.0 more.0, (first.1, more.1))
 
-own_attr : (version : ℕ) (titles : List Title) (k : ℕ) (owner : List ℕ) (a : Attr) (vs : List Var) → OwnChains version titles vs → NameAt vs k owner → AttrAgain version a → list_any (same_title (owner, a.name)) titles ≡ false
-    → OwnChains version (titles ++ (owner, a.name) ∷ []) (push_attr k a vs)
-own_attr version titles k owner a [] h at again fresh = absurd at
-own_attr version titles zero owner a (v ∷ vs) h at again fresh = grind (arith, nat_tests, attrs_pushed, titled_fresh, titled_pushed, own_more)
-own_attr version titles (suc k) owner a (v ∷ vs) h at again fresh = grind (arith, nat_tests, own_attr version titles k owner a vs h.2 at again fresh, titled_more)
+own_shown : (version : ℕ) (dims : List Dim) (names : List (List ℕ)) (vs : List Var) → VarChain version dims names vs → OwnChains version vs → Shows version (lines_of_own vs) (own_statements vs)
+own_shown version dims names [] h own = (refl, tt)
+own_shown version dims names (v ∷ vs) h own =
+    shows_joined version (map (line_of_att (Some v.name)) v.attrs) (map (λ (a : Attr). AttIs (Some v.name) a) v.attrs) (lines_of_own vs) (own_statements vs) (atts_shown version (Some v.name) [] v.attrs h.0.shown.1.5 own.0) (own_shown version dims (names ++ v.name ∷ []) vs h.1 own.1)
 
--- ---- how many values
+pub defined_shown : (version : ℕ) (h : Header) → DefinedOk version h → Shows version (definition_lines h) (definition_statements h)
+defined_shown version h ok =
+    let own_lines = map (line_of_att None) h.attrs in
+    let own = map (λ (a : Attr). AttIs None a) h.attrs in
+    let var_lines = map (λ v. line_of_var (line_for h.dims v)) h.vars in
+    let vars = map (λ (v : Var). VarIs (line_for h.dims v)) h.vars in
+    shows_joined version (map line_of_dim h.dims) (map (λ (d : Dim). DimIs d) h.dims) (var_lines ++ (own_lines ++ lines_of_own h.vars)) (vars ++ (own ++ own_statements h.vars)) (dims_shown version [] h.dims ok.dims)
+    (shows_joined version var_lines vars (own_lines ++ lines_of_own h.vars) (own ++ own_statements h.vars) (vars_shown version h.dims [] h.vars ok.vars)
+    (shows_joined version own_lines own (lines_of_own h.vars) (own_statements h.vars) (atts_shown version None [] h.attrs tt ok.attrs) (own_shown version h.dims [] h.vars ok.vars ok.own)))
 
--- ---- the definitions
+-- ---- they may stand behind one another
 
-pub record DefinedOk (version values : ℕ) (d : Defined) : Type 0 where
-  pub dims : DimChain version [] d.dims
-  pub vars : VarChain version d.dims [] d.vars
-  pub attrs : AttrChain version [] d.attrs
-  pub has_titles : titled d.titles (codes ":") d.attrs ≡ true
-  pub own : OwnChains version d.titles d.vars
-  pub counted : values ≡ count_attrs d.attrs + count_own d.vars
+dims_stand : (version : ℕ) (front ds : List Dim) (names : List (List ℕ)) (titles : List Title) (more : List Statement) → DimChain version front ds → Stand false (front ++ ds) names titles more
+    → Stand false front names titles (map (λ (d : Dim). DimIs d) ds ++ more)
+dims_stand version front [] names titles more h k = subst (λ (xs : List Dim). Stand false xs names titles more) (append-nil front) k
+dims_stand version front (d ∷ ds) names titles more h k =
+    (h.1, dims_stand version (front ++ d ∷ []) ds names titles more h.2 (subst (λ (xs : List Dim). Stand false xs names titles more) (sym (append_assoc front (d ∷ []) ds)) k))
 
-pub record DefinedOn (version values : ℕ) (r : ℕ × Defined) : Type 0 where
-  pub same : DefinedOk version (values + r.0) r.1
-  pub few : values + r.0 ≤ most_values
+vars_stand : (version : ℕ) (dims : List Dim) (names : List (List ℕ)) (vs : List Var) (titles : List Title) (more : List Statement) → VarChain version dims names vs → Stand false dims (names ++ var_names vs) titles more
+    → Stand false dims names titles (map (λ (v : Var). VarIs (line_for dims v)) vs ++ more)
+vars_stand version dims names [] titles more h k = subst (λ (ns : List (List ℕ)). Stand false dims ns titles more) (append-nil names) k
+vars_stand version dims names (v ∷ vs) titles more h k =
+    (h.0.stands, vars_stand version dims (names ++ v.name ∷ []) vs titles more h.1 (subst (λ (ns : List (List ℕ)). Stand false dims ns titles more) (sym (append_assoc names (v.name ∷ []) (var_names vs))) k))
 
-dim_on : (version values : ℕ) (d : Defined) (ws : List Word) (r : ℕ × Defined) → values ≤ most_values → DefinedOk version values d → dim_definition version d ws ≡ Ok r → DefinedOn version values r
-dim_on version values d ws r low ok h =
-    let a = went (dim_line version d.dims ws) (λ x. Ok (0, with_dim x d)) r h in
-    let x = a.value in
-    subst (DefinedOn version values) (same_ok (0, with_dim x d) r a.rest) (record {
-      same = record {
-        dims = dims_pushed version [] d.dims x ok.dims (dim_read version d.dims ws x a.first);
-        vars = vars_more version d.dims (x ∷ []) [] d.vars ok.vars;
-        attrs = ok.attrs;
-        has_titles = ok.has_titles;
-        own = ok.own;
-        counted = omega (arith, ok.counted);
-      };
-      few = omega arith;
-    })
+-- of this owner no title stands there but of these names
+abbrev FreshOwner : List Title → List ℕ → List (List ℕ) → Type 0
+FreshOwner titles owner names = (n : List ℕ) → is_among n names ≡ false → list_any (same_title (owner, n)) titles ≡ false
 
-var_read : (version : ℕ) (dims : List Dim) (vars : List Var) (ws : List Word) (v : Var) → var_line version dims vars ws ≡ Ok v → VarOk version dims (var_names vars) v × (v.attrs ≡ [])
-var_read version dims vars ws v h =
-    step_then (var_head version (var_names vars) ws) _ v h (λ a heads h. step_then (shape dims a.1) _ v h (λ b shaped h. end_then b.1 _ v h (λ none h.
-    step_then (name_list a.1) _ b shaped (λ n named k. step_then (or_fault kind.UnknownName (dim_ids dims n.0)) _ b k (λ i found k. free_then _ _ _ b k (λ few k. free_then _ _ _ b k (λ records k.
-    let ids : i ≡ b.0 = ap (λ (x : List ℕ × List Word). x.0) (same_ok (i, n.1) b k) in
-    let x : Var = record { name = a.0.1; dims = b.0; attrs = []; kind = a.0.0; begin = 0 } in
-    subst (λ (y : Var). VarOk version dims (var_names vars) y × (y.attrs ≡ [])) (same_ok x v h) (
-      record {
-        dim_list = n.0;
-        named = names_read a.1 n named;
-        found = faultless_some kind.UnknownName (dim_ids dims n.0) i found ∙ ap (λ (xs : List ℕ). Some xs) ids;
-        few = subst (λ xs. nat_lt most_dims_of_var (length xs) ≡ false) ids few;
-        records = subst (λ xs. list_any (is_record_dim dims) (drop 1 xs) ≡ false) ids records;
-        head = head_read version (var_names vars) ws a heads;
-        no_start = refl;
-      },
-      refl,
-    ))))))))
+fresh_pushed : (titles : List Title) (owner : List ℕ) (names : List (List ℕ)) (m : List ℕ) → FreshOwner titles owner names → FreshOwner (titles ++ (owner, m) ∷ []) owner (names ++ m ∷ [])
+fresh_pushed titles owner names m h n none = grind (arith, nat_tests, or_parts, bytes_eq, list_any-append, or_from, and_right)
 
-var_on : (version values : ℕ) (d : Defined) (ws : List Word) (r : ℕ × Defined) → values ≤ most_values → DefinedOk version values d → var_definition version d ws ≡ Ok r → DefinedOn version values r
-var_on version values d ws r low ok h =
-    let a = went (var_line version d.dims d.vars ws) (λ x. Ok (0, with_var x d)) r h in
-    let v = a.value in
-    let k = var_read version d.dims d.vars ws v a.first in
-    subst (DefinedOn version values) (same_ok (0, with_var v d) r a.rest) (record {
-      same = record {
-        dims = ok.dims;
-        vars = vars_pushed version d.dims [] d.vars v ok.vars k.0;
-        attrs = ok.attrs;
-        has_titles = ok.has_titles;
-        own = own_pushed version d.titles d.vars v k.1 ok.own;
-        counted = omega (arith, ok.counted, count-var d.vars v k.1);
-      };
-      few = omega arith;
-    })
+abbrev titles_of : List ℕ → List Attr → List Title
+titles_of owner list = map (λ (a : Attr). (owner, a.name)) list
 
--- an attribute of the dataset, or of the variable at a place
-att_of_dataset : (version values : ℕ) (d : Defined) (owner : List ℕ) (a : Attr) → DefinedOk version values d → owner ≡ codes ":" → AttrRead version d.titles values owner a → DefinedOn version values (a.count, with_title owner a.name (with_attr_of_owner None a d))
-att_of_dataset version values d owner a ok e read = grind (arith, nat_tests, codes, attrs_pushed, titled_fresh, titled_pushed, own_more, count-attr)
+atts_stand : (version : ℕ) (dims : List Dim) (all : List (List ℕ)) (o : Option (List ℕ)) (list : List Attr) (names : List (List ℕ)) (titles : List Title) (more : List Statement) → OwnerStands false all o
+    → AttrChain version names list → FreshOwner titles (owner_word o) names → Stand false dims all (titles ++ titles_of (owner_word o) list) more → Stand false dims all titles (map (λ (a : Attr). AttIs o a) list ++ more)
+atts_stand version dims all o [] names titles more there h fresh k = subst (λ (ts : List Title). Stand false dims all ts more) (append-nil titles) k
+atts_stand version dims all o (a ∷ list) names titles more there h fresh k =
+    let next = titles ++ (owner_word o, a.name) ∷ [] in (
+      there,
+      fresh a.name h.1,
+      atts_stand version dims all o list (names ++ a.name ∷ []) next more there h.2 (fresh_pushed titles (owner_word o) names a.name fresh)
+          (subst (λ (ts : List Title). Stand false dims all ts more) (sym (append_assoc titles ((owner_word o, a.name) ∷ []) (titles_of (owner_word o) list))) k),
+    )
 
-att_of_var : (version values : ℕ) (d : Defined) (owner : List ℕ) (k : ℕ) (a : Attr) → DefinedOk version values d → NameAt d.vars k owner → AttrRead version d.titles values owner a → DefinedOn version values (a.count, with_title owner a.name (with_attr_of_owner (Some k) a d))
-att_of_var version values d owner k a ok at read = grind (arith, nat_tests, pushes, vars_attr, titled_more, codes, own_attr, count-pushed)
+-- the titles are of owners of these names, or of the dataset
+abbrev Apart : List Title → List (List ℕ) → Type 0
+Apart titles names = (owner : List ℕ) → bytes_eq owner (codes ":") ≡ false → is_among owner names ≡ false → (n : List ℕ) → list_any (same_title (owner, n)) titles ≡ false
 
-abbrev PlaceOf : List Var → List ℕ → Option ℕ → Type 0
-PlaceOf vars owner None = owner ≡ codes ":"
-PlaceOf vars owner (Some k) = NameAt vars k owner
+other_titles : (owner other n : List ℕ) (list : List Attr) → bytes_eq owner other ≡ false → list_any (same_title (owner, n)) (titles_of other list) ≡ false
+other_titles owner other n [] h = refl
+other_titles owner other n (a ∷ list) h = or_from _ _ (and_left _ _ h) (other_titles owner other n list h)
 
-place_read : (vars : List Var) (owner : List ℕ) (o : Option ℕ) → owner_place vars owner ≡ Ok o → PlaceOf vars owner o
-place_read vars owner o h = grind (arith, nat_tests, bytes_eq, codes, position, same_ok, bytes_same, went, found_name, faultless_some)
+apart_pushed : (titles : List Title) (names : List (List ℕ)) (m : List ℕ) (list : List Attr) → Apart titles names → Apart (titles ++ titles_of m list) (names ++ m ∷ [])
+apart_pushed titles names m list h owner colon none n = grind (arith, nat_tests, or_parts, bytes_eq, list_any-append, or_from, other_titles)
 
-att_by_place : (version values : ℕ) (d : Defined) (owner : List ℕ) (o : Option ℕ) (a : Attr) → DefinedOk version values d → PlaceOf d.vars owner o → AttrRead version d.titles values owner a → DefinedOn version values (a.count, with_title owner a.name (with_attr_of_owner o a d))
-att_by_place version values d owner None a ok at read = att_of_dataset version values d owner a ok at read
-att_by_place version values d owner (Some k) a ok at read = att_of_var version values d owner k a ok at read
+new_there : (names : List (List ℕ)) (n : List ℕ) (more : List (List ℕ)) → is_among n (names ++ n ∷ more) ≡ true
+new_there names n more = list_any-append (bytes_eq n) names (n ∷ more) ∙ or_right _ _ (or_left _ _ (bytes_own n))
 
-att_on : (version values : ℕ) (d : Defined) (ws : List Word) (r : ℕ × Defined) → values ≤ most_values → list_all is_read ws ≡ true → DefinedOk version values d → att_line version values d ws ≡ Ok r → DefinedOn version values r
-att_on version values d ws r low read ok h =
-    step_then (reads_as owner_of_text kind.BadName ws) _ r h (λ o is h. step_then (owner_place d.vars o.0) _ r h (λ k there h. step_then (attribute version d.titles values o.0 o.1) _ r h (λ a told h.
-    subst (DefinedOn version values) (same_ok (a.count, with_title o.0 a.name (with_attr_of_owner k a d)) r h)
-    (att_by_place version values d o.0 k a ok (place_read d.vars o.0 k there) (attr_read version d.titles values o.0 o.1 a low (kept owner_of_text kind.BadName ws o is read) told)))))
+own_stand : (version : ℕ) (dims : List Dim) (all names : List (List ℕ)) (vs : List Var) (titles : List Title) → all ≡ names ++ var_names vs → VarChain version dims names vs → OwnChains version vs → Apart titles names
+    → Stand false dims all titles (own_statements vs)
+own_stand version dims all names [] titles e h own apart = tt
+own_stand version dims all names (v ∷ vs) titles e h own apart =
+    let there : is_among v.name all ≡ true = ap (is_among v.name) e ∙ new_there names v.name (var_names vs) in
+    let fresh : FreshOwner titles v.name [] = λ n none. apart v.name (no_colon v.name h.0.shown.1.5) h.0.stands.0 n in
+    atts_stand version dims all (Some v.name) v.attrs [] titles (own_statements vs) there own.0 fresh
+    (own_stand version dims all (names ++ v.name ∷ []) vs (titles ++ titles_of v.name v.attrs) (e ∙ sym (append_assoc names (v.name ∷ []) (var_names vs))) h.1 own.1 (apart_pushed titles names v.name v.attrs apart))
 
-fill_on : (version values : ℕ) (d : Defined) (ws : List Word) (r : ℕ × Defined) → values ≤ most_values → DefinedOk version values d → fill_line d ws ≡ Ok r → DefinedOn version values r
-fill_on version values d ws r low ok h = grind (arith, nat_tests, went, same_ok)
+pub defined_stand : (version : ℕ) (h : Header) → DefinedOk version h → Stand false [] [] [] (definition_statements h)
+defined_stand version h ok =
+    dims_stand version [] h.dims [] [] _ ok.dims (vars_stand version h.dims [] h.vars [] _ ok.vars
+    (atts_stand version h.dims (var_names h.vars) None h.attrs [] [] _ tt ok.attrs (λ n none. refl)
+    (own_stand version h.dims (var_names h.vars) [] h.vars (titles_of (codes ":") h.attrs) refl ok.vars ok.own (λ owner colon none n. other_titles owner (codes ":") n h.attrs colon))))
 
-pub definition_read : (version values : ℕ) (d : Defined) (first : List ℕ) (ws : List Word) (r : ℕ × Defined) → values ≤ most_values → list_all is_read ws ≡ true → DefinedOk version values d → definition version values d first ws ≡ Ok r → DefinedOn version values r
-definition_read version values d first ws r low read ok h =
-    tested (bytes_eq first (codes "dim")) _ _ _ h (λ i. dim_on version values d ws r low ok)
-    (λ i a. tested (bytes_eq first (codes "var")) _ _ _ a (λ j. var_on version values d ws r low ok)
-    (λ j b. tested (bytes_eq first (codes "att")) _ _ _ b (λ k. att_on version values d ws r low read ok)
-    (λ k c. tested (bytes_eq first (codes "fill")) _ _ _ c (λ l. fill_on version values d ws r low ok) (λ l e. absurd (cc)))))
+-- ---- what they tell
+
+-- the values of a hint, the attributes of a variable, and the rest
+pub record Parts : Type 0 where
+  pub ranks : List ℕ
+  pub hint : List ℕ
+  pub fills : ℕ
+  pub dims : List Dim
+  pub vars : List VarLine
+  pub own : List Attr
+  pub attrs : List Attr
+
+abbrev pub parts : ℕ → List ℕ → List Statement → Parts
+parts i n ss = record { ranks = ranks_in ss; hint = hint_values i ss; fills = fills_in ss; dims = dims_in ss; vars = vars_in ss; own = own_attrs ss; attrs = attrs_of n ss }
+
+abbrev dims_on : List Dim → Parts → Parts
+dims_on ds p = record p { dims = ds ++ p.dims }
+
+abbrev vars_on : List VarLine → Parts → Parts
+vars_on ls p = record p { vars = ls ++ p.vars }
+
+abbrev own_on : List Attr → Parts → Parts
+own_on list p = record p { own = list ++ p.own }
+
+abbrev attrs_on : List Attr → Parts → Parts
+attrs_on list p = record p { attrs = list ++ p.attrs }
+
+-- the attributes of the variables of a name
+abbrev own_of : List ℕ → List Var → List Attr
+own_of n [] = []
+own_of n (v ∷ vs) = cond (bytes_eq v.name n) v.attrs [] ++ own_of n vs
+
+module _ (i : ℕ) (n : List ℕ) where
+  dims_parts : (ds : List Dim) (more : List Statement) → parts i n (map (λ (d : Dim). DimIs d) ds ++ more) ≡ dims_on ds (parts i n more)
+  dims_parts [] more = refl
+  dims_parts (d ∷ ds) more = ap (dims_on (d ∷ [])) (dims_parts ds more)
+
+  vars_parts : (dims : List Dim) (vs : List Var) (more : List Statement) → parts i n (map (λ (v : Var). VarIs (line_for dims v)) vs ++ more) ≡ vars_on (map (line_for dims) vs) (parts i n more)
+  vars_parts dims [] more = refl
+  vars_parts dims (v ∷ vs) more = ap (vars_on (line_for dims v ∷ [])) (vars_parts dims vs more)
+
+  own_parts : (list : List Attr) (more : List Statement) → parts i n (map (λ (a : Attr). AttIs None a) list ++ more) ≡ own_on list (parts i n more)
+  own_parts [] more = refl
+  own_parts (a ∷ list) more = ap (own_on (a ∷ [])) (own_parts list more)
+
+  one_more : (b : Bool) (a : Attr) (list : List Attr) (p : Parts) → record p { attrs = cond b (a ∷ (cond b list [] ++ p.attrs)) (cond b list [] ++ p.attrs) } ≡ attrs_on (cond b (a ∷ list) []) p
+  one_more true a list p = refl
+  one_more false a list p = refl
+
+  attrs_parts : (m : List ℕ) (list : List Attr) (more : List Statement) → parts i n (map (λ (a : Attr). AttIs (Some m) a) list ++ more) ≡ attrs_on (cond (bytes_eq m n) list []) (parts i n more)
+  attrs_parts m [] more = one_less (bytes_eq m n) (parts i n more)
+    where
+      one_less : (b : Bool) (p : Parts) → p ≡ attrs_on (cond b [] []) p
+      one_less true p = refl
+      one_less false p = refl
+  attrs_parts m (a ∷ list) more =
+      ap (λ (p : Parts). record p { attrs = cond (bytes_eq m n) (a ∷ p.attrs) p.attrs }) (attrs_parts m list more) ∙ one_more (bytes_eq m n) a list (parts i n more)
+
+  all_attrs_parts : (vs : List Var) → parts i n (own_statements vs) ≡ record { ranks = []; hint = []; fills = 0; dims = []; vars = []; own = []; attrs = own_of n vs }
+  all_attrs_parts [] = refl
+  all_attrs_parts (v ∷ vs) = attrs_parts v.name v.attrs (own_statements vs) ∙ ap (attrs_on (cond (bytes_eq v.name n) v.attrs [])) (all_attrs_parts vs)
+
+  pub defined_parts : (h : Header) → parts i n (definition_statements h) ≡ record { ranks = []; hint = []; fills = 0; dims = h.dims ++ []; vars = map (line_for h.dims) h.vars ++ []; own = h.attrs ++ []; attrs = own_of n h.vars }
+  defined_parts h =
+      dims_parts h.dims _ ∙ ap (dims_on h.dims) (vars_parts h.dims h.vars _ ∙ ap (vars_on (map (line_for h.dims) h.vars)) (own_parts h.attrs _ ∙ ap (own_on h.attrs) (all_attrs_parts h.vars)))
+
+other_name : (a b : List ℕ) (names : List (List ℕ)) → is_among a names ≡ true → is_among b names ≡ false → bytes_eq b a ≡ false
+other_name a b names there none =
+    elim (holds_or_not (bytes_eq b a)) [
+      | inl e ↦ let same : is_among b names ≡ true = ap (λ (x : List ℕ). is_among x names) (bytes_same b a e) ∙ there in absurd (cc)
+      | inr e ↦ e
+    ]
+
+bytes_other : (a b : List ℕ) → bytes_eq a b ≡ false → bytes_eq b a ≡ false
+bytes_other a b h =
+    elim (holds_or_not (bytes_eq b a)) [
+      | inl e ↦ let same : bytes_eq a b ≡ true = ap (bytes_eq a) (bytes_same b a e) ∙ bytes_own a in absurd (cc)
+      | inr e ↦ e
+    ]
+
+-- variables behind one of this name have none
+none_of : (version : ℕ) (dims : List Dim) (names : List (List ℕ)) (n : List ℕ) (vs : List Var) → VarChain version dims names vs → is_among n names ≡ true → own_of n vs ≡ []
+none_of version dims names n [] h there = refl
+none_of version dims names n (v ∷ vs) h there =
+    ap (λ (b : Bool). cond b v.attrs [] ++ own_of n vs) (other_name n v.name names there h.0.stands.0)
+    ∙ none_of version dims (names ++ v.name ∷ []) n vs h.1 (list_any-append (bytes_eq n) names (v.name ∷ []) ∙ or_left _ _ there)
+
+pub vars_told : (version : ℕ) (dims : List Dim) (f : List ℕ → List Attr) (names : List (List ℕ)) (vs : List Var) → VarChain version dims names vs → ((n : List ℕ) → is_among n names ≡ false → f n ≡ own_of n vs)
+    → AllZip (λ (line : VarLine) v. IsVarOf dims (f line.name) line v) (map (line_for dims) vs) vs
+vars_told version dims f names [] h each = tt
+vars_told version dims f names (v ∷ vs) h each =
+    let more = names ++ v.name ∷ [] in
+    let own : f v.name ≡ v.attrs =
+    each v.name h.0.stands.0 ∙ (ap (λ (b : Bool). cond b v.attrs [] ++ own_of v.name vs) (bytes_own v.name)
+    ∙ (ap (λ (list : List Attr). v.attrs ++ list) (none_of version dims more v.name vs h.1 (new_there names v.name [])) ∙ append-nil v.attrs)) in
+    let rest = vars_told version dims f more vs h.1 (λ n none.
+    let p = or_parts (is_among n names) _ (sym (list_any-append (bytes_eq n) names (v.name ∷ [])) ∙ none) in
+    each n p.0 ∙ ap (λ (b : Bool). cond b v.attrs [] ++ own_of n vs) (bytes_other n v.name (or_parts (bytes_eq n v.name) false p.1).0)) in
+    (subst (λ (list : List Attr). IsVarOf dims list (line_for dims v) v) (sym own) h.0.told, rest)

@@ -1,12 +1,11 @@
--- Definitions that words can express, printed after those before them, are read again.
-use Rattle.script_text.proofs.Words.{◌≡◌, ◌∙◌, ◌⊎◌, ℕ, zero, suc, ◌+◌, ◌^◌, ◌≤◌, ◌<◌, List, [], ◌∷◌, ◌++◌, map, position, drop, length, Bool, true, false, not, cond, nat_lt, nat_le, ◌==◌, ◌&&◌, Some, refl, sym, ap, subst, inl, inr, append_assoc, length-append, arith, bytes_eq, codes, list_all, list_any, and_parts, and_from, not-true, lt-leb, ne_eqb, ltb-true, leb-true, le-ltb, eqb-true, Dim, Attr, Var, Header, most_dims, most_vars, most_dims_of_var, record_limit, number_of, last_type, is_lawful_dim, is_lawful_var, is_empty, is_name, is_among, dim_names, is_record_dim, is_unlimited, same_title, Defined, is_new_name, are_expressible_dims, is_expressible_var, are_expressible_vars, is_expressible_header, nat_tests}
+-- Definitions that words can express say themselves, printed, and stand behind those before them.
+use Rattle.script_text.proofs.Words.{◌≡◌, ◌∙◌, ◌⊎◌, ℕ, zero, suc, ◌+◌, ◌^◌, ◌≤◌, ◌<◌, List, [], ◌∷◌, ◌++◌, map, position, drop, length, Bool, true, false, not, cond, nat_lt, nat_le, ◌==◌, ◌&&◌, Some, refl, sym, ap, subst, inl, inr, append_assoc, length-append, arith, bytes_eq, list_all, list_any, and_parts, and_from, not-true, length-map, ne_eqb, ltb-true, leb-true, eqb-true, Dim, Attr, Var, Header, most_dims, most_vars, most_dims_of_var, record_limit, number_of, last_type, is_lawful_dim, is_lawful_var, is_empty, is_name, is_among, dim_names, is_record_dim, is_unlimited, is_new_name, are_expressible_dims, is_expressible_var, are_expressible_vars, is_expressible_header, nat_tests}
 use Rattle.script_spelling.proofs.Steps.{empty_list}
 use Rattle.script_text.proofs.PrintedAttributes.{type_told}
-use Rattle.script_text.proofs.PrintedDefinitions.{length_told, dim_told}
+use Rattle.script_text.proofs.PrintedDefinitions.{length_told}
+use Rattle.script_text.proofs.StatementLines.{line_of_att, dim_shown, var_shown}
 use Rattle.script_spelling.proofs.Places.{name_at, place_of_new, joined_names, length_names, ids_found}
-use Rattle.script_text.proofs.DefinedLines.{line_of_att, lines_of_own}
-use Rattle.script_text.proofs.DefinedChains.{DimChain, VarOk, VarChain, AttrChain, OwnChains, DefinedOk}
-use Rattle.script_spelling.proofs.PushedAttrs.{count_attrs, count_own}
+use Rattle.script_text.proofs.DefinedChains.{DimChain, line_for, VarOk, VarChain, AttrChain, OwnChains, DefinedOk, lines_of_own}
 
 -- a name that is one, and that none has
 new_name : (names : List (List ℕ)) (n : List ℕ) → is_new_name names n ≡ true → (is_name n ≡ true) × (is_among n names ≡ false)
@@ -38,7 +37,8 @@ dims_chained version before (d ∷ ds) h lawful few =
     let lens = and_parts (is_lawful_dim version d) (list_all (is_lawful_dim version) ds) lawful in
     let len = length_told version d.len (length_cases version d.len (ltb-true d.len (record_limit version) lens.0)) in
     let long = length-append before (d ∷ []) in (
-      dim_told version before d.name d.len parts.named parts.fresh (lt-leb most_dims (length before) (omega arith)) len parts.one,
+      dim_shown version d parts.named len,
+      (parts.fresh, omega arith, parts.one),
       dims_chained version (before ++ d ∷ []) ds parts.rest lens.1 (omega (arith, long)),
     )
 
@@ -81,69 +81,46 @@ var_chained version dims names v all lawful fresh h room =
     let parts = var_parts version dims v h in
     let n = new_name names v.name fresh in
     let limits = and_parts (nat_le (length v.dims) most_dims_of_var) (v.begin == 0) lawful in
+    let named = dims_named dims v.dims all parts.there in
+    let found = ids_found dims v.dims (λ k low. let same : 0 + k ≡ k = omega arith in dim_found [] dims k all low ∙ ap (λ (i : ℕ). Some i) same) parts.there in
+    let few = leb-true (length v.dims) most_dims_of_var limits.0 in
     record {
-      dim_list = map (name_at dims) v.dims;
-      named = dims_named dims v.dims all parts.there;
-      found = ids_found dims v.dims (λ k low. let same : 0 + k ≡ k = omega arith in dim_found [] dims k all low ∙ ap (λ (i : ℕ). Some i) same) parts.there;
-      few = le-ltb most_dims_of_var (length v.dims) (leb-true (length v.dims) most_dims_of_var limits.0);
-      records = parts.records;
-      head = record { known = type_told version v.kind parts.known; named = n.0; fresh = n.1; room = lt-leb most_vars (length names) room };
-      no_start = eqb-true v.begin 0 limits.1;
+      shown = var_shown version (line_for dims v) (type_told version v.kind parts.known) n.0 named;
+      stands = (n.1, room, omega (arith, few, length-map v.dims (name_at dims)), (v.dims, found, parts.records));
+      told = (found, ap (λ (b : ℕ). record v { begin = b }) (eqb-true v.begin 0 limits.1));
     }
 
-record VarsTold (version : ℕ) (dims : List Dim) (names : List (List ℕ)) (vs : List Var) : Type 0 where
-  chain : VarChain version dims names vs
-  own : OwnChains version [] vs
-  counted : count_own vs ≡ 0
-
-plain_own : (version : ℕ) (v : Var) (vs : List Var) → v.attrs ≡ [] → OwnChains version [] vs → count_own vs ≡ 0 → OwnChains version [] (v ∷ vs) × (count_own (v ∷ vs) ≡ 0)
-plain_own version v vs plain own none = grind (arith, nat_tests)
-
 vars_chained : (version : ℕ) (dims : List Dim) (names : List (List ℕ)) (vs : List Var) → are_expressible_dims [] dims ≡ true → list_all is_lawful_var vs ≡ true → are_expressible_vars version dims names vs ≡ true
-    → length names + length vs ≤ most_vars → VarsTold version dims names vs
-vars_chained version dims names [] all lawful h few = record { chain = tt; own = tt; counted = refl }
+    → length names + length vs ≤ most_vars → VarChain version dims names vs × OwnChains version vs × (lines_of_own vs ≡ [])
+vars_chained version dims names [] all lawful h few = (tt, tt, refl)
 vars_chained version dims names (v ∷ vs) all lawful h few =
     let limits = and_parts (is_lawful_var v) (list_all is_lawful_var vs) lawful in
     let both = and_parts (is_new_name names v.name && is_expressible_var version dims v) _ h in
     let first = and_parts (is_new_name names v.name) (is_expressible_var version dims v) both.0 in
-    let more = vars_chained version dims (names ++ v.name ∷ []) vs all limits.1 both.1 (omega (arith, length-append names (v.name ∷ []))) in
-    let own = plain_own version v vs (var_parts version dims v first.1).plain more.own more.counted in
-    record {
-      chain = (var_chained version dims names v all limits.0 first.0 first.1 (omega arith), more.chain);
-      own = own.0;
-      counted = own.1;
-    }
+    let plain = (var_parts version dims v first.1).plain in
+    let more = vars_chained version dims (names ++ v.name ∷ []) vs all limits.1 both.1 (omega (arith, length-append names (v.name ∷ []))) in (
+      (var_chained version dims names v all limits.0 first.0 first.1 (omega arith), more.0),
+      (subst (AttrChain version []) (sym plain) tt, more.1),
+      ap (λ (list : List Attr). map (line_of_att (Some v.name)) list ++ lines_of_own vs) plain ∙ more.2,
+    )
 
--- ---- the definitions of a header
+-- ---- the definitions of a header, which has no attributes
 
-abbrev pub defined_of : Header → Bool → Defined
-defined_of header filled = record { dims = header.dims; vars = header.vars; attrs = header.attrs; titles = []; filled = filled }
+pub record HeaderTold (header : Header) : Type 0 where
+  pub defined : DefinedOk header.version header
+  pub no_attrs : header.attrs ≡ []
+  pub no_own : lines_of_own header.vars ≡ []
 
-pub header_told : (header : Header) (filled : Bool) → is_expressible_header header ≡ true → list_all (is_lawful_dim header.version) header.dims ≡ true → length header.dims ≤ most_dims
-    → list_all is_lawful_var header.vars ≡ true → length header.vars ≤ most_vars → DefinedOk header.version 0 (defined_of header filled)
-header_told header filled h dims few_dims vars few_vars =
+pub header_told : (header : Header) → is_expressible_header header ≡ true → list_all (is_lawful_dim header.version) header.dims ≡ true → length header.dims ≤ most_dims
+    → list_all is_lawful_var header.vars ≡ true → length header.vars ≤ most_vars → HeaderTold header
+header_told header h dims few_dims vars few_vars =
     let version = header.version in
     let a = and_parts _ (is_empty header.attrs) h in
     let b = and_parts (are_expressible_dims [] header.dims) (are_expressible_vars version header.dims [] header.vars) a.0 in
     let plain = empty_list header.attrs a.1 in
     let told = vars_chained version header.dims [] header.vars b.0 vars b.1 (omega arith) in
     record {
-      dims = dims_chained version [] header.dims b.0 dims (omega arith);
-      vars = told.chain;
-      attrs = subst (AttrChain version []) (sym plain) tt;
-      has_titles = ap (λ (list : List Attr). list_all (λ (a : Attr). list_any (same_title (codes ":", a.name)) []) list) plain;
-      own = told.own;
-      counted = omega (arith, ap count_attrs plain, told.counted);
+      defined = record { dims = dims_chained version [] header.dims b.0 dims (omega arith); vars = told.0; attrs = subst (AttrChain version []) (sym plain) tt; own = told.1 };
+      no_attrs = plain;
+      no_own = told.2;
     }
-
--- ---- it has no attributes
-
-own_plain : (version : ℕ) (dims : List Dim) (names : List (List ℕ)) (vs : List Var) → are_expressible_vars version dims names vs ≡ true → lines_of_own vs ≡ []
-own_plain version dims names [] h = refl
-own_plain version dims names (v ∷ vs) h =
-    let both = and_parts (is_new_name names v.name && is_expressible_var version dims v) _ h in
-    let first = and_parts (is_new_name names v.name) (is_expressible_var version dims v) both.0 in
-    ap (λ (list : List Attr). map (line_of_att v.name) list ++ lines_of_own vs) (var_parts version dims v first.1).plain ∙ own_plain version dims (names ++ v.name ∷ []) vs both.1
-
-pub no_attributes : (header : Header) → is_expressible_header header ≡ true → (header.attrs ≡ []) × (lines_of_own header.vars ≡ [])
-no_attributes header h = grind (arith, nat_tests, and_parts, empty_list, own_plain)

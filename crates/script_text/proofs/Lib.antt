@@ -9,11 +9,11 @@ mod PrintedCalls
 pub mod CallLines
 mod PrintedAttributes
 mod PrintedDefinitions
-pub mod AddedLines
+pub mod StatementLines
 pub mod DefinedChains
-pub mod DefinedLines
+pub mod KeptDefinitions
 mod ReadWords
-pub mod KnownLines
+pub mod HintLines
 mod ScriptLines
 pub mod Whole
 mod ExpressedDefinitions

@@ -1,5 +1,5 @@
 -- Lines that are printed are the significant lines of their text, which is ASCII.
-use Rattle.script_text.proofs.Words.{◌≡◌, ◌∙◌, ℕ, zero, suc, ◌+◌, ◌/◌, ◌%◌, ◌≤◌, ◌<◌, List, [], ◌∷◌, ◌++◌, map, length, take, get_or, Bool, true, false, not, nat_lt, nat_le, ◌==◌, ◌&&◌, refl, sym, ap, subst, ⊎_elim, append_assoc, take_all, arith, IsUtf8, IsAscii, and_parts, and_from, ne_eqb, eq-eqb, eqb-true, cases_Bool, cond-false, agree_below_at, lt-ltb, not-true, common_steps, slice_split_at, length-slice_split, AllPass-from_list_all, IsUtf8-from_ascii, IsUtf8-from_is_utf8, utf8_valid_len-IsUtf8, IsAscii-from_all, All, list_all, enumerate_from, is_utf8, valid_len_up_to, utf8_valid_len, first_line_kept, text_char, hex_digit, joined, line, Word, Line, words, is_comment, is_newline, line_of, significant, significant_of, text_lines, all_joined, nat_tests, ltb-true}
+use Rattle.script_text.proofs.Words.{◌≡◌, ◌∙◌, ℕ, zero, suc, ◌+◌, ◌/◌, ◌%◌, ◌≤◌, ◌<◌, List, [], ◌∷◌, ◌++◌, map, length, take, get_or, Bool, true, false, not, nat_lt, nat_le, ◌==◌, ◌&&◌, refl, ap, ⊎_elim, append_assoc, take_all, arith, IsUtf8, IsAscii, and_parts, and_from, ne_eqb, eq-eqb, eqb-true, cases_Bool, cond-false, agree_below_at, lt-ltb, not-true, common_steps, slice_split_at, length-slice_split, AllPass-from_list_all, IsUtf8-from_ascii, IsUtf8-from_is_utf8, utf8_valid_len-IsUtf8, IsAscii-from_all, All, list_all, enumerate_from, is_utf8, valid_len_up_to, utf8_valid_len, first_line_kept, text_char, hex_digit, joined, line, Word, Line, words, is_comment, is_newline, line_of, significant, significant_of, text_lines, all_joined, nat_tests, ltb-true}
 use Rattle.std.proofs.Common.{flat_map}
 use lib.Utf8.{scalar, scalars, encode, encodes, scalar_cases, next}
 use Rattle.script_text.proofs.Lexing.{spelling, is_byte, is_good, byte_bound, tail_of, joined_words, words_again, below_16}
@@ -103,21 +103,6 @@ significant_again n ((w ∷ ws) ∷ wss) h =
 
 pub significant_lines : (wss : List (List Word)) → list_all is_line wss ≡ true → significant (flat_map spelled wss) ≡ numbered 1 wss
 significant_lines wss h = ap (λ (ls : List (List ℕ)). significant_of (enumerate_from 1 ls)) (lines_again wss h) ∙ significant_again 1 wss h
-
--- ---- runs of lines
-
--- lines that are cut again, each of which leads on
-abbrev pub Lead : {S : Type 0} → (S → List Word → S → Type 0) → S → List (List Word) → S → Type 0
-Lead step s [] t = s ≡ t
-Lead {S} step s (ws ∷ wss) t = (next : S) × (is_line ws ≡ true) × step s ws next × Lead step next wss t
-
-pub lead_on : {S : Type 0} (step : S → List Word → S → Type 0) (s m t : S) (a b : List (List Word)) → Lead step s a m → Lead step m b t → Lead step s (a ++ b) t
-lead_on {S} step s m t [] b h k = subst (λ (z : S). Lead step z b t) (sym h) k
-lead_on step s m t (ws ∷ a) b h k = (h.0, h.1, h.2, lead_on step h.0 m t a b h.3 k)
-
-pub lead_lines : {S : Type 0} (step : S → List Word → S → Type 0) (s t : S) (wss : List (List Word)) → Lead step s wss t → list_all is_line wss ≡ true
-lead_lines step s t [] h = refl
-lead_lines step s t (ws ∷ wss) h = and_from _ _ h.1 (lead_lines step h.0 t wss h.3)
 
 -- ---- UTF-8
 

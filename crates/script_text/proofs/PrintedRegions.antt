@@ -1,5 +1,5 @@
 -- Names, regions, ids and choices that are printed are read again.
-use Rattle.script_text.proofs.Words.{◌≡◌, ℕ, ◌^◌, ◌≤◌, ◌<◌, List, [], ◌∷◌, map, length, Bool, true, nat_le, ◌&&◌, Option, Some, Ok, refl, ap, arith, codes, decimal, list_all, and_parts, and_from, ScriptKind, Form, Given, Part, Choice, Every, Listed, most_parts, has_its_lists, is_given, size_list, part_words, form_words, choice_words, Word, Plain, size_of_text, list_of_text, reads_as, region, id_of_text, ids, is_id, is_expressible_choice, nat_tests, Each, SpellsChoice, SpellsForm, SpellsOne, ltb-true, lt-ltb, leb-true}
+use Rattle.script_text.proofs.Words.{◌≡◌, ℕ, ◌^◌, ◌≤◌, ◌<◌, List, [], ◌∷◌, map, length, Bool, true, nat_le, ◌&&◌, Option, Some, Ok, refl, ap, arith, codes, decimal, list_all, and_parts, and_from, ScriptKind, Form, Given, Part, Choice, Every, Listed, most_parts, has_its_lists, is_given, size_list, part_words, form_words, choice_words, Word, Plain, size_of_text, list_of_text, reads_as, id_of_text, is_id, is_expressible_choice, nat_tests, Each, SpellsChoice, SpellsForm, SpellsOne, ltb-true, lt-ltb, leb-true}
 use Rattle.std.proofs.Common.{flat_map}
 use Rattle.script_spelling.proofs.Steps.{word_before}
 use Rattle.script_text.proofs.Lexing.{spelling, is_plain, is_good}

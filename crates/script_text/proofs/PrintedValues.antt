@@ -1,12 +1,11 @@
 -- Values that are printed are read as the same values.
-use Rattle.script_text.proofs.Words.{◌≡◌, ◌∙◌, ℕ, ◌^◌, ◌<◌, List, [], ◌∷◌, map, length, Bool, true, false, cond, nat_lt, Option, Some, None, Ok, ℤ, unsigned_abs, refl, sym, ap, subst, arith, bytes_eq, signed_decimal, list_all, and_parts, and_from, and_left, cond-true, ne_eqb, sixteens, NcType, Values, Numbers, Text, Bits, count_of, hex, shown_values, Word, Plain, Quoted, number_of_text, bits_of_text, are_text, may_be, may_have, number_for, pattern_for, pattern_sequence, pattern_values, values, nat_tests, Each, OfBitSequence, OfBits, OfNothing, OfNumbers, OfSequence, OfText, SpellsValues, ltb-true, lt-ltb}
+use Rattle.script_text.proofs.Words.{◌≡◌, ◌∙◌, ℕ, ◌^◌, ◌<◌, List, [], ◌∷◌, map, length, Bool, true, false, cond, nat_lt, Option, Some, None, ℤ, unsigned_abs, refl, sym, ap, subst, arith, bytes_eq, signed_decimal, list_all, and_parts, and_from, and_left, cond-true, ne_eqb, sixteens, NcType, Values, Numbers, Text, Bits, hex, shown_values, Word, Plain, Quoted, number_of_text, bits_of_text, are_text, may_be, may_have, number_for, pattern_for, pattern_sequence, pattern_values, nat_tests, Each, OfBitSequence, OfBits, OfNothing, OfNumbers, OfSequence, OfText, SpellsValues, ltb-true, lt-ltb}
 use Rattle.script_text.proofs.Lexing.{spelling, is_byte, is_good}
 use Rattle.script_text.proofs.Numerals.{IsNumberWord, number_word, number_again, bits_again, bits_bound, hex_graphic}
 use Rattle.script_laws.proofs.ValueLaws.{number_small}
 use Rattle.script_laws.proofs.Sequences.{is_fit_number, is_fit_pattern, numbers_fit, patterns_fit}
 use Rattle.nc_base.specs.declared.request.Value.TheVariants as value
-use Rattle.script_spelling.proofs.Rooms.{HasRoom, fit_from}
-use Rattle.script_spelling.proofs.ValuesTold.{values_told}
+use Rattle.script_spelling.proofs.Rooms.{fit_from}
 
 -- ---- values as they are printed
 
@@ -35,10 +34,6 @@ abbrev pub AreFit : Option NcType → Values → Type 0
 AreFit t (Numbers zs) = list_all (is_fit_number t) zs ≡ true
 AreFit t (Text text) = (list_all is_byte text ≡ true) × (may_be are_text t ≡ true)
 AreFit t (Bits ns) = (list_all (is_fit_pattern t) ns ≡ true) × (0 < length ns)
-
-pub record Fitting (t : Option NcType) (before : ℕ) (vs : Values) : Type 0 where
-  pub are : AreFit t vs
-  pub room : HasRoom t before (count_of vs)
 
 -- what words that are read spell holds of each that passes it
 pub each_passed : {A : Type 0} (f : List ℕ → Option A) (test : A → Bool) → ((w : List ℕ) (x : A) → f w ≡ Some x → test x ≡ true) → (ws : List Word) (xs : List A) → Each f ws xs → list_all test xs ≡ true
@@ -95,9 +90,6 @@ pub values_spell : (t : Option NcType) (vs : Values) → AreFit t vs → SpellsV
 values_spell t (Numbers zs) h = OfNumbers zs (each_spells (number_for t) (is_fit_number t) signed_decimal (number_for_again t) zs h) refl
 values_spell t (Text text) h = OfText text refl h.1 refl
 values_spell t (Bits ns) h = OfBits ns h.1 (each_spells (pattern_for t) (is_fit_pattern t) (λ n. 120 ∷ hex 16 n) (pattern_for_again t) ns h.0) refl
-
-pub values_again : (t : Option NcType) (before : ℕ) (vs : Values) → Fitting t before vs → values t before (value_tokens vs) ≡ Ok vs
-values_again t before vs fit = values_told t before (value_tokens vs) vs (values_spell t vs fit.are) fit.room
 
 -- ---- they are cut again
 

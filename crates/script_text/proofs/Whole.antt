@@ -1,90 +1,140 @@
--- A whole script: what is printed of what was read is read as the same script.
-use Rattle.script_text.proofs.Words.{◌≡◌, ◌∙◌, ℕ, zero, suc, ◌+◌, ◌^◌, ◌≤◌, ◌<◌, List, [], ◌∷◌, ◌++◌, map, replicate, length, Bool, true, false, cond, ◌==◌, Option, Some, None, Result, Ok, refl, sym, ap, subst, arith, codes, decimal, list_all, and_parts, and_from, or_cases, cond-true, ne_eqb, eqb-true, finished, ScriptErr, Hints, Extra, Script, Call, is_version, kinds, most_values, shown, Word, Plain, Line, text_lines, significant, ◌>>=◌, Within, hints_of, Defined, no_definition, Added, nothing_added, Known, nothing_known, ranks_line, mismatch, at_line, version_of_text, head, definitions, data_part, finish, script_of, no_calls, script_of_lines, most_bytes, most_lines, Reads, length-map, all_joined, nat_tests}
-use Rattle.std.proofs.Common.{flat_map}
-use Rattle.serial_spec.proofs.Common.{IsLawful, lawful_parts}
-use Rattle.script_laws.proofs.LawfulLaws.{read_lawful}
-use Rattle.script_spelling.proofs.Steps.{go_on, same_ok, word_read, step_then}
-use Rattle.script_text.proofs.Lines.{is_line, spelled, body, numbered, lead_on, lead_lines, lines_again, significant_lines, valid_lines, valid_bytes}
+-- A whole script: what is printed of it spells it, and is so read as it.
+use Rattle.script_text.proofs.Words.{◌≡◌, ◌∙◌, ℕ, zero, suc, ◌^◌, ◌≤◌, ◌<◌, List, [], ◌∷◌, ◌++◌, map, length, Bool, true, false, not, cond, ◌==◌, Option, Some, None, refl, sym, ap, subst, append_assoc, append-nil, arith, nat_tests, codes, decimal, list_all, list_all-append, list_all-map, AllZip, and_parts, and_from, or_cases, cond-true, cond-false, ne_eqb, eq-eqb, eqb-true, all_joined, length-map, range_with_len, Title, Dim, Header, Extra, Script, is_version, is_lawful, shown, Word, Plain, text_lines, significant, no_definition, header_of, most_bytes, most_lines, Reads}
+use Rattle.serial_spec.proofs.Common.{lawful_parts}
+use Rattle.script_spelling.specs.Statements.{Statement, RanksAre, HintIs, IsFilled, DimIs, VarIs, AttIs, VarLine, Stand}
+use Rattle.script_spelling.specs.Described.{IsVarOf, calls_in, ToDataset, ranks_in, hint_values, fills_in, extras_in, attrs_of}
+use Rattle.script_spelling.specs.Spelling.{Sections, Spells, SpellsHead, lines_of, version_of_lines}
+use Rattle.script_spelling.proofs.CallLinesRead.{words_of}
+use Rattle.script_spelling.proofs.Spelled.{read_spelled}
+use Rattle.script_spelling.proofs.Told.{spelled_read}
+use Rattle.script_text.proofs.Lines.{is_line, body, lines_again, significant_lines, valid_lines, valid_bytes}
 use Rattle.script_text.proofs.Numerals.{size_again, size_plain}
-use Rattle.script_text.proofs.PrintedDefinitions.{is_value_of, ranks_again, within_plain}
-use Rattle.script_text.proofs.CallLines.{DataEnd, are_read, call_lines, data_again, calls_named, end_from}
-use Rattle.script_spelling.proofs.CallCounts.{line_ok, all_counted, is_text, text_again}
-use Rattle.script_spelling.proofs.Leading.{Leads}
-use Rattle.script_text.proofs.AddedLines.{Runs, run_again, Replay, replay_runs, extra_line}
-use Rattle.script_text.proofs.DefinedChains.{DefinedOk}
-use Rattle.script_text.proofs.DefinedLines.{at_state, define_on, told_again, nothing_but, definitions_run}
+use Rattle.script_text.proofs.PrintedValues.{is_read}
+use Rattle.script_text.proofs.PrintedDefinitions.{within_again, within_plain}
+use Rattle.script_text.proofs.CallLines.{are_named, call_lines, called_from, calls_named, calls_shown, calls_again, all_below, words_numbered}
+use Rattle.script_text.proofs.StatementLines.{extra_line, of_extra, AllAgain, all_again, Shows, shows_joined}
+use Rattle.script_text.proofs.DefinedChains.{line_for, DefinedOk, definition_lines, definition_statements, defined_shown, defined_stand, Parts, parts, defined_parts, vars_told}
+use Rattle.script_text.proofs.KeptDefinitions.{defined_kept, ExtrasOk, extras_kept}
 use Rattle.script_text.proofs.ReadWords.{significant_read}
-use Rattle.script_text.proofs.KnownLines.{hint_tokens, all_given, hints_again, HintsFit, ranks_told, hints_told, with_hints, hints_run, What, nothing_ok, definitions_read}
-use Rattle.script_text.proofs.ScriptLines.{ranks_words, fill_lines, before_data, from_data, head_words, all_lines, script_with, all_spelled}
-use Rattle.script_spelling.proofs.CallLinesTold.{LawfulCalls}
-use Rattle.script_laws.proofs.CalledLaws.{values_held}
+use Rattle.script_text.proofs.HintLines.{hint_tokens, hint_statements, all_given, hints_again, hints_once, ranks_told, hints_told, hints_shown}
+use Rattle.script_text.proofs.ScriptLines.{fill_lines, content_lines, before_data, from_data, head_words, all_lines, all_spelled}
+use Rattle.nc_base.specs.declared.script.Extra.TheVariants as extra
 
--- ---- what is known at `data` is known again
+-- ---- what is printed says these statements
 
-abbrev with_ranks : ℕ → Known
-with_ranks n = record nothing_known { ranks = Some n }
+abbrev pub fill_statements : Bool → List Statement
+fill_statements true = IsFilled ∷ []
+fill_statements false = []
 
--- the number of ranks and the hints, and the lines that follow
-opening_run : (version n : ℕ) (h : Hints) (wss : List (List Word)) (last : Known) → is_value_of (Within 1 64 1) n ≡ true → HintsFit h
-    → Runs version (with_hints (with_ranks n) (all_given h)) wss last → Runs version nothing_known (ranks_words n ∷ (hint_tokens h ++ wss)) last
-opening_run version n h wss last r fit more =
-    let k = with_ranks n in
-    let read = go_on (ranks_line None (Plain (decimal n) ∷ [])) (λ x. Ok (record nothing_known { ranks = Some x })) n k (ranks_again n r) refl in
-    (k, and_from _ _ (within_plain 1 64 1 n r (omega arith)) refl, (refl, read), lead_on (Leads version) k _ last (hint_tokens h) wss (hints_run version k h fit) more)
+abbrev pub content : Bool → List Extra → Header → List Statement
+content filled es header = fill_statements filled ++ (map of_extra es ++ definition_statements header)
 
-pub record KnownAgain (version n : ℕ) (h : Hints) (es : List Extra) (d : Defined) (values : ℕ) : Type 0 where
-  pub last : Known
-  pub run : Runs version nothing_known (before_data n h es d) last
-  pub ranks : last.ranks ≡ Some n
-  pub counted : last.values ≡ values
-  pub same : (calls : List (List Call)) → script_of version n last calls ≡ script_with version n h d es calls
+abbrev pub statements : Script → List Statement
+statements s = RanksAre s.ranks ∷ (hint_statements s.hints ++ content s.filled s.extra s.header)
 
-fill_run : (version : ℕ) (k : Known) (filled : Bool) → (version == 0) ≡ false → Runs version (at_state k (nothing_but false) 0) (fill_lines filled) (at_state k (nothing_but filled) 0)
-fill_run version k false new = refl
-fill_run version k true new = define_on version k (nothing_but false) 0 (codes "fill") [] (0, nothing_but true) [] _ new refl refl refl refl refl refl
+-- those that neither number the ranks nor give hints: their lines, that they may stand there, and what they tell
+pub record Content (fresh : Bool) (s : Script) : Type 0 where
+  pub shown : Shows (version_of_lines s.header.version) (content_lines s.filled s.extra s.header) (content s.filled s.extra s.header)
+  pub stand : Stand (not fresh) [] [] [] (content s.filled s.extra s.header)
+  pub no_ranks : ranks_in (content s.filled s.extra s.header) ≡ []
+  pub no_hints : (i : ℕ) → hint_values i (content s.filled s.extra s.header) ≡ []
+  pub fills : fills_in (content s.filled s.extra s.header) ≡ cond s.filled 1 0
+  pub dataset : ToDataset fresh (statements s) s
 
-open_again : (n values : ℕ) (h : Hints) (added : Added) → is_value_of (Within 1 64 1) n ≡ true → HintsFit h → Replay 0 nothing_added added.extras values added → KnownAgain 0 n h added.extras no_definition values
-open_again n values h added r fit replay =
-    let k2 = with_hints (with_ranks n) (all_given h) in
-    let last : Known = record k2 { added = added; values = values } in
+-- ---- of a new dataset
+
+filled_shown : (version : ℕ) (filled : Bool) (wss : List (List Word)) (ss : List Statement) → Shows version wss ss → Shows version (fill_lines filled ++ wss) (fill_statements filled ++ ss)
+filled_shown version true wss ss h = (and_from _ _ refl h.0, (refl, h.1))
+filled_shown version false wss ss h = h
+
+filled_stand : (filled : Bool) (ss : List Statement) → Stand false [] [] [] ss → Stand false [] [] [] (fill_statements filled ++ ss)
+filled_stand true ss h = (refl, h)
+filled_stand false ss h = h
+
+filled_parts : (filled : Bool) (i : ℕ) (n : List ℕ) (ss : List Statement) → fills_in ss ≡ 0 → parts i n (fill_statements filled ++ ss) ≡ record (parts i n ss) { fills = cond filled 1 0 }
+filled_parts true i n ss none = ap (λ (k : ℕ). record (parts i n ss) { fills = suc k }) none
+filled_parts false i n ss none = ap (λ (k : ℕ). record (parts i n ss) { fills = k }) none
+
+new_version : (version : ℕ) → is_version version ≡ true → (version == 0) ≡ false
+new_version zero h = absurd (cc)
+new_version (suc n) h = ne_eqb (suc n) 0 (omega arith)
+
+pub new_content : (s : Script) → is_version s.header.version ≡ true → s.header.records ≡ 0 → s.extra ≡ [] → DefinedOk s.header.version s.header → Content true s
+new_content s new records none ok =
+    subst (λ (es : List Extra). Content true (record s { extra = es })) (sym none)
+    (let version = s.header.version in
+    let lines = definition_lines s.header in
+    let ss = definition_statements s.header in
+    let own = λ (i : ℕ) (n : List ℕ). defined_parts i n s.header in
+    let all = λ (i : ℕ) (n : List ℕ). filled_parts s.filled i n ss (ap (λ (p : Parts). p.fills) (own i n)) ∙ ap (λ (p : Parts). record p { fills = cond s.filled 1 0 }) (own i n) in
+    let vars = ap (λ (p : Parts). p.vars) (all 0 []) ∙ append-nil (map (line_for s.header.dims) s.header.vars) in
+    let told = vars_told version s.header.dims (λ n. attrs_of n (content s.filled [] s.header)) [] s.header.vars ok.vars (λ n none. ap (λ (p : Parts). p.attrs) (all 0 n)) in
     record {
-      last = last;
-      run = opening_run 0 n h _ last r fit (lead_on (Leads 0) k2 last last (map extra_line added.extras) [] (replay_runs 0 values nothing_added added added.extras k2 replay) refl);
-      ranks = refl;
-      counted = refl;
-      same = λ calls. ap (λ (x : Hints). script_with 0 n x no_definition added.extras calls) (hints_again n h);
-    }
+      shown = filled_shown (version_of_lines version) s.filled lines ss (subst (λ (v : ℕ). Shows v lines ss) (sym (cond-false (version == 0) 5 version (new_version version new))) (defined_shown version s.header ok));
+      stand = filled_stand s.filled ss (defined_stand version s.header ok);
+      no_ranks = ap (λ (p : Parts). p.ranks) (all 0 []);
+      no_hints = λ i. ap (λ (p : Parts). p.hint) (all i []);
+      fills = ap (λ (p : Parts). p.fills) (all 0 []);
+      dataset = record {
+        dims = sym (ap (λ (p : Parts). p.dims) (all 0 []) ∙ append-nil s.header.dims);
+        vars = subst (λ (ls : List VarLine). AllZip (λ (l : VarLine) v. IsVarOf s.header.dims (attrs_of l.name (content s.filled [] s.header)) l v) ls s.header.vars) (sym vars) told;
+        attrs = sym (ap (λ (p : Parts). p.own) (all 0 []) ∙ append-nil s.header.attrs);
+        records = records;
+        extra = refl;
+      };
+    })
 
-pub create_again : (version n values : ℕ) (h : Hints) (d : Defined) → (version == 0) ≡ false → is_value_of (Within 1 64 1) n ≡ true → HintsFit h → DefinedOk version values d → values ≤ most_values → KnownAgain version n h [] d values
-create_again version n values h d new r fit ok few =
-    let k2 = with_hints (with_ranks n) (all_given h) in
-    let last : Known = at_state k2 (told_again d) values in
-    let defined = definitions_run version values k2 d new ok.dims ok.vars ok.attrs ok.own ok.counted few in
+-- ---- of a dataset that is opened
+
+abbrev Added : Type 0
+Added = List ℕ × List ℕ × ℕ × List Extra
+
+abbrev added : ℕ → List Statement → Added
+added i ss = (ranks_in ss, hint_values i ss, fills_in ss, extras_in ss)
+
+extras_told : (i : ℕ) (es : List Extra) → added i (map of_extra es ++ []) ≡ ([], [], 0, es)
+extras_told i [] = refl
+extras_told i (extra.Dim d ∷ es) = ap (λ (t : Added). (t.0, t.1, t.2, extra.Dim d ∷ t.3)) (extras_told i es)
+extras_told i (extra.Var t n dims ∷ es) = ap (λ (x : Added). (x.0, x.1, x.2, extra.Var t n dims ∷ x.3)) (extras_told i es)
+extras_told i (extra.Att o a ∷ es) = ap (λ (t : Added). (t.0, t.1, t.2, extra.Att o a ∷ t.3)) (extras_told i es)
+
+opened_content : (s : Script) → s.header ≡ header_of 0 no_definition → s.filled ≡ false → ExtrasOk [] [] [] s.extra → Content false s
+opened_content s empty none ok =
+    subst (λ (b : Bool). Content false (record s { filled = b })) (sym none) (subst (λ (h : Header). Content false (record s { header = h; filled = false })) (sym empty)
+    (let ss = map of_extra s.extra in
+    let told = extras_told 0 s.extra in
     record {
-      last = last;
-      run = opening_run version n h _ last r fit (lead_on (Leads version) k2 (at_state k2 (nothing_but d.filled) 0) last (fill_lines d.filled) _ (fill_run version k2 d.filled new) defined);
-      ranks = refl;
-      counted = refl;
-      same = λ calls. ap (λ (x : Hints). script_with version n x d [] calls) (hints_again n h);
-    }
+      shown = shows_joined 5 (map extra_line s.extra) ss [] [] ok.0 (refl, tt);
+      stand = subst (Stand true [] [] []) (sym (append-nil ss)) ok.1;
+      no_ranks = ap (λ (t : Added). t.0) told;
+      no_hints = λ i. ap (λ (t : Added). t.1) (extras_told i s.extra);
+      fills = ap (λ (t : Added). t.2) told;
+      dataset = record { header = refl; extra = sym (ap (λ (t : Added). t.3) told) };
+    }))
+
+-- such a dataset is not filled
+no_fill : (ss : List Statement) (dims : List Dim) (names : List (List ℕ)) (titles : List Title) → Stand true dims names titles ss → fills_in ss ≡ 0
+no_fill [] dims names titles h = refl
+no_fill (RanksAre n ∷ ss) dims names titles h = no_fill ss dims names titles h
+no_fill (HintIs i v ∷ ss) dims names titles h = no_fill ss dims names titles h
+no_fill (IsFilled ∷ ss) dims names titles h = let no : true ≡ false = h.0 in absurd (cc)
+no_fill (DimIs d ∷ ss) dims names titles h = no_fill ss _ names titles h.1
+no_fill (VarIs l ∷ ss) dims names titles h = no_fill ss dims _ titles h.1
+no_fill (AttIs o a ∷ ss) dims names titles h = no_fill ss dims names _ h.2
+
+not_filled : (filled : Bool) (n : ℕ) → n ≡ cond filled 1 0 → n ≡ 0 → filled ≡ false
+not_filled true n h none = absurd (omega (arith, h, none))
+not_filled false n h none = refl
 
 -- ---- the head
 
-abbrev HeadLine : Bool → ℕ → Type 0
-HeadLine true version = version ≡ 0
-HeadLine false version = is_version version ≡ true
+abbrev pub HeadFits : Bool → ℕ → Type 0
+HeadFits true version = is_version version ≡ true
+HeadFits false version = version ≡ 0
 
-pub record HeadIs (version : ℕ) : Type 0 where
-  pub existing : Bool
-  pub test : (version == 0) ≡ existing
-  pub told : HeadLine existing version
-
-pub version_head : (version : ℕ) → is_version version ≡ true → HeadIs version
-version_head zero h = absurd (cc)
-version_head (suc n) h = record { existing = false; test = ne_eqb (suc n) 0 (omega arith); told = h }
-
-head_read : (w : Word) (ws : List Word) (version : ℕ) → head w ws ≡ Ok version → HeadIs version
-head_read w ws version h = grind (arith, nat_tests)
+head_kept : (ws : List Word) (fresh : Bool) (version : ℕ) → SpellsHead ws fresh version → HeadFits fresh version
+head_kept ws true version (w, are, told) = grind (arith, nat_tests)
+head_kept ws false version h = h.1
 
 version_low : (version : ℕ) → is_version version ≡ true → version < 2 ^ 63
 version_low version h = grind (arith, nat_tests, eqb-true, or_cases)
@@ -92,107 +142,82 @@ version_low version h = grind (arith, nat_tests, eqb-true, or_cases)
 abbrev version_by : Option ℕ → Option ℕ
 version_by o = elim o [ None ↦ None | Some n ↦ cond (is_version n) (Some n) None ]
 
-version_again : (version : ℕ) → is_version version ≡ true → version_of_text (decimal version) ≡ Some version
-version_again version h = ap version_by (size_again version (version_low version h)) ∙ cond-true _ _ _ h
-
-head_is_line : (b : Bool) (version : ℕ) → HeadLine b version → is_line (head_words b version) ≡ true
-head_is_line true version h = refl
-head_is_line false version h = and_from _ _ (size_plain version (version_low version h)) refl
-
--- the script that the lines after the head tell
-abbrev told_after : ℕ → ℕ → List Line → Result Script ScriptErr
-told_after past version lines =
-    definitions past version nothing_known lines
-    >>= (λ d. data_part past (no_calls d.0 d.1.0) d.1.1 >>= (λ c. finish c.0 c.1.0.calls c.1.1 >>= (λ u. Ok (script_of version d.0 d.1.0 c.1.0.calls))))
-
-head_again : (b : Bool) (past version : ℕ) (wss : List (List Word)) (script : Script) → HeadLine b version → told_after past version (numbered 2 wss) ≡ Ok script → script_of_lines past (numbered 1 (head_words b version ∷ wss)) ≡ Ok script
-head_again b past version wss script e h = grind (arith, nat_tests, numbered, decimal, go_on, word_read, version_again)
-
--- ---- the script again
-
-abbrev ranked : ℕ → ℕ → ℕ → Known → List Line → Option ℕ → Result (ℕ × (Known × List Line)) ScriptErr
-ranked past version m k lines o =
-    definitions past version (record k { ranks = o }) (record { number = m; first = Plain (codes "data"); rest = [] } ∷ lines)
-
-at_data : (past version m n : ℕ) (k : Known) (lines : List Line) → k.ranks ≡ Some n → definitions past version k (record { number = m; first = Plain (codes "data"); rest = [] } ∷ lines) ≡ Ok (n, (record k { ranks = Some n }, lines))
-at_data past version m n k lines h = ap (ranked past version m k lines) h
-
--- the lines of a script, which it is read of again
-pub record Whole (script : Script) : Type 0 where
-  pub drafted : List (List Word)
-  pub lines : list_all is_line drafted ≡ true
-  pub text : flat_map spelled drafted ≡ shown script
-  pub again : (past : ℕ) → script_of_lines past (numbered 1 drafted) ≡ Ok script
-
-told_again_after : (past version n values : ℕ) (h : Hints) (es : List Extra) (d : Defined) (calls : List (List Call)) → KnownAgain version n h es d values → DataEnd n values calls
-    → mismatch (map (λ own. kinds own) calls) ≡ None → told_after past version (numbered 2 (before_data n h es d ++ from_data calls)) ≡ Ok (script_with version n h d es calls)
-told_again_after past version n values h es d calls again end agree =
-    let m = 2 + length (before_data n h es d) in
-    let k = again.last in
-    let k2 : Known = record k { ranks = Some n } in
-    let lines = numbered (m + 1) (call_lines 0 calls ++ (Plain (codes "end") ∷ []) ∷ []) in
-    let defined : definitions past version nothing_known (numbered 2 (before_data n h es d ++ from_data calls)) ≡ Ok (n, (k2, lines)) =
-    run_again past version 2 m nothing_known k (before_data n h es d) (from_data calls) refl again.run ∙ at_data past version m n k lines again.ranks in
-    let final = data_again past (m + 1) n values calls end in
-    let called : data_part past (no_calls n k2) lines ≡ Ok (final.last, (record { calls = calls; values = final.values }, [])) =
-    ap (λ (v : ℕ). data_part past (record { calls = replicate n []; values = v }) lines) again.counted ∙ final.read in
-    let same : script_of version n k2 calls ≡ script_with version n h d es calls = again.same calls in
-    grind (arith, nat_tests, defined, called, agree, same, go_on)
-
-pub whole_from : (version n values : ℕ) (h : Hints) (es : List Extra) (d : Defined) (calls : List (List Call)) → HeadIs version → KnownAgain version n h es d values → DataEnd n values calls
-    → mismatch (map (λ own. kinds own) calls) ≡ None → Whole (script_with version n h d es calls)
-whole_from version n values h es d calls first again end agree =
-    let before = lead_lines (Leads version) nothing_known again.last (before_data n h es d) again.run in
-    record {
-      drafted = all_lines first.existing version n h es d calls;
-      lines = and_from _ _ (head_is_line first.existing version first.told)
-          (all_joined is_line (before_data n h es d) (from_data calls) before (all_joined is_line (call_lines 0 calls) ((Plain (codes "end") ∷ []) ∷ []) end.shown.0 refl));
-      text = all_spelled first.existing version n h es d calls first.test;
-      again = λ past. head_again first.existing past version (before_data n h es d ++ from_data calls) (script_with version n h d es calls) first.told
-          (told_again_after past version n values h es d calls again end agree);
-    }
-
-pub from_drafted : (version n values : ℕ) (h : Hints) (es : List Extra) (d : Defined) (calls : List (List Call)) (first : HeadIs version) (again : KnownAgain version n h es d values) (end : DataEnd n values calls)
-    (agree : mismatch (map (λ own. kinds own) calls) ≡ None) → (whole_from version n values h es d calls first again end agree).drafted ≡ all_lines first.existing version n h es d calls
-unfolding whole_from
-from_drafted version n values h es d calls first again end agree = refl
-
--- the mode of the script decides what its definitions are
-known_again : (b : Bool) (version n : ℕ) (h : Hints) (k : Known) → (version == 0) ≡ b → is_value_of (Within 1 64 1) n ≡ true → HintsFit h → k.values ≤ most_values → What b version k.defined k.added k.values → KnownAgain version n h k.added.extras k.defined k.values
-known_again true version n h k test r fit few what = grind (arith, nat_tests, eqb-true version 0 test, open_again n k.values h k.added r fit what.1)
-known_again false version n h k test r fit few what = grind (arith, nat_tests, create_again version n k.values h k.defined test r fit what.1 few)
-
-pub whole_read : (past : ℕ) (lines : List Line) (script : Script) → IsLawful script → are_read lines ≡ true → script_of_lines past lines ≡ Ok script → Whole script
-whole_read past [] script lawful read h = absurd (cc)
-whole_read past (l ∷ lines) script lawful read h =
-    step_then (at_line l.number (head l.first l.rest)) (λ v. told_after past v lines) script h (λ version heads h. step_then (definitions past version nothing_known lines) _ script h (λ d told h.
-    step_then (data_part past (no_calls d.0 d.1.0) d.1.1) _ script h (λ c called h. step_then (finish c.0 c.1.0.calls c.1.1) _ script h (λ f ends h.
-    let n = d.0 in
-    let k = d.1.0 in
-    let calls = c.1.0.calls in
-    let same = same_ok (script_of version n k calls) script h in
-    let law = subst IsLawful (sym same) lawful in
-    let first = head_read l.first l.rest version (line_ok l.number (head l.first l.rest) version heads) in
-    let known = definitions_read past version lines nothing_known d (and_parts _ _ read).1 (nothing_ok version) told in
-    let named = calls_named past n k d.1.1 c known.read called in
-    let held = values_held past n k d.1.1 c known.known.few called in
-    let all : LawfulCalls n k.values calls = record { each = law.each_call; ids = law.ids_once; few = omega (arith, held, all_counted calls) } in
-    let end = end_from n k.values calls law.one_list_each law.few_ranks all named in
-    let again = known_again (version == 0) version n (hints_of n k.hints) k refl (ranks_told n law.some_rank law.few_ranks) (hints_told (hints_of n k.hints) law.hints) known.known.few known.known.what in
-    subst Whole same
-    (whole_from version n k.values (hints_of n k.hints) k.added.extras k.defined calls first again end (finished c.0 calls c.1.1 f ends))))))
+head_shown : (fresh : Bool) (version : ℕ) → HeadFits fresh version → (is_line (head_words fresh version) ≡ true) × SpellsHead (head_words fresh version) fresh version
+head_shown true version h =
+    let low = version_low version h in
+    (and_from _ _ (size_plain version low) refl, (decimal version, refl, ap version_by (size_again version low) ∙ cond-true _ _ _ h))
+head_shown false version h = (refl, (refl, h))
 
 -- ---- a whole text
 
--- the text of a script that is read from its lines is read as it
-pub whole_again : (script : Script) → Whole script → length (shown script) ≤ most_bytes → length (text_lines (shown script)) ≤ most_lines → Reads (shown script) script
-whole_again script w short few = grind (arith, nat_tests, valid_lines, numbered, significant_lines, text_again)
+pub spells_shown : (s : Script) → is_lawful s ≡ true → HeadFits s.fresh s.header.version → Content s.fresh s → are_named s.calls ≡ true → length (shown s) ≤ most_bytes
+    → (length (text_lines (shown s)) ≡ length (all_lines s) → length (text_lines (shown s)) ≤ most_lines) → Spells (shown s) s
+spells_shown s lawful fits c named short few =
+    let law = lawful_parts s lawful in
+    let version = version_of_lines s.header.version in
+    let all = content s.filled s.extra s.header in
+    let one_list = law.one_list_each in
+    let few_ranks = law.few_ranks in
+    let first = head_shown s.fresh s.header.version fits in
+    let ranks = ranks_told s.ranks law.some_rank few_ranks in
+    let rest = shows_joined version (hint_tokens s.hints) (hint_statements s.hints) (content_lines s.filled s.extra s.header) all (hints_shown version s.hints (hints_told s.hints law.hints)) c.shown in
+    let before = and_from _ _ (and_from _ _ (within_plain 1 64 1 s.ranks ranks (omega arith)) refl) rest.0 in
+    let calls = calls_shown s.ranks 0 s.calls (omega arith) law.each_call named in
+    let last = (Plain (codes "end") ∷ []) ∷ [] in
+    let lines : list_all is_line (all_lines s) ≡ true = and_from _ _ first.0 (all_joined is_line (before_data s) (from_data s.calls) before (all_joined is_line (call_lines 0 s.calls) last calls.0 refl)) in
+    let long = ap (λ (text : List ℕ). length (text_lines text)) (sym (all_spelled s)) ∙ (ap length (lines_again (all_lines s) lines) ∙ length-map (all_lines s) body) in
+    subst (λ (text : List ℕ). length text ≤ most_bytes → length (text_lines text) ≤ most_lines → Spells text s) (all_spelled s) (λ short few. record {
+      short = short;
+      few = few;
+      utf8 = eqb-true _ _ (valid_lines (all_lines s) lines);
+      sections = record { head = head_words s.fresh s.header.version; before_data = before_data s; after_data = call_lines 0 s.calls };
+      lines = ap (map words_of) (significant_lines (all_lines s) lines)
+          ∙ (words_numbered 1 (all_lines s) lines ∙ sym (append_assoc (head_words s.fresh s.header.version ∷ before_data s) ((Plain (codes "data") ∷ []) ∷ call_lines 0 s.calls) last));
+      head = first.1;
+      statements = statements s;
+      say = ((decimal s.ranks, refl, within_again 1 64 1 s.ranks ranks (omega arith)), rest.1);
+      stand = c.stand;
+      called = called_from 0 s.calls;
+      call = calls.1;
+      describes = record {
+        ranks = ap (λ (ns : List ℕ). s.ranks ∷ ns) c.no_ranks;
+        hint_table = all_given s.hints;
+        given = λ i. hints_once s.hints all i (c.no_hints i);
+        hints = sym (hints_again s.ranks s.hints);
+        filled = c.fills;
+        dataset = c.dataset;
+        there = all_below s.ranks 0 s.calls (omega arith);
+        calls = subst (λ (n : ℕ). s.calls ≡ map (λ r. calls_in r (called_from 0 s.calls)) (range_with_len 0 n)) one_list (calls_again s.calls);
+      };
+      lawful = lawful;
+    }) short (few long)
 
--- its text has a line for each of them
-pub whole_long : (script : Script) (w : Whole script) → length (text_lines (shown script)) ≡ length w.drafted
-whole_long script w = ap (λ (text : List ℕ). length (text_lines text)) (sym w.text) ∙ (ap length (lines_again w.drafted w.lines) ∙ length-map w.drafted body)
+-- ---- a script that is read
+
+content_kept : (fresh : Bool) (s : Script) (ss : List Statement) → AllAgain (version_of_lines s.header.version) ss → Stand (not fresh) [] [] [] ss → HeadFits fresh s.header.version → fills_in ss ≡ cond s.filled 1 0 → ToDataset fresh ss s → Content fresh s
+content_kept true s ss again stand new filled d =
+    let version = s.header.version in
+    new_content s new d.records d.extra (defined_kept version ss s d (subst (λ (v : ℕ). AllAgain v ss) (cond-false (version == 0) 5 version (new_version version new)) again) stand)
+content_kept false s ss again stand old filled d =
+    opened_content s d.header (not_filled s.filled (fills_in ss) filled (no_fill ss [] [] [] stand))
+    (subst (ExtrasOk [] [] []) (sym d.extra) (extras_kept [] [] [] ss (subst (λ (v : ℕ). AllAgain (version_of_lines v) ss) old again) stand))
+
+abbrev all_read : List (List Word) → Bool
+all_read wss = list_all (list_all is_read) wss
+
+sections_read : (s : Sections) → all_read (lines_of s) ≡ true → (all_read s.before_data ≡ true) × (all_read s.after_data ≡ true)
+sections_read s h =
+    let from : List (List Word) = (Plain (codes "data") ∷ []) ∷ s.after_data in
+    let one = and_parts _ _ (sym (list_all-append (list_all is_read) ((s.head ∷ s.before_data) ++ from) ((Plain (codes "end") ∷ []) ∷ [])) ∙ h) in
+    let two = and_parts _ _ (sym (list_all-append (list_all is_read) (s.head ∷ s.before_data) from) ∙ one.0) in
+    ((and_parts (list_all is_read s.head) _ two.0).1, two.1)
 
 pub shown_again : (text : List ℕ) (script : Script) → Reads text script → length (shown script) ≤ most_bytes → length (text_lines (shown script)) ≤ most_lines → Reads (shown script) script
-shown_again text script reads short few =
-    let t = is_text text script reads in
-    whole_again script (whole_read (length (text_lines text) + 1) (significant text) script (lawful_parts script (read_lawful text script reads)) (significant_read text (valid_bytes text t.valid)) t.told) short few
+shown_again text s reads short few =
+    let h = read_spelled text s reads in
+    let bytes = significant_read text (valid_bytes text (eq-eqb _ _ h.utf8)) in
+    let read = sections_read h.sections (ap all_read (sym h.lines) ∙ (list_all-map (list_all is_read) words_of (significant text) ∙ bytes)) in
+    let again = all_again (version_of_lines s.header.version) h.sections.before_data h.statements h.say read.0 in
+    let fits = head_kept h.sections.head s.fresh s.header.version h.head in
+    let named = ap are_named h.describes.calls ∙ calls_named s.ranks h.sections.after_data h.called h.call read.1 in
+    spelled_read (shown s) s (spells_shown s h.lawful fits (content_kept s.fresh s h.statements again h.stand fits h.describes.filled h.describes.dataset) named short (λ long. few))

@@ -1,0 +1,133 @@
+-- The definitions of a script that is read, in their canonical order: each is said again, and may stand behind those before it.
+use Rattle.script_text.proofs.Words.{◌≡◌, ◌∙◌, ℕ, List, [], ◌∷◌, ◌++◌, map, Bool, true, false, ◌&&◌, Some, None, refl, sym, ap, subst, append_assoc, bytes_eq, codes, list_any, and_from, or_parts, or_from, list_any-append, AllZip, NcType, Attr, Dim, Var, Script, Extra, is_among, dim_ids, Title, same_title}
+use Rattle.script_spelling.specs.Statements.{Statement, RanksAre, HintIs, IsFilled, DimIs, VarIs, AttIs, VarLine, VarStands, ShapeStands, Stand}
+use Rattle.script_spelling.specs.Described.{Defines, IsVarOf, dims_in, vars_in, own_attrs, attrs_of, extras_in}
+use Rattle.script_spelling.proofs.Places.{name_at, names_shown, more_ids, more_records, bytes_same, bytes_own}
+use Rattle.script_spelling.proofs.Steps.{by_test}
+use Rattle.script_text.proofs.StatementLines.{line_of_var, extra_line, of_extra, Shown, Shows, AllAgain, att_shown}
+use Rattle.script_text.proofs.DefinedChains.{DimChain, line_for, VarOk, VarChain, AttrChain, OwnChains, DefinedOk}
+
+-- ---- dimensions and variables
+
+dims_kept : (version : ℕ) (front : List Dim) (names : List (List ℕ)) (titles : List Title) (ss : List Statement) → AllAgain version ss → Stand false front names titles ss → DimChain version front (dims_in ss)
+dims_kept version front names titles [] again stand = tt
+dims_kept version front names titles (RanksAre n ∷ ss) again stand = dims_kept version front names titles ss again.1 stand
+dims_kept version front names titles (HintIs i v ∷ ss) again stand = dims_kept version front names titles ss again.1 stand
+dims_kept version front names titles (IsFilled ∷ ss) again stand = dims_kept version front names titles ss again.1 stand.1
+dims_kept version front names titles (DimIs d ∷ ss) again stand = (again.0, stand.0, dims_kept version (front ++ d ∷ []) names titles ss again.1 stand.1)
+dims_kept version front names titles (VarIs l ∷ ss) again stand = dims_kept version front _ titles ss again.1 stand.1
+dims_kept version front names titles (AttIs o a ∷ ss) again stand = dims_kept version front names _ ss again.1 stand.2
+
+same_line : (t u : NcType) (m n : List ℕ) (ds es : List (List ℕ)) → t ≡ u → m ≡ n → ds ≡ es → ◌≡◌ {A = VarLine} (record { kind = t; name = m; dims = ds }) (record { kind = u; name = n; dims = es })
+same_line t u m n ds es a b c = cc
+
+var_kept : (version : ℕ) (all dims later : List Dim) (names : List (List ℕ)) (l : VarLine) (v : Var) (attrs : List Attr) → all ≡ dims ++ later → Shown version (line_of_var l) (VarIs l) → VarStands false dims names l → IsVarOf all attrs l v
+    → VarOk version all names v
+var_kept version all dims later names l v attrs e shown stands told =
+    let ids = stands.3.0 in
+    let found = names_shown all l.dims v.dims told.0 in
+    let same : l ≡ line_for all v = same_line l.kind v.kind l.name v.name l.dims (map (name_at all) v.dims) (sym (ap (λ (w : Var). w.kind) told.1)) (sym (ap (λ (w : Var). w.name) told.1)) (sym found) in
+    let shape : ShapeStands false all l.dims = subst (λ (ds : List Dim). ShapeStands false ds l.dims) (sym e) (ids, more_ids dims later l.dims ids stands.3.1, more_records dims later l.dims ids stands.3.1 stands.3.2) in
+    record {
+      shown = subst (λ (x : VarLine). Shown version (line_of_var x) (VarIs x)) same shown;
+      stands = subst (VarStands false all names) same (stands.0, stands.1, stands.2, shape);
+      told = (subst (λ (ds : List (List ℕ)). dim_ids all ds ≡ Some v.dims) (sym found) told.0, ap (λ (b : ℕ). record v { begin = b }) (ap (λ (w : Var). w.begin) told.1));
+    }
+
+vars_kept : (version : ℕ) (all dims : List Dim) (names : List (List ℕ)) (titles : List Title) (f : List ℕ → List Attr) (ss : List Statement) (vs : List Var) → all ≡ dims ++ dims_in ss → AllAgain version ss → Stand false dims names titles ss
+    → AllZip (λ (l : VarLine) v. IsVarOf all (f l.name) l v) (vars_in ss) vs → VarChain version all names vs
+vars_kept version all dims names titles f [] [] e again stand told = tt
+vars_kept version all dims names titles f [] (v ∷ vs) e again stand told = absurd told
+vars_kept version all dims names titles f (RanksAre n ∷ ss) vs e again stand told = vars_kept version all dims names titles f ss vs e again.1 stand told
+vars_kept version all dims names titles f (HintIs i x ∷ ss) vs e again stand told = vars_kept version all dims names titles f ss vs e again.1 stand told
+vars_kept version all dims names titles f (IsFilled ∷ ss) vs e again stand told = vars_kept version all dims names titles f ss vs e again.1 stand.1 told
+vars_kept version all dims names titles f (DimIs d ∷ ss) vs e again stand told = vars_kept version all (dims ++ d ∷ []) names titles f ss vs (e ∙ sym (append_assoc dims (d ∷ []) (dims_in ss))) again.1 stand.1 told
+vars_kept version all dims names titles f (VarIs l ∷ ss) [] e again stand told = absurd told
+vars_kept version all dims names titles f (VarIs l ∷ ss) (v ∷ vs) e again stand told =
+    let name : l.name ≡ v.name = sym (ap (λ (w : Var). w.name) told.0.1) in
+    let rest = vars_kept version all dims (names ++ l.name ∷ []) titles f ss vs e again.1 stand.1 told.1 in
+    (var_kept version all dims (dims_in ss) names l v (f l.name) e again.0 stand.0 told.0, subst (λ (n : List ℕ). VarChain version all (names ++ n ∷ []) vs) name rest)
+vars_kept version all dims names titles f (AttIs o a ∷ ss) vs e again stand told = vars_kept version all dims names _ f ss vs e again.1 stand.2 told
+
+-- ---- attributes
+
+-- what has no title of this owner is none of these
+abbrev Titled : List Title → List ℕ → List (List ℕ) → Type 0
+Titled titles owner names = (n : List ℕ) → list_any (same_title (owner, n)) titles ≡ false → is_among n names ≡ false
+
+titled_more : (titles : List Title) (t : Title) (owner : List ℕ) (names : List (List ℕ)) → Titled titles owner names → Titled (titles ++ t ∷ []) owner names
+titled_more titles t owner names h n none = h n (or_parts (list_any (same_title (owner, n)) titles) _ (sym (list_any-append (same_title (owner, n)) titles (t ∷ [])) ∙ none)).0
+
+titled_pushed : (titles : List Title) (owner : List ℕ) (names : List (List ℕ)) (m : List ℕ) → Titled titles owner names → Titled (titles ++ (owner, m) ∷ []) owner (names ++ m ∷ [])
+titled_pushed titles owner names m h n none =
+    let p = or_parts (list_any (same_title (owner, n)) titles) _ (sym (list_any-append (same_title (owner, n)) titles ((owner, m) ∷ [])) ∙ none) in
+    let other : bytes_eq n m ≡ false = sym (ap (λ (b : Bool). b && bytes_eq n m) (bytes_own owner)) ∙ (or_parts (same_title (owner, n) (owner, m)) false p.1).0 in
+    list_any-append (bytes_eq n) names (m ∷ []) ∙ or_from _ _ (h n p.0) (or_from _ _ other refl)
+
+own_kept : (version : ℕ) (dims : List Dim) (names : List (List ℕ)) (titles : List Title) (done : List (List ℕ)) (ss : List Statement) → AllAgain version ss → Stand false dims names titles ss → Titled titles (codes ":") done
+    → AttrChain version done (own_attrs ss)
+own_kept version dims names titles done [] again stand h = tt
+own_kept version dims names titles done (RanksAre n ∷ ss) again stand h = own_kept version dims names titles done ss again.1 stand h
+own_kept version dims names titles done (HintIs i v ∷ ss) again stand h = own_kept version dims names titles done ss again.1 stand h
+own_kept version dims names titles done (IsFilled ∷ ss) again stand h = own_kept version dims names titles done ss again.1 stand.1 h
+own_kept version dims names titles done (DimIs d ∷ ss) again stand h = own_kept version _ names titles done ss again.1 stand.1 h
+own_kept version dims names titles done (VarIs l ∷ ss) again stand h = own_kept version dims _ titles done ss again.1 stand.1 h
+own_kept version dims names titles done (AttIs None a ∷ ss) again stand h =
+    (again.0.1, h a.name stand.1, own_kept version dims names (titles ++ (codes ":", a.name) ∷ []) (done ++ a.name ∷ []) ss again.1 stand.2 (titled_pushed titles (codes ":") done a.name h))
+own_kept version dims names titles done (AttIs (Some m) a ∷ ss) again stand h = own_kept version dims names (titles ++ (m, a.name) ∷ []) done ss again.1 stand.2 (titled_more titles (m, a.name) (codes ":") done h)
+
+attrs_kept : (version : ℕ) (dims : List Dim) (names : List (List ℕ)) (titles : List Title) (done : List (List ℕ)) (n : List ℕ) (ss : List Statement) → AllAgain version ss → Stand false dims names titles ss → Titled titles n done
+    → AttrChain version done (attrs_of n ss)
+attrs_kept version dims names titles done n [] again stand h = tt
+attrs_kept version dims names titles done n (RanksAre k ∷ ss) again stand h = attrs_kept version dims names titles done n ss again.1 stand h
+attrs_kept version dims names titles done n (HintIs i v ∷ ss) again stand h = attrs_kept version dims names titles done n ss again.1 stand h
+attrs_kept version dims names titles done n (IsFilled ∷ ss) again stand h = attrs_kept version dims names titles done n ss again.1 stand.1 h
+attrs_kept version dims names titles done n (DimIs d ∷ ss) again stand h = attrs_kept version _ names titles done n ss again.1 stand.1 h
+attrs_kept version dims names titles done n (VarIs l ∷ ss) again stand h = attrs_kept version dims _ titles done n ss again.1 stand.1 h
+attrs_kept version dims names titles done n (AttIs None a ∷ ss) again stand h = attrs_kept version dims names (titles ++ (codes ":", a.name) ∷ []) done n ss again.1 stand.2 (titled_more titles (codes ":", a.name) n done h)
+attrs_kept version dims names titles done n (AttIs (Some m) a ∷ ss) again stand h =
+    let next = titles ++ (m, a.name) ∷ [] in
+    by_test (AttrChain version done) (bytes_eq m n) (a ∷ attrs_of n ss) (attrs_of n ss)
+    (λ e.
+    let same = bytes_same m n e in
+    let pushed = subst (λ (x : List ℕ). Titled (titles ++ (x, a.name) ∷ []) n (done ++ a.name ∷ [])) (sym same) (titled_pushed titles n done a.name h) in
+    (again.0.1, h a.name (subst (λ (x : List ℕ). list_any (same_title (x, a.name)) titles ≡ false) same stand.1), attrs_kept version dims names next (done ++ a.name ∷ []) n ss again.1 stand.2 pushed))
+    (λ e. attrs_kept version dims names next done n ss again.1 stand.2 (titled_more titles (m, a.name) n done h))
+
+all_attrs_kept : (version : ℕ) (all : List Dim) (f : List ℕ → List Attr) (ls : List VarLine) (vs : List Var) → AllZip (λ (l : VarLine) v. IsVarOf all (f l.name) l v) ls vs → ((n : List ℕ) → AttrChain version [] (f n)) → OwnChains version vs
+all_attrs_kept version all f [] [] told each = tt
+all_attrs_kept version all f [] (v ∷ vs) told each = absurd told
+all_attrs_kept version all f (l ∷ ls) [] told each = absurd told
+all_attrs_kept version all f (l ∷ ls) (v ∷ vs) told each =
+    (subst (AttrChain version []) (sym (ap (λ (w : Var). w.attrs) told.0.1)) (each l.name), all_attrs_kept version all f ls vs told.1 each)
+
+-- ---- all definitions of a new dataset
+
+pub defined_kept : (version : ℕ) (ss : List Statement) (s : Script) → Defines ss s → AllAgain version ss → Stand false [] [] [] ss → DefinedOk version s.header
+defined_kept version ss s d again stand = record {
+  dims = subst (DimChain version []) (sym d.dims) (dims_kept version [] [] [] ss again stand);
+  vars = vars_kept version s.header.dims [] [] [] (λ n. attrs_of n ss) ss s.header.vars d.dims again stand d.vars;
+  attrs = subst (AttrChain version []) (sym d.attrs) (own_kept version [] [] [] [] ss again stand (λ n none. refl));
+  own = all_attrs_kept version s.header.dims (λ n. attrs_of n ss) (vars_in ss) s.header.vars d.vars (λ n. attrs_kept version [] [] [] [] n ss again stand (λ m none. refl));
+}
+
+-- ---- what is added to a dataset that is opened
+
+abbrev pub ExtrasOk : List Dim → List (List ℕ) → List Title → List Extra → Type 0
+ExtrasOk dims names titles es = Shows 5 (map extra_line es) (map of_extra es) × Stand true dims names titles (map of_extra es)
+
+pub extras_kept : (dims : List Dim) (names : List (List ℕ)) (titles : List Title) (ss : List Statement) → AllAgain 5 ss → Stand true dims names titles ss → ExtrasOk dims names titles (extras_in ss)
+extras_kept dims names titles [] again stand = ((refl, tt), tt)
+extras_kept dims names titles (RanksAre n ∷ ss) again stand = extras_kept dims names titles ss again.1 stand
+extras_kept dims names titles (HintIs i v ∷ ss) again stand = extras_kept dims names titles ss again.1 stand
+extras_kept dims names titles (IsFilled ∷ ss) again stand = let no : true ≡ false = stand.0 in absurd (cc)
+extras_kept dims names titles (DimIs d ∷ ss) again stand =
+    let more = extras_kept (dims ++ d ∷ []) names titles ss again.1 stand.1 in
+    ((and_from _ _ again.0.0 more.0.0, (again.0.1, more.0.1)), (stand.0, more.1))
+extras_kept dims names titles (VarIs l ∷ ss) again stand =
+    let more = extras_kept dims (names ++ l.name ∷ []) titles ss again.1 stand.1 in
+    ((and_from _ _ again.0.0 more.0.0, (again.0.1, more.0.1)), (stand.0, more.1))
+extras_kept dims names titles (AttIs o a ∷ ss) again stand =
+    let more = extras_kept dims names _ ss again.1 stand.2 in
+    let first = att_shown 5 o a again.0.0 again.0.1 in
+    ((and_from _ _ first.0 more.0.0, (first.1, more.0.1)), (stand.0, stand.1, more.1))
