@@ -175,7 +175,7 @@ module _ (hints : Hints) (s : Setting) (old now : Receiver RankItem) (left : Lis
     }
 
     -- the replies are all that the owner made, and the rest are stops
-    out_gives : (file : List ℕ) → before.told ≡ Some file → (q : ℕ) → q < length before.clients → (given : IsGivenInPart s (owner_at before file) o.first o.last q (gained before.lines lines)) × (given.unheard ≡ [])
+    out_gives : (file : List ℕ) → before.told ≡ Some file → (q : ℕ) → q < length before.clients → (given : IsGivenInPart s (owner_at before file) o.first o.last q (gained before.lines lines q)) × (given.unheard ≡ [])
     out_gives file e q wide =
         let l = subst (λ (k : ℕ). q < k) clients_long wide in
         let stops = only_stops (slice_get o.middle.clients q) (filter is_offer (own_items q o.last)) in
