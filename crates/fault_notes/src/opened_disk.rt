@@ -61,6 +61,8 @@ impl<D: Disk> Disk for OpenedDisk<D> {
 
     ghost sure = { λ d. D.sure d.disk };
 
+    ghost told = { λ d. D.told d.disk };
+
     fn start(&mut self, alloc: Global, name: &str, fresh: bool) -> Result<(), StepErr> {
         self.disk.start(alloc, name, fresh)?;
         if !fresh {

@@ -103,6 +103,8 @@ impl<R: Files<File = File> + Clone + Send + Drop> Disk for FileDisk<R> {
 
     ghost sure = { λ _. ⊥ };
 
+    ghost told = { λ _. tt };
+
     fn start(&mut self, alloc: Global, name: &str, fresh: bool) -> Result<(), StepErr> {
         match open_whole(&self.rt, name, fresh) {
             Ok((file, len)) => {
