@@ -83,7 +83,6 @@ pub fn get_window<D: Disk>(
     ensures sure { D.sure disk.old → D.sure disk.new }
     ensures cause { HasDiskCause (D.faults disk.old) (D.faults disk.new) result }
 {
-    let _size = disk.size();
     disk.read_at(alloc, window.hull.at, buf)?;
     Ok(())
 }

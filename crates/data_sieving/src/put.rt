@@ -49,7 +49,6 @@ pub fn sieve_put<D: Disk>(
     ensures sure { D.sure disk.old → D.sure disk.new }
     ensures cause { HasDiskCause (D.faults disk.old) (D.faults disk.new) result }
 {
-    let _size = disk.size();
     let mut walk = SieveWalk {
         entries: Unserved::new(alloc, list),
         from: 0,
@@ -89,7 +88,6 @@ fn put_window<D: Disk>(
     ensures sure { D.sure disk.old → D.sure disk.new }
     ensures cause { HasDiskCause (D.faults disk.old) (D.faults disk.new) result }
 {
-    let _size = disk.size();
     let bytes = &mut buf[..next.window.hull.len as usize];
     open_window(alloc, disk, &next.window, bytes)?;
     lay_window(next, puts, bytes);

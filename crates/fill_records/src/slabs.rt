@@ -40,7 +40,6 @@ pub fn prefill<D: Disk>(
     ensures len { D.len disk.new ≡ D.len disk.old }
     ensures cause { HasDiskCause (D.faults disk.old) (D.faults disk.new) result }
 {
-    let _length = disk.size();
     for var in 0..header.vars.len() {
         fill_variable(alloc, disk, header, var, size)?;
     }
@@ -68,7 +67,6 @@ fn fill_variable<D: Disk>(
     ensures len { D.len disk.new ≡ D.len disk.old }
     ensures cause { HasDiskCause (D.faults disk.old) (D.faults disk.new) result }
 {
-    let _length = disk.size();
     let variable = &header.vars.as_slice()[var];
     if is_record(header, variable) {
         return Ok(());
@@ -102,7 +100,6 @@ fn write_value<D: Disk>(
     ensures len { D.len disk.new ≡ D.len disk.old }
     ensures cause { HasDiskCause (D.faults disk.old) (D.faults disk.new) result }
 {
-    let _length = disk.size();
     let copies = copies_of(alloc, value, size.min(len) as usize)?;
     for number in 0..len.div_ceil(size) {
         let window = window_of(value, &copies, len, size, number);

@@ -8,7 +8,7 @@ returns-clause-bytes g c =
     let cells = put_cells c.args.puts.now (entries_in c.args.next.now) in
     let room : length c.open_window.new.buf ≡ w.hull.len = first_of (search rules, grind (arith, common_steps)) in
     window_told_by _ _ (g.D.Disk.held c.close_window.new.disk) w.full c.open_window.new.buf _ _ _ w.hull.at _ (g.D.Disk.len c.args.disk.now) _
-    c.in_ok-open_window.ensures.from c.in_ok-open_window.ensures.bytes c.lay_window.ensures c.size-size.ensures.told room c.requires.low c.requires.high
+    c.in_ok-open_window.ensures.from c.in_ok-open_window.ensures.bytes c.lay_window.ensures (g.D.Disk.told c.args.disk.now) room c.requires.low c.requires.high
     (clips_from w.hull.at (w.hull.at + w.hull.len) cells (omega arith)) (clips_within w.hull.at (w.hull.at + w.hull.len) cells (omega arith))
     c.requires.whole c.in_ok-open_window.ensures.read c.in_ok-close_window.ensures.bytes
 
@@ -19,7 +19,7 @@ returns-in_err-close_window-clause-refused g c =
     let room : length c.open_window.new.buf ≡ w.hull.len = first_of (search rules, grind (arith, common_steps)) in
     on_err c.from_residual-in_err-close_window.result
     (window_refused_by _ _ _ w.full c.open_window.new.buf _ _ _ w.hull.at _ (g.D.Disk.len c.args.disk.now) _
-    c.in_ok-open_window.ensures.from c.in_ok-open_window.ensures.bytes c.lay_window.ensures c.size-size.ensures.told room c.requires.low c.requires.high
+    c.in_ok-open_window.ensures.from c.in_ok-open_window.ensures.bytes c.lay_window.ensures (g.D.Disk.told c.args.disk.now) room c.requires.low c.requires.high
     (clips_from w.hull.at (w.hull.at + w.hull.len) cells (omega arith)) (clips_within w.hull.at (w.hull.at + w.hull.len) cells (omega arith))
     c.requires.whole c.in_ok-open_window.ensures.read c.in_err-close_window.ensures.refused)
 

@@ -13,7 +13,7 @@ windows-init g c = record {
   size = refl;
   from = refl;
   len = refl;
-  bytes = put_begin (g.D.Disk.held c.args.disk.now) c.args.puts.now c.args.list.now (g.D.Disk.from c.args.disk.now) (g.D.Disk.len c.args.disk.now) c.size-size.ensures.told c.requires.on_disk;
+  bytes = put_begin (g.D.Disk.held c.args.disk.now) c.args.puts.now c.args.list.now (g.D.Disk.from c.args.disk.now) (g.D.Disk.len c.args.disk.now) (g.D.Disk.told c.args.disk.now) c.requires.on_disk;
   calls = calls_begin overlays (length c.args.buf.now) c.args.list.now (g.D.Disk.calls c.args.disk.now);
   sure = λ s. s;
   faults = omega arith;
@@ -61,7 +61,7 @@ windows-preserved g c =
       from = c.in_ok-put_window.ensures.from ∙ c.windows.invariant.from;
       len = c.in_ok-put_window.ensures.len ∙ c.windows.invariant.len;
       bytes = put_more c.args.puts.now c.args.list.now (g.D.Disk.from c.args.disk.now) (g.D.Disk.from c.windows.disk) (g.D.Disk.len c.args.disk.now) c.requires.on_disk c.windows.invariant.from
-          c.windows.invariant.past next (g.D.Disk.held c.args.disk.now) (g.D.Disk.held c.windows.disk) (g.D.Disk.held c.put_window.new.disk) c.size-size.ensures.told
+          c.windows.invariant.past next (g.D.Disk.held c.args.disk.now) (g.D.Disk.held c.windows.disk) (g.D.Disk.held c.put_window.new.disk) (g.D.Disk.told c.args.disk.now)
           c.windows.invariant.bytes c.in_ok-put_window.ensures.bytes;
       calls = subst (λ (n : ℕ). HasDone (flat_map overlays (entry_windows n c.args.list.now)) (flat_map overlays (windows_from n c.pass.new.self.from c.args.list.now))
           (g.D.Disk.calls c.args.disk.now) (g.D.Disk.calls c.put_window.new.disk)) (sym c.pass.ensures.size)
@@ -75,7 +75,7 @@ pub returns-in_err-put_window-clause-refused : goal.returns-in_err-put_window-cl
 returns-in_err-put_window-clause-refused g c =
     on_err c.from_residual.result
     (put_refused c.args.puts.now c.args.list.now (g.D.Disk.from c.args.disk.now) (g.D.Disk.from c.windows.disk) (g.D.Disk.len c.args.disk.now) c.requires.on_disk c.windows.invariant.from
-    c.windows.invariant.past c.in-Some.ensures.next (g.D.Disk.held c.args.disk.now) (g.D.Disk.held c.windows.disk) (g.D.Disk.held c.put_window.new.disk) c.size-size.ensures.told
+    c.windows.invariant.past c.in-Some.ensures.next (g.D.Disk.held c.args.disk.now) (g.D.Disk.held c.windows.disk) (g.D.Disk.held c.put_window.new.disk) (g.D.Disk.told c.args.disk.now)
     c.windows.invariant.bytes c.in_err-put_window.ensures.refused)
 
 pub returns-in_err-put_window-clause-begun : goal.returns-in_err-put_window-clause-begun
@@ -88,7 +88,7 @@ returns-in_err-put_window-clause-begun g c =
 pub returns-clause-bytes : goal.returns-clause-bytes
 returns-clause-bytes g c =
     put_end (g.D.Disk.held c.args.disk.now) (g.D.Disk.held c.windows.disk) c.args.puts.now c.args.list.now (entries_left c.windows.walk.entries) c.windows.walk.from
-    (g.D.Disk.from c.args.disk.now) (g.D.Disk.len c.args.disk.now) c.size-size.ensures.told c.requires.on_disk c.in_default.ensures.none c.windows.invariant.past c.windows.invariant.bytes
+    (g.D.Disk.from c.args.disk.now) (g.D.Disk.len c.args.disk.now) (g.D.Disk.told c.args.disk.now) c.requires.on_disk c.in_default.ensures.none c.windows.invariant.past c.windows.invariant.bytes
 
 pub returns-clause-calls : goal.returns-clause-calls
 returns-clause-calls g c =

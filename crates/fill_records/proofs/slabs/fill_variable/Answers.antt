@@ -10,7 +10,7 @@ returns-then-is_record-clause-bytes g c =
     let own = got _ _ c.args.var _ c.as_slice.ensures c.requires.there c.index-as_slice-var.is in
     if_there _ _ (λ v. g.D.Disk.held c.args.disk.now ≡ after (filled_variable c.args.header.now v) (g.D.Disk.held c.args.disk.now)) own
     (told_begin _ _
-    (for_told (g.D.Disk.held c.args.disk.now) (λ file e. record_kept c.args.header.now _ file (sym c.is_record.ensures ∙ c.if-is_record.true)) c.size-length.ensures.told))
+    (for_told (g.D.Disk.held c.args.disk.now) (λ file e. record_kept c.args.header.now _ file (sym c.is_record.ensures ∙ c.if-is_record.true)) (g.D.Disk.told c.args.disk.now)))
 
 pub returns-then-is_record-clause-calls : goal.returns-then-is_record-clause-calls
 returns-then-is_record-clause-calls g c =
@@ -54,7 +54,7 @@ returns g c =
     let long = c.requires.long in
     let fills = for_told held
     (λ file e. fixed_filled header v c.fill_value.new.into file c.slab.result fixed value (c.fill_value.auto.into ∙ room_long v.kind c.size_of.result c.size_of.ensures) same (omega arith))
-    c.size-length.ensures.told in
+    (g.D.Disk.told c.args.disk.now) in
     record {
       bytes = on_ok_weaker c.write_value.result
           (λ told. if_there _ _ (λ w. g.D.Disk.held c.write_value.new.disk ≡ after (filled_variable header w) held) own (told_end _ _ _ _ fills told)) c.write_value.ensures.bytes;

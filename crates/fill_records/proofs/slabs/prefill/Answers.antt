@@ -37,4 +37,4 @@ returns-in_err-fill_variable-clause-refused g c =
     c.args.header.now.vars c.loop-var.var (omega arith) c.in_err-fill_variable.ensures.refused in
     on_err c.from_residual.result
     (variable_refused c.args.header.now (g.D.Disk.held c.args.disk.now) (g.D.Disk.held c.loop-var.disk) (g.D.Disk.held c.fill_variable.new.disk) c.loop-var.var (g.D.Disk.len c.args.disk.now)
-    left.0 left.1 c.requires.sound c.size-length.ensures.told c.requires.long c.loop-var.invariant.bytes left.2)
+    left.0 left.1 c.requires.sound (g.D.Disk.told c.args.disk.now) c.requires.long c.loop-var.invariant.bytes left.2)

@@ -29,7 +29,7 @@ loop-number-preserved g c =
       bytes = told_more _ _ _ _ _ _
           (for_told (g.D.Disk.held c.args.disk.now) (λ file e.
           let room = c.requires.long in
-          window_written _ _ file _ _ _ _ _ _ _ (omega arith) inside refl window.bytes c.loop-number.invariant.from place) c.size-length.ensures.told)
+          window_written _ _ file _ _ _ _ _ _ _ (omega arith) inside refl window.bytes c.loop-number.invariant.from place) (g.D.Disk.told c.args.disk.now))
           c.loop-number.invariant.bytes c.in_ok-write_at.ensures.bytes;
       calls = calls_more _ _ _ _ _ _ (stores_more _ _ _ _ _ _ _ place refl window.long) c.loop-number.invariant.calls c.in_ok-write_at.ensures.calls;
       faults = omega arith;
@@ -58,6 +58,6 @@ returns-in_err-write_at-clause-refused g c =
     on_err c.from_residual-in_err-write_at.result
     (part_refused (g.D.Disk.held c.args.disk.now) (g.D.Disk.held c.loop-number.disk) (g.D.Disk.held c.write_at.new.self) c.args.value.now c.window_of-window.result.bytes.now c.args.begin c.args.len
     (min c.args.len done) (min c.args.len ((c.loop-number.number + 1) * c.args.size))
-    (c.args.begin + c.window_of-window.result.at - g.D.Disk.from c.loop-number.disk) (g.D.Disk.len c.args.disk.now) c.size-length.ensures.told (omega arith) (omega arith) (omega arith) (omega arith)
+    (c.args.begin + c.window_of-window.result.at - g.D.Disk.from c.loop-number.disk) (g.D.Disk.len c.args.disk.now) (g.D.Disk.told c.args.disk.now) (omega arith) (omega arith) (omega arith) (omega arith)
     (λ file e. window_written _ _ file _ _ _ _ _ _ _ (omega arith) inside refl window.bytes c.loop-number.invariant.from place)
     c.loop-number.invariant.bytes c.in_err-write_at.ensures.refused)
