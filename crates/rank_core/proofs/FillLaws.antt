@@ -1,5 +1,5 @@
 -- What the filling of a share of a record comes to.
-use Rattle.rank_core.proofs.Words.{◌≡◌, ℕ, ◌+◌, ◌-◌, ◌*◌, ◌<◌, ◌≤◌, refl, sym, ap, ◌∙◌, List, [], ◌∷◌, map, Bool, true, false, ltb, ◌||◌, Option, None, Some, arith, slice_get, mul-div_cancel, mul-le-mul_left, Header, Var, Post, Part, div_grows, boxes, share_begin, inner_lengths, is_record, product, most_elements, box_post, fills, find_var, is_record_past, Target, look_of, look_record, IsTarget}
+use Rattle.rank_core.proofs.Words.{◌≡◌, ℕ, ◌+◌, ◌-◌, ◌*◌, ◌<◌, ◌≤◌, refl, sym, ap, ◌∙◌, List, [], ◌∷◌, map, Bool, true, false, ltb, ◌||◌, Option, None, Some, arith, slice_get, mul-div_cancel, mul-le-mul_left, Header, Var, Post, Part, div_grows, boxes, share_begin, inner_lengths, is_record, product, most_elements, box_post, fills, find_var, is_record_past, Target, fill_posts, look_of, look_record}
 use Rattle.nc_base.specs.declared.answer.Code.TheVariants as code
 use Rattle.serial_spec.specs.Looks as looks
 
@@ -59,11 +59,10 @@ module _ (t : Target) (number rank ranks : ℕ) where
     pub record_too_large : large_of from to ≡ true → looks.Refused code.ETooLarge ≡ look_record t number rank ranks
     record_too_large e = sym (ap (λ (b : Bool). record_outcome true b (filled_of from to)) e) ∙ outcome_is
 
-    pub record_filled : (lengths : List ℕ) (parts : List Part) (posts : List Post) → large_of from to ≡ false
-        → lengths ≡ inner_lengths t.header.now t.var.now → parts ≡ boxes lengths from to → posts ≡ map (box_post t.place t.var.now number) parts
-        → look_of posts ≡ look_record t number rank ranks
-    record_filled lengths parts posts e l p q =
-        ap look_of (q ∙ ap (λ (ps : List Part). map (box_post t.place t.var.now number) ps) (p ∙ ap (λ (ns : List ℕ). boxes ns from to) l))
+    pub record_filled : (posts : List Post) → large_of from to ≡ false → posts ≡ fill_posts t number from to → look_of posts ≡ look_record t number rank ranks
+    unfolding fill_posts
+    record_filled posts e q =
+        ap look_of q
         ∙ filled_is t.place t.var.now number (boxes (inner_lengths t.header.now t.var.now) from to)
         ∙ sym (ap (λ (b : Bool). record_outcome true b (filled_of from to)) e) ∙ outcome_is
 
@@ -80,9 +79,9 @@ pub fill_missing : (header : Header) (name : List ℕ) (number rank ranks : ℕ)
 fill_missing header name number rank ranks e = ap (by_place header number rank ranks) e
 
 pub fill_found : (header : Header) (name : List ℕ) (number rank ranks : ℕ) (t : Target) → Some t.place ≡ find_var header name
-    → t.header.now ≡ header → IsTarget t → look_record t number rank ranks ≡ looks.look_fill header name number rank ranks
+    → t.header.now ≡ header → look_record t number rank ranks ≡ looks.look_fill header name number rank ranks
 unfolding look_record
-fill_found header name number rank ranks t e h there =
-    ap (λ (o : Option Var). at_var t.header.now t.place number rank ranks o) (sym there)
+fill_found header name number rank ranks t e h =
+    ap (λ (o : Option Var). at_var t.header.now t.place number rank ranks o) (sym t.there)
     ∙ (λ i. at_var (h i) t.place number rank ranks (slice_get (h i).vars t.place))
     ∙ ap (by_place header number rank ranks) e

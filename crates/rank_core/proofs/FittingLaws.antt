@@ -1,5 +1,5 @@
 -- Numbers of two lists that are the same, place by place.
-use Rattle.rank_core.proofs.Words.{◌≡◌, ℕ, suc, ◌+◌, ◌<◌, ◌∙◌, ap, sym, refl, List, [], ◌∷◌, ◌++◌, length, map, take, Bool, true, false, get_or, false_from_ne_true, arith, take-suc, map-append, bytes_eq-Decides, bytes_eq}
+use Rattle.rank_core.proofs.Words.{◌≡◌, ℕ, suc, ◌+◌, ◌<◌, ◌∙◌, ap, sym, List, [], ◌∷◌, ◌++◌, length, map, take, true, false, get_or, false_from_ne_true, arith, take-suc, map-append, bytes_eq-Decides, bytes_eq}
 
 pub are_same : (xs ys : List ℕ) → xs ≡ ys → bytes_eq xs ys ≡ true
 are_same xs ys e = (bytes_eq-Decides xs ys).1 e

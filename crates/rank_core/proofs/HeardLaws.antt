@@ -1,6 +1,9 @@
 -- The values of the gets, added one after another by the ids of their requests.
-use Rattle.rank_core.proofs.Words.{◌≡◌, ℕ, ◌+◌, ◌<◌, ◌∙◌, ap, sym, refl, List, [], ◌∷◌, map, length, get_or, drop, zip, Bool, true, false, cond, eqb, Option, Some, None, arith, inl, inr, either, holds_or_not, same_Some, option_map, slice_get, cons_option, eqb-true, append_assoc, drop_more, get_or-map, length-map, Header, Var, NcType, Item, Post, Values, Numbers, Text, Bits, Value, In, Class, class_of, got_values, values_for, with_more, kind_at, spread, gathered, is_ok_code, AreOnce, filled_by, joined}
+use Rattle.std.specs.Prelude.{if◌then◌else◌, max}
+use Rattle.rank_core.proofs.Words.{◌≡◌, ℕ, ◌+◌, ◌<◌, ◌∙◌, ap, sym, refl, List, [], ◌∷◌, map, length, get_or, drop, zip, Bool, true, false, cond, eqb, Option, Some, None, arith, inl, inr, either, holds_or_not, same_Some, option_map, slice_get, cons_option, eqb-true, append_assoc, drop_more, get_or-map, length-map, Header, Var, NcType, Item, Post, Values, Numbers, Text, Bits, Value, In, Class, class_of, got_values, values_for, with_more, kind_at, spread, gathered, is_ok_code, AreOnce, filled_by, joined, as_open, OpenOffer}
+use Rattle.nc_base.specs.declared.step.Reply.{Reply}
 use Rattle.serial_spec.specs.ExternalForm as form
+use Rattle.serial_spec.specs.RankMachine as machine
 
 -- ---- the kind of values
 
@@ -165,3 +168,18 @@ left_kept before after first item items once others kept left i here ok = elim (
   | inl e ↦ others i.id (once.0 e i here ok) ∙ left i (inr here) ok
   | inr e ↦ kept e i.id ∙ left i (inr here) ok
 ]
+
+-- ---- the answer
+
+pub heard_as : (header : Header) (r : machine.Rank) (reply : Reply) (o : OpenOffer) (values : ℕ → Option Values)
+    → ((id : ℕ) → values id ≡ values_for (got_values header (zip o.gets reply.got)) id)
+    → (
+      record r { known = max r.known reply.records; independent = o.independent; «open» = None },
+      record { code = o.code; pair = reply.pair; number = None; values = if o.blocking then values 0 else None; items = map (filled_by values) o.items },
+    )
+    ≡ machine.hear_open header r reply (Some (as_open o))
+heard_as header r reply o values h =
+    λ i. (
+      record r { known = max r.known reply.records; independent = o.independent; «open» = None },
+      record { code = o.code; pair = reply.pair; number = None; values = if o.blocking then h 0 i else None; items = map (filled_by (λ id. h id i)) o.items },
+    )

@@ -1,5 +1,5 @@
 -- What is accepted stays so where the rank knows of more records.
-use Rattle.rank_core.proofs.Words.{◌≡◌, ℕ, zero, suc, ◌-◌, ◌+◌, ◌*◌, ◌≤◌, ◌∙◌, refl, inl, inr, ◌⊎◌, List, [], ◌∷◌, map, length, Bool, false, cond, ltb, leb, eqb, ◌&&◌, Option, Some, None, arith, slice_get, list_any, or_parts, or_from, ltb-false, leb-false, le-ltb, lt-leb, eqb-false, ne_eqb, and_cases, and_left, and_right, cond-false, Header, Var, Post, Region, Direction, Code, lengths, bound, bounds, bad_start, bad_edge, first_code, nat_tests, some_start, some_edge, other_shape, asks_too_much, check, check_var, check_some, Passes, passed, IsPut, IsGet}
+use Rattle.rank_core.proofs.Words.{◌≡◌, ℕ, zero, ◌≤◌, refl, List, [], ◌∷◌, map, false, Option, Some, None, arith, slice_get, or_parts, or_from, Header, Var, Region, Direction, lengths, bound, bad_start, bad_edge, first_code, nat_tests, some_start, some_edge, check, check_var, check_some, Passes, passed}
 use Rattle.nc_base.specs.declared.request.Direction.TheVariants as way
 use Rattle.nc_base.specs.declared.answer.Code.TheVariants as code
 

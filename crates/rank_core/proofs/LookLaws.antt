@@ -1,5 +1,5 @@
 -- The posts that a call comes to are those of one request, of accepted regions of one variable; those of a put have their bytes, and hold none twice.
-use Rattle.rank_core.proofs.Words.{◌≡◌, ℕ, suc, ◌+◌, ◌*◌, ◌<◌, ◌≤◌, refl, sym, ap, subst, ◌∙◌, inl, inr, List, [], ◌∷◌, length, map, Bool, true, false, cond, ltb, ◌&&◌, Option, Some, None, IfSome, arith, filter, slice_get, cases_lt, le-ltb, lt-ltb, ltb-false, ltb-true, length-map, sum_by-cons, filter_at_most, ok_both, Code, Header, NcType, Var, Post, Direction, Get, Put, Given, Region, Values, In, filter_in, class_of, size_of, is_sound, product, most_elements, data_bytes, data_code, direction_of, find_var, is_varn, kind_code, look_at, look_parts, look_region, part_posts, parts_code, values_bytes, check_parts, check_some, check_var, elements_of_all, first_refusal, has_element, is_ok_code, is_put, part_region, part_regions, share_element, widen, count_of, check, either, refusal_of, Look, Asks, Empty, Refused, as_look, posts_of, some_unfit, HasValues, IsGet, IsPut, ArePuts, AreTowards, HaveId, IsSomeLook, most_of, not}
+use Rattle.rank_core.proofs.Words.{◌≡◌, ℕ, suc, ◌+◌, ◌*◌, ◌<◌, ◌≤◌, refl, sym, ap, subst, ◌∙◌, inl, inr, List, [], ◌∷◌, length, map, Bool, true, false, cond, ltb, ◌&&◌, Option, Some, None, IfSome, arith, filter, slice_get, cases_lt, le-ltb, lt-ltb, ltb-false, ltb-true, length-map, sum_by-cons, filter_at_most, ok_both, Code, Header, NcType, Var, Post, Direction, Get, Put, Given, Region, Values, In, filter_in, class_of, size_of, is_sound, product, most_elements, data_bytes, data_code, direction_of, find_var, is_varn, kind_code, look_at, look_parts, look_region, part_posts, parts_code, values_bytes, check_parts, check_some, check_var, elements_of_all, first_refusal, has_element, is_ok_code, is_put, part_region, part_regions, share_element, widen, count_of, check, either, refusal_of, Look, Asks, as_look, posts_of, some_unfit, HasValues, IsPut, ArePuts, AreTowards, HaveId, IsSomeLook, most_of, not}
 use Rattle.nc_base.specs.declared.answer.Code.TheVariants as code
 use Rattle.serial_spec.specs.Looks as looks
 use Rattle.rank_core.proofs.OutcomeLaws.{outcome}

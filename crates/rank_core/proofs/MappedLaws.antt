@@ -1,5 +1,5 @@
 -- A region that a check accepts has its positions in memory within the limits.
-use Rattle.rank_core.proofs.Words.{◌≡◌, ℕ, zero, suc, ◌+◌, ◌-◌, ◌*◌, ◌<◌, ◌≤◌, refl, sym, ap, subst, ◌∙◌, inl, inr, ◌⊎◌, List, [], ◌∷◌, length, map, zip, Bool, true, false, not, cond, ltb, leb, eqb, ◌&&◌, ◌||◌, arith, range_with_len, AllByRecursion, or_parts, and_parts, not-false, ltb-false, leb-false, eqb-true, lt-ltb, cases_lt, sum_by-cons, mul-le-mul_left, Header, Var, Direction, Region, header_len, end_of, greatest, product, file_limit, most_elements, record_limit, IsIndex, records_of, check_var, asks_too_much, last_position, other_shape, coordinates, position_at, reach, coordinates_all, IsMapped, no_coordinates, range_below, passed}
+use Rattle.rank_core.proofs.Words.{◌≡◌, ℕ, zero, suc, ◌+◌, ◌-◌, ◌*◌, ◌<◌, ◌≤◌, refl, sym, ap, subst, ◌∙◌, inl, inr, List, [], ◌∷◌, length, map, zip, Bool, true, false, not, cond, ltb, leb, eqb, ◌&&◌, ◌||◌, arith, range_with_len, AllByRecursion, or_parts, and_parts, not-false, ltb-false, leb-false, eqb-true, lt-ltb, cases_lt, sum_by-cons, mul-le-mul_left, Header, Var, Direction, Region, greatest, product, most_elements, IsIndex, check_var, asks_too_much, last_position, other_shape, coordinates, position_at, reach, coordinates_all, IsMapped, no_coordinates, range_below, passed}
 use Rattle.nc_base.specs.declared.answer.Code.TheVariants as code
 
 -- ---- positions

@@ -1,5 +1,5 @@
 -- Names in order: what a search finds is the first of a name.
-use Rattle.rank_core.proofs.Words.{◌≡◌, ℕ, ◌<◌, ◌≤◌, refl, sym, ap, ◌∙◌, inl, inr, ◌⊎◌, List, [], length, get_or, Bool, true, false, cond, ltb, Some, None, arith, position, bytes_eq, nat_cmp_total, on_total, then_total, IsStrictWeakOrder, IsTotalOrder, nat_list_cmp_total, slice_cmp, Ordering, Equal, Greater, Less, range_with_len, IsPartitionedBy, IsPartitionPoint, is_eq, is_lt, nat_cmp, ordering_reverse, ordering_then, both_ways, cases_lt, cases_Bool, cond-false, cond-true, false_from_ne_true, le-ltb, lt-ltb, get_or_default, position_or_len_is, ranks_by, sorted_far, Contains-permutation, IsPermutation-sym, get_or-range_with_len, length-range_with_len, is_eq-slice_cmp, bytes_eq-Decides, name_at, place_cmp, IsInOrder, ge_from_not_lt}
+use Rattle.rank_core.proofs.Words.{◌≡◌, ℕ, ◌<◌, ◌≤◌, refl, sym, ap, ◌∙◌, inl, inr, List, [], length, get_or, Bool, true, false, cond, ltb, Some, None, arith, position, bytes_eq, nat_cmp_total, on_total, then_total, IsStrictWeakOrder, IsTotalOrder, nat_list_cmp_total, slice_cmp, Ordering, Equal, Greater, Less, range_with_len, IsPartitionedBy, IsPartitionPoint, is_eq, is_lt, nat_cmp, ordering_reverse, ordering_then, both_ways, cases_lt, cases_Bool, cond-false, cond-true, false_from_ne_true, le-ltb, lt-ltb, get_or_default, position_or_len_is, ranks_by, sorted_far, Contains-permutation, IsPermutation-sym, get_or-range_with_len, length-range_with_len, is_eq-slice_cmp, bytes_eq-Decides, name_at, place_cmp, IsInOrder, ge_from_not_lt}
 
 -- ---- the order
 

@@ -1,5 +1,5 @@
 -- Posts of one variable, no two of which share an element, hold no byte twice.
-use Rattle.rank_core.proofs.Words.{◌≡◌, ℕ, zero, suc, ◌+◌, ◌*◌, ◌<◌, ◌≤◌, refl, sym, ap, subst, ◌∙◌, inl, inr, ◌⊎◌, List, [], ◌∷◌, map, Bool, true, false, cond, Option, Some, arith, filter, flat_map, slice_get, bytes_eq, list_any, range_with_len, both_ways, cases_order, or_parts, bytes_eq-Decides, at_in, either, entry_map, filter_in, any_member, each_in, map_in, Header, Var, Post, Put, Direction, length, product, Region, In, flat_in, in_flat, range_high, range_low, size_of, is_sound, place, AreApart, IsElement, IsElementBelow, records_of, check_some, check_var, has_element, has_index, share_element, elements, places, bytes_of, bytes_of_some, holdings, Holding, IsOwnOnce, accepted_elements, elements_apart, post_once}
+use Rattle.rank_core.proofs.Words.{◌≡◌, ℕ, zero, suc, ◌+◌, ◌*◌, ◌<◌, ◌≤◌, refl, sym, ap, subst, ◌∙◌, inl, inr, List, [], ◌∷◌, map, true, false, Option, Some, arith, filter, flat_map, slice_get, bytes_eq, list_any, range_with_len, both_ways, cases_order, or_parts, bytes_eq-Decides, at_in, either, entry_map, filter_in, any_member, each_in, map_in, Header, Var, Post, Put, Direction, length, product, Region, In, flat_in, in_flat, range_high, range_low, size_of, is_sound, place, AreApart, IsElement, IsElementBelow, records_of, check_some, check_var, has_element, has_index, share_element, elements, places, bytes_of, bytes_of_some, holdings, Holding, IsOwnOnce, accepted_elements, elements_apart, post_once}
 use Rattle.rank_core.proofs.OwnLaws.{held_at}
 use Rattle.nc_base.specs.declared.answer.Code.TheVariants as code
 

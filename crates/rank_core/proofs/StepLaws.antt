@@ -1,5 +1,5 @@
 -- What the calls of the queue leave, by what they answered.
-use Rattle.rank_core.proofs.Words.{◌≡◌, ℕ, ◌<◌, ◌≤◌, ◌∙◌, ap, sym, refl, subst, inl, List, [], ◌∷◌, length, get_or, true, cond, eqb, leb, ◌&&◌, Option, Some, None, Result, Ok, Err, arith, list_all, IfOk, OnOk, OnErr, option_map, slice_get, bytes_eq, position-Some, slice_get_read, and_parts, leb-true, Header, Post, Dim, Call, Given, Choice, Queued, rank_with, with_request, id_of, find_dim, Status, is_chosen, named, without_chosen, status_of, dim_at, is_lawful_call, is_given, most_parts, has_its_lists, are_sizes, is_part, are_values, is_post_of, HaveId, IsRequest, AreRequests, most_of, most_posts}
+use Rattle.rank_core.proofs.Words.{◌≡◌, ℕ, ◌<◌, ◌≤◌, ◌∙◌, ap, sym, refl, subst, inl, List, [], ◌∷◌, length, get_or, true, cond, eqb, leb, ◌&&◌, Option, Some, None, Result, Ok, Err, arith, list_all, IfOk, OnOk, OnErr, option_map, bytes_eq, position-Some, slice_get_read, and_parts, leb-true, Header, Post, Dim, Call, Given, Choice, Queued, rank_with, with_request, id_of, find_dim, Status, is_chosen, named, without_chosen, status_of, dim_at, is_lawful_call, is_given, most_parts, has_its_lists, are_sizes, is_part, are_values, is_post_of, HaveId, IsRequest, AreRequests, most_of, most_posts}
 use Rattle.nc_base.specs.declared.request.Call.TheVariants as call
 use Rattle.rank_core.proofs.RequestLaws.{requests_without, requests_push}
 

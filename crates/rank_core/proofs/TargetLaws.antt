@@ -1,5 +1,5 @@
 -- What a call on a variable comes to, as its parts find it out.
-use Rattle.rank_core.proofs.Words.{◌≡◌, ℕ, ◌<◌, ◌≤◌, refl, sym, ap, subst, ◌∙◌, List, [], ◌∷◌, length, Bool, true, false, cond, ltb, Option, None, Some, Result, Ok, Err, IfSome, arith, filter, slice_get, IfErr, IfErr-weaker, IfOk-weaker, on_ok_weaker, OnOk, le-ltb, lt-ltb, CallErr, Code, Header, Var, Post, Direction, Form, Given, Region, Values, IsMapped, IsRangeRefusal, IsRefusal, product, most_elements, data_bytes, data_code, direction_of, find_var, is_varn, part_posts, parts_code, check, check_parts, check_some, check_var, elements_of_all, has_element, part_regions, widen, capped, parts_code_at, Target, look_of, some_unfit, ComesTo, HasValues, IsCode, Ranked, IsTarget, IsTargetOf, IfOk}
+use Rattle.rank_core.proofs.Words.{◌≡◌, ℕ, ◌<◌, ◌≤◌, refl, sym, ap, subst, ◌∙◌, List, [], ◌∷◌, length, Bool, true, false, ltb, Option, None, Some, Result, Err, IfSome, arith, filter, slice_get, IfErr, IfOk-weaker, OnOk, le-ltb, lt-ltb, CallErr, Code, Header, Var, Post, Direction, Form, Given, Region, Values, IsMapped, IsRefusal, product, most_elements, data_bytes, data_code, direction_of, find_var, is_varn, part_posts, parts_code, check, check_parts, check_some, check_var, elements_of_all, has_element, part_regions, widen, parts_code_at, Target, look_of, ComesTo, Ranked, IsTargetOf, IfOk}
 use Rattle.nc_base.specs.declared.answer.CallErr.TheVariants as refusal
 use Rattle.nc_base.specs.declared.answer.Code.TheVariants as code
 use Rattle.nc_base.specs.declared.request.Form.TheVariants as form
@@ -8,15 +8,9 @@ use Rattle.vara_extents.specs.Parts as parts
 use Rattle.rank_core.specs.Targets.{look_at, look_parts, look_region}
 use Rattle.rank_core.proofs.LookLaws.{asked_few}
 use Rattle.rank_core.proofs.MappedLaws.{accepted_mapped}
-use Rattle.rank_core.proofs.OutcomeLaws.{checked_refused, data_refused, no_element, outcome, outcome_comes, parts_ask}
-use Rattle.rank_core.proofs.ValueLaws.{parts_code-has_values}
+use Rattle.rank_core.proofs.OutcomeLaws.{checked_refused, no_element, outcome, outcome_comes, parts_ask}
 
-range_refusal : (unfit : Bool) (c : Code) (e : CallErr) → c ≡ cond unfit code.ERange code.Ok → IsRangeRefusal unfit e → IsRefusal c e
-range_refusal unfit c (refusal.Code d) same r =
-    (r.0 ∙ sym (same ∙ ap (λ (b : Bool). cond b code.ERange code.Ok) r.1), λ ok. let f : code.ERange ≡ code.Ok = sym r.0 ∙ ok in cc)
-range_refusal unfit c refusal.Memory same r = r
-
-module _ (t : Target) (given : Given) (values : Option Values) (there : IsTarget t) (way : Direction) (is_way : way ≡ direction_of values) where
+module _ (t : Target) (given : Given) (values : Option Values) (way : Direction) (is_way : way ≡ direction_of values) where
   -- ---- one region
 
   abbrev post : Region → Post
@@ -28,11 +22,11 @@ module _ (t : Target) (given : Given) (values : Option Values) (there : IsTarget
   module _ (g : Region) (wide : IfSome (slice_get t.header.now.vars t.place) (λ v. g ≡ widen t.header.now v given t.known)) where
     region_is : region_outcome g ≡ look_region t given values
     unfolding look_region
-    region_is = ap region_outcome (subst (λ (o : Option Var). IfSome o (λ v. g ≡ widen t.header.now v given t.known)) there wide)
+    region_is = ap region_outcome (subst (λ (o : Option Var). IfSome o (λ v. g ≡ widen t.header.now v given t.known)) t.there wide)
 
     checked : check t.header.now t.place g t.known way ≡ check_var t.header.now t.var.now g t.known (direction_of values)
     checked =
-        ap (λ (o : Option Var). check_some t.header.now o g t.known way) there
+        ap (λ (o : Option Var). check_some t.header.now o g t.known way) t.there
         ∙ ap (λ (d : Direction). check_var t.header.now t.var.now g t.known d) is_way
 
     pub region_mapped : check t.header.now t.place g t.known way ≡ code.Ok → IsMapped g
@@ -55,7 +49,7 @@ module _ (t : Target) (given : Given) (values : Option Values) (there : IsTarget
 
   parts_checked : parts.parts_code t.header.now t.place given t.known way ≡ check_parts t.header.now t.var.now (part_regions t.var.now given) t.known (direction_of values)
   parts_checked =
-      ap (λ (o : Option Var). parts_code_at o t.header.now given t.known way) there
+      ap (λ (o : Option Var). parts_code_at o t.header.now given t.known way) t.there
       ∙ ap (λ (d : Direction). check_parts t.header.now t.var.now (part_regions t.var.now given) t.known d) is_way
 
   abbrev parts_outcome : List Region → looks.Look
@@ -79,27 +73,14 @@ module _ (t : Target) (given : Given) (values : Option Values) (there : IsTarget
     pub parts_empty : length gs ≡ 0 → looks.Empty ≡ look_parts t given values
     parts_empty none = no_element _ _ _ _ (sym parts_checked ∙ ok) (le-ltb 0 (length gs) (omega (arith, none))) ∙ parts_is
 
-    -- a count that is exact below 2^62 counts the elements of one request
-    pub counted : (lent : List Region) (n : ℕ) → lent ≡ gs → n ≡ capped (elements_of_all lent) → n ≡ elements_of_all gs
-    counted lent n same all = let total = ap elements_of_all same in let few = regions_few in omega (arith, total, few, all)
-
-    module _ (some : 0 < length gs) where
-      pub parts_short : (n : ℕ) (c : Code) → n ≡ elements_of_all gs → IsCode (parts_code t.var.now.kind n values) c → looks.Refused c ≡ look_parts t given values
-      parts_short n c e r =
-          data_refused _ _ _ _ c (sym parts_checked ∙ ok) (lt-ltb 0 (length gs) some) (r.0 ∙ ap (λ (m : ℕ). parts_code t.var.now.kind m values) e) r.1 ∙ parts_is
-
-      pub parts_come : (r : Result (List Post) CallErr) → HasValues t.var.now.kind values (elements_of_all gs)
-          → IfOk r (λ posts. posts ≡ part_posts t.id t.place t.var.now.kind values 0 gs)
-          → OnOk r (some_unfit t.var.now.kind values 0 (elements_of_all gs) ≡ false)
-          → IfErr r (IsRangeRefusal (some_unfit t.var.now.kind values 0 (elements_of_all gs)))
-          → ComesTo (look_parts t given values) r
-      parts_come r right same fit unfit =
-          let last = parts_code-has_values t.var.now.kind values (elements_of_all gs) right in
-          let here = lt-ltb 0 (length gs) some in
-          subst (λ (m : looks.Look). ComesTo m r) parts_is (outcome_comes _ _ (part_posts t.id t.place t.var.now.kind values 0 gs) _ r (sym parts_checked ∙ ok) here
-          (IfOk-weaker r _ _ (λ posts e. ap look_of e ∙ parts_ask t.id t.place t.var.now.kind values 0 gs here) same)
-          (on_ok_weaker r (λ e. last ∙ ap (λ (b : Bool). cond b code.ERange code.Ok) e) fit)
-          (IfErr-weaker r _ _ (λ e u. range_refusal _ _ e last u) unfit))
+    pub parts_come : (r : Result (List Post) CallErr) → 0 < length gs → IfOk r (λ posts. posts ≡ part_posts t.id t.place t.var.now.kind values 0 gs)
+        → OnOk r (parts_code t.var.now.kind (elements_of_all gs) values ≡ code.Ok) → IfErr r (IsRefusal (parts_code t.var.now.kind (elements_of_all gs) values))
+        → ComesTo (look_parts t given values) r
+    parts_come r some same right unfit =
+        let here = lt-ltb 0 (length gs) some in
+        subst (λ (m : looks.Look). ComesTo m r) parts_is
+        (outcome_comes _ _ (part_posts t.id t.place t.var.now.kind values 0 gs) _ r (sym parts_checked ∙ ok) here
+        (IfOk-weaker r _ _ (λ posts e. ap look_of e ∙ parts_ask t.id t.place t.var.now.kind values 0 gs here) same) right unfit)
 
 -- ---- either
 
@@ -135,6 +116,6 @@ pub look_found : (rank : Ranked) (id : ℕ) (name : List ℕ) (given : Given) (v
     → IsTargetOf rank id t → look_at t given values ≡ looks.look rank.header rank.state.known id name given values
 unfolding look_at
 look_found rank id name given values t e is =
-    ap (λ (o : Option Var). looks.look_at t.header.now t.known t.id t.place given values o) (sym is.there)
+    ap (λ (o : Option Var). looks.look_at t.header.now t.known t.id t.place given values o) (sym t.there)
     ∙ (λ j. looks.look_at (is.header j) (is.known j) (is.posts j) t.place given values (slice_get (is.header j).vars t.place))
     ∙ ap (by_place rank.header rank.state.known id given values) e

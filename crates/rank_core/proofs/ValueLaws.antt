@@ -1,5 +1,6 @@
 -- The values of a put and their bytes, one after another and part by part.
-use Rattle.rank_core.proofs.Words.{◌≡◌, ℕ, suc, ◌+◌, ◌-◌, ◌*◌, ◌<◌, ◌≤◌, refl, sym, ap, subst, ◌∙◌, List, [], ◌∷◌, ◌++◌, length, map, append-nil, Bool, true, false, not, cond, ltb, ◌||◌, Option, Some, None, is_none, arith, flat_map, list_any, range_with_len, le-ltb, or_parts, or_from, or_left, or_right, length-append, flat_map-append, list_any-append, get_or-range_with_len, length-range_with_len, sum_by-cons, any_map, range_append, all_below, CallErr, Code, NcType, Post, Region, Value, Values, class_of, code_of, size_of, width_of, product, kind_code, part_posts, parts_code, some_fits, values_bytes, values_code, elements_of_all, is_ok_code, count_of, ext_of, packed_bytes, positions, value_at, IsRangeRefusal, length-positions, range_more, lacks, part_refused, range_refused, ext_at, some_unfit, unfit_at, HasValues, or_false, be_long}
+use Rattle.rank_core.proofs.Words.{◌≡◌, ℕ, suc, ◌+◌, ◌-◌, ◌*◌, ◌<◌, ◌≤◌, refl, sym, ap, subst, ◌∙◌, List, [], ◌∷◌, ◌++◌, length, map, append-nil, Bool, false, not, cond, ltb, ◌||◌, Option, Some, None, is_none, arith, flat_map, list_any, range_with_len, le-ltb, or_parts, or_from, or_left, or_right, length-append, flat_map-append, list_any-append, get_or-range_with_len, length-range_with_len, sum_by-cons, any_map, range_append, all_below, CallErr, Code, NcType, Post, Region, Value, Values, class_of, code_of, size_of, width_of, product, kind_code, part_posts, parts_code, some_fits, values_bytes, values_code, elements_of_all, is_ok_code, count_of, ext_of, packed_bytes, positions, value_at, IsRangeRefusal, IsRefusal, length-positions, range_more, lacks, part_refused, range_refused, ext_at, some_unfit, unfit_at, HasValues, or_false, be_long}
+use Rattle.nc_base.specs.declared.answer.CallErr.TheVariants as refusal
 use Rattle.nc_base.specs.declared.answer.Code.TheVariants as code
 
 -- ---- how long they are
@@ -111,16 +112,18 @@ part_posts_push id var kind values k (h ∷ gs) g =
     ap (λ (l : List Post). first ∷ l)
     (part_posts_push id var kind values (k + product h.count) gs g ∙ ap (λ (m : ℕ). part_posts id var kind values (k + product h.count) gs ++ post m ∷ []) e)
 
-pub part_more : (id var : ℕ) (kind : NcType) (values : Option Values) (gs : List Region) (g : Region) (posts next : List Post) (before elements : ℕ) (bytes : List ℕ)
-    → posts ≡ part_posts id var kind values 0 gs → before ≡ elements_of_all gs → elements ≡ product g.count → bytes ≡ values_bytes kind values before elements
-    → next ≡ posts ++ record { id = id; var = var; region = g; bytes = bytes } ∷ [] → next ≡ part_posts id var kind values 0 (gs ++ g ∷ [])
-part_more id var kind values gs g posts next before elements bytes h e f same is =
-    let post : List ℕ → Post = λ b. record { id = id; var = var; region = g; bytes = b } in
+pub part_more : (id var : ℕ) (kind : NcType) (values : Option Values) (gs : List Region) (g : Region) (posts next : List Post) (before : ℕ)
+    → posts ≡ part_posts id var kind values 0 gs → before ≡ elements_of_all gs → next ≡ posts ++ part_posts id var kind values before (g ∷ [])
+    → next ≡ part_posts id var kind values 0 (gs ++ g ∷ [])
+part_more id var kind values gs g posts next before h e is =
     let place : before ≡ 0 + elements_of_all gs = omega (arith, e) in
     is
-    ∙ (λ i. h i ++ post (same i) ∷ [])
-    ∙ (λ i. part_posts id var kind values 0 gs ++ post (values_bytes kind values (place i) (f i)) ∷ [])
+    ∙ (λ i. h i ++ part_posts id var kind values (place i) (g ∷ []))
     ∙ sym (part_posts_push id var kind values 0 gs g)
+
+pub has_fewer : (kind : NcType) (values : Option Values) (m n : ℕ) → m ≤ n → HasValues kind values n → HasValues kind values m
+has_fewer kind None m n l h = tt
+has_fewer kind (Some values) m n l h = (h.0, omega (arith, h.1))
 
 -- ---- the code of the values
 
@@ -135,3 +138,8 @@ pub parts_code-has_values : (kind : NcType) (values : Option Values) (n : ℕ) �
 parts_code-has_values kind None n h = refl
 parts_code-has_values kind (Some values) n h =
     code_of_values (kind_code (class_of kind) values) (ltb (count_of values) n) (some_unfit kind (Some values) 0 n) h.0 (le-ltb (count_of values) n h.1)
+
+pub range_refusal : (unfit : Bool) (c : Code) (e : CallErr) → c ≡ cond unfit code.ERange code.Ok → IsRangeRefusal unfit e → IsRefusal c e
+range_refusal unfit c (refusal.Code d) same r =
+    (r.0 ∙ sym (same ∙ ap (λ (b : Bool). cond b code.ERange code.Ok) r.1), λ ok. let f : code.ERange ≡ code.Ok = sym r.0 ∙ ok in cc)
+range_refusal unfit c refusal.Memory same r = r

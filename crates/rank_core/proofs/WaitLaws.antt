@@ -1,11 +1,10 @@
 -- A rank that offers waits for the reply, and keeps the gets of the offer; one that answers waits for none.
-use Rattle.rank_core.proofs.Words.{◌≡◌, ℕ, refl, List, [], Bool, true, false, Option, Some, None, either, Given, Values, Header, Answer, Code, Batch, Post, Call, Choice, PostKind, OfferKind, MeetKind, Want, look, look_fill, Rank, Open, meets_refused, open_blocking, open_empty, offers, offers_look, waits, answers, answer, posts, post_after, without_chosen, chosen, batch_chosen, buffer_code, bytes_in, attach_code, detach_code, batch_of, code_of_look, no_posts, items_of, values_of_post, is_ok_code, WaitsFor}
+use Rattle.rank_core.proofs.Words.{◌≡◌, ℕ, refl, List, Bool, true, false, Option, Some, None, either, Given, Values, Header, Code, Post, Call, PostKind, MeetKind, Want, look, Rank, posts, post_after, buffer_code, bytes_in, attach_code, detach_code, values_of_post, is_ok_code, WaitsFor}
 use Rattle.nc_base.specs.declared.answer.Code.TheVariants as code
 use Rattle.nc_base.specs.declared.request.Call.TheVariants as call
-use Rattle.nc_base.specs.declared.step.OfferKind.TheVariants as offer
 use Rattle.nc_base.specs.declared.step.MeetKind.TheVariants as meets
 use Rattle.serial_spec.specs.RankMachine as machine
-use Rattle.serial_spec.specs.Looks.{Look, Refused, Empty, Asks}
+use Rattle.serial_spec.specs.Looks.{Look, Asks}
 use Rattle.serial_spec.specs.RankMachine.{posts_of}
 
 abbrev DoesWait : Rank × Want → Type 0

@@ -24,8 +24,8 @@ pub use Rattle.rank_core.specs.OpenOffers.{as_open}
 pub use Rattle.rank_core.specs.Ranked.{Ranked, WaitsFor}
 pub use Rattle.rank_core.specs.Requests.{AreGets, AreOnce, ArePuts, AreRequests, AreTowards, HaveId, IsOpen, IsRequest, direction_of_kind}
 pub use Rattle.rank_core.specs.Stepped.{IsSomeLook, most_of, most_posts}
-pub use Rattle.rank_core.specs.Targets.{IsSmall, IsTarget, IsTargetOf}
-unfoldable pub use Rattle.rank_core.specs.Targets.{look_record}
+pub use Rattle.rank_core.specs.Targets.{IsSmall, IsTargetOf}
+unfoldable pub use Rattle.rank_core.specs.Targets.{fill_posts, look_record}
 pub use Rattle.rank_core.specs.declared.look.Look.{Look}
 pub use Rattle.rank_core.specs.declared.look.Look.TheVariants.{Asks, Empty, Refused}
 pub use Rattle.rank_core.specs.declared.look.target.Target.{Target}

@@ -7,5 +7,6 @@ pub mod Requests
 pub mod OpenOffers
 pub mod Stepped
 pub mod Heard
+pub mod Measured
 pub mod Targets
 pub mod Fit

@@ -1,32 +1,23 @@
 -- The variable that a call is on. (own)
---     IsTarget t                        the header has it at its place
---     IsMeasured t                      the measures are the header's
 --     IsTargetOf rank id t              it is one of the rank's header, with the record count that the rank knows, for posts of this id
 --     place_of t                        its place, if there is one
 --     look_at, look_region, look_parts  what serial_spec says of a call on it
 --     look_record                       what it says of the filling of a share of a record
-use Rattle.std.specs.Prelude.{◌≡◌, ◌≤◌, ℕ, List, map, Option, Some, option_map, slice_get}
-use Rattle.nc_base.specs.declared.header.Header.{Header}
+--     fill_posts                        its posts for the elements from one to another
+use Rattle.std.specs.Prelude.{◌≡◌, ◌≤◌, ℕ, List, map, Option, Some, option_map}
+use Rattle.nc_base.specs.declared.plan.Post.{Post}
 use Rattle.nc_base.specs.declared.request.Given.{Given}
 use Rattle.nc_base.specs.declared.request.Part.{Part}
 use Rattle.nc_base.specs.declared.request.Values.{Values}
-use Rattle.serial_spec.specs.Layout.{product}
+use Rattle.serial_spec.specs.Fill.{boxes}
+use Rattle.serial_spec.specs.Layout.{inner_lengths, product}
 use Rattle.serial_spec.specs.Limits.{most_elements}
 use Rattle.serial_spec.specs.Looks as looks
-use Rattle.var_layout.specs.Measures.{AreMeasures}
 use Rattle.rank_core.specs.Ranked.{Ranked}
 use Rattle.rank_core.specs.declared.look.target.Target.{Target}
 
-abbrev pub IsTarget : Target → Type 0
-IsTarget t = slice_get t.header.now.vars t.place ≡ Some t.var.now
-
-abbrev pub IsMeasured : Target → Type 0
-IsMeasured t = AreMeasures t.header.now t.measures.now
-
 pub record IsTargetOf (rank : Ranked) (id : ℕ) (t : Target) : Type 0 where
   pub header : t.header.now ≡ rank.header
-  pub there : IsTarget t
-  pub measured : IsMeasured t
   pub known : t.known ≡ rank.state.known
   pub posts : t.id ≡ id
 
@@ -44,6 +35,10 @@ look_parts t given values = looks.look_parts t.header.now t.known t.id t.place g
 
 unfoldable pub look_record : Target → ℕ → ℕ → ℕ → looks.Look
 look_record t number rank ranks = looks.look_record t.header.now t.place number rank ranks t.var.now
+
+-- one post for each box of these elements of the record
+unfoldable pub fill_posts : Target → ℕ → ℕ → ℕ → List Post
+fill_posts t number from to = map (looks.box_post t.place t.var.now number) (boxes (inner_lengths t.header.now t.var.now) from to)
 
 -- a box of no more elements than one request may have
 abbrev pub IsSmall : Part → Type 0

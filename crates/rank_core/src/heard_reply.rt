@@ -9,8 +9,11 @@ ghost use Rattle.serial_spec.specs.RegionCheck.{is_ok_code};
 ghost use Rattle.rank_core.specs.Heard.{joined, filled_by, AreFound, IsGetOf, AreGetsOf};
 ghost use Rattle.rank_core.specs.Requests.{AreOnce};
 
+use crate::open_offer::OpenOffer;
 use imap_extents::unpack;
-use nc_base::{BitList, Blob, Code, Header, Item, ItemList, Memory, NumberList, Post, Values};
+use nc_base::{
+    Answer, BitList, Blob, Code, Header, Item, ItemList, Memory, NumberList, Pair, Post, Values,
+};
 use std::alloc::Global;
 use std::collections::BTreeMap;
 
@@ -102,8 +105,42 @@ fn more_text(bytes: Blob, more: Blob) -> Result<Blob, Memory>
     Ok(Blob::from_vec(all))
 }
 
+/// The answer to the call of an offer whose gets brought these values.
+pub(crate) fn answer_to(
+    alloc: Global,
+    offer: OpenOffer,
+    pair: Option<Pair>,
+    found: BTreeMap<u32, Values>,
+) -> Result<Answer, Memory>
+    requires alone { offer.blocking ≡ true → offer.items ≡ [] }
+    requires once { AreOnce offer.items }
+    ensures { IfOk result (λ answer. answer ≡ record {
+      code = offer.code;
+      pair = pair;
+      number = None;
+      values = if offer.blocking then get nat_cmp found 0 else None;
+      items = map (filled_by (get nat_cmp found)) offer.items;
+    }) }
+{
+    let OpenOffer {
+        code,
+        items,
+        gets: _,
+        blocking,
+        independent: _,
+    } = offer;
+    let (values, items) = told(alloc, blocking, items, found)?;
+    Ok(Answer {
+        code,
+        pair,
+        number: None,
+        values,
+        items,
+    })
+}
+
 /// The values of a blocking call, which are those of id 0, or else the items with theirs.
-pub(crate) fn told(
+fn told(
     alloc: Global,
     blocking: bool,
     items: ItemList,

@@ -8,7 +8,6 @@ ghost use Rattle.rank_core.specs.Looked.{as_look, posts_of, settled, ComesTo};
 ghost use Rattle.rank_core.specs.Requests.{AreTowards, HaveId};
 ghost use Rattle.rank_core.specs.Stepped.{most_of, IsSomeLook};
 ghost use Rattle.rank_core.specs.Targets as targets;
-ghost use Rattle.rank_core.specs.Targets.{IsMeasured, IsTarget};
 
 mod filling;
 mod parts;
@@ -85,8 +84,6 @@ fn look_at(
     given: &Given,
     values: Option<&Values>,
 ) -> Result<PostList, CallErr>
-    requires there { IsTarget target.now }
-    requires measured { IsMeasured target.now }
     ensures { ComesTo (targets.look_at target.now given.now (option_copied values.entry)) result }
 {
     match given.form {

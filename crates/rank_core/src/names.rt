@@ -15,7 +15,7 @@ use var_layout::Measures;
 
 /// What the ranks of a run share of a header: its variables and dimensions in the order of their names, by which a rank finds them,
 /// and its measures.
-#[derive(Debug, Drop)]
+#[derive(Drop)]
 pub struct Names {
     /// The places of the variables in the header's list, in the order of their names.
     vars: Vec<usize>,

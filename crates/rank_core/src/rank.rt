@@ -12,7 +12,7 @@ ghost use Rattle.run_laws.specs.Requests.{posts_held, IsFresh, IsShare};
 ghost use Rattle.rank_core.specs.Stepped.{most_posts, IsStepTo};
 
 use crate::Names;
-use crate::heard_reply::{told, values_by_id};
+use crate::heard_reply::{answer_to, values_by_id};
 use crate::open_offer::OpenOffer;
 use nc_base::{Answer, Call, Header, MeetKind, Memory, Reply, Want};
 use request_queue::Queue;
@@ -136,23 +136,9 @@ impl<'a> Rank<'a> {
             offer.gets.as_slice(),
             reply.got.as_slice(),
         )?;
-        let OpenOffer {
-            code,
-            items,
-            gets: _,
-            blocking,
-            independent,
-        } = offer;
         self.known = self.known.max(reply.records);
-        self.independent = independent;
-        let (values, items) = told(self.alloc, blocking, items, found)?;
-        Ok(Answer {
-            code,
-            pair: reply.pair,
-            number: None,
-            values,
-            items,
-        })
+        self.independent = offer.independent;
+        answer_to(self.alloc, offer, reply.pair, found)
     }
 
     /// The record count that the rank knows.

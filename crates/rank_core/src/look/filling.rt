@@ -1,8 +1,7 @@
 // The filling of a rank's share of a record.
-ghost use Rattle.std.specs.Prelude.{◌≡◌, ◌+◌, ◌<◌, ◌≤◌, ◌^◌, ◌∷◌, ◌||◌, nat_lt, true, map, flat_map, IfOk};
+ghost use Rattle.std.specs.Prelude.{◌≡◌, ◌-◌, ◌<◌, ◌≤◌, ◌^◌, ◌∷◌, ◌||◌, nat_lt, true, map, flat_map, IfOk};
 ghost use Rattle.std.specs.List.{range_with_len, AllByRecursion};
 ghost use Rattle.serial_spec.specs.Fill as fill;
-ghost use Rattle.serial_spec.specs.SoundHeaders.{is_sound};
 ghost use Rattle.serial_spec.specs.Layout as layout;
 ghost use Rattle.serial_spec.specs.Layout.{product};
 ghost use Rattle.serial_spec.specs.Limits as limits;
@@ -10,7 +9,7 @@ ghost use Rattle.serial_spec.specs.Looks as looks;
 ghost use Rattle.var_layout.specs.Measures.{AreMeasures};
 ghost use Rattle.rank_core.specs.Looked.{ComesTo};
 ghost use Rattle.rank_core.specs.Targets as targets;
-ghost use Rattle.rank_core.specs.Targets.{IsMeasured, IsSmall, IsTarget};
+ghost use Rattle.rank_core.specs.Targets.{IsSmall};
 
 use super::target::Target;
 use fill_records::{boxes, fill_value, share};
@@ -29,9 +28,6 @@ pub(super) fn look_record(
     rank: u32,
     ranks: u32,
 ) -> Result<PostList, CallErr>
-    requires sound { is_sound target.now.header.now ≡ true }
-    requires there { IsTarget target.now }
-    requires measured { IsMeasured target.now }
     requires rank { rank < ranks }
     requires ranks { ranks ≤ 64 }
     ensures { ComesTo (targets.look_record target.now number rank ranks) result }
@@ -43,15 +39,31 @@ pub(super) fn look_record(
     if is_too_large(target.header, target.measures, number, to - from) {
         return Err(CallErr::Code(Code::ETooLarge));
     }
+    Ok(fill_posts(alloc, target, number, from, to)?)
+}
+
+/// The posts that fill the elements of a record from one to another.
+fn fill_posts(
+    alloc: Global,
+    target: &Target,
+    number: u64,
+    from: u64,
+    to: u64,
+) -> Result<PostList, Memory>
+    requires varies { layout.is_record target.now.header.now target.now.var.now ≡ true }
+    requires rise { from ≤ to }
+    requires within { to ≤ product (layout.inner_lengths target.now.header.now target.now.var.now) }
+    requires small { product (layout.inner_lengths target.now.header.now target.now.var.now) < 2 ^ 62 }
+    requires few { to - from ≤ limits.most_elements }
+    ensures { IfOk result (λ posts. posts ≡ targets.fill_posts target.now number from to) }
+{
     let lengths = inner_lengths(alloc, target.header, target.var)?;
     let parts = boxes(alloc, &lengths, from, to)?;
-    Ok(box_posts(alloc, target, number, parts.as_slice())?)
+    box_posts(alloc, target, number, parts.as_slice())
 }
 
 /// How many elements a record of the variable has, or a fixed variable.
 fn record_elements(target: &Target) -> u64
-    requires sound { is_sound target.now.header.now ≡ true }
-    requires there { IsTarget target.now }
     ensures elements { result ≡ product (layout.inner_lengths target.now.header.now target.now.var.now) }
     ensures small { result < 2 ^ 62 }
 {
@@ -105,8 +117,6 @@ fn box_posts(
     number: u64,
     parts: &[Part],
 ) -> Result<PostList, Memory>
-    requires sound { is_sound target.now.header.now ≡ true }
-    requires there { IsTarget target.now }
     requires few { AllByRecursion IsSmall parts.now }
     ensures { IfOk result (λ posts. posts ≡ map (looks.box_post target.now.place target.now.var.now number) parts.now) }
 {
@@ -118,8 +128,6 @@ fn box_posts(
 }
 
 fn box_post(alloc: Global, target: &Target, number: u64, part: &Part) -> Result<Post, Memory>
-    requires sound { is_sound target.now.header.now ≡ true }
-    requires there { IsTarget target.now }
     requires few { IsSmall part.now }
     ensures { IfOk result (λ post. post ≡ looks.box_post target.now.place target.now.var.now number part.now) }
 {
@@ -136,11 +144,10 @@ fn box_post(alloc: Global, target: &Target, number: u64, part: &Part) -> Result<
 fn box_region(alloc: Global, number: u64, part: &Part) -> Result<Region, Memory>
     ensures { IfOk result (λ region. region ≡ looks.box_region number part.now) }
 {
-    let ones = vec![in alloc; 1; part.count.len()]?;
     Ok(Region {
         start: after(alloc, number, part.start.as_slice())?,
         count: after(alloc, 1, part.count.as_slice())?,
-        stride: after(alloc, 1, ones.as_slice())?,
+        stride: SizeList::from_vec(vec![in alloc; 1; part.count.len() + 1]?),
         imap: SizeList::new(alloc),
         packed: true,
     })
@@ -158,8 +165,6 @@ fn after(alloc: Global, first: u64, others: &[u64]) -> Result<SizeList, Memory>
 
 /// The fill value of the variable, so many times.
 fn fill_bytes(alloc: Global, target: &Target, count: u64) -> Result<Blob, Memory>
-    requires sound { is_sound target.now.header.now ≡ true }
-    requires there { IsTarget target.now }
     ensures { IfOk result (λ bytes. bytes ≡ flat_map (λ m. fill.fill_bytes target.now.var.now) (range_with_len 0 count)) }
 {
     let mut form = [0; 8];

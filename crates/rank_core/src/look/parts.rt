@@ -1,20 +1,20 @@
 // A call on many regions.
-ghost use Rattle.std.specs.Prelude.{◌≡◌, ◌+◌, ◌≤◌, false, map, filter, Some, IfOk, IfErr, OnOk};
+ghost use Rattle.std.specs.Prelude.{◌≡◌, ◌+◌, ◌≤◌, ◌∷◌, ◌++◌, [], false, filter, Some, IfOk, IfErr, OnOk};
 ghost use Rattle.std.specs.Option.{option_copied};
+ghost use Rattle.nc_base.specs.declared.answer.Code.TheVariants as code;
 ghost use Rattle.imap_extents.specs.Refusals.{IsRangeRefusal};
+ghost use Rattle.serial_spec.specs.Layout.{product};
 ghost use Rattle.serial_spec.specs.Limits.{most_elements};
+ghost use Rattle.serial_spec.specs.Refusal.{IsRefusal};
 ghost use Rattle.serial_spec.specs.Looks as looks;
 ghost use Rattle.serial_spec.specs.RegionCheck as spec;
 ghost use Rattle.rank_core.specs.Looked.{some_unfit, ComesTo, HasValues, IsCode};
 ghost use Rattle.rank_core.specs.Targets as targets;
-ghost use Rattle.rank_core.specs.Targets.{IsMeasured, IsTarget};
 
 use super::direction_of;
 use super::target::Target;
 use imap_extents::{push_value, room_for};
-use nc_base::{
-    Blob, CallErr, Code, Given, Memory, NcType, Part, Post, PostList, Region, Values, Var,
-};
+use nc_base::{Blob, CallErr, Code, Given, Memory, NcType, Post, PostList, Region, Values, Var};
 use std::alloc::Global;
 use type_external::{element_count, kind_fits};
 use vara_extents::{Ends, check_parts, elements_of_all, has_element, part_regions};
@@ -25,8 +25,6 @@ pub(super) fn look_parts(
     given: &Given,
     values: Option<&Values>,
 ) -> Result<PostList, CallErr>
-    requires there { IsTarget target.now }
-    requires measured { IsMeasured target.now }
     ensures { ComesTo (targets.look_parts target.now given.now (option_copied values.entry)) result }
 {
     let direction = direction_of(values);
@@ -36,22 +34,37 @@ pub(super) fn look_parts(
     };
     let place = target.place as usize;
     check_parts(alloc, target.header, target.measures, place, given, ends)?;
-    let regions = asked_regions(alloc, target.var, given.parts.as_slice())?;
+    let regions = asked_regions(alloc, target.var, given)?;
     if regions.is_empty() {
         return Ok(PostList::new(alloc));
     }
-    let elements = elements_of_all(regions.as_slice());
-    check_values(target.var.kind, values, elements)?;
-    part_posts(alloc, target, values, regions)
+    asked_posts(alloc, target, values, regions)
 }
 
 /// The parts that have an element, as regions of their own.
-fn asked_regions(alloc: Global, var: &Var, parts: &[Part]) -> Result<Vec<Region>, Memory>
-    ensures { IfOk result (λ regions. regions.items ≡ filter spec.has_element (map (spec.part_region var.now) parts.now)) }
+fn asked_regions(alloc: Global, var: &Var, given: &Given) -> Result<Vec<Region>, Memory>
+    ensures { IfOk result (λ regions. regions.items ≡ filter spec.has_element (spec.part_regions var.now given.now)) }
 {
-    let mut regions = part_regions(alloc, var, parts)?;
+    let mut regions = part_regions(alloc, var, given.parts.as_slice())?;
     regions.retain(|region| has_element(region));
     Ok(regions)
+}
+
+/// One post for each region, if the values of a put are of the type's kind, no fewer than the elements, and in the type's range.
+fn asked_posts(
+    alloc: Global,
+    target: &Target,
+    values: Option<&Values>,
+    regions: Vec<Region>,
+) -> Result<PostList, CallErr>
+    requires few { spec.elements_of_all regions.items ≤ most_elements }
+    ensures ok { IfOk result (λ posts. posts ≡ looks.part_posts target.now.id target.now.place target.now.var.now.kind (option_copied values.entry) 0 regions.items) }
+    ensures right { OnOk result (looks.parts_code target.now.var.now.kind (spec.elements_of_all regions.items) (option_copied values.entry) ≡ code.Ok) }
+    ensures refused { IfErr result (IsRefusal (looks.parts_code target.now.var.now.kind (spec.elements_of_all regions.items) (option_copied values.entry))) }
+{
+    let elements = elements_of_all(regions.as_slice());
+    check_values(target.var.kind, values, elements)?;
+    part_posts(alloc, target, values, regions)
 }
 
 /// Whether the values of a put are of another kind than the type, or fewer than the elements.
@@ -83,17 +96,37 @@ fn part_posts(
     let mut posts = PostList::with_capacity(alloc, regions.len())?;
     let mut before = 0;
     for region in regions {
-        let elements = element_count(region.count.as_slice());
-        let bytes = values_bytes(alloc, target.var.kind, values, before, elements)?;
-        posts.push(Post {
-            id: target.id,
-            var: target.place,
-            region,
-            bytes,
-        })?;
+        let elements = push_part(alloc, target, values, before, region, &mut posts)?;
         before += elements;
     }
     Ok(posts)
+}
+
+/// Adds the post for a region, before whose values so many others stand, and answers how many elements it has.
+fn push_part(
+    alloc: Global,
+    target: &Target,
+    values: Option<&Values>,
+    before: u64,
+    region: Region,
+    posts: &mut PostList,
+) -> Result<u64, CallErr>
+    requires few { before + product region.count ≤ most_elements }
+    requires values { HasValues target.now.var.now.kind (option_copied values) (before + product region.count) }
+    ensures elements { IfOk result (λ elements. elements ≡ product region.count) }
+    ensures posts { OnOk result (posts.new ≡ posts.old ++ looks.part_posts target.now.id target.now.place target.now.var.now.kind (option_copied values.entry) before (region ∷ [])) }
+    ensures right { OnOk result (some_unfit target.now.var.now.kind (option_copied values.entry) before (product region.count) ≡ false) }
+    ensures refused { IfErr result (IsRangeRefusal (some_unfit target.now.var.now.kind (option_copied values.entry) before (product region.count))) }
+{
+    let elements = element_count(region.count.as_slice());
+    let bytes = values_bytes(alloc, target.var.kind, values, before, elements)?;
+    posts.push(Post {
+        id: target.id,
+        var: target.place,
+        region,
+        bytes,
+    })?;
+    Ok(elements)
 }
 
 /// The bytes of some of the values, `before` others standing before them; none for a get.

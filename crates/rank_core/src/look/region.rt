@@ -7,7 +7,6 @@ ghost use Rattle.serial_spec.specs.Refusal.{IsRefusal};
 ghost use Rattle.serial_spec.specs.Looks as looks;
 ghost use Rattle.rank_core.specs.Looked.{ComesTo};
 ghost use Rattle.rank_core.specs.Targets as targets;
-ghost use Rattle.rank_core.specs.Targets.{IsMeasured, IsTarget};
 
 use super::direction_of;
 use super::target::Target;
@@ -22,8 +21,6 @@ pub(super) fn look_region(
     given: &Given,
     values: Option<&Values>,
 ) -> Result<PostList, CallErr>
-    requires there { IsTarget target.now }
-    requires measured { IsMeasured target.now }
     ensures { ComesTo (targets.look_region target.now given.now (option_copied values.entry)) result }
 {
     let place = target.place as usize;

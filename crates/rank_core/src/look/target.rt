@@ -1,8 +1,8 @@
 // The variable that a call is on.
-ghost use Rattle.std.specs.Prelude.{◌≡◌, true, IfSome};
+ghost use Rattle.std.specs.Prelude.{◌≡◌, true, Some, slice_get};
 ghost use Rattle.serial_spec.specs.SoundHeaders.{is_sound};
-ghost use Rattle.serial_spec.specs.Looks as looks;
-ghost use Rattle.rank_core.specs.Targets.{place_of, IsTargetOf};
+ghost use Rattle.var_layout.specs.Measures.{AreMeasures};
+ghost use Rattle.rank_core.specs.Measured.{AreMeasures-prop};
 
 use crate::Rank;
 use nc_base::{Header, Var};
@@ -19,9 +19,16 @@ pub(super) struct Target<'a> {
     /// The record count that the rank knows.
     pub(super) known: u64,
     pub(super) id: u32,
+    ghost sound: { is_sound header.now ≡ true },
+    ghost there: { slice_get header.now.vars place ≡ Some var.now },
+    ghost measured: { AreMeasures header.now measures.now } by { AreMeasures-prop header.now measures.now },
 }
 
 impl<'a> Rank<'a> {
+    ghost use Rattle.std.specs.Prelude.{IfSome};
+    ghost use Rattle.serial_spec.specs.Looks as looks;
+    ghost use Rattle.rank_core.specs.Targets.{place_of, IsTargetOf};
+
     /// The variable of this name, for posts under this id.
     pub(super) fn target(&self, id: u32, name: &[u8]) -> Option<Target<'a>>
         ensures sound { is_sound self.now.header ≡ true }

@@ -17,7 +17,7 @@ pub returns-in-Some : goal.returns-in-Some
 returns-in-Some c =
     let header = c.args.self.now.header in
     let target = c.in-Some.target in
-    let whole = fill_found header c.args.name.now c.args.number c.args.share c.args.of target c.in-Some.ensures.found c.in-Some.ensures.target.header c.in-Some.ensures.target.there in
+    let whole = fill_found header c.args.name.now c.args.number c.args.share c.args.of target c.in-Some.ensures.found c.in-Some.ensures.target.header in
     let looked = IfOk-weaker c.settle.result _ _
     (λ l e. settled_is c.look_record.result (look_record target c.args.number c.args.share c.args.of) (as_look l) c.look_record.ensures e ∙ whole) c.settle.ensures in
     let is = IfOk-weaker c.settle.result _ _

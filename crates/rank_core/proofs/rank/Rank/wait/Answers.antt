@@ -1,4 +1,4 @@
-use Rattle.rank_core.proofs.Words.{◌∙◌, ap, subst, sym, length, arith, false, Some, Header, Batch, is_chosen, named, chosen, batch_chosen, wants, IsSoundWant, posts_held, AreOnce}
+use Rattle.rank_core.proofs.Words.{◌∙◌, ap, subst, sym, length, arith, false, Some, Header, Batch, is_chosen, named, wants, IsSoundWant, posts_held, AreOnce}
 use Rattle.nc_base.specs.declared.answer.Code.TheVariants as code
 use Rattle.serial_spec.specs.RankMachine as machine
 use Rattle.rank_core.proofs.RequestLaws.{once_items, taken_few}
