@@ -1,5 +1,5 @@
 -- The boxes of a share of a record are regions of the variable, no two of which share an element.
-use Rattle.rank_core.proofs.Words.{◌≡◌, ℕ, zero, suc, ◌+◌, ◌-◌, ◌*◌, ◌/◌, ◌%◌, ◌<◌, ◌≤◌, refl, sym, ap, subst, ◌∙◌, inl, inr, ◌⊎◌, List, [], ◌∷◌, ◌++◌, length, map, take, drop, replicate, Bool, true, false, eqb, Some, add-one, arith, flat_map, slice_get, nat_lt, range_with_len, AllByRecursion, mul-div_cancel, mul-le-mul_left, cases_lt, eqb-true, ltb-true, length-append, length-take, length-map, div-add-mod', mod_below, slice_get_within, in_map, each_in, map_in, same_len, each_append, some_factor, Part, Region, no_boxes, In, div_grows, flat_in, in_flat, coordinate_row, box_indices, boxes, in_row, shifted, whole_rows, product, most_elements, row, IsIndex, box_region, coordinates, elements, index_at, coordinates_all, boxes_right, length-coordinates, IsSmall, get_left, get_right, in_at}
+use Rattle.rank_core.proofs.Words.{◌≡◌, ℕ, zero, suc, ◌+◌, ◌-◌, ◌*◌, ◌/◌, ◌%◌, ◌<◌, ◌≤◌, refl, sym, ap, subst, ◌∙◌, inl, inr, ◌⊎◌, List, [], ◌∷◌, ◌++◌, length, map, take, drop, replicate, Bool, true, false, ltb, eqb, ◌||◌, Some, add-one, arith, flat_map, slice_get, nat_lt, range_with_len, AllByRecursion, mul-div_cancel, mul-le-mul_left, cases_lt, eqb-true, ltb-false, ltb-true, or_parts, length-append, length-take, length-map, div-add-mod', mod_below, slice_get_within, in_map, each_in, map_in, same_len, each_append, some_factor, Header, Part, Region, no_boxes, In, div_grows, flat_in, in_flat, coordinate_row, box_indices, boxes, in_row, shifted, whole_rows, product, most_elements, row, IsIndex, box_region, is_record_past, coordinates, elements, index_at, coordinates_all, boxes_right, length-coordinates, IsSmall, get_left, get_right, in_at}
 use Rattle.rank_core.proofs.SeparateLaws.{AreSeparate}
 
 -- ---- how many elements they have
@@ -14,11 +14,16 @@ all_small n (p ∷ parts) h l =
     let one = length-box_indices p in
     (omega (arith, both, one, h, l), all_small n parts (omega (arith, both, h)) l)
 
-pub boxes_small : (lengths : List ℕ) (from to : ℕ) → from ≤ to → to ≤ product lengths → to - from ≤ most_elements → AllByRecursion IsSmall (boxes lengths from to)
-boxes_small lengths from to h k few =
+pub few_small : (lengths : List ℕ) (from to : ℕ) → from ≤ to → to ≤ product lengths → to - from ≤ most_elements → AllByRecursion IsSmall (boxes lengths from to)
+few_small lengths from to h k few =
     let all = ap (λ (l : List (List ℕ)). length l) (boxes_right lengths from to h k) in
     let taken = length-take (to - from) (drop from (coordinates lengths)) in
     all_small (to - from) (boxes lengths from to) (omega (arith, all, taken)) few
+
+pub boxes_small : (header : Header) (number : ℕ) (lengths : List ℕ) (from to : ℕ) → from ≤ to → to ≤ product lengths
+    → (ltb most_elements (to - from) || is_record_past header number) ≡ false → AllByRecursion IsSmall (boxes lengths from to)
+boxes_small header number lengths from to h k e =
+    few_small lengths from to h k (ltb-false most_elements (to - from) (or_parts (ltb most_elements (to - from)) (is_record_past header number) e).0)
 
 -- ---- they lie within the lengths
 

@@ -1,5 +1,5 @@
 use Rattle.rank_core.proofs.Words.{◌∙◌, sym, ap, ℕ, List, map, subst, arith, AllByRecursion, IfOk-weaker, Part, box_post, boxes, fill_posts, product, IsSmall}
-use Rattle.rank_core.proofs.FillPostLaws.{boxes_small}
+use Rattle.rank_core.proofs.FillPostLaws.{few_small}
 use Rattle.rank_core.proofs.look.filling.fill_posts.Goals as goal
 
 pub boxes-requires : goal.boxes-requires
@@ -12,7 +12,7 @@ box_posts-requires c =
     let same = ap (λ (l : List ℕ). product l) c.in_ok-lengths.ensures in
     record {
       few = subst (λ (ps : List Part). AllByRecursion IsSmall ps) (sym (c.as_slice.ensures ∙ c.in_ok-parts.ensures.boxes))
-          (boxes_small _ c.args.from c.args.to c.requires.rise (omega (arith, c.requires.within, same)) c.requires.few);
+          (few_small _ c.args.from c.args.to c.requires.rise (omega (arith, c.requires.within, same)) c.requires.few);
     }
 
 pub returns : goal.returns
