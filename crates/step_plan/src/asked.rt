@@ -1,11 +1,9 @@
 // What ranks ask for.
-ghost use Rattle.std.specs.Prelude.{◌≡◌, ◌+◌, ◌++◌, ◌^◌, ◌≤◌, length, true, IfOk, OnOk};
+ghost use Rattle.std.specs.Prelude.{◌≡◌, ◌+◌, ◌++◌, ◌^◌, ◌≤◌, length, IfOk, OnOk};
 ghost use Rattle.collective_round.specs.Gathered.{posts_of, AreAccepted};
 ghost use Rattle.nc_base.specs.declared.plan.Post.{Post};
 ghost use Rattle.overlay_laws.specs.Entries.{In};
-ghost use Rattle.serial_spec.specs.SoundHeaders.{is_sound};
 ghost use Rattle.vara_extents.specs.Accepted.{IsAccepted};
-ghost use Rattle.var_layout.specs.Measures.{AreMeasures};
 ghost use Rattle.step_plan.specs.Asked.{asked_by_all, asked_of, asked_with, some_asked};
 
 use crate::{Asked, AskedList};
@@ -23,8 +21,6 @@ pub(crate) fn all_asked(
     batches: &[Batch],
     direction: Direction,
 ) -> Result<AskedList, Memory>
-    requires sound { is_sound dataset.now.header.now ≡ true }
-    requires measured { AreMeasures dataset.now.header.now dataset.now.measures.now }
     requires ranks { first + length batches.now ≤ 2 ^ 32 }
     requires accepted { AreAccepted dataset.now.header.now direction batches.now }
     ensures { IfOk result (λ list. list ≡ asked_by_all dataset.now.header.now direction first batches.now) }
@@ -59,8 +55,6 @@ fn posts_of(batch: &Batch, direction: Direction) -> &[Post]
 
 // What a rank asks for by posts.
 fn asked_by(dataset: &Dataset, rank: u32, posts: &[Post]) -> Asked
-    requires sound { is_sound dataset.now.header.now ≡ true }
-    requires measured { AreMeasures dataset.now.header.now dataset.now.measures.now }
     requires accepted { (p : Post) → In posts.now p → IsAccepted dataset.now.header.now p.var p.region }
     ensures { result ≡ asked_of dataset.now.header.now rank posts.now }
 {
@@ -77,8 +71,6 @@ fn asked_by(dataset: &Dataset, rank: u32, posts: &[Post]) -> Asked
 
 // Adds what a request asks for.
 fn add_post(asked: &mut Asked, dataset: &Dataset, post: &Post)
-    requires sound { is_sound dataset.now.header.now ≡ true }
-    requires measured { AreMeasures dataset.now.header.now dataset.now.measures.now }
     requires accepted { IsAccepted dataset.now.header.now post.now.var post.now.region }
     ensures { asked.new ≡ asked_with dataset.now.header.now post.now asked.old }
 {

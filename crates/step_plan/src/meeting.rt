@@ -1,19 +1,16 @@
 // The step of all ranks.
-ghost use Rattle.std.specs.Prelude.{◌≡◌, ◌≤◌, ◌++◌, max, flat_map, nat_lt, true, IfOk};
+ghost use Rattle.std.specs.Prelude.{◌≡◌, ◌≤◌, ◌++◌, max, flat_map, nat_lt, IfOk};
 ghost use Rattle.serial_spec.specs.DeviceCalls as device;
 ghost use Rattle.serial_spec.specs.FileStep.{end_for, told};
 ghost use Rattle.serial_spec.specs.HeaderBytes.{header_len};
-ghost use Rattle.serial_spec.specs.Lawful.{are_lawful_hints};
 ghost use Rattle.serial_spec.specs.Layout.{end_of};
 ghost use Rattle.serial_spec.specs.Owner.{needed_now};
 ghost use Rattle.serial_spec.specs.SharedByte.{holdings, IsOwnOnce};
-ghost use Rattle.serial_spec.specs.SoundHeaders.{is_sound};
 ghost use Rattle.collective_round.specs.Rounds.{dataset_setting, as_setting, gets_in, puts_in, AreFew, AreGets, ArePuts};
 ghost use Rattle.nc_base.specs.declared.plan.Post.{Post};
 ghost use Rattle.nc_base.specs.declared.request.Direction.TheVariants as direction;
 ghost use Rattle.overlay_laws.specs.Entries.{In};
 ghost use Rattle.vara_extents.specs.Accepted.{IsAccepted};
-ghost use Rattle.var_layout.specs.Measures.{AreMeasures};
 ghost use Rattle.window_plan.specs.Windows.{get_calls, put_calls};
 ghost use Rattle.step_plan.specs.Asked.{asked_by_all};
 ghost use Rattle.step_plan.specs.Phases.{HavePutDomains, HaveGetDomains};
@@ -37,9 +34,6 @@ pub fn plan_meeting(
     records: u64,
     size: u64,
 ) -> Result<Planned, Memory>
-    requires sound { is_sound dataset.now.header.now ≡ true }
-    requires measured { AreMeasures dataset.now.header.now dataset.now.measures.now }
-    requires hints { are_lawful_hints dataset.now.hints.now ≡ true }
     requires few { AreFew batches.now }
     requires puts { ArePuts dataset.now.header.now (puts_in batches.now) }
     requires own { IsOwnOnce (holdings dataset.now.header.now (puts_in batches.now)) }
@@ -89,9 +83,6 @@ fn put_domains(
     batches: &[Batch],
     size: u64,
 ) -> Result<Puts, Memory>
-    requires sound { is_sound dataset.now.header.now ≡ true }
-    requires measured { AreMeasures dataset.now.header.now dataset.now.measures.now }
-    requires hints { are_lawful_hints dataset.now.hints.now ≡ true }
     requires few { AreFew batches.now }
     requires puts { ArePuts dataset.now.header.now (puts_in batches.now) }
     requires own { IsOwnOnce (holdings dataset.now.header.now (puts_in batches.now)) }
@@ -122,9 +113,6 @@ fn put_domains(
 
 // The domains of the gets.
 fn get_domains(alloc: Global, dataset: &Dataset, batches: &[Batch]) -> Result<DomainList, Memory>
-    requires sound { is_sound dataset.now.header.now ≡ true }
-    requires measured { AreMeasures dataset.now.header.now dataset.now.measures.now }
-    requires hints { are_lawful_hints dataset.now.hints.now ≡ true }
     requires few { AreFew batches.now }
     requires gets { (p : Post) → In (gets_in batches.now) p → IsAccepted dataset.now.header.now p.var p.region }
     ensures { IfOk result (HaveGetDomains dataset.now.header.now dataset.now.hints.now batches.now) }

@@ -1,19 +1,16 @@
 // The step of one rank alone.
-ghost use Rattle.std.specs.Prelude.{◌≡◌, ◌≤◌, ◌<◌, ◌+◌, ◌-◌, ◌++◌, ◌∷◌, ◌^◌, [], max, flat_map, true, None, IfOk};
+ghost use Rattle.std.specs.Prelude.{◌≡◌, ◌≤◌, ◌<◌, ◌+◌, ◌-◌, ◌++◌, ◌∷◌, ◌^◌, [], max, flat_map, None, IfOk};
 ghost use Rattle.serial_spec.specs.DeviceCalls as device;
 ghost use Rattle.serial_spec.specs.FileStep.{end_for, told};
 ghost use Rattle.serial_spec.specs.HeaderBytes.{header_len};
-ghost use Rattle.serial_spec.specs.Lawful.{are_lawful_hints};
 ghost use Rattle.serial_spec.specs.Layout.{end_of};
 ghost use Rattle.serial_spec.specs.Owner.{needed_now};
 ghost use Rattle.serial_spec.specs.SharedByte.{holdings, IsOwnOnce};
-ghost use Rattle.serial_spec.specs.SoundHeaders.{is_sound};
 ghost use Rattle.collective_round.specs.Rounds.{dataset_setting, posts_in, puts_of_batch, AreGets, ArePuts};
 ghost use Rattle.nc_base.specs.declared.plan.Post.{Post};
 ghost use Rattle.nc_base.specs.declared.request.Direction.TheVariants as direction;
 ghost use Rattle.overlay_laws.specs.Entries.{In};
 ghost use Rattle.vara_extents.specs.Accepted.{IsAccepted};
-ghost use Rattle.var_layout.specs.Measures.{AreMeasures};
 ghost use Rattle.window_plan.specs.Windows.{get_calls, put_calls};
 ghost use Rattle.step_plan.specs.Asked.{asked_by_all};
 ghost use Rattle.step_plan.specs.Phases.{HaveGetWindows, HavePutWindows};
@@ -36,9 +33,6 @@ pub fn plan_solo(
     batch: &Batch,
     size: u64,
 ) -> Result<Planned, Memory>
-    requires sound { is_sound dataset.now.header.now ≡ true }
-    requires measured { AreMeasures dataset.now.header.now dataset.now.measures.now }
-    requires hints { are_lawful_hints dataset.now.hints.now ≡ true }
     requires few { posts_in batch.now < 2 ^ 32 }
     requires rank { rank < 2 ^ 32 - 1 }
     requires puts { ArePuts dataset.now.header.now (puts_of_batch (rank, batch.now)) }
@@ -90,9 +84,6 @@ fn put_windows(
     batch: &Batch,
     size: u64,
 ) -> Result<Puts, Memory>
-    requires sound { is_sound dataset.now.header.now ≡ true }
-    requires measured { AreMeasures dataset.now.header.now dataset.now.measures.now }
-    requires hints { are_lawful_hints dataset.now.hints.now ≡ true }
     requires few { posts_in batch.now < 2 ^ 32 }
     requires puts { ArePuts dataset.now.header.now (puts_of_batch (rank, batch.now)) }
     requires own { IsOwnOnce (holdings dataset.now.header.now (puts_of_batch (rank, batch.now))) }
@@ -128,9 +119,6 @@ fn get_windows(
     rank: u32,
     batch: &Batch,
 ) -> Result<DomainList, Memory>
-    requires sound { is_sound dataset.now.header.now ≡ true }
-    requires measured { AreMeasures dataset.now.header.now dataset.now.measures.now }
-    requires hints { are_lawful_hints dataset.now.hints.now ≡ true }
     requires few { posts_in batch.now < 2 ^ 32 }
     requires gets { (p : Post) → In batch.now.gets p → IsAccepted dataset.now.header.now p.var p.region }
     ensures { IfOk result (HaveGetWindows dataset.now.header.now dataset.now.hints.now rank batch.now) }

@@ -11,7 +11,7 @@ collective_domains-requires-clause-sorted c =
 
 pub end_of-end-requires-clause-below : goal.end_of-end-requires-clause-below
 end_of-end-requires-clause-below c =
-    rw c.records_needed-needed.ensures (puts_needed c.args.dataset.now.header.now (puts_in c.args.batches.now) c.requires.sound c.requires.puts).1
+    rw c.records_needed-needed.ensures (puts_needed c.args.dataset.now.header.now (puts_in c.args.batches.now) c.args.dataset.now.sound c.requires.puts).1
 
 -- ---- a pair
 

@@ -11,7 +11,7 @@ pub get_list-requires-clause-gets : goal.get_list-requires-clause-gets
 get_list-requires-clause-gets c = gets_alone c.args.dataset.now.header.now c.args.batch.now c.from_ref.result.now c.from_ref.ensures.value c.requires.gets
 
 pub sieved_domain-requires-clause-some : goal.sieved_domain-requires-clause-some
-sieved_domain-requires-clause-some c = (lawful c.args.dataset.now.hints.now c.requires.hints).reads
+sieved_domain-requires-clause-some c = (lawful c.args.dataset.now.hints.now c.args.dataset.now.lawful).reads
 
 pub returns : goal.returns
 returns c = ok_so c.sieved_domain.result (λ domains h. record {

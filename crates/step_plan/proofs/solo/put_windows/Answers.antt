@@ -17,7 +17,7 @@ pub put_list-requires-clause-puts : goal.put_list-requires-clause-puts
 put_list-requires-clause-puts c = own_list c.args.dataset.now.header.now c.args.rank c.args.batch.now c.from_ref.result.now c.from_ref.ensures.value c.requires.puts
 
 pub sieved_domain-requires-clause-some : goal.sieved_domain-requires-clause-some
-sieved_domain-requires-clause-some c = (lawful c.args.dataset.now.hints.now c.requires.hints).writes
+sieved_domain-requires-clause-some c = (lawful c.args.dataset.now.hints.now c.args.dataset.now.lawful).writes
 
 pub records_needed_by-needed-requires : goal.records_needed_by-needed-requires
 records_needed_by-needed-requires c = record {
@@ -30,7 +30,7 @@ sieved_domain-requires-clause-sorted c =
 
 pub end_of-end-requires-clause-below : goal.end_of-end-requires-clause-below
 end_of-end-requires-clause-below c =
-    rw (own_needs c.args.dataset.now.header.now c.args.rank c.args.batch.now c.as_slice.result.now c.records_needed_by-needed.result c.as_slice.ensures c.records_needed_by-needed.ensures) (puts_needed c.args.dataset.now.header.now (puts_of_batch (c.args.rank, c.args.batch.now)) c.requires.sound c.requires.puts).1
+    rw (own_needs c.args.dataset.now.header.now c.args.rank c.args.batch.now c.as_slice.result.now c.records_needed_by-needed.result c.as_slice.ensures c.records_needed_by-needed.ensures) (puts_needed c.args.dataset.now.header.now (puts_of_batch (c.args.rank, c.args.batch.now)) c.args.dataset.now.sound c.requires.puts).1
 
 -- ---- a pair
 
