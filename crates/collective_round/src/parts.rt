@@ -75,8 +75,10 @@ pub(crate) fn split<D: Disk>(
     ensures front { OnOk result (IsFront domains.now (part_state D.Disk disk.old)
         (part_state D.Disk disk.new)) }
     ensures kept { OnErr result ((D.from disk.new ≡ D.from disk.old) × (D.len disk.new ≡ D.len disk.old) × (D.held disk.new ≡ D.held disk.old) × (D.calls disk.new ≡ D.calls disk.old)) }
-    ensures cause { D.faults disk.old < 2 ^ 64 → HasDiskCause (D.faults disk.old) (D.faults disk.new) result }
+    ensures counted { D.faults disk.old < 2 ^ 64 }
+    ensures cause { HasDiskCause (D.faults disk.old) (D.faults disk.new) result }
 {
+    // With its size a disk tells that 64 bits have its count of faults.
     let _size = disk.size();
     let mut parts = Vec::with_capacity(alloc, domains.len())?;
     let end = split_backwards(alloc, disk, domains, &mut parts);
@@ -106,7 +108,6 @@ fn split_backwards<D: Disk>(
         (map (λ p. part_state D.Disk p) (reverse parts.new.items)) result }
     ensures cause { HasDiskCause (D.faults disk.old) (D.faults disk.new) result }
 {
-    let _size = disk.size();
     for k in (0..domains.len()).rev() {
         parts.push_reserved(disk.split_off(alloc, domains[k].at)?);
     }

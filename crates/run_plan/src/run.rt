@@ -10,7 +10,6 @@ ghost use Rattle.turn_run.specs.Counts.{IsCount};
 ghost use Rattle.turn_run.specs.Running.{AreFree, AreRunners, HaveArrived};
 ghost use Rattle.turn_run.specs.Stages.{arrived_all};
 ghost use Rattle.turn_run.specs.Steps.{first_runner};
-ghost use Rattle.var_layout.specs.Measures.{AreMeasures};
 ghost use Rattle.run_plan.specs.Planned.{order_in, plan_stage, HasPlannedAll};
 ghost use Rattle.run_plan.specs.Runs.{HasEnded, IsPlanOf};
 
@@ -92,9 +91,6 @@ fn hold_meetings<R: Wait>(
     progress: &mut Progress,
     runners: &mut [Runner],
 ) -> Result<(), Memory>
-    requires sound { is_sound lent.now.header.now ≡ true }
-    requires measured { AreMeasures lent.now.header.now lent.now.measures.now }
-    requires lawful { is_lawful lent.now.script.now ≡ true }
     requires none { progress.old.steps ≡ [] }
     requires runners { AreRunners lent.now.script.now lent.now.header.now progress.old.size (order_in progress.old.steps) runners.old }
     requires free { AreFree runners.old }
@@ -122,9 +118,6 @@ fn arrive_all<R: Wait>(
     progress: &mut Progress,
     runners: &mut [Runner],
 ) -> Result<(), Memory>
-    requires sound { is_sound lent.now.header.now ≡ true }
-    requires measured { AreMeasures lent.now.header.now lent.now.measures.now }
-    requires lawful { is_lawful lent.now.script.now ≡ true }
     requires runners { AreRunners lent.now.script.now lent.now.header.now progress.old.size (order_in progress.old.steps) runners.old }
     requires free { AreFree runners.old }
     requires records { IsCount lent.now.header.now progress.old.size progress.old.records }

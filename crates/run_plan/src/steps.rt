@@ -1,5 +1,6 @@
 // The steps of ranks in turn.
 ghost use Rattle.std.specs.Prelude.{◌≡◌, ◌≤◌, ◌<◌, ◌+◌, ◌^◌, ◌++◌, ◌∷◌, [], ℕ, length, map, max, slice_get, true, None, Some, IfNone, IfOk, IfSome, OnOk};
+ghost use Rattle.collective_round.specs.Lent.{AreMeasures-prop};
 ghost use Rattle.nc_base.specs.declared.plan.Post.{Post};
 ghost use Rattle.nc_base.specs.declared.step.OfferKind.TheVariants as kind;
 ghost use Rattle.overlay_laws.specs.Entries.{In};
@@ -33,6 +34,9 @@ pub(crate) struct Lent<'a, R> {
     pub header: &'a Header,
     pub measures: &'a Measures,
     pub script: &'a Script,
+    pub ghost sound: { is_sound header.now ≡ true },
+    pub ghost measured: { AreMeasures header.now measures.now } by { AreMeasures-prop header.now measures.now },
+    pub ghost lawful: { is_lawful script.now ≡ true },
 }
 
 /// How far a plan has come.
@@ -68,9 +72,6 @@ pub(crate) fn arrive<R: Wait>(
     runner: &mut Runner,
     number: u32,
 ) -> Result<(), Memory>
-    requires sound { is_sound lent.now.header.now ≡ true }
-    requires measured { AreMeasures lent.now.header.now lent.now.measures.now }
-    requires lawful { is_lawful lent.now.script.now ≡ true }
     requires number { number < lent.now.script.now.ranks }
     requires free { runner.old.held ≡ None }
     requires runner { IsRunner lent.now.script.now lent.now.header.now (order_in progress.old.steps) number runner.old }
@@ -114,9 +115,6 @@ fn do_alone<R: Wait>(
     number: u32,
     offer: &Offer,
 ) -> Result<(), Memory>
-    requires sound { is_sound lent.now.header.now ≡ true }
-    requires measured { AreMeasures lent.now.header.now lent.now.measures.now }
-    requires lawful { is_lawful lent.now.script.now ≡ true }
     requires number { number < lent.now.script.now.ranks }
     requires header { runner.old.rank.header ≡ lent.now.header.now }
     requires free { runner.old.held ≡ None }
@@ -184,9 +182,6 @@ pub(crate) fn meet<R: Wait>(
     runners: &mut [Runner],
     number: u32,
 ) -> Result<(), Memory>
-    requires sound { is_sound lent.now.header.now ≡ true }
-    requires measured { AreMeasures lent.now.header.now lent.now.measures.now }
-    requires lawful { is_lawful lent.now.script.now ≡ true }
     requires number { number ≡ meetings (order_in progress.old.steps) }
     requires runners { AreRunners lent.now.script.now lent.now.header.now progress.old.size (order_in progress.old.steps) runners.old }
     requires met { HaveMet runners.old }

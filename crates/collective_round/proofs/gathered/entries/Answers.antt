@@ -1,5 +1,5 @@
 -- A rank after another.
-use Rattle.collective_round.proofs.Words.{ℕ, ◌+◌, ◌++◌, List, length, subst, sym, ap, ◌∙◌, arith, read_in, Batch, Post, In, entries_of_posts, posts_of, next_numbered}
+use Rattle.collective_round.proofs.Words.{ℕ, ◌+◌, ◌++◌, List, length, refl, subst, sym, ap, ◌∙◌, arith, read_in, Batch, Post, In, entries_of_posts, posts_of, next_numbered}
 use Rattle.collective_round.proofs.StepEntries.{few_posts}
 use Rattle.collective_round.proofs.gathered.entries.Goals as goal
 
@@ -14,6 +14,9 @@ pub push_posts-requires-clause-accepted : goal.push_posts-requires-clause-accept
 push_posts-requires-clause-accepted c = λ p m.
     c.requires.accepted c.index-batches-k.result p (read_in c.args.batches.now _ _ c.loop-k-test.true c.index-batches-k.is)
     (subst (λ (ps : List Post). In ps p) c.posts_of.ensures m)
+
+pub loop-k-init : goal.loop-k-init
+loop-k-init c = rw c.new-list.ensures.items refl
 
 pub loop-k-preserved : goal.loop-k-preserved
 loop-k-preserved c =

@@ -30,7 +30,7 @@ returns-in-Err-clause-kept g c =
       front_is = split.front;
       parts_are = ap (λ (ds : List g.row.D.Denot). map (state g) ds) c.reverse.ensures.items ∙ split.parts_are;
     } in
-    let before = parts_rejoined (state g) _ _ _ _ s c.size-size.ensures.told in (
+    let before = parts_rejoined (state g) _ _ _ _ s (g.D.Disk.told c.args.disk.now) in (
       ap (λ (p : PartState). p.from) c.append_all.ensures ∙ before.place.from,
       ap (λ (p : PartState). p.len) c.append_all.ensures ∙ before.place.len,
       ap (λ (p : PartState). p.held) c.append_all.ensures ∙ before.held,
@@ -38,12 +38,12 @@ returns-in-Err-clause-kept g c =
     )
 
 pub returns-in-Err-clause-cause : goal.returns-in-Err-clause-cause
-returns-in-Err-clause-cause g c = λ counted.
+returns-in-Err-clause-cause g c =
     let mid = state g c.split_backwards-end.new.disk in
     let parts = map (state g) c.reverse.new.self.items in
     let cause = c.in-Err.ensures.cause in
     let now : g.D.Disk.faults c.append_all.new.disk ≡ (with_parts mid parts).faults = ap (λ (p : PartState). p.faults) c.append_all.ensures in
-    let least = joined_at_least (g.D.Disk.faults c.args.disk.now) mid parts counted cause.later in
+    let least = joined_at_least (g.D.Disk.faults c.args.disk.now) mid parts c.size-size.ensures.counted cause.later in
     record {
       later = omega arith;
       failed = λ f.

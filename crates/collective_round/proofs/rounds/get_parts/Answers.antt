@@ -53,23 +53,18 @@ returns g c =
     let on : AreOn plan.list.now plan.cover.now c.args.domains.now (g.D.Disk.len c.args.disk.now) =
     record { covers = c.requires.plan.covers; bytes = c.requires.plan.cover_bytes; on = c.requires.on_disk; div = c.requires.domains } in
     let s = are_split (state g) old front plan.list.now plan.cover.now c.args.domains.now parts c.requires.from on c.in_ok-parts.ensures.front c.in_ok-parts.ensures.parts in
-    let got = parts_got (state g) (λ d. get_turns plan d) old front new c.args.domains.now parts news end s c.size-size.ensures.told c.exchange_get-parts.ensures.got c.append_all.ensures in
+    let got = parts_got (state g) (λ d. get_turns plan d) old front new c.args.domains.now parts news end s (g.D.Disk.told c.args.disk.now) c.exchange_get-parts.ensures.got c.append_all.ensures in
     record {
       read =
           told_read end (g.D.Disk.held c.args.disk.now) (λ file. HasRead file plan.list.now c.args.into.now c.exchange_get-parts.new.into)
           (λ file told. c.exchange_get-parts.ensures.read file
           (part_read (state g) old front c.args.domains.now parts file s
-          (if_some_at (λ (f : List ℕ). length f ≡ g.D.Disk.len c.args.disk.now) _ _ told c.size-size.ensures.told) told));
+          (if_some_at (λ (f : List ℕ). length f ≡ g.D.Disk.len c.args.disk.now) _ _ told (g.D.Disk.told c.args.disk.now)) told));
       blobs = first_of (search rules, grind (arith, common_steps));
       calls = got.device;
       bytes = got.held;
       from = got.place.from ∙ c.requires.from;
       len = got.place.len;
-      cause = all_cause (state g) old front new c.args.domains.now parts news end s c.size-size.ensures.counted
-          (c.in_ok-parts.ensures.cause c.size-size.ensures.counted).later c.exchange_get-parts.ensures.failed c.append_all.ensures;
+      cause = all_cause (state g) old front new c.args.domains.now parts news end s c.split.ensures.counted
+          c.in_ok-parts.ensures.cause.later c.exchange_get-parts.ensures.failed c.append_all.ensures;
     }
-
-pub returns-in_err-parts-clause-cause : goal.returns-in_err-parts-clause-cause
-returns-in_err-parts-clause-cause g c =
-    let cause = c.in_err-parts.ensures.cause c.size-size.ensures.counted in
-    record { later = cause.later; failed = λ e. cause.failed (first_of (search rules, grind (arith, common_steps))) }

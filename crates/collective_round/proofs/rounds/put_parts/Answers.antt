@@ -1,5 +1,5 @@
 -- The puts of the parts are those of the disk.
-use Rattle.collective_round.proofs.Words.{◌∙◌, refl, rules, arith, common_steps, planned_turns, source_in, HasPut, PartState, part_state}
+use Rattle.collective_round.proofs.Words.{◌∙◌, refl, planned_turns, source_in, HasPut, PartState, part_state}
 use Rattle.collective_round.proofs.PartDomains.{AreOn, as_many_parts, domain_of_part, domains_room}
 use Rattle.collective_round.proofs.PartLaws.{all_cause, all_follow, are_split}
 use Rattle.collective_round.proofs.PutParts.{parts_put}
@@ -48,18 +48,13 @@ returns g c =
     record { covers = c.requires.plan.covers; bytes = c.requires.plan.cover_bytes; on = c.requires.on_disk; div = c.requires.domains } in
     let s = are_split (state g) old front plan.list.now plan.cover.now c.args.domains.now parts c.requires.from on c.in_ok-parts.ensures.front c.in_ok-parts.ensures.parts in
     let got = parts_put (state g) (source_in plan) plan.list.now (λ d. planned_turns plan d) plan.cover.now old front new c.args.domains.now parts news end
-    (λ o m. (c.requires.plan.pieces o m).some) on s c.size-size.ensures.told c.exchange_put-parts.ensures.put c.append_all.ensures in
+    (λ o m. (c.requires.plan.pieces o m).some) on s (g.D.Disk.told c.args.disk.now) c.exchange_put-parts.ensures.put c.append_all.ensures in
     record {
       bytes = got.bytes;
       between = got.between;
       calls = got.device;
       from = got.place.from ∙ c.requires.from;
       len = got.place.len;
-      cause = all_cause (state g) old front new c.args.domains.now parts news end s c.size-size.ensures.counted
-          (c.in_ok-parts.ensures.cause c.size-size.ensures.counted).later c.exchange_put-parts.ensures.failed c.append_all.ensures;
+      cause = all_cause (state g) old front new c.args.domains.now parts news end s c.split.ensures.counted
+          c.in_ok-parts.ensures.cause.later c.exchange_put-parts.ensures.failed c.append_all.ensures;
     }
-
-pub returns-in_err-parts-clause-cause : goal.returns-in_err-parts-clause-cause
-returns-in_err-parts-clause-cause g c =
-    let cause = c.in_err-parts.ensures.cause c.size-size.ensures.counted in
-    record { later = cause.later; failed = λ e. cause.failed (first_of (search rules, grind (arith, common_steps))) }

@@ -40,7 +40,7 @@ loop-number-preserved g c =
     let done = c.in_ok-arrive.ensures in
     let there : slice_get runners n ≡ Some was = get_at runners n c.index-runners-number.result (omega arith) in
     let grown = planned_grown _ _ n _ _ done.planned in
-    let long = (ranks_lawful script c.requires.lawful).one_each in
+    let long = (ranks_lawful script c.args.lent.now.lawful).one_each in
     let further = before.longer in
     let more = done.longer in
     record {
@@ -52,7 +52,7 @@ loop-number-preserved g c =
       free = λ r s l e. set_each (λ (q : ℕ) (x : Runner). n + 1 ≤ q → x.held ≡ None) runners n was runner there (λ k. absurd (omega arith))
           (λ q x other f k. before.free q x (omega arith) f) r s e l;
       planned = λ records. all_then _ _ _ old.steps _ _ (plan_stage old.size records (arrived_all header script.calls runners)) _ (before.planned records)
-          (one_of_all script header runners n was runner old.steps now.steps old.size now.size c.requires.lawful (omega arith) there done.planned records);
+          (one_of_all script header runners n was runner old.steps now.steps old.size now.size c.args.lent.now.lawful (omega arith) there done.planned records);
       count = c.arrive.ensures.records ∙ before.count;
     }
 

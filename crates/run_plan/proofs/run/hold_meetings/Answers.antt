@@ -16,7 +16,7 @@ pub overflow_add-meetings : goal.overflow_add-meetings
 overflow_add-meetings g c =
     let k = c.meetings.invariant in
     let few : meetings (order_in c.meetings.progress.steps) < most_calls =
-    next_meeting _ _ _ _ _ c.requires.lawful k.runners k.arrived (c.all_hold.ensures.0 c.meetings-test.true) in
+    next_meeting _ _ _ _ _ c.args.lent.now.lawful k.runners k.arrived (c.all_hold.ensures.0 c.meetings-test.true) in
     let number = k.number in
     omega arith
 
@@ -24,7 +24,7 @@ pub meetings-smaller : goal.meetings-smaller
 meetings-smaller g c =
     let k = c.meetings.invariant in
     let few : meetings (order_in c.meetings.progress.steps) < most_calls =
-    next_meeting _ _ _ _ _ c.requires.lawful k.runners k.arrived (c.all_hold.ensures.0 c.meetings-test.true) in
+    next_meeting _ _ _ _ _ c.args.lent.now.lawful k.runners k.arrived (c.all_hold.ensures.0 c.meetings-test.true) in
     let number = k.number in
     omega arith
 
@@ -54,5 +54,5 @@ meetings-preserved g c =
 pub returns-clause-free : goal.returns-clause-free
 returns-clause-free g c =
     let k = c.meetings.invariant in
-    all_ended c.args.lent.now.script.now c.args.lent.now.header.now _ (order_in c.meetings.progress.steps) c.meetings.runners c.requires.lawful k.runners k.arrived
+    all_ended c.args.lent.now.script.now c.args.lent.now.header.now _ (order_in c.meetings.progress.steps) c.meetings.runners c.args.lent.now.lawful k.runners k.arrived
     (λ met. true≢false (sym (c.all_hold.ensures.1 met) ∙ c.meetings-test.false))

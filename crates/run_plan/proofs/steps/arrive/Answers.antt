@@ -4,7 +4,7 @@ use Rattle.run_plan.proofs.FollowLaws.{planned_same, planned_then}
 use Rattle.run_plan.proofs.steps.arrive.Goals as goal
 
 pub own_calls-calls-requires : goal.own_calls-calls-requires
-own_calls-calls-requires g c = let long = (ranks_lawful c.args.lent.now.script.now c.requires.lawful).one_each in omega arith
+own_calls-calls-requires g c = let long = (ranks_lawful c.args.lent.now.script.now c.args.lent.now.lawful).one_each in omega arith
 
 pub alone-init : goal.alone-init
 alone-init g c =

@@ -5,15 +5,15 @@ use Rattle.run_plan.proofs.FollowLaws.{order_more}
 use Rattle.run_plan.proofs.SoloLaws.{alone_device, alone_planned}
 use Rattle.run_plan.proofs.steps.do_alone.Goals as goal
 
+pub invariant_of-dataset-clause-lawful : goal.invariant_of-dataset-clause-lawful
+invariant_of-dataset-clause-lawful g c = lawful_hints c.args.lent.now.script.now c.args.lent.now.lawful
+
 pub plan_solo-requires : goal.plan_solo-requires
 plan_solo-requires g c =
     let fit = asked_fit _ _ _ _ c.requires.asked c.requires.known in
     record {
-      sound = c.requires.sound;
-      measured = c.requires.measured;
-      hints = lawful_hints c.args.lent.now.script.now c.requires.lawful;
       few = fit.few;
-      rank = omega (arith, (ranks_lawful c.args.lent.now.script.now c.requires.lawful).most, c.requires.number);
+      rank = omega (arith, (ranks_lawful c.args.lent.now.script.now c.args.lent.now.lawful).most, c.requires.number);
       puts = ranked_puts c.args.lent.now.header.now c.args.number c.args.offer.now.batch.puts (put_of _ _ fit.sound);
       own = fit.sound.own c.args.number;
       gets = get_of _ _ _ fit.sound fit.known;
@@ -47,7 +47,7 @@ returns-clause-known g c =
     let fit = asked_fit _ _ _ _ c.requires.asked c.requires.known in
     let size = c.add.ensures.size ∙ c.in_ok-planned.ensures.size in
     let are = ranked_puts header c.args.number c.args.offer.now.batch.puts (put_of _ _ fit.sound) in
-    let count = solo_counted s puts c.args.progress.now.size c.add.new.self.size c.args.offer.now.known c.requires.sound are fit.known size in
+    let count = solo_counted s puts c.args.progress.now.size c.add.new.self.size c.args.offer.now.known c.args.lent.now.sound are fit.known size in
     let told : c.in_ok-reply.reply.records ≡ max c.args.offer.now.known (needed_now s puts) = c.in_ok-reply.ensures.records ∙ ap (max c.args.offer.now.known) c.in_ok-planned.ensures.records in
     let longer = count_longer _ _ c.add.new.self.size known (grown c.args.progress.now.size c.add.new.self.size _ size) c.requires.known in
     rw (heard_known c.args.runner.now c.hear.new.self c.in_ok-reply.reply waits c.in_ok-hear.ensures.heard) (count_max header c.add.new.self.size known c.in_ok-reply.reply.records longer (inr (rw told count)))
@@ -67,7 +67,7 @@ returns-clause-planned g c =
     ∙ ap (advance header) (heard_runner header own c.args.runner.now c.hear.new.self c.in_ok-reply.reply c.requires.header c.in_ok-hear.ensures.heard) in
     rw c.in_ok-add.ensures.steps
     (alone_planned script.hints s c.args.number c.len-call.result c.args.progress.now.steps c.args.progress.now.size c.add.new.self.size (asking own c.args.runner.now) c.args.offer.now step c.in_ok-reply.reply
-    (arrived header own c.hear.new.self) c.requires.sound (ranked_puts header c.args.number c.args.offer.now.batch.puts (put_of _ _ c.requires.asked.sound)) (count_begins _ _ _ c.requires.known) refl
+    (arrived header own c.hear.new.self) c.args.lent.now.sound (ranked_puts header c.args.number c.args.offer.now.batch.puts (put_of _ _ c.requires.asked.sound)) (count_begins _ _ _ c.requires.known) refl
     (alone_device script.hints s c.args.number c.args.progress.now.size c.args.offer.now p.planned.file p.ensures.put_calls p.ensures.no_count p.ensures.get_calls)
     (record { overlap = p.ensures.overlap; asked_put = p.ensures.asked_put; asked_get = p.ensures.asked_get; put_windows = p.ensures.put_windows; get_windows = p.ensures.get_windows })
     c.in_ok-callers.ensures (c.in_ok-reply.ensures.pair ∙ p.ensures.overlap) (c.in_ok-reply.ensures.records ∙ ap (max c.args.offer.now.known) p.ensures.records) c.in_ok-reply.ensures.row
