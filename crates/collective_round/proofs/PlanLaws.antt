@@ -1,5 +1,5 @@
 -- The entries of puts or gets and their cover are a plan of what is to be done.
-use Rattle.collective_round.proofs.Words.{◌≡◌, ℕ, ◌+◌, ◌<◌, ◌≤◌, inl, inr, refl, subst, List, [], ◌∷◌, length, Option, Some, None, arith, slice_get, get_is, Header, Batch, Extent, Owned, bytes_of_post, Source, In, HaveSame, ranges, AreFound, IsCover, spans, in_map, IsGetPlan, ArePieces, IsPlan, Puts, source_of, AreGot, AreLaid, AreSorted, nat_tests}
+use Rattle.collective_round.proofs.Words.{◌≡◌, ℕ, ◌+◌, ◌<◌, ◌≤◌, inl, inr, refl, List, [], ◌∷◌, length, Option, Some, None, arith, slice_get, get_is, Header, Batch, Extent, Owned, bytes_of_post, Source, In, HaveSame, ranges, AreFound, IsCover, spans, in_map, IsGetPlan, ArePieces, IsPlan, Puts, source_of, AreLaid, AreSorted, nat_tests}
 use Rattle.exchange_crew.specs.Turns as turns
 use Rattle.collective_round.proofs.LaidLaws.{found_at}
 use Rattle.collective_round.proofs.PutLaws.{cover_ends}
@@ -24,23 +24,21 @@ rank_below batches rank slot n some there = by_batch (slice_get batches rank) re
     by_batch (Some b) e h = (get_is batches rank b e).0
 
 pub laid_plan : (header : Header) (puts : Puts) (batches : List Batch) (list : List Owned) (cover : List Extent) (size : ℕ) → length batches ≤ 64
-    → AreLaid header (source_of 0 batches) puts list → IsCover cover → HaveSame (spans cover) (ranges list) → 1 ≤ size → IsPlan batches list cover size
+    → AreLaid header (turns.source_of batches) puts list → IsCover cover → HaveSame (spans cover) (ranges list) → 1 ≤ size → IsPlan batches list cover size
 laid_plan header puts batches list cover size few laid covers bytes some =
-    let exchanged = subst (λ (s : Source). AreLaid header s puts list) (same_source batches) laid in
-    let pieces = are_pieces (turns.source_of batches) list exchanged.found laid.sorted in
+    let pieces = are_pieces (turns.source_of batches) list laid.found laid.sorted in
     record {
       few = few;
       sorted = laid.sorted.by_place;
       ends = laid.sorted.ends;
       pieces = pieces;
       below = λ o m. (let p = pieces o m in let n = p.some in rank_below batches o.rank o.slot (o.from + o.extent.len) (omega arith) p.found);
-      one = exchanged.one;
+      one = laid.one;
       covers = covers;
       cover_ends = cover_ends cover list covers bytes laid.sorted.ends;
       cover_bytes = bytes;
       some = some;
     }
 
-pub got_plan : (header : Header) (batches : List Batch) (list : List Owned) (cover : List Extent) (size : ℕ) → AreGot header 0 batches list
-    → IsCover cover → HaveSame (spans cover) (ranges list) → 1 ≤ size → IsGetPlan list cover size
-got_plan header batches list cover size got covers bytes some = grind (arith, nat_tests, cover_ends cover list covers bytes got.sorted.ends)
+pub got_plan : (list : List Owned) (cover : List Extent) (size : ℕ) → AreSorted list → IsCover cover → HaveSame (spans cover) (ranges list) → 1 ≤ size → IsGetPlan list cover size
+got_plan list cover size sorted covers bytes some = grind (arith, nat_tests, cover_ends cover list covers bytes sorted.ends)

@@ -2,11 +2,13 @@
 use Rattle.step_plan.proofs.Words.{ℕ, ◌+◌, ◌++◌, ◌∙◌, ap, sym, subst, List, arith, next_numbered, Batch, Post, In, read_in, posts_of, asked_of, some_asked}
 use Rattle.step_plan.proofs.asked.all_asked.Goals as goal
 
-pub asked_by-asked-requires-clause-accepted : goal.asked_by-asked-requires-clause-accepted
-asked_by-asked-requires-clause-accepted c = λ p m.
-    c.requires.accepted c.index-batches-number.result p
-    (read_in c.args.batches.now c.loop-number.number c.index-batches-number.result c.loop-number-test.true c.index-batches-number.is)
-    (subst (λ (ps : List Post). In ps p) c.posts_of-posts.ensures m)
+pub asked_by-asked-requires : goal.asked_by-asked-requires
+asked_by-asked-requires c = record {
+  accepted = λ p m.
+      c.requires.accepted c.index-batches-number.result p
+      (read_in c.args.batches.now c.loop-number.number c.index-batches-number.result c.loop-number-test.true c.index-batches-number.is)
+      (subst (λ (ps : List Post). In ps p) c.posts_of-posts.ensures m);
+}
 
 pub loop-number-preserved : goal.loop-number-preserved
 loop-number-preserved c =

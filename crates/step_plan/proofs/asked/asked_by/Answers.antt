@@ -2,5 +2,5 @@
 use Rattle.step_plan.proofs.Words.{read_in}
 use Rattle.step_plan.proofs.asked.asked_by.Goals as goal
 
-pub add_post-requires-clause-accepted : goal.add_post-requires-clause-accepted
-add_post-requires-clause-accepted c = c.requires.accepted c.post-item.result (read_in c.args.posts.now c.loop-post.post-index c.post-item.result c.loop-post-test.true c.post-item.is)
+pub add_post-requires : goal.add_post-requires
+add_post-requires c = record { accepted = c.requires.accepted c.post-item.result (read_in c.args.posts.now c.loop-post.post-index c.post-item.result c.loop-post-test.true c.post-item.is) }
