@@ -1,5 +1,5 @@
 -- The calls of a step's puts and gets are those of the model.
-use Rattle.step_plan.proofs.Words.{◌≡◌, ℕ, ◌≤◌, refl, sym, ◌∙◌, ap, subst, List, [], ◌∷◌, ◌++◌, max, Option, Some, None, arith, append-nil, flat_map, Pair, Header, Batch, Extent, Owned, Post, Hints, collective_windows, get_bytes, grow_to, in_order, loads, overlays, sieving_windows, end_for, told, Setting, needed_now, needed_by, bytes_of, Puts, spans, ranges, HaveSame, IsCover, IsGetPlan, source_of, AreLaid, AreSorted, gets_in, puts_in, puts_of_batch, setting, order_by, cover_ends, laid_calls_by, laid_needs, none_windows, same_order, shared_calls, shared_needs, get_calls, put_calls, HaveGetDomains, HaveGetWindows, grow_call, windows_in, AreDomainPlans, AreSievedPlans, DomainPlan}
+use Rattle.step_plan.proofs.Words.{◌≡◌, ℕ, ◌≤◌, refl, sym, ◌∙◌, ap, List, [], ◌∷◌, ◌++◌, max, Option, Some, None, arith, append-nil, flat_map, Pair, Header, Batch, Owned, Post, Hints, collective_windows, get_bytes, grow_to, in_order, loads, overlays, sieving_windows, end_for, told, Setting, needed_now, needed_by, bytes_of, Puts, ranges, source_of, AreLaid, gets_in, puts_in, puts_of_batch, setting, order_by, laid_calls_by, laid_needs, none_windows, same_order, shared_calls, shared_needs, get_calls, put_calls, HaveGetDomains, HaveGetWindows, grow_call, windows_in, AreDomainPlans, AreSievedPlans, DomainPlan}
 use Rattle.serial_spec.specs.DeviceCalls as device
 use Rattle.step_plan.proofs.DomainLaws.{loads_told, stores_told}
 
@@ -57,19 +57,3 @@ sieved_gets header hints rank batch domains h =
     ∙ ap (λ (xs : List ℕ). flat_map loads (sieving_windows hints.rd_buffer xs))
     (same_order (ranges h.list) (flat_map (λ p. bytes_of header p) (flat_map (λ (b : Batch). b.gets) (batch ∷ []))) h.got.bytes
     ∙ ap (λ (ps : List Post). get_bytes (setting header hints) ps) (append-nil batch.gets))
-
--- ---- what an exchange would be lent
-
-pub are_planned : (list entries : List Owned) (cover : List Extent) (size : ℕ) → entries ≡ list → AreSorted list → IsCover cover → HaveSame (spans cover) (ranges entries) → 1 ≤ size
-    → IsGetPlan entries cover size
-are_planned list entries cover size same sorted covers bytes some =
-    let here = subst (λ (os : List Owned). AreSorted os) (sym same) sorted in
-    record {
-      sorted = here.by_place;
-      ends = here.ends;
-      filled = here.filled;
-      covers = covers;
-      cover_ends = cover_ends cover entries covers bytes here.ends;
-      cover_bytes = bytes;
-      some = some;
-    }

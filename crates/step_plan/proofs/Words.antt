@@ -16,7 +16,6 @@ pub use Rattle.collective_round.specs.Rounds.{AreGets, ArePuts, gets_in, posts_i
 pub use Rattle.collective_round.specs.declared.entries.PutList.{PutList}
 pub use Rattle.collective_round.specs.declared.entries.PutList.TheVariants.{Laid}
 pub use Rattle.exchange_crew.specs.Turns.{Told, turns_of}
-pub use Rattle.get_exchange.specs.Gets.{IsGetPlan}
 pub use Rattle.list_laws.proofs.Common.{if_some_at, next_numbered, no_none_some}
 pub use Rattle.list_laws.proofs.Types.{Batch, DiskCall, Extent, Get, Header, Hints, OverlapRule, Owned, Pair, Post, Put, Var}
 pub use Rattle.overlay_laws.proofs.Common.{HaveSame, In, IsCover, cover_in_order, in_either, load_calls, ranges, read_in, store_calls, told_of}

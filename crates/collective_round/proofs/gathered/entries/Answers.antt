@@ -1,5 +1,5 @@
 -- A rank after another.
-use Rattle.collective_round.proofs.Words.{ℕ, ◌+◌, ◌++◌, List, length, refl, subst, sym, ap, ◌∙◌, arith, read_in, Batch, Post, In, entries_of_posts, posts_of, next_numbered}
+use Rattle.collective_round.proofs.Words.{◌≡◌, ℕ, ◌+◌, ◌++◌, List, length, refl, subst, sym, ap, ◌∙◌, arith, read_in, Batch, Post, In, entries_of_posts, posts_of, next_numbered}
 use Rattle.collective_round.proofs.StepEntries.{few_posts}
 use Rattle.collective_round.proofs.gathered.entries.Goals as goal
 
@@ -16,7 +16,7 @@ push_posts-requires-clause-accepted c = λ p m.
     (subst (λ (ps : List Post). In ps p) c.posts_of.ensures m)
 
 pub loop-k-init : goal.loop-k-init
-loop-k-init c = rw c.new-list.ensures.items refl
+loop-k-init c = let first : c.args.first + 0 ≡ c.args.first = omega arith in rw (c.new-list.ensures.items, first) refl
 
 pub loop-k-preserved : goal.loop-k-preserved
 loop-k-preserved c =

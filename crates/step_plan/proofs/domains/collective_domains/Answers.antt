@@ -1,7 +1,7 @@
 -- The domains are those of the covered bytes.
-use Rattle.step_plan.proofs.Words.{refl, cover_ends, lawful}
+use Rattle.step_plan.proofs.Words.{cover_ends, lawful}
+use Rattle.collective_round.proofs.PlanLaws.{got_plan}
 use Rattle.step_plan.proofs.DomainLaws.{all_divided, ok_so}
-use Rattle.step_plan.proofs.PhaseLaws.{are_planned}
 use Rattle.step_plan.proofs.domains.collective_domains.Goals as goal
 
 pub domains_of-requires-clause-ends : goal.domains_of-requires-clause-ends
@@ -10,7 +10,7 @@ domains_of-requires-clause-ends c =
 
 pub plan_each-requires-clause-plan : goal.plan_each-requires-clause-plan
 plan_each-requires-clause-plan c =
-    are_planned c.args.list.now c.args.list.now c.in_ok-cover.cover c.args.hints.now.cb_buffer refl c.requires.sorted c.in_ok-cover.ensures.apart
+    got_plan c.args.list.now c.in_ok-cover.cover c.args.hints.now.cb_buffer c.requires.sorted c.in_ok-cover.ensures.apart
     (rw c.as_slice.ensures at c.in_ok-cover.ensures.bytes) (lawful c.args.hints.now c.requires.hints).windows.2
 
 pub returns : goal.returns
