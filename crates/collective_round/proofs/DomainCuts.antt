@@ -1,5 +1,5 @@
 -- The domains so far adjoin, and have the bytes of the shares so far.
-use Rattle.collective_round.proofs.Words.{◌≡◌, ℕ, ◌+◌, ◌-◌, ◌*◌, ◌/◌, ◌^◌, ◌<◌, ◌≤◌, inl, inr, refl, sym, ◌∙◌, ap, List, [], ◌∷◌, ◌++◌, length, map, true, Some, arith, append-nil, flat_map_more, length_push, map-append, leb-true, mul-le, same_Some, mul_comm, filter, flat_map, ◌==◌, range_with_len, no_none_some, range_append, Extent, Hints, first_of, last_of, windows, collective_windows, are_lawful_hints, In, EndBelow, end_after, first_at, told_of, IsCover, spans, hull_told, spans_ascend, filter_in, ceil_covers, first_least, in_left, in_range, last_most, filter_none, windows_walked, border, low_of, share_of, bytes_in, turns_of, Told, begin_or, Adjoin, AreDomains, nat_tests, ltb-true, slice_get}
+use Rattle.collective_round.proofs.Words.{◌≡◌, ℕ, ◌+◌, ◌-◌, ◌*◌, ◌/◌, ◌^◌, ◌<◌, ◌≤◌, inl, inr, refl, sym, ◌∙◌, ap, List, [], ◌∷◌, ◌++◌, length, map, true, Some, arith, append-nil, flat_map_more, length_push, map-append, leb-true, mul-le, same_Some, mul_comm, filter, flat_map, ◌==◌, range_with_len, no_none_some, Extent, Hints, first_of, last_of, windows, collective_windows, are_lawful_hints, In, EndBelow, end_after, first_at, told_of, IsCover, spans, hull_told, spans_ascend, filter_in, ceil_covers, first_least, in_left, in_range, last_most, filter_none, windows_walked, border, low_of, share_of, bytes_in, turns_of, Told, begin_or, Adjoin, AreDomains, nat_tests, ltb-true, slice_get}
 use Rattle.collective_round.proofs.DomainSteps.{collective_is, in_range_hints, same_domains}
 use Rattle.list_laws.proofs.Ranges.{range_next}
 

@@ -1,5 +1,5 @@
 -- Entries that say one value of each byte.
-use Rattle.collective_round.proofs.Words.{◌≡◌, ℕ, ◌∙◌, ap, inl, inr, refl, subst, sym, List, [], ◌∷◌, map, enumerate_from, Owned, Source, cell_of, In, AreFound, IsOnceEach, IsResolved, Origin, byte_at, origins, says_moved, in_map, map_in, cells_by_origins, greatest_once, Cell, IsOneValued, Says, said_by}
+use Rattle.collective_round.proofs.Words.{◌≡◌, ℕ, ◌∙◌, ap, inl, inr, refl, subst, sym, List, [], ◌∷◌, map, enumerate_from, Owned, Source, cell_of, In, AreFound, IsOnceEach, IsResolved, byte_at, origins, says_moved, in_map, map_in, cells_by_origins, greatest_once, Cell, IsOneValued, Says, said_by}
 
 -- so do those of a list with nothing more
 pub one_moved : (cell : Owned → Cell) (xs ys : List Owned) → ((o : Owned) → In ys o → In xs o) → IsOneValued (said_by (map cell xs)) → IsOneValued (said_by (map cell ys))

@@ -1,5 +1,5 @@
 -- A disk in parts: which bytes each has, and what is said of the parts and of their states.
-use Rattle.collective_round.proofs.Words.{entries_from, in_ranges, cases_lt, ◌≡◌, ℕ, zero, suc, ◌+◌, ◌-◌, ◌<◌, ◌≤◌, inl, inr, refl, sym, ◌∙◌, ap, subst, List, [], ◌∷◌, length, take, drop, map, Bool, true, false, Some, arith, length-map, same_Some, nat_lt, range_with_len, zip, AllZip, entry_map, no_none_some, Extent, Owned, LieOn, IsFrom, cell_of, ranges, In, HaveSame, Source, end_after, first_at, IsCover, spans, flat_in, in_flat, in_left, in_range, in_right, range_high, in_map, map_in, IsCovered, IsDomainOf, PartState, SomeZip, begin_or, part_between, parts_of, Adjoin, AreDomains, nat_tests, slice_get}
+use Rattle.collective_round.proofs.Words.{entries_from, in_ranges, cases_lt, ◌≡◌, ℕ, zero, suc, ◌+◌, ◌-◌, ◌<◌, ◌≤◌, inl, inr, refl, sym, ◌∙◌, ap, subst, List, [], ◌∷◌, length, take, drop, map, Some, arith, length-map, same_Some, zip, AllZip, entry_map, no_none_some, Extent, Owned, LieOn, IsFrom, cell_of, ranges, In, HaveSame, Source, end_after, first_at, IsCover, spans, flat_in, in_left, in_range, in_right, range_high, in_map, map_in, IsCovered, IsDomainOf, PartState, SomeZip, begin_or, part_between, parts_of, Adjoin, AreDomains, nat_tests, slice_get}
 use Rattle.collective_round.proofs.DomainCuts.{within_reach}
 use Rattle.collective_round.proofs.PartSplits.{end_dropped, next_begin}
 

@@ -1,5 +1,5 @@
 -- Parts that are one disk again: what holds of each part holds of the whole.
-use Rattle.collective_round.proofs.Words.{cases_lt, ◌≡◌, ℕ, ◌+◌, ◌-◌, ◌^◌, ◌<◌, ◌≤◌, min, inl, inr, refl, sym, ◌∙◌, ap, subst, List, [], ◌∷◌, ◌++◌, length, take, drop, map, Bool, true, false, Option, Some, None, Result, Ok, Err, IsErrOf, append_assoc, arith, append-nil, length-append, length-take, get_or_append_left, get_or-append_right, take_all, flat_map-append, flat_map, nat_lt, zip, zip_weaker, IfSome, OnOk, AllZip, Extent, Owned, DiskCall, StepErr, Disk, HasDiskCause, Rose, after, joined, with_end, with_end-nil, BothTold, at, same_file, get_or_past, end_after, PartState, SomeZip, begin_or, parts_of, with_part, with_parts, Adjoin, Follow, IsFront, nat_tests}
+use Rattle.collective_round.proofs.Words.{cases_lt, ◌≡◌, ℕ, ◌+◌, ◌-◌, ◌^◌, ◌<◌, ◌≤◌, min, inl, inr, refl, sym, ◌∙◌, ap, subst, List, [], ◌∷◌, ◌++◌, length, take, drop, map, Option, Some, None, Result, Ok, Err, IsErrOf, append_assoc, arith, append-nil, length-append, length-take, get_or_append_left, get_or-append_right, take_all, flat_map-append, flat_map, zip, zip_weaker, IfSome, OnOk, AllZip, Extent, Owned, DiskCall, StepErr, Disk, HasDiskCause, Rose, after, joined, with_end, with_end-nil, BothTold, at, same_file, get_or_past, end_after, PartState, SomeZip, begin_or, parts_of, with_part, with_parts, Adjoin, Follow, IsFront, nat_tests}
 use Rattle.collective_round.proofs.PartSplits.{joined_at_least, next_begin, take_both}
 use Rattle.collective_round.proofs.PartDomains.{AreOn, as_many_parts, domains_room, on_states, some_states}
 

@@ -1,5 +1,5 @@
 -- The entries of puts or gets and their cover are a plan of what is to be done.
-use Rattle.collective_round.proofs.Words.{◌≡◌, ℕ, ◌+◌, ◌<◌, ◌≤◌, inl, inr, refl, List, [], ◌∷◌, length, Option, Some, None, arith, slice_get, get_is, Header, Batch, Extent, Owned, bytes_of_post, Source, In, HaveSame, ranges, AreFound, IsCover, spans, in_map, IsGetPlan, ArePieces, IsPlan, Puts, source_of, AreLaid, AreSorted, nat_tests}
+use Rattle.collective_round.proofs.Words.{◌≡◌, ℕ, ◌+◌, ◌<◌, ◌≤◌, refl, List, length, Option, Some, None, arith, slice_get, get_is, Header, Batch, Extent, Owned, bytes_of_post, Source, HaveSame, ranges, AreFound, IsCover, spans, in_map, IsGetPlan, ArePieces, IsPlan, Puts, source_of, AreLaid, AreSorted, nat_tests}
 use Rattle.exchange_crew.specs.Turns as turns
 use Rattle.collective_round.proofs.LaidLaws.{found_at}
 use Rattle.collective_round.proofs.PutLaws.{cover_ends}

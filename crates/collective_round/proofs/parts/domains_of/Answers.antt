@@ -1,5 +1,5 @@
 -- One share more is cut: its domain, where it has a byte.
-use Rattle.collective_round.proofs.Words.{◌≡◌, ℕ, ◌+◌, ◌∙◌, sym, subst, List, vec_capacity, arith, Vec, Global, Extent, low_of, share_of, bytes_in, end_after, rules, common_steps}
+use Rattle.collective_round.proofs.Words.{◌≡◌, ℕ, ◌+◌, ◌∙◌, sym, subst, List, vec_capacity, arith, Vec, Global, Extent, low_of, share_of, bytes_in, rules, common_steps}
 use Rattle.collective_round.proofs.DomainCuts.{cut_domains, cut_more, cut_none, cut_windows, ends_below, last_border, share_bytes, within_reach, AreCut}
 use Rattle.collective_round.proofs.DomainSteps.{domain_is, in_range_hints}
 use Rattle.collective_round.proofs.parts.domains_of.Goals as goal
