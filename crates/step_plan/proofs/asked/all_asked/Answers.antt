@@ -1,5 +1,5 @@
 -- What one rank more asks for.
-use Rattle.step_plan.proofs.Words.{ℕ, ◌+◌, ◌++◌, ◌∙◌, ap, sym, subst, List, arith, next_numbered, Batch, Post, In, read_in, posts_of, asked_of, some_asked}
+use Rattle.step_plan.proofs.Words.{◌≡◌, ℕ, ◌+◌, ◌++◌, ◌∙◌, refl, ap, sym, subst, List, arith, next_numbered, Batch, Post, In, read_in, posts_of, asked_of, some_asked}
 use Rattle.step_plan.proofs.asked.all_asked.Goals as goal
 
 pub asked_by-asked-requires : goal.asked_by-asked-requires
@@ -9,6 +9,9 @@ asked_by-asked-requires c = record {
       (read_in c.args.batches.now c.loop-number.number c.index-batches-number.result c.loop-number-test.true c.index-batches-number.is)
       (subst (λ (ps : List Post). In ps p) c.posts_of-posts.ensures m);
 }
+
+pub loop-number-init : goal.loop-number-init
+loop-number-init c = let first : c.args.first + 0 ≡ c.args.first = omega arith in rw (c.in_ok-list.ensures.items, first) refl
 
 pub loop-number-preserved : goal.loop-number-preserved
 loop-number-preserved c =
