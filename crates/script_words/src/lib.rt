@@ -13,7 +13,7 @@ mod texts;
 pub mod word_forms;
 mod words;
 
-pub use fault::{LineErr, ReadErr};
+pub use fault::{LineErr, ReadErr, beside};
 pub use lines::{Line, TextLines, significant_line};
 pub use names::Names;
 pub use parts_of_list::ListParts;

@@ -1,7 +1,7 @@
 // The value of a text.
-ghost use Rattle.std.specs.Prelude.{◌≡◌, ◌<◌, IfOk, IfSome, option_map};
-ghost use Rattle.script_spec.specs.ScriptWords.{text_from, Between, hex_value, escape};
-ghost use Rattle.script_words.specs.Escapes.{escape_at, character_at};
+ghost use Rattle.std.specs.Prelude.{◌≡◌, ◌<◌, ◌≤◌, ◌+◌, ◌*◌, ◌==◌, ◌∷◌, ℕ, IfOk, IfSome, false, length, option_map, option_and_then};
+ghost use Rattle.script_spec.specs.ScriptWords.{text_from, Between, AfterBackslash, FirstHex, SecondHex, hex_value, escape};
+ghost use Rattle.script_words.specs.Escapes.{text_behind};
 
 use std::alloc::{AllocError, Global};
 
@@ -11,14 +11,11 @@ pub fn text(alloc: Global, bytes: &[u8]) -> Result<Option<(Vec<u8>, &[u8])>, All
 {
     let mut value = Vec::new(alloc);
     let mut rest = bytes;
-    for _ in 0..bytes.len() {
-        let Some((c, after)) = rest.split_first() else {
-            return Ok(None);
-        };
+    while let Some((c, after)) = rest.split_first() {
         if *c == b'"' {
             return Ok(Some((value, after)));
         }
-        let Some((character, after)) = character_at(rest) else {
+        let Some((character, after)) = character_at(*c, after) else {
             return Ok(None);
         };
         value.push(character)?;
@@ -27,31 +24,49 @@ pub fn text(alloc: Global, bytes: &[u8]) -> Result<Option<(Vec<u8>, &[u8])>, All
     Ok(None)
 }
 
-/// The first character of a text, and what follows.
-fn character_at(bytes: &[u8]) -> Option<(u8, &[u8])>
-    ensures { option_map (λ x. (x.0, x.1.now)) result ≡ character_at bytes.now }
+/// The character of a text that begins with `first`, which is no quote, and what follows.
+fn character_at(first: u8, after: &[u8]) -> Option<(u8, &[u8])>
+    ensures value { (first == 34) ≡ false → text_from Between (first ∷ after.now) ≡ text_behind (option_map (λ x. (x.0, x.1.now)) result) }
+    ensures rest { IfSome result (λ x. length x.1.now ≤ length after.now) }
 {
-    let (c, after) = bytes.split_first()?;
-    if *c == b'\\' {
-        escape_at(after)
+    if first == b'\\' {
+        escaped(after)
     } else {
-        Some((*c, after))
+        Some((first, after))
     }
 }
 
 /// The byte that an escape stands for, after its backslash, and what follows.
-fn escape_at(bytes: &[u8]) -> Option<(u8, &[u8])>
-    ensures { option_map (λ x. (x.0, x.1.now)) result ≡ escape_at bytes.now }
+fn escaped(bytes: &[u8]) -> Option<(u8, &[u8])>
+    ensures value { text_from AfterBackslash bytes.now ≡ text_behind (option_map (λ x. (x.0, x.1.now)) result) }
+    ensures rest { IfSome result (λ x. length x.1.now ≤ length bytes.now) }
 {
     let (c, after) = bytes.split_first()?;
-    if *c != b'x' {
-        return Some((escape(*c)?, after));
+    if *c == b'x' {
+        return hex_byte(after);
     }
-    let (high, after) = after.split_first()?;
-    let high = hex_value(*high)?;
-    let (low, after) = after.split_first()?;
-    let low = hex_value(*low)?;
+    Some((escape(*c)?, after))
+}
+
+/// The byte of two hexadecimal digits, and what follows.
+fn hex_byte(bytes: &[u8]) -> Option<(u8, &[u8])>
+    ensures value { text_from FirstHex bytes.now ≡ text_behind (option_map (λ x. (x.0, x.1.now)) result) }
+    ensures rest { IfSome result (λ x. length x.1.now ≤ length bytes.now) }
+{
+    let (high, after) = hex_digit(bytes)?;
+    let (low, after) = hex_digit(after)?;
     Some((16 * high + low, after))
+}
+
+/// The value of the hexadecimal digit in front, and what follows.
+fn hex_digit(bytes: &[u8]) -> Option<(u8, &[u8])>
+    ensures first { text_from FirstHex bytes.now ≡ option_and_then (λ x. text_from (SecondHex x.0) x.1.now) result }
+    ensures second { (high : ℕ) → text_from (SecondHex high) bytes.now ≡ text_behind (option_map (λ x. (16 * high + x.0, x.1.now)) result) }
+    ensures bound { IfSome result (λ x. x.0 < 16) }
+    ensures rest { IfSome result (λ x. length x.1.now ≤ length bytes.now) }
+{
+    let (c, after) = bytes.split_first()?;
+    Some((hex_value(*c)?, after))
 }
 
 pub fn hex_value(c: u8) -> Option<u8>

@@ -57,10 +57,7 @@ pub fn size(words: &mut Words<'_>) -> Result<u64, ReadErr>
     ensures { Gives (λ n. (n, words.new)) result (size words.old) }
 {
     let word = next(words)?;
-    match numbers::size_of_text(word) {
-        Some(n) => Ok(n),
-        None => Err(ReadErr::Fault(ScriptKind::BadNumber)),
-    }
+    numbers::size_of_text(word).ok_or(ReadErr::Fault(ScriptKind::BadNumber))
 }
 
 pub fn number(words: &mut Words<'_>) -> Result<i128, ReadErr>
@@ -68,30 +65,21 @@ pub fn number(words: &mut Words<'_>) -> Result<i128, ReadErr>
     ensures bound { IfOk result (λ n. unsigned_abs n < 10 ^ 20) }
 {
     let word = next(words)?;
-    match numbers::number_of_text(word) {
-        Some(n) => Ok(n),
-        None => Err(ReadErr::Fault(ScriptKind::BadNumber)),
-    }
+    numbers::number_of_text(word).ok_or(ReadErr::Fault(ScriptKind::BadNumber))
 }
 
 pub fn bits(words: &mut Words<'_>) -> Result<u64, ReadErr>
     ensures { Gives (λ n. (n, words.new)) result (reads_as bits_of_text kind.BadNumber words.old) }
 {
     let word = next(words)?;
-    match numbers::bits_of_text(word) {
-        Some(n) => Ok(n),
-        None => Err(ReadErr::Fault(ScriptKind::BadNumber)),
-    }
+    numbers::bits_of_text(word).ok_or(ReadErr::Fault(ScriptKind::BadNumber))
 }
 
 pub fn id(words: &mut Words<'_>) -> Result<u32, ReadErr>
     ensures { Gives (λ n. (n, words.new)) result (reads_as id_of_text kind.BadNumber words.old) }
 {
     let word = next(words)?;
-    match numbers::id_of_text(word) {
-        Some(n) => Ok(n),
-        None => Err(ReadErr::Fault(ScriptKind::BadNumber)),
-    }
+    numbers::id_of_text(word).ok_or(ReadErr::Fault(ScriptKind::BadNumber))
 }
 
 /// A size from `low` to `high` that is a multiple of `unit`.
@@ -101,10 +89,7 @@ pub fn size_within(low: u32, high: u32, unit: u32, words: &mut Words<'_>) -> Res
     ensures read { Gives (λ n. (n, words.new)) result (reads_as (number_within low high unit) kind.BadNumber words.old) }
 {
     let word = next(words)?;
-    match numbers::number_within(low, high, unit, word) {
-        Some(n) => Ok(n),
-        None => Err(ReadErr::Fault(ScriptKind::BadNumber)),
-    }
+    numbers::number_within(low, high, unit, word).ok_or(ReadErr::Fault(ScriptKind::BadNumber))
 }
 
 fn version_of_text(word: &[u8]) -> Option<u8>
@@ -123,10 +108,7 @@ pub fn version(words: &mut Words<'_>) -> Result<u8, ReadErr>
     ensures { Gives (λ n. (n, words.new)) result (reads_as version_of_text kind.BadNumber words.old) }
 {
     let word = next(words)?;
-    match version_of_text(word) {
-        Some(version) => Ok(version),
-        None => Err(ReadErr::Fault(ScriptKind::BadNumber)),
-    }
+    version_of_text(word).ok_or(ReadErr::Fault(ScriptKind::BadNumber))
 }
 
 /// What stands between the brackets of the next word.
@@ -158,10 +140,7 @@ pub fn dim_length(version: u8, words: &mut Words<'_>) -> Result<u64, ReadErr>
     ensures { Gives (λ n. (n, words.new)) result (reads_as (length_of_text version) kind.BadNumber words.old) }
 {
     let word = next(words)?;
-    match length_of_text(version, word) {
-        Some(n) => Ok(n),
-        None => Err(ReadErr::Fault(ScriptKind::BadNumber)),
-    }
+    length_of_text(version, word).ok_or(ReadErr::Fault(ScriptKind::BadNumber))
 }
 
 /// No word may follow.
@@ -177,35 +156,44 @@ pub fn no_more(words: &mut Words<'_>) -> Result<(), ReadErr>
     }
 }
 
+/// Every type, by number.
+const TYPES: [NcType; 11] = [
+    NcType::Byte,
+    NcType::Char,
+    NcType::Short,
+    NcType::Int,
+    NcType::Float,
+    NcType::Double,
+    NcType::UByte,
+    NcType::UShort,
+    NcType::UInt,
+    NcType::Int64,
+    NcType::UInt64,
+];
+
+fn type_word(kind: NcType) -> &'static [u8]
+    ensures { result.now ≡ type_word kind }
+{
+    match kind {
+        NcType::Byte => b"byte",
+        NcType::Char => b"char",
+        NcType::Short => b"short",
+        NcType::Int => b"int",
+        NcType::Float => b"float",
+        NcType::Double => b"double",
+        NcType::UByte => b"ubyte",
+        NcType::UShort => b"ushort",
+        NcType::UInt => b"uint",
+        NcType::Int64 => b"int64",
+        NcType::UInt64 => b"uint64",
+    }
+}
+
 /// The type that a word names.
 fn named_type(word: &[u8]) -> Option<NcType>
     ensures { result ≡ find (λ t. bytes_eq word.now (type_word t)) types }
 {
-    if word == b"byte".as_slice() {
-        Some(NcType::Byte)
-    } else if word == b"char".as_slice() {
-        Some(NcType::Char)
-    } else if word == b"short".as_slice() {
-        Some(NcType::Short)
-    } else if word == b"int".as_slice() {
-        Some(NcType::Int)
-    } else if word == b"float".as_slice() {
-        Some(NcType::Float)
-    } else if word == b"double".as_slice() {
-        Some(NcType::Double)
-    } else if word == b"ubyte".as_slice() {
-        Some(NcType::UByte)
-    } else if word == b"ushort".as_slice() {
-        Some(NcType::UShort)
-    } else if word == b"uint".as_slice() {
-        Some(NcType::UInt)
-    } else if word == b"int64".as_slice() {
-        Some(NcType::Int64)
-    } else if word == b"uint64".as_slice() {
-        Some(NcType::UInt64)
-    } else {
-        None
-    }
+    TYPES.iter().copied().find(|kind| word == type_word(*kind))
 }
 
 /// Whether a version has this type.
@@ -238,10 +226,7 @@ pub fn type_name(version: u8, words: &mut Words<'_>) -> Result<NcType, ReadErr>
     ensures { Gives (λ t. (t, words.new)) result (reads_as (type_of version) kind.UnknownWord words.old) }
 {
     let word = next(words)?;
-    match type_of_text(version, word) {
-        Some(kind) => Ok(kind),
-        None => Err(ReadErr::Fault(ScriptKind::UnknownWord)),
-    }
+    type_of_text(version, word).ok_or(ReadErr::Fault(ScriptKind::UnknownWord))
 }
 
 fn owner_of_text(word: &[u8]) -> Option<&[u8]>

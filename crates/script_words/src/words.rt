@@ -11,7 +11,7 @@ use std::alloc::{AllocError, Global};
 use std::marker::Model;
 
 /// A word: as it stands, a text by its value, or a text that is no text.
-#[derive(Debug, Drop)]
+#[derive(Drop)]
 pub enum Token<'a> {
     Plain(&'a [u8]),
     Quoted(Vec<u8>),
