@@ -2,10 +2,13 @@
 use Rattle.std.specs.Prelude.{bytes_eq, ℕ, ◌+◌, List, true, false, Option, Some, is_some, Result, Ok, slice_set, codes, ◌==◌}
 use Rattle.nc_base.specs.declared.errors.ScriptKind.{ScriptKind}
 use Rattle.nc_base.specs.declared.errors.ScriptKind.TheVariants as kind
+use Rattle.nc_base.specs.declared.header.NcType.{NcType}
+use Rattle.nc_base.specs.declared.header.Attr.{Attr}
 use Rattle.script_spec.specs.ScriptWords.{Word}
 use Rattle.script_spec.specs.ScriptSteps.{◌>>=◌, refuse_if, reads_as, ended}
+use Rattle.script_spec.specs.ScriptValues.{values}
 use Rattle.script_spec.specs.HintTable.{hint_of_text, hint_form, hint_in}
-use Rattle.script_spec.specs.ScriptDefinitions.{Known, Defined, Added, addition, definition, ranks_line, hint_line, hint_value}
+use Rattle.script_spec.specs.ScriptDefinitions.{Known, Defined, Added, addition, definition, ranks_line, hint_line, hint_value, attr_of}
 
 -- the hint of the next word, by its place in the table
 unfoldable pub hint_name_by : List Word → Result (ℕ × List Word) ScriptKind
@@ -23,6 +26,10 @@ hint_line_by given ws = do
   v ← hint_value_by h.0 h.1
   _ ← ended v.1
   Ok (h.0, v.0)
+
+-- an attribute of this name and type, by its values
+abbrev pub attr_by : List ℕ → NcType → ℕ → List Word → Result Attr ScriptKind
+attr_by name t before ws = values (Some t) before ws >>= λ vs. Ok (attr_of name t vs)
 
 unfoldable pub addition_by : ℕ → Added → List ℕ → List Word → Result (ℕ × Added) ScriptKind
 addition_by before d first ws = addition before d first ws

@@ -1,5 +1,5 @@
 // What a script adds to an existing dataset.
-ghost use Rattle.std.specs.Prelude.{◌≡◌, ◌≤◌, ◌^◌, ◌+◌, IfOk, length, drop, nat_lt};
+ghost use Rattle.std.specs.Prelude.{◌≡◌, ◌≤◌, ◌^◌, ◌+◌, ◌++◌, ◌∷◌, [], IfOk, OnOk, length, drop, nat_lt};
 ghost use Rattle.std.specs.List.{list_any};
 ghost use Rattle.script_spec.specs.ScriptDefinitions.{Added, nothing_added, is_added_record, added_shape, owner_name, dim_addition, var_addition, att_addition};
 ghost use Rattle.script_definitions.specs.DraftWords.{addition_by};
@@ -10,7 +10,7 @@ use crate::dims::Dims;
 use crate::titles::Titles;
 use crate::vars::{name_list, var_head};
 use nc_base::{
-    Dim, Extra, ExtraList, LimitName, MAX_VAR_DIMS, Memory, Name, NameList, NcType, ScriptKind,
+    Attr, Dim, Extra, ExtraList, LimitName, MAX_VAR_DIMS, Memory, Name, NameList, NcType, ScriptKind,
 };
 use script_words::word_forms::{no_more, owner};
 use script_words::{ListParts, Names, ReadErr, Words};
@@ -45,20 +45,27 @@ fn owned_names(alloc: Global, names: &mut ListParts<'_>) -> Result<NameList, Mem
     Ok(list)
 }
 
-/// A variable that is added, over the dimensions of these names.
-fn var_extra(
+/// Adds a dimension at the end.
+fn push_dim(alloc: Global, extras: &mut ExtraList, name: &[u8], len: u64) -> Result<(), Memory>
+    ensures { OnOk result (extras.new ≡ extras.old ++ Extra.Dim (record { name = name.now; len = len }) ∷ []) }
+{
+    let name = Name::from_slice(alloc, name)?;
+    extras.push(Extra::Dim(Dim { name, len }))
+}
+
+/// Adds a variable at the end, over the dimensions of these names.
+fn push_var(
     alloc: Global,
+    extras: &mut ExtraList,
     kind: NcType,
     name: &[u8],
     dims: &mut ListParts<'_>,
-) -> Result<Extra, Memory>
-    ensures { IfOk result (λ x. x ≡ Extra.Var kind name.now dims.old) }
+) -> Result<(), Memory>
+    ensures { OnOk result (extras.new ≡ extras.old ++ Extra.Var kind name.now dims.old ∷ []) }
 {
-    Ok(Extra::Var {
-        kind,
-        name: Name::from_slice(alloc, name)?,
-        dims: owned_names(alloc, dims)?,
-    })
+    let dims = owned_names(alloc, dims)?;
+    let name = Name::from_slice(alloc, name)?;
+    extras.push(Extra::Var { kind, name, dims })
 }
 
 /// The owner of an attribute, none for the dataset.
@@ -69,6 +76,19 @@ fn owner_name(alloc: Global, owner: &[u8]) -> Result<Option<Name>, Memory>
         return Ok(None);
     }
     Ok(Some(Name::from_slice(alloc, owner)?))
+}
+
+/// Adds an attribute of this owner at the end.
+fn push_att(
+    alloc: Global,
+    extras: &mut ExtraList,
+    owner: &[u8],
+    attr: Attr,
+) -> Result<(), Memory>
+    ensures { OnOk result (extras.new ≡ extras.old ++ Extra.Att (owner_name owner.now) attr ∷ []) }
+{
+    let owner = owner_name(alloc, owner)?;
+    extras.push(Extra::Att { owner, attr })
 }
 
 fn any_record(dims: &Dims<'_>, names: &mut ListParts<'_>) -> bool
@@ -137,7 +157,14 @@ impl<'a> Additions<'a> {
     pub fn into_extras(self) -> ExtraList
         ensures { result ≡ self.entry.extras }
     {
-        let Additions { extras, .. } = self;
+        let Additions {
+            dims,
+            vars,
+            titles,
+            extras,
+            ..
+        } = self;
+        drop((dims, vars, titles));
         extras
     }
 
@@ -145,12 +172,8 @@ impl<'a> Additions<'a> {
         ensures { Gives (λ n. (n, self.new)) result (dim_addition self.old words.old) }
     {
         let (name, len) = self.dims.read(5, words)?;
-        let dim = Dim {
-            name: Name::from_slice(self.alloc, name)?,
-            len,
-        };
+        push_dim(self.alloc, &mut self.extras, name, len)?;
         self.dims.push(name, len)?;
-        self.extras.push(Extra::Dim(dim))?;
         Ok(0)
     }
 
@@ -160,9 +183,8 @@ impl<'a> Additions<'a> {
         let (kind, name) = var_head(5, &self.vars, words)?;
         let mut dims = shape(&self.dims, words)?;
         no_more(words)?;
-        let var = var_extra(self.alloc, kind, name, &mut dims)?;
+        push_var(self.alloc, &mut self.extras, kind, name, &mut dims)?;
         self.vars.push(name)?;
-        self.extras.push(var)?;
         Ok(0)
     }
 
@@ -174,12 +196,8 @@ impl<'a> Additions<'a> {
         let owner = owner(words)?;
         let (name, attr) = attribute(self.alloc, 5, &self.titles, before, owner, words)?;
         let count = attr.count;
-        let owner_name = owner_name(self.alloc, owner)?;
+        push_att(self.alloc, &mut self.extras, owner, attr)?;
         self.titles.push(owner, name)?;
-        self.extras.push(Extra::Att {
-            owner: owner_name,
-            attr,
-        })?;
         Ok(count)
     }
 

@@ -4,6 +4,7 @@ ghost use Rattle.std.specs.List.{list_any};
 ghost use Rattle.nc_base.specs.Values.{count_of};
 ghost use Rattle.serial_spec.specs.Request.{ext_of, value_at};
 ghost use Rattle.script_spec.specs.ScriptDefinitions.{attr_of, attribute, attribute_name, external_bytes, same_title};
+ghost use Rattle.script_definitions.specs.DraftWords.{attr_by};
 ghost use Rattle.script_words.specs.Given.{Gives};
 
 use crate::titles::Titles;
@@ -69,6 +70,25 @@ fn new_name<'a>(
     Ok(name)
 }
 
+/// Reads the values of an attribute of this name and type: the attribute.
+fn read_attr(
+    alloc: Global,
+    name: &[u8],
+    kind: NcType,
+    before: u64,
+    words: &mut Words<'_>,
+) -> Result<Attr, ReadErr>
+    requires { before ≤ 2 ^ 24 }
+    ensures read { Gives (λ a. a) result (attr_by name.now kind before words.old) }
+    ensures name { IfOk result (λ a. a.name ≡ name.now) }
+    ensures bound { IfOk result (λ a. before + a.count ≤ 2 ^ 24) }
+{
+    let values = values(alloc, Some(kind), before, words)?;
+    let attr = attr_of(alloc, name, kind, &values);
+    drop(values);
+    Ok(attr?)
+}
+
 /// Reads the rest of an attribute's line, whose owner is read: the name as it stands there, and the attribute.
 pub fn attribute<'a>(
     alloc: Global,
@@ -86,7 +106,6 @@ pub fn attribute<'a>(
 {
     let name = new_name(titles, owner, words)?;
     let kind = type_name(version, words)?;
-    let values = values(alloc, Some(kind), before, words)?;
-    let attr = attr_of(alloc, name, kind, &values)?;
+    let attr = read_attr(alloc, name, kind, before, words)?;
     Ok((name, attr))
 }

@@ -1,6 +1,6 @@
 // The definitions of a new dataset.
-ghost use Rattle.std.specs.Prelude.{◌≡◌, ◌≤◌, ◌<◌, ◌^◌, ◌+◌, IfOk, IfSome, Some, None, length};
-ghost use Rattle.script_spec.specs.ScriptDefinitions.{Defined, no_definition, owner_place, att_line, fill_line, dim_definition, var_definition};
+ghost use Rattle.std.specs.Prelude.{◌≡◌, ◌≤◌, ◌<◌, ◌^◌, ◌+◌, IfOk, OnOk, IfSome, Some, None, length};
+ghost use Rattle.script_spec.specs.ScriptDefinitions.{Defined, no_definition, owner_place, att_line, fill_line, dim_definition, var_definition, with_attr_of_owner};
 ghost use Rattle.script_definitions.specs.DraftWords.{definition_by};
 ghost use Rattle.script_spec.specs.ScriptGrammar.{header_of};
 ghost use Rattle.script_words.specs.Given.{Gives};
@@ -9,7 +9,7 @@ use crate::attributes::attribute;
 use crate::dims::Dims;
 use crate::titles::Titles;
 use crate::vars::Vars;
-use nc_base::{AttrList, Header, ScriptKind};
+use nc_base::{Attr, AttrList, Header, Memory, ScriptKind};
 use script_words::word_forms::{no_more, owner};
 use script_words::{ReadErr, Words};
 use std::alloc::Global;
@@ -102,6 +102,17 @@ impl<'a> Definitions<'a> {
         }
     }
 
+    /// Gives an attribute to the variable at this place, or to the dataset.
+    fn attach(&mut self, place: Option<usize>, attr: Attr) -> Result<(), Memory>
+        requires { IfSome place (λ k. k < length self.old.vars) }
+        ensures { OnOk result (self.new ≡ with_attr_of_owner place attr self.old) }
+    {
+        match place {
+            None => self.attrs.push(attr),
+            Some(place) => self.vars.attach(place, attr),
+        }
+    }
+
     fn read_att(&mut self, version: u8, before: u64, words: &mut Words<'a>) -> Result<u64, ReadErr>
         requires { before ≤ 2 ^ 24 }
         ensures read { Gives (λ n. (n, self.new)) result (att_line version before self.old words.old) }
@@ -111,11 +122,8 @@ impl<'a> Definitions<'a> {
         let place = self.owner_place(owner)?;
         let (name, attr) = attribute(self.alloc, version, &self.titles, before, owner, words)?;
         let count = attr.count;
+        self.attach(place, attr)?;
         self.titles.push(owner, name)?;
-        match place {
-            None => self.attrs.push(attr)?,
-            Some(place) => self.vars.attach(place, attr)?,
-        }
         Ok(count)
     }
 
