@@ -1,17 +1,19 @@
 -- The calls of the definitions, with names for their parts that proofs keep shut.
-use Rattle.std.specs.Prelude.{bytes_eq, ℕ, List, length, find, drop, Bool, Some, None, Result, Ok, codes}
+use Rattle.std.specs.Prelude.{bytes_eq, ℕ, List, [], length, find, drop, Bool, true, false, Some, None, Result, Ok, codes}
 use Rattle.nc_base.specs.declared.errors.ScriptKind.{ScriptKind}
 use Rattle.nc_base.specs.declared.errors.ScriptKind.TheVariants as kind
 use Rattle.nc_base.specs.declared.request.Form.{Form}
 use Rattle.nc_base.specs.declared.request.Given.{Given}
 use Rattle.nc_base.specs.declared.request.Values.{Values}
 use Rattle.nc_base.specs.declared.request.PostKind.{PostKind}
+use Rattle.nc_base.specs.declared.request.Choice.{Choice}
+use Rattle.nc_base.specs.declared.request.Choice.TheVariants.{Every, Listed}
 use Rattle.nc_base.specs.declared.request.Call.{Call}
 use Rattle.nc_base.specs.declared.request.Call.TheVariants as call
 use Rattle.script_spec.specs.ScriptWords.{Word}
-use Rattle.script_spec.specs.ScriptSteps.{◌>>=◌, or_fault, name, ended}
+use Rattle.script_spec.specs.ScriptSteps.{◌>>=◌, or_fault, name, ended, whole}
 use Rattle.script_spec.specs.ScriptValues.{values}
-use Rattle.script_spec.specs.ScriptCalls.{Called, region, post_values, new_id, posted, after_prefix, form_and_all, form_of_text, post_of_text, behind, row_call, plain_call, rank_of_text, call_line, with_call}
+use Rattle.script_spec.specs.ScriptCalls.{Called, ids, region, post_values, new_id, posted, after_prefix, form_and_all, form_of_text, post_of_text, behind, row_call, plain_call, rank_of_text, call_line, with_call}
 use Rattle.script_spec.specs.CallTable.{Family, Nothing, Behind, CallRow, call_table}
 
 unfoldable pub region_by : Form → List Word → Result (Given × List Word) ScriptKind
@@ -59,6 +61,11 @@ abbrev pub made_alone : {A : Type 0} → A → List Word → Result A ScriptKind
 made_alone x ws = do
   b ← behind Nothing ws
   Ok x
+
+-- which requests are chosen, by whether the first word is `all`, behind which stand the words new
+abbrev pub choice_by : Bool → List Word → List Word → Result Choice ScriptKind
+choice_by true old new = whole (Every, new)
+choice_by false old new = ids [] old >>= λ found. Ok (Listed found)
 
 -- a call of one of these rows
 abbrev pub call_among : List CallRow → ℕ → ℕ → List ℕ → List Word → Result Call ScriptKind

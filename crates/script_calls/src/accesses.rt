@@ -12,7 +12,7 @@ use nc_base::{Call, Form, Given, Name, NumberList, PostKind, ScriptKind, Values}
 use script_values::regions::{form_of_text, region};
 use script_values::values::values;
 use script_words::word_forms::{id, name, no_more};
-use script_words::{ReadErr, Words};
+use script_words::{ReadErr, Words, beside};
 use std::alloc::Global;
 
 pub fn after_prefix<'a>(prefix: &[u8], word: &'a [u8]) -> Option<&'a [u8]>
@@ -67,8 +67,8 @@ pub fn put_call(
     ensures new { IfOk result (λ c. id_of_post c ≡ None) }
 {
     let var = Name::from_slice(alloc, name(words)?)?;
-    let given = call_region(alloc, form, words)?;
-    let values = call_values(alloc, before, words)?;
+    let (var, given) = beside(var, call_region(alloc, form, words))?;
+    let ((var, given), values) = beside((var, given), call_values(alloc, before, words))?;
     Ok(Call::Put {
         all,
         var,
@@ -88,8 +88,8 @@ pub fn get_call(
     ensures none { IfOk result (λ c. (values_in_call c ≡ 0) × (id_of_post c ≡ None)) }
 {
     let var = Name::from_slice(alloc, name(words)?)?;
-    let given = call_region(alloc, form, words)?;
-    no_more(words)?;
+    let (var, given) = beside(var, call_region(alloc, form, words))?;
+    let ((var, given), ()) = beside((var, given), no_more(words))?;
     Ok(Call::Get { all, var, given })
 }
 
@@ -143,8 +143,8 @@ pub fn post_call(
 {
     let id = new_id(own, words)?;
     let var = Name::from_slice(alloc, name(words)?)?;
-    let given = call_region(alloc, form, words)?;
-    let values = post_values(alloc, kind, before, words)?;
+    let (var, given) = beside(var, call_region(alloc, form, words))?;
+    let ((var, given), values) = beside((var, given), post_values(alloc, kind, before, words))?;
     Ok(Call::Post {
         id,
         kind,

@@ -1,9 +1,9 @@
 // The calls of a line.
 ghost use Rattle.std.specs.Prelude.{◌≡◌, ◌≤◌, ◌^◌, ◌+◌, [], IfOk, None, Ok, false};
 ghost use Rattle.serial_spec.specs.Lawful.{values_in_call};
-ghost use Rattle.script_spec.specs.CallTable.{Size, Name, Record};
+ghost use Rattle.script_spec.specs.CallTable.{Requests, Size, Name, Record};
 ghost use Rattle.script_spec.specs.ScriptCalls.{posted, id_of_post, choice, one_id, ids};
-ghost use Rattle.script_calls.specs.CallWords.{call_among, made_alone, made_of, other_rows, plain_by, post_or_plain_by, call_by};
+ghost use Rattle.script_calls.specs.CallWords.{call_among, choice_by, made_alone, made_of, other_rows, plain_by, post_or_plain_by, call_by};
 ghost use Rattle.script_words.specs.Given.{Gives, word_of};
 ghost use Rattle.script_calls.specs.Posts.{IsNew};
 
@@ -14,7 +14,7 @@ use script_values::regions::form_of_text;
 use script_words::numbers::id_of_text;
 use script_words::word_forms::{bare, name, no_more, size};
 use script_words::{ReadErr, Token, Words};
-use std::alloc::Global;
+use std::alloc::{AllocError, Global};
 
 /// Where a call stands in a script: which rank makes it, of how many, and how many values came before it.
 #[derive(Clone, Copy)]
@@ -46,16 +46,24 @@ fn ids(alloc: Global, words: &mut Words<'_>) -> Result<IdList, ReadErr>
     Ok(found)
 }
 
+/// Takes the next word, where there is one: whether it is `all`.
+fn takes_all(words: &mut Words<'_>) -> Result<bool, AllocError>
+    ensures { IfOk result (λ all. choice words.old ≡ choice_by all words.old words.new) }
+{
+    match words.take()? {
+        Some(Token::Plain(word)) => Ok(word == b"all".as_slice()),
+        Some(Token::Quoted(_) | Token::Broken) | None => Ok(false),
+    }
+}
+
 /// Reads which requests are chosen.
 fn choice(alloc: Global, words: &mut Words<'_>) -> Result<Choice, ReadErr>
     ensures { Gives (λ c. c) result (choice words.old) }
 {
     let mut after = words.again();
-    if let Some(Token::Plain(word)) = after.take()? {
-        if word == b"all".as_slice() {
-            no_more(&mut after)?;
-            return Ok(Choice::Every);
-        }
+    if takes_all(&mut after)? {
+        no_more(&mut after)?;
+        return Ok(Choice::Every);
     }
     Ok(Choice::Listed(ids(alloc, words)?))
 }
@@ -141,6 +149,23 @@ fn other_call(
     Err(ReadErr::Fault(ScriptKind::UnknownWord))
 }
 
+/// Reads a wait for requests.
+fn wait_call(alloc: Global, all: bool, words: &mut Words<'_>) -> Result<Call, ReadErr>
+    ensures read { Gives (λ c. c) result (made_of Requests (λ choice. Call.Wait all choice) words.old) }
+    ensures none { IfOk result (λ c. (values_in_call c ≡ 0) × (id_of_post c ≡ None)) }
+{
+    let choice = choice(alloc, words)?;
+    Ok(Call::Wait { all, choice })
+}
+
+fn cancel_call(alloc: Global, words: &mut Words<'_>) -> Result<Call, ReadErr>
+    ensures read { Gives (λ c. c) result (made_of Requests (λ choice. Call.Cancel choice) words.old) }
+    ensures none { IfOk result (λ c. (values_in_call c ≡ 0) × (id_of_post c ≡ None)) }
+{
+    let choice = choice(alloc, words)?;
+    Ok(Call::Cancel { choice })
+}
+
 /// Reads a call whose word names no form.
 #[tactic(auto, unfolding(crate::specs::CallWords::plain_by))]
 fn plain_call(
@@ -154,16 +179,13 @@ fn plain_call(
     ensures none { IfOk result (λ c. (values_in_call c ≡ 0) × (id_of_post c ≡ None)) }
 {
     if word == b"wait".as_slice() {
-        let choice = choice(alloc, words)?;
-        return Ok(Call::Wait { all: false, choice });
+        return wait_call(alloc, false, words);
     }
     if word == b"wait_all".as_slice() {
-        let choice = choice(alloc, words)?;
-        return Ok(Call::Wait { all: true, choice });
+        return wait_call(alloc, true, words);
     }
     if word == b"cancel".as_slice() {
-        let choice = choice(alloc, words)?;
-        return Ok(Call::Cancel { choice });
+        return cancel_call(alloc, words);
     }
     other_call(alloc, ranks, rank, word, words)
 }
