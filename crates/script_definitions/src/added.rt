@@ -10,7 +10,8 @@ use crate::dims::Dims;
 use crate::titles::Titles;
 use crate::vars::{name_list, var_head};
 use nc_base::{
-    Attr, Dim, Extra, ExtraList, LimitName, MAX_VAR_DIMS, Memory, Name, NameList, NcType, ScriptKind,
+    Attr, Dim, Extra, ExtraList, LimitName, MAX_VAR_DIMS, Memory, Name, NameList, NcType,
+    ScriptKind,
 };
 use script_words::word_forms::{no_more, owner};
 use script_words::{ListParts, Names, ReadErr, Words};
@@ -34,13 +35,21 @@ impl<'a> Model for Additions<'a> {
     ghost view = { λ d. record { dims = d.dims; vars = d.vars; titles = d.titles; extras = d.extras } };
 }
 
+/// Adds a name at the end, with its own bytes.
+fn push_name(alloc: Global, list: &mut NameList, name: &[u8]) -> Result<(), Memory>
+    ensures { OnOk result (list.new ≡ list.old ++ name.now ∷ []) }
+{
+    let name = Name::from_slice(alloc, name)?;
+    list.push(name)
+}
+
 /// The names, each with its own bytes.
 fn owned_names(alloc: Global, names: &mut ListParts<'_>) -> Result<NameList, Memory>
     ensures { IfOk result (λ list. list ≡ names.old) }
 {
     let mut list = NameList::new(alloc);
     while let Some(name) = names.take() {
-        list.push(Name::from_slice(alloc, name)?)?;
+        push_name(alloc, &mut list, name)?;
     }
     Ok(list)
 }
@@ -79,12 +88,7 @@ fn owner_name(alloc: Global, owner: &[u8]) -> Result<Option<Name>, Memory>
 }
 
 /// Adds an attribute of this owner at the end.
-fn push_att(
-    alloc: Global,
-    extras: &mut ExtraList,
-    owner: &[u8],
-    attr: Attr,
-) -> Result<(), Memory>
+fn push_att(alloc: Global, extras: &mut ExtraList, owner: &[u8], attr: Attr) -> Result<(), Memory>
     ensures { OnOk result (extras.new ≡ extras.old ++ Extra.Att (owner_name owner.now) attr ∷ []) }
 {
     let owner = owner_name(alloc, owner)?;
@@ -169,7 +173,8 @@ impl<'a> Additions<'a> {
     }
 
     fn read_dim(&mut self, words: &mut Words<'a>) -> Result<u64, ReadErr>
-        ensures { Gives (λ n. (n, self.new)) result (dim_addition self.old words.old) }
+        ensures read { Gives (λ n. (n, self.new)) result (dim_addition self.old words.old) }
+        ensures none { IfOk result (λ n. n ≡ 0) }
     {
         let (name, len) = self.dims.read(5, words)?;
         push_dim(self.alloc, &mut self.extras, name, len)?;
@@ -178,7 +183,8 @@ impl<'a> Additions<'a> {
     }
 
     fn read_var(&mut self, words: &mut Words<'a>) -> Result<u64, ReadErr>
-        ensures { Gives (λ n. (n, self.new)) result (var_addition self.old words.old) }
+        ensures read { Gives (λ n. (n, self.new)) result (var_addition self.old words.old) }
+        ensures none { IfOk result (λ n. n ≡ 0) }
     {
         let (kind, name) = var_head(5, &self.vars, words)?;
         let mut dims = shape(&self.dims, words)?;

@@ -1,6 +1,7 @@
 // The definitions of a new dataset.
-ghost use Rattle.std.specs.Prelude.{◌≡◌, ◌≤◌, ◌<◌, ◌^◌, ◌+◌, IfOk, OnOk, IfSome, Some, None, length};
-ghost use Rattle.script_spec.specs.ScriptDefinitions.{Defined, no_definition, owner_place, att_line, fill_line, dim_definition, var_definition, with_attr_of_owner};
+ghost use Rattle.std.specs.Prelude.{◌≡◌, ◌≤◌, ◌<◌, ◌^◌, ◌+◌, IfOk, OnOk, IfSome, Some, None, length, false};
+ghost use Rattle.std.specs.List.{list_any};
+ghost use Rattle.script_spec.specs.ScriptDefinitions.{Defined, no_definition, owner_place, att_line, fill_line, dim_definition, same_title, var_definition, with_attr_of_owner, with_title};
 ghost use Rattle.script_definitions.specs.DraftWords.{definition_by};
 ghost use Rattle.script_spec.specs.ScriptGrammar.{header_of};
 ghost use Rattle.script_words.specs.Given.{Gives};
@@ -73,7 +74,8 @@ impl<'a> Definitions<'a> {
     }
 
     fn read_dim(&mut self, version: u8, words: &mut Words<'a>) -> Result<u64, ReadErr>
-        ensures { Gives (λ n. (n, self.new)) result (dim_definition version self.old words.old) }
+        ensures read { Gives (λ n. (n, self.new)) result (dim_definition version self.old words.old) }
+        ensures none { IfOk result (λ n. n ≡ 0) }
     {
         let (name, len) = self.dims.read(version, words)?;
         self.dims.push(name, len)?;
@@ -81,7 +83,8 @@ impl<'a> Definitions<'a> {
     }
 
     fn read_var(&mut self, version: u8, words: &mut Words<'a>) -> Result<u64, ReadErr>
-        ensures { Gives (λ n. (n, self.new)) result (var_definition version self.old words.old) }
+        ensures read { Gives (λ n. (n, self.new)) result (var_definition version self.old words.old) }
+        ensures none { IfOk result (λ n. n ≡ 0) }
     {
         let (kind, name, ids) = self.vars.read(version, &self.dims, words)?;
         self.vars.push(kind, name, ids)?;
@@ -113,6 +116,23 @@ impl<'a> Definitions<'a> {
         }
     }
 
+    /// The same with its title, which is a new one.
+    fn attach_titled(
+        &mut self,
+        place: Option<usize>,
+        owner: &'a [u8],
+        name: &'a [u8],
+        attr: Attr,
+    ) -> Result<(), Memory>
+        requires place { IfSome place (λ k. k < length self.old.vars) }
+        requires new { list_any (same_title (owner.now, name.now)) self.old.titles ≡ false }
+        ensures { OnOk result (self.new ≡ with_title owner.now name.now (with_attr_of_owner place attr self.old)) }
+    {
+        self.attach(place, attr)?;
+        self.titles.push(owner, name)?;
+        Ok(())
+    }
+
     fn read_att(&mut self, version: u8, before: u64, words: &mut Words<'a>) -> Result<u64, ReadErr>
         requires { before ≤ 2 ^ 24 }
         ensures read { Gives (λ n. (n, self.new)) result (att_line version before self.old words.old) }
@@ -122,13 +142,13 @@ impl<'a> Definitions<'a> {
         let place = self.owner_place(owner)?;
         let (name, attr) = attribute(self.alloc, version, &self.titles, before, owner, words)?;
         let count = attr.count;
-        self.attach(place, attr)?;
-        self.titles.push(owner, name)?;
+        self.attach_titled(place, owner, name, attr)?;
         Ok(count)
     }
 
     fn read_fill(&mut self, words: &mut Words<'a>) -> Result<u64, ReadErr>
-        ensures { Gives (λ n. (n, self.new)) result (fill_line self.old words.old) }
+        ensures read { Gives (λ n. (n, self.new)) result (fill_line self.old words.old) }
+        ensures none { IfOk result (λ n. n ≡ 0) }
     {
         if self.filled {
             return Err(ReadErr::Fault(ScriptKind::TwiceNamed));

@@ -1,5 +1,5 @@
 // The dimensions of a script, in the order of their lines, with their names beside them.
-ghost use Rattle.std.specs.Prelude.{◌≡◌, ◌<◌, ◌++◌, ◌∷◌, [], List, OnOk, length, false, position, bytes_eq, option_map};
+ghost use Rattle.std.specs.Prelude.{◌≡◌, ◌<◌, ◌++◌, ◌∷◌, [], List, OnOk, OnErr, length, false, position, bytes_eq, option_map};
 ghost use Rattle.std.specs.List.{list_any};
 ghost use Rattle.script_spec.specs.ScriptDefinitions.{is_among, is_unlimited, dim_line, dim_names, is_record_dim, is_added_record};
 ghost use Rattle.script_words.specs.Given.{Gives};
@@ -9,7 +9,7 @@ ghost use Rattle.script_definitions.specs.RecordName.{IsRecordName};
 use nc_base::{Dim, DimList, LimitName, MAX_DIMS, Memory, Name, ScriptKind};
 use script_words::word_forms::{dim_length, name, no_more};
 use script_words::{Names, ReadErr, Words};
-use std::alloc::Global;
+use std::alloc::{AllocError, Global};
 use std::marker::Model;
 
 #[derive(Drop)]
@@ -128,12 +128,34 @@ impl<'a> Dims<'a> {
         ensures { OnOk result (self.new ≡ self.old ++ record { name = name.now; len = len } ∷ []) }
     {
         let owned = Name::from_slice(self.alloc, name)?;
-        self.list.reserve(1)?;
-        self.names.push(name)?;
+        push_named(
+            &mut self.list,
+            &mut self.names,
+            name,
+            Dim { name: owned, len },
+        )?;
         self.unlimited = record_name(self.unlimited, name, len);
-        self.list.push(Dim { name: owned, len })?;
         Ok(())
     }
+}
+
+/// Adds an item at the end and its name to the names, or neither.
+pub fn push_named<'a, T: Drop>(
+    list: &mut Vec<T>,
+    names: &mut Names<'a>,
+    name: &'a [u8],
+    item: T,
+) -> Result<(), AllocError>
+    requires { is_among name.now names.old ≡ false }
+    ensures items { OnOk result (list.new.items ≡ list.old.items ++ item ∷ []) }
+    ensures names { OnOk result (names.new ≡ names.old ++ name.now ∷ []) }
+    ensures same_items { OnErr result (list.new.items ≡ list.old.items) }
+    ensures same_names { OnErr result (names.new ≡ names.old) }
+{
+    list.reserve(1)?;
+    names.push(name)?;
+    list.push_reserved(item);
+    Ok(())
 }
 
 /// The name of the unlimited dimension behind one more.

@@ -27,17 +27,23 @@ fn hint_name(words: &mut Words<'_>) -> Result<HintName, ReadErr>
 }
 
 /// 0 for the one word, 1 for the other.
-fn one_of_two(zero: &[u8], one: &[u8], words: &mut Words<'_>) -> Result<u32, ReadErr>
+fn one_of_two(zero: &[u8], one: &[u8], word: &[u8]) -> Option<u32>
+    ensures { result ≡ one_of_two zero.now one.now word.now }
+{
+    if word == zero {
+        Some(0)
+    } else if word == one {
+        Some(1)
+    } else {
+        None
+    }
+}
+
+fn either(zero: &[u8], one: &[u8], words: &mut Words<'_>) -> Result<u32, ReadErr>
     ensures { Gives (λ v. (v, words.new)) result (reads_as (one_of_two zero.now one.now) kind.UnknownWord words.old) }
 {
     let word = next(words)?;
-    if word == zero {
-        return Ok(0);
-    }
-    if word == one {
-        return Ok(1);
-    }
-    Err(ReadErr::Fault(ScriptKind::UnknownWord))
+    one_of_two(zero, one, word).ok_or(ReadErr::Fault(ScriptKind::UnknownWord))
 }
 
 /// Reads the value of a hint.
@@ -54,7 +60,7 @@ fn value_of_form(form: HintForm, words: &mut Words<'_>) -> Result<u32, ReadErr>
 {
     match form {
         HintForm::Within { low, high, unit } => size_within(low, high, unit, words),
-        HintForm::Either { zero, one } => one_of_two(zero, one, words),
+        HintForm::Either { zero, one } => either(zero, one, words),
     }
 }
 

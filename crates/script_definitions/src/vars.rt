@@ -7,14 +7,14 @@ ghost use Rattle.script_spec.specs.ScriptDefinitions.{is_among, var_names, var_h
 ghost use Rattle.nc_base.specs.declared.errors.ScriptKind.TheVariants as kind;
 ghost use Rattle.script_words.specs.Given.{Gives};
 
-use crate::dims::Dims;
+use crate::dims::{Dims, push_named};
 use nc_base::{
     Attr, AttrList, IdList, LimitName, MAX_VAR_DIMS, MAX_VARS, Memory, Name, NcType, ScriptKind,
     Var, VarList,
 };
 use script_words::numbers::is_name;
 use script_words::word_forms::{bracketed, name, no_more, type_name};
-use script_words::{ListParts, Names, ReadErr, Words};
+use script_words::{ListParts, Names, ReadErr, Words, beside};
 use std::alloc::Global;
 use std::marker::Model;
 
@@ -74,7 +74,7 @@ impl<'a> Vars<'a> {
     {
         let (kind, name) = var_head(version, &self.names, words)?;
         let ids = shape(self.alloc, dims, words)?;
-        no_more(words)?;
+        let (ids, _) = beside(ids, no_more(words))?;
         Ok((kind, name, ids))
     }
 
@@ -83,16 +83,8 @@ impl<'a> Vars<'a> {
         requires { is_among name.now (var_names self.old) ≡ false }
         ensures { OnOk result (self.new ≡ self.old ++ record { name = name.now; dims = dims; attrs = []; kind = kind; begin = 0 } ∷ []) }
     {
-        let owned = Name::from_slice(self.alloc, name)?;
-        self.list.reserve(1)?;
-        self.names.push(name)?;
-        self.list.push(Var {
-            name: owned,
-            dims,
-            attrs: AttrList::new(self.alloc),
-            kind,
-            begin: 0,
-        })?;
+        let var = var_of(self.alloc, kind, name, dims)?;
+        push_named(&mut self.list, &mut self.names, name, var)?;
         Ok(())
     }
 
@@ -103,6 +95,18 @@ impl<'a> Vars<'a> {
     {
         self.list[place].attrs.push(attr)
     }
+}
+
+fn var_of(alloc: Global, kind: NcType, name: &[u8], dims: IdList) -> Result<Var, Memory>
+    ensures { IfOk result (λ v. v ≡ record { name = name.now; dims = dims; attrs = []; kind = kind; begin = 0 }) }
+{
+    Ok(Var {
+        name: Name::from_slice(alloc, name)?,
+        dims,
+        attrs: AttrList::new(alloc),
+        kind,
+        begin: 0,
+    })
 }
 
 /// Reads a variable's type and its name, which is none of these.
