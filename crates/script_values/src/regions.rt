@@ -2,6 +2,7 @@
 ghost use Rattle.std.specs.Prelude.{◌≡◌, ◌≢◌, [], map};
 ghost use Rattle.script_spec.specs.ScriptWords.{all_some, size_of_text};
 ghost use Rattle.script_spec.specs.ScriptSteps.{list, or_fault};
+ghost use Rattle.script_spec.specs.Texts.{form_word};
 ghost use Rattle.script_spec.specs.ScriptCalls.{form_of_text, part, part_list, many_regions, region, given_of};
 ghost use Rattle.nc_base.specs.declared.errors.ScriptKind.TheVariants as kind;
 ghost use Rattle.nc_base.specs.declared.request.Form.TheVariants as form;
@@ -10,7 +11,7 @@ ghost use Rattle.script_words.specs.Given.{Gives};
 use nc_base::{Form, Given, LimitName, MAX_PARTS, Part, PartList, ScriptKind, SizeList};
 use script_words::numbers::size_of_text;
 use script_words::word_forms::{bracketed, size};
-use script_words::{ListParts, ReadErr, Words};
+use script_words::{ListParts, ReadErr, Words, beside};
 use std::alloc::Global;
 
 /// The sizes among these parts.
@@ -35,25 +36,34 @@ fn list(alloc: Global, words: &mut Words<'_>) -> Result<SizeList, ReadErr>
     sizes_in(alloc, &mut ListParts::new(inside))
 }
 
+/// Every form.
+const FORMS: [Form; 6] = [
+    Form::Var1,
+    Form::Var,
+    Form::Vara,
+    Form::Vars,
+    Form::Varm,
+    Form::Varn,
+];
+
+fn form_word(form: Form) -> &'static [u8]
+    ensures { result.now ≡ form_word form }
+{
+    match form {
+        Form::Var1 => b"var1",
+        Form::Var => b"var",
+        Form::Vara => b"vara",
+        Form::Vars => b"vars",
+        Form::Varm => b"varm",
+        Form::Varn => b"varn",
+    }
+}
+
 /// The form that a word names.
 pub fn form_of_text(word: &[u8]) -> Option<Form>
     ensures { result ≡ form_of_text word.now }
 {
-    if word == b"var1".as_slice() {
-        Some(Form::Var1)
-    } else if word == b"var".as_slice() {
-        Some(Form::Var)
-    } else if word == b"vara".as_slice() {
-        Some(Form::Vara)
-    } else if word == b"vars".as_slice() {
-        Some(Form::Vars)
-    } else if word == b"varm".as_slice() {
-        Some(Form::Varm)
-    } else if word == b"varn".as_slice() {
-        Some(Form::Varn)
-    } else {
-        None
-    }
+    FORMS.iter().copied().find(|form| word == form_word(*form))
 }
 
 /// Reads one of many regions.
@@ -110,6 +120,14 @@ fn whole(alloc: Global, form: Form) -> Given
     }
 }
 
+/// Reads a list of sizes into a place that has an empty one.
+fn list_into(alloc: Global, place: &mut SizeList, words: &mut Words<'_>) -> Result<(), ReadErr>
+    ensures { Gives (λ _. (place.new, words.new)) result (list words.old) }
+{
+    *place = list(alloc, words)?;
+    Ok(())
+}
+
 /// Reads the lists of a region into one of this form that has none; each form has one more than the form before it.
 fn read_lists(
     alloc: Global,
@@ -124,20 +142,19 @@ fn read_lists(
     if kind == Form::Var {
         return Ok(());
     }
-    given.start = list(alloc, words)?;
+    list_into(alloc, &mut given.start, words)?;
     if kind == Form::Var1 {
         return Ok(());
     }
-    given.count = list(alloc, words)?;
+    list_into(alloc, &mut given.count, words)?;
     if kind == Form::Vara {
         return Ok(());
     }
-    given.stride = list(alloc, words)?;
+    list_into(alloc, &mut given.stride, words)?;
     if kind == Form::Vars {
         return Ok(());
     }
-    given.imap = list(alloc, words)?;
-    Ok(())
+    list_into(alloc, &mut given.imap, words)
 }
 
 /// Reads the region of a call of this form: many parts, or the first lists of one.
@@ -148,6 +165,7 @@ pub fn region(alloc: Global, form: Form, words: &mut Words<'_>) -> Result<Given,
         return many_regions(alloc, words);
     }
     let mut given = whole(alloc, form);
-    read_lists(alloc, form, &mut given, words)?;
+    let read = read_lists(alloc, form, &mut given, words);
+    let (given, _) = beside(given, read)?;
     Ok(given)
 }

@@ -11,7 +11,7 @@ use crate::sequences::{seq_values, seqx_values};
 use nc_base::{BitList, Blob, MAX_ELEMENTS, NcType, NumberList, ScriptKind, Values};
 use script_words::numbers::{bits_of_text, number_of_text};
 use script_words::word_forms::{bare, no_more};
-use script_words::{ReadErr, Token, Words};
+use script_words::{ReadErr, Token, Words, beside};
 use std::alloc::{AllocError, Global};
 
 fn number_for(kind: Option<NcType>, word: &[u8]) -> Option<i128>
@@ -126,23 +126,22 @@ fn narrow_numbers(
     Ok(front)
 }
 
-/// Reads numbers to the line's end, after those that were found on it.
+/// Reads numbers to the line's end, and adds them to those that were found on it.
 fn numbers_after(
     kind: Option<NcType>,
     before: u64,
-    front: NumberList,
+    found: &mut NumberList,
     words: &mut Words<'_>,
-) -> Result<NumberList, ReadErr>
-    requires { before + length front ≤ 2 ^ 24 }
-    ensures read { Gives (λ zs. zs) result (each_value (number_for kind) kind before front words.old) }
-    ensures bound { IfOk result (λ zs. before + length zs ≤ 2 ^ 24) }
+) -> Result<(), ReadErr>
+    requires { before + length found.old ≤ 2 ^ 24 }
+    ensures read { Gives (λ _. found.new) result (each_value (number_for kind) kind before found.old words.old) }
+    ensures bound { OnOk result (before + length found.new ≤ 2 ^ 24) }
 {
-    let mut found = front;
     while let Some(word) = words.take()? {
         let number = one_number(kind, before, found.len() as u64, word)?;
         found.push(number)?;
     }
-    Ok(found)
+    Ok(())
 }
 
 /// Reads numbers to the line's end.
@@ -156,9 +155,28 @@ fn number_values(
     ensures read { Gives (λ vs. vs) result (number_values kind before words.old) }
     ensures bound { IfOk result (λ vs. before + count_of vs ≤ 2 ^ 24) }
 {
-    let front = narrow_numbers(alloc, kind, before, words)?;
-    let numbers = numbers_after(kind, before, NumberList::from_narrow(front), words)?;
+    let mut found = NumberList::from_narrow(narrow_numbers(alloc, kind, before, words)?);
+    let read = numbers_after(kind, before, &mut found, words);
+    let (numbers, _) = beside(found, read)?;
     Ok(Values::Numbers(numbers))
+}
+
+/// Reads patterns of bits to the line's end, and adds them to those that were found on it.
+fn patterns_after(
+    kind: Option<NcType>,
+    before: u64,
+    found: &mut BitList,
+    words: &mut Words<'_>,
+) -> Result<(), ReadErr>
+    requires { before + length found.old ≤ 2 ^ 24 }
+    ensures read { Gives (λ _. found.new) result (each_value (pattern_for kind) kind before found.old words.old) }
+    ensures bound { OnOk result (before + length found.new ≤ 2 ^ 24) }
+{
+    while let Some(word) = words.take()? {
+        let pattern = one_pattern(kind, before, found.len() as u64, word)?;
+        found.push(pattern)?;
+    }
+    Ok(())
 }
 
 /// Reads patterns of bits to the line's end.
@@ -173,11 +191,9 @@ fn bits_values(
     ensures bound { IfOk result (λ vs. before + count_of vs ≤ 2 ^ 24) }
 {
     let mut found = BitList::with_capacity(alloc, room_for(words))?;
-    while let Some(word) = words.take()? {
-        let pattern = one_pattern(kind, before, found.len() as u64, word)?;
-        found.push(pattern)?;
-    }
-    Ok(Values::Bits(found))
+    let read = patterns_after(kind, before, &mut found, words);
+    let (patterns, _) = beside(found, read)?;
+    Ok(Values::Bits(patterns))
 }
 
 fn begins_x(word: &[u8]) -> bool

@@ -2,11 +2,11 @@ use Rattle.std.proofs.Common.{◌≡◌, ◌≤◌, ◌+◌, ◌^◌, length}
 use Rattle.script_spec.specs.ScriptValues.{each_value, number_for}
 use Rattle.script_values.proofs.values.numbers_after.Given as goal
 
-abbrev pub invariant-loop-found : goal.invariant-loop-found
-invariant-loop-found l = record {
-  read : each_value (number_for l.kind) l.kind l.before l.found l.words ≡ each_value (number_for l.kind) l.kind l.before l.fn.front l.fn.words;
+abbrev pub invariant-loop-word : goal.invariant-loop-word
+invariant-loop-word l = record {
+  read : each_value (number_for l.kind) l.kind l.before l.found l.words ≡ each_value (number_for l.kind) l.kind l.before l.fn.found l.fn.words;
   bound : l.before + length l.found ≤ 2 ^ 24;
 }
 
-abbrev pub decreases-loop-found : goal.decreases-loop-found
-decreases-loop-found l = length l.words
+abbrev pub decreases-loop-word : goal.decreases-loop-word
+decreases-loop-word l = length l.words
