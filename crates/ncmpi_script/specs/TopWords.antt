@@ -1,5 +1,5 @@
 -- Whole scripts, with names for their parts that proofs keep shut.
-use Rattle.std.specs.Prelude.{bytes_eq, ℕ, ◌+◌, List, length, Bool, true, false, Option, Some, None, Result, Ok, Err, codes, nat_lt, nat_le, take, not, ◌&&◌, ◌==◌}
+use Rattle.std.specs.Prelude.{bytes_eq, ℕ, ◌+◌, List, length, Bool, true, false, Option, Some, None, Result, Ok, Err, codes, nat_lt, take, ◌==◌}
 use Rattle.std.specs.Str.Lossy.{utf8_valid_len}
 use Rattle.nc_base.specs.declared.errors.ScriptErr.{ScriptErr}
 use Rattle.nc_base.specs.declared.errors.ScriptKind.{ScriptKind}

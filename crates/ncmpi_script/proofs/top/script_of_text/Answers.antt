@@ -1,4 +1,4 @@
-use Rattle.ncmpi_script.proofs.Words.{◌≡◌, ◌∙◌, Result, Bool, true, false, length, nat_lt, ◌==◌, sym, subst, arith, utf8_valid_len, utf8_valid_len-IsUtf8, nat_tests, ScriptErr, Script, most_bytes, GivesAt}
+use Rattle.ncmpi_script.proofs.Words.{◌≡◌, Result, true, false, length, nat_lt, ◌==◌, sym, subst, arith, utf8_valid_len, utf8_valid_len-IsUtf8, nat_tests, ScriptErr, Script, most_bytes, GivesAt}
 use Rattle.ncmpi_script.proofs.TopLaws.{text_is}
 use Rattle.ncmpi_script.proofs.top.script_of_text.Goals as goal
 
