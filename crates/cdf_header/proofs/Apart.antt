@@ -1,5 +1,31 @@
 -- Spans that are seen to share no byte share none.
-use Rattle.cdf_header.proofs.Words.{◌≡◌, ℕ, ◌+◌, ◌<◌, ◌≤◌, min, List, [], ◌∷◌, Bool, true, false, None, length, get_or, drop, refl, sym, ap, subst, inl, inr, ◌⊎◌, arith, nat_lt, nat_le, All, AllPairs, Contains, cases_lt, le-ltb, le-leb, lt-leb, get_or_default, get_or-drop, length-drop, All-contains, All-head, All-tail, All-get_or, Contains-get_or, Span, fixed_meet, records_meet, share, partner, NoneShares, EndsBefore, EndsBeforeNext, AreApart, HasAll, AreSpans, nat_tests, cond}
+use Rattle.cdf_header.proofs.Words.{Contains-append_left, Contains-push, ◌∙◌, ◌++◌, ◌≡◌, ℕ, ◌+◌, ◌<◌, ◌≤◌, min, List, [], ◌∷◌, Bool, true, false, None, length, get_or, drop, refl, sym, ap, subst, inl, inr, ◌⊎◌, arith, nat_lt, nat_le, All, AllPairs, Contains, cases_lt, le-ltb, le-leb, lt-leb, get_or_default, get_or-drop, length-drop, All-contains, All-head, All-tail, All-get_or, Contains-get_or, Span, fixed_meet, records_meet, share, partner, NoneShares, EndsBefore, EndsBeforeNext, AreApart, HasAll, AreSpans, nat_tests, cond}
+use mathlib.Core.Bool.{beq}
+
+other_kind : (a b : Bool) → beq a b ≡ false → a ≡ b → ⊥
+other_kind a b f e = grind (arith, nat_tests)
+
+-- one span more, which is among those that are found if it is of the kind
+pub kind_next : (kind : Bool) (spans found next : List Span) (n : ℕ) → n < length spans
+    → (let s = get_or spans n (record { begin = 0; end = 0; number = 0; is_record = false }) in
+    (next ≡ found ++ s ∷ []) ⊎ ((next ≡ found) × (beq s.is_record kind ≡ false)))
+    → ((k : ℕ) (d : Span) → k < n → (get_or spans k d).is_record ≡ kind → Contains found (get_or spans k d))
+    → (k : ℕ) (d : Span) → k < n + 1 → (get_or spans k d).is_record ≡ kind → Contains next (get_or spans k d)
+kind_next kind spans found next n within step so_far k d l is =
+    let none : Span = record { begin = 0; end = 0; number = 0; is_record = false } in
+    elim (cases_lt k n) [
+      | inl before ↦ elim step [
+        | inl push ↦ subst (λ (ys : List Span). Contains ys (get_or spans k d)) (sym push) (Contains-append_left found _ _ (so_far k d before is))
+        | inr stay ↦ subst (λ (ys : List Span). Contains ys (get_or spans k d)) (sym stay.0) (so_far k d before is)
+      ]
+      | inr le ↦
+          let same : k ≡ n = omega arith in
+          let here : get_or spans k d ≡ get_or spans n none = ap (λ (m : ℕ). get_or spans m d) same ∙ get_or_default spans n d none within in
+          elim step [
+            | inl push ↦ subst (λ (ys : List Span). Contains ys (get_or spans k d)) (sym push) (subst (λ (s : Span). Contains (found ++ s ∷ []) (get_or spans k d)) here (Contains-push found (get_or spans k d)))
+            | inr stay ↦ absurd (other_kind _ _ stay.1 (ap (λ (s : Span). s.is_record) (sym here) ∙ is))
+          ]
+    ]
 
 -- two different elements of a list stand one after the other
 pair_of : {X : Type 0} (R : X → X → Type 0) (xs : List X) (x y : X) → AllPairs R xs → Contains xs x → Contains xs y → (x ≡ y → ⊥) → R x y ⊎ R y x

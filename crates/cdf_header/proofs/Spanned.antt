@@ -1,5 +1,5 @@
 -- The pair that the spans of a header's variables give is that of the header.
-use Rattle.cdf_header.proofs.Words.{◌≡◌, ℕ, zero, suc, ◌+◌, ◌<◌, List, [], ◌∷◌, length, get_or, Bool, true, false, cond, Option, Some, None, refl, sym, ◌∙◌, arith, option_map, position, AllPairs, AllByRecursion, position_from, option_or, position_from-zero, All-from_recursion, mul-le-mul_left, size_pos, Header, Var, slab, recsize, sharing_with, sharing_from, sharing, record_later, Span, span_of, spans_of, partner, shared_pair, AreSpans, told_else, nat_tests}
+use Rattle.cdf_header.proofs.Words.{nat_tests, drop, drop_more, append_assoc, ◌++◌, ◌≡◌, ℕ, zero, suc, ◌+◌, ◌<◌, List, [], ◌∷◌, length, get_or, Bool, true, false, cond, Option, Some, None, refl, sym, ◌∙◌, arith, option_map, position, AllPairs, AllByRecursion, position_from, option_or, position_from-zero, All-from_recursion, mul-le-mul_left, size_pos, Header, Var, slab, recsize, sharing_with, sharing_from, sharing, record_later, Span, span_of, spans_of, partner, shared_pair, AreSpans, told_else}
 use Rattle.serial_spec.specs.Layout as layout
 use Rattle.cdf_header.proofs.Products.{inner-pos, product-pos}
 
@@ -23,6 +23,11 @@ by_pair header first k (v ∷ vs) = grind (arith, nat_tests, by_pair header firs
 
 pub sharing_by_spans : (header : Header) (first : ℕ) → sharing header first ≡ shared_pair (recsize header) first (spans_of header 0 header.vars)
 sharing_by_spans header first = by_pair header first 0 header.vars
+
+-- the span of one variable more
+pub spans_next : (header : Header) (vars : List Var) (n : ℕ) (v : Var) (s : Span) (now next whole : List Span) → n < length vars → v ≡ get_or vars n v → s ≡ span_of header n v
+    → next ≡ now ++ s ∷ [] → now ++ spans_of header n (drop n vars) ≡ whole → next ++ spans_of header (n + 1) (drop (n + 1) vars) ≡ whole
+spans_next header vars n v s now next whole l there is push so_far = grind (arith, nat_tests, drop_more vars n v l, append_assoc)
 
 -- ---- the spans are in order, and none is empty
 

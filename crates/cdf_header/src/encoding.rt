@@ -1,12 +1,12 @@
 // The header's bytes.
-ghost use Rattle.std.specs.Prelude.{◌≡◌, ◌++◌, IfOk, OnOk, false, length, true};
-ghost use Rattle.std.specs.List.{AllByRecursion, flat_map};
-ghost use Rattle.serial_spec.specs.HeaderBytes.{attribute, canon, count, dimension, list_of, variable};
+ghost use Rattle.std.specs.Prelude.{◌≡◌, ◌++◌, IfOk, OnOk, true};
+ghost use Rattle.serial_spec.specs.HeaderBytes.{attribute, canon, count, dimension, variable};
 ghost use Rattle.serial_spec.specs.SoundHeaders.{fits_count, is_writable, is_writable_attr, is_writable_dim};
-ghost use Rattle.cdf_header.specs.Writable.{IsWritableList, IsWritableVar};
+ghost use Rattle.cdf_header.specs.Writable.{shape, IsWritableVar};
 
-use crate::number_fields::{push_absent, push_begin, push_count, push_name, push_padded, push_tag};
+use crate::number_fields::{push_begin, push_count, push_name, push_padded, push_tag};
 use crate::type_numbers::number_of;
+use crate::written::{Written, push_each, push_list};
 use nc_base::{Attr, Blob, Dim, Header, Memory, Var};
 use std::alloc::Global;
 use var_layout::{header_len, vsize_of};
@@ -19,108 +19,82 @@ const ATTRS: u32 = 12;
 
 /// The bytes of a header of version 1, 2 or 5, in the one spelling that is written: zero padding, a zero tag and a zero count
 /// for an empty list, and the size that the layout gives each variable.
-#[tactic(auto, using(list_laws::proofs::Appends::then_append), unfolding(serial_spec::specs::HeaderBytes::canon))]
 pub fn encode(alloc: Global, header: &Header) -> Result<Blob, Memory>
     requires { is_writable header.now ≡ true }
     ensures { IfOk result (λ bytes. bytes ≡ canon header.now) }
 {
     let mut out = Vec::with_capacity(alloc, header_len(header) as usize)?;
-    out.extend_from_slice(&[b'C', b'D', b'F', header.version])?;
-    push_count(&mut out, header.version, header.records)?;
-    push_dims(&mut out, header.version, header.dims.as_slice())?;
-    push_attrs(&mut out, header.version, header.attrs.as_slice())?;
-    push_vars(&mut out, header)?;
+    push_fields(&mut out, header)?;
     Ok(Blob::from_vec(out))
 }
 
-fn push_dims(out: &mut Vec<u8>, version: u8, dims: &[Dim]) -> Result<(), Memory>
-    requires { IsWritableList version (is_writable_dim version) dims.now }
-    ensures { OnOk result (out.new.items ≡ out.old.items ++ list_of version 10 (λ d. dimension version d) dims.now) }
+/// All fields of a header.
+fn push_fields(out: &mut Vec<u8>, header: &Header) -> Result<(), Memory>
+    requires { is_writable header.now ≡ true }
+    ensures { OnOk result (out.new.items ≡ out.old.items ++ canon header.now) }
 {
-    if dims.is_empty() {
-        return push_absent(out, version);
-    }
-    push_tag(out, DIMS)?;
-    push_count(out, version, dims.len() as u64)?;
-    for dim in dims {
-        push_dim(out, version, dim)?;
-    }
-    Ok(())
+    out.extend_from_slice(&[b'C', b'D', b'F', header.version])?;
+    push_count(out, header.version, header.records)?;
+    push_list(out, header, DIMS, header.dims.as_slice())?;
+    push_list(out, header, ATTRS, header.attrs.as_slice())?;
+    push_list(out, header, VARS, header.vars.as_slice())
 }
 
-fn push_dim(out: &mut Vec<u8>, version: u8, dim: &Dim) -> Result<(), Memory>
-    requires { is_writable_dim version dim.now ≡ true }
-    ensures { OnOk result (out.new.items ≡ out.old.items ++ dimension version dim.now) }
-{
-    push_name(out, version, dim.name.as_slice())?;
-    push_count(out, version, dim.len)
+impl Written for Dim {
+    ghost IsWritable = { λ h d. is_writable_dim h.version d ≡ true };
+
+    ghost bytes_of = { λ h d. dimension h.version d };
+
+    fn push(&self, out: &mut Vec<u8>, header: &Header) -> Result<(), Memory> {
+        push_name(out, header.version, self.name.as_slice())?;
+        push_count(out, header.version, self.len)
+    }
 }
 
-fn push_attrs(out: &mut Vec<u8>, version: u8, attrs: &[Attr]) -> Result<(), Memory>
-    requires { IsWritableList version (is_writable_attr version) attrs.now }
-    ensures { OnOk result (out.new.items ≡ out.old.items ++ list_of version 12 (λ a. attribute version a) attrs.now) }
-{
-    if attrs.is_empty() {
-        return push_absent(out, version);
+impl Written for Attr {
+    ghost IsWritable = { λ h a. is_writable_attr h.version a ≡ true };
+
+    ghost bytes_of = { λ h a. attribute h.version a };
+
+    fn push(&self, out: &mut Vec<u8>, header: &Header) -> Result<(), Memory> {
+        push_name(out, header.version, self.name.as_slice())?;
+        push_tag(out, number_of(self.kind))?;
+        push_count(out, header.version, self.count)?;
+        push_padded(out, self.bytes.as_slice())
     }
-    push_tag(out, ATTRS)?;
-    push_count(out, version, attrs.len() as u64)?;
-    for attr in attrs {
-        push_attr(out, version, attr)?;
-    }
-    Ok(())
 }
 
-#[tactic(auto, using(list_laws::proofs::Appends::then_append))]
-fn push_attr(out: &mut Vec<u8>, version: u8, attr: &Attr) -> Result<(), Memory>
-    requires { is_writable_attr version attr.now ≡ true }
-    ensures { OnOk result (out.new.items ≡ out.old.items ++ attribute version attr.now) }
-{
-    push_name(out, version, attr.name.as_slice())?;
-    push_tag(out, number_of(attr.kind))?;
-    push_count(out, version, attr.count)?;
-    push_padded(out, attr.bytes.as_slice())
+/// The place of a dimension.
+impl Written for u32 {
+    ghost IsWritable = { λ h id. fits_count h.version id ≡ true };
+
+    ghost bytes_of = { λ h id. count h.version id };
+
+    fn push(&self, out: &mut Vec<u8>, header: &Header) -> Result<(), Memory> {
+        push_count(out, header.version, u64::from(*self))
+    }
 }
 
-fn push_vars(out: &mut Vec<u8>, header: &Header) -> Result<(), Memory>
-    requires count { fits_count header.now.version (length header.now.vars) ≡ true }
-    requires each { AllByRecursion (IsWritableVar header.now) header.now.vars }
-    ensures { OnOk result (out.new.items ≡ out.old.items ++ list_of header.now.version 11 (λ v. variable header.now v) header.now.vars) }
-{
-    let vars = header.vars.as_slice();
-    if vars.is_empty() {
-        return push_absent(out, header.version);
-    }
-    push_tag(out, VARS)?;
-    push_count(out, header.version, vars.len() as u64)?;
-    for var in vars {
-        push_var(out, header, var)?;
-    }
-    Ok(())
-}
-
-#[tactic(auto, using(list_laws::proofs::Appends::then_append))]
-fn push_var(out: &mut Vec<u8>, header: &Header, var: &Var) -> Result<(), Memory>
+/// The fields of a variable ahead of its type.
+fn push_shape(out: &mut Vec<u8>, header: &Header, var: &Var) -> Result<(), Memory>
     requires { IsWritableVar header.now var.now }
-    ensures { OnOk result (out.new.items ≡ out.old.items ++ variable header.now var.now) }
+    ensures { OnOk result (out.new.items ≡ out.old.items ++ shape header.now var.now) }
 {
-    let version = header.version;
-    push_name(out, version, var.name.as_slice())?;
-    push_count(out, version, var.dims.len() as u64)?;
-    push_ids(out, version, var.dims.as_slice())?;
-    push_attrs(out, version, var.attrs.as_slice())?;
-    push_tag(out, number_of(var.kind))?;
-    push_count(out, version, vsize_of(header, var))?;
-    push_begin(out, version, var.begin)?;
-    Ok(())
+    push_name(out, header.version, var.name.as_slice())?;
+    push_count(out, header.version, var.dims.len() as u64)?;
+    push_each(out, header, var.dims.as_slice())?;
+    push_list(out, header, ATTRS, var.attrs.as_slice())
 }
 
-fn push_ids(out: &mut Vec<u8>, version: u8, ids: &[u32]) -> Result<(), Memory>
-    requires { AllByRecursion (λ id. fits_count version id ≡ true) ids.now }
-    ensures { OnOk result (out.new.items ≡ out.old.items ++ flat_map (λ id. count version id) ids.now) }
-{
-    for id in ids {
-        push_count(out, version, u64::from(*id))?;
+impl Written for Var {
+    ghost IsWritable = { IsWritableVar };
+
+    ghost bytes_of = { variable };
+
+    fn push(&self, out: &mut Vec<u8>, header: &Header) -> Result<(), Memory> {
+        push_shape(out, header, self)?;
+        push_tag(out, number_of(self.kind))?;
+        push_count(out, header.version, vsize_of(header, self))?;
+        push_begin(out, header.version, self.begin)
     }
-    Ok(())
 }

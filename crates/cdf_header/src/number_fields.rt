@@ -41,15 +41,6 @@ pub(crate) fn push_tag(out: &mut Vec<u8>, number: u32) -> Result<(), Memory>
     Ok(())
 }
 
-/// An empty list: a zero tag and a zero count.
-#[tactic(auto, using(crate::proofs::Fitting::zero_fits))]
-pub(crate) fn push_absent(out: &mut Vec<u8>, version: u8) -> Result<(), Memory>
-    ensures { OnOk result (out.new.items ≡ out.old.items ++ (tag 0 ++ count version 0)) }
-{
-    push_tag(out, 0)?;
-    push_count(out, version, 0)
-}
-
 /// Bytes with zeros up to a multiple of four.
 pub(crate) fn push_padded(out: &mut Vec<u8>, bytes: &[u8]) -> Result<(), Memory>
     ensures { OnOk result (out.new.items ≡ out.old.items ++ padded bytes.now) }
