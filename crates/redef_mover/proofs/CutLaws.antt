@@ -1,7 +1,7 @@
 -- A relocation that was cut off: what it may have changed of a file.
-use Rattle.redef_mover.proofs.Words.{◌≡◌, ℕ, ◌+◌, ◌-◌, ◌<◌, ◌≤◌, max, inl, inr, sym, ◌∙◌, ap, subst, List, [], ◌∷◌, length, get_or, Option, Some, None, arith, IfSome, IsTrue, nat_tests, common_steps, Header, PartlyWritten, after, BothTold, In, changes, gaps, rising, new_end, IsMoved, Slab, at, longer, canon, header_len, redefined, IsLengthened, IsTornRedefinition, at-longer, at-written_after, get_or-written_within, length-written_inside, longer_long, IsBeside, IsKept, IsOutside, IsUnmoved, AreSpaced, IsCarriable, IsPartlyCarried, KeepsPlaces, told_as}
+use Rattle.redef_mover.proofs.Words.{◌≡◌, ℕ, ◌+◌, ◌-◌, ◌<◌, ◌≤◌, max, inl, inr, sym, ◌∙◌, ap, subst, List, [], ◌∷◌, length, get_or, Option, Some, None, arith, IfSome, IsTrue, nat_tests, common_steps, Header, PartlyWritten, after, BothTold, In, changes, gaps, new_end, IsMoved, Slab, at, longer, canon, header_len, redefined, IsLengthened, IsTornRedefinition, at-longer, at-written_after, get_or-written_within, length-written_inside, longer_long, IsBeside, IsKept, IsOutside, IsUnmoved, AreSpaced, IsPartlyCarried, IsPartlyRewritten, KeepsPlaces, told_as}
 use Rattle.redef_mover.proofs.ClearLaws.{spaced_low}
-use Rattle.redef_mover.proofs.CarryLaws.{carriable_spaced, carried_is, gap_beside, gap_high, gap_low, spaced_from}
+use Rattle.redef_mover.proofs.CarryLaws.{carried_is, gap_beside, gap_high, gap_low, spaced_from}
 use Rattle.redef_mover.proofs.AppliedLaws.{HasLaws, relocated}
 
 -- ---- bytes that neither moves nor zeros change
@@ -50,10 +50,10 @@ pub not_begun : (old new : Header) (held now : Option (List ℕ)) → now ≡ he
 not_begun old new held now e = grind (arith, nat_tests)
 
 -- there is room up to the end
-pub room_grown : (held now : Option (List ℕ)) (end : ℕ) → now ≡ after (λ file. longer file end) held → IfSome now (λ file. end ≤ length file)
+room_grown : (held now : Option (List ℕ)) (end : ℕ) → now ≡ after (λ file. longer file end) held → IfSome now (λ file. end ≤ length file)
 room_grown held now end e = grind (arith, nat_tests, longer_long)
 
-pub room_kept : (P : ℕ → Type 0) (mid now : Option (List ℕ)) (end : ℕ) → IfSome mid (λ file. end ≤ length file) → BothTold (IsKept P) mid now
+room_kept : (P : ℕ → Type 0) (mid now : Option (List ℕ)) (end : ℕ) → IfSome mid (λ file. end ≤ length file) → BothTold (IsKept P) mid now
     → IfSome now (λ file. end ≤ length file)
 room_kept xs mid now end h k = grind (arith, nat_tests)
 
@@ -76,81 +76,92 @@ way_kept b end ss P file mid left f w k =
     let short = w.short in
     record { long = omega arith; short = omega arith; spared = λ x h. k.kept x (f x h) ∙ w.spared x h }
 
--- what the code's numbers and list stand for
-pub record StandFor (old new : Header) (b end : ℕ) (ss : List Slab) : Type 0 where
-  pub carriable : IsCarriable old new
-  pub first : b ≡ header_len new
-  pub last : end ≡ new_end old new
-  pub all : ss ≡ rising old new
-
-module _ (old new : Header) (b end : ℕ) (ss : List Slab) (k : StandFor old new b end ss) where
-  pub spaced : AreSpaced b end ss
-  spaced = carriable_spaced old new ss b end k.carriable k.all k.first k.last
-
-  member : (s : Slab) → In (rising old new) s → In ss s
-  member s i = subst (λ (rs : List Slab). In rs s) (sym k.all) i
-
-  way_end : (file left : List ℕ) → IsOnWay b end ss file left → IsPartlyCarried old new file left
+module _ (ss : List Slab) (head : List ℕ) (end : ℕ) (spaced : AreSpaced (length head) end ss) where
+  way_end : (file left : List ℕ) → IsOnWay (length head) end ss file left → IsPartlyRewritten ss head end file left
   way_end file left w = record {
     long = w.long;
-    short = omega (arith, w.short, k.last);
-    head = λ x l. inl (w.spared x (before (omega (arith, l, k.first))));
-    past = λ x l. w.spared x (past (omega (arith, l, k.last)));
-    stays = λ s i e x l m. w.spared x (in_place s (member s i) e l m);
+    short = w.short;
+    head = λ x l. inl (w.spared x (before l));
+    past = λ x l. w.spared x (past l);
+    stays = λ s i e x l m. w.spared x (in_place s i e l m);
   }
 
-  -- the header was cut off
-  way_headed : (file mid left bytes : List ℕ) (place : ℕ) → bytes ≡ canon new → place ≡ 0 → header_len new ≤ length mid → IsOnWay b end ss file mid
-      → PartlyWritten place bytes mid left → IsPartlyCarried old new file left
-  way_headed file mid left bytes place c p room w q = record {
+  -- the bytes at the front were cut off
+  way_headed : (file mid left : List ℕ) (place : ℕ) → place ≡ 0 → end ≤ length mid → IsOnWay (length head) end ss file mid
+      → PartlyWritten place head mid left → IsPartlyRewritten ss head end file left
+  way_headed file mid left place p room w q = record {
     long = omega (arith, length_same, w.long);
-    short = omega (arith, length_same, w.short, k.last);
+    short = omega (arith, length_same, w.short);
     head = λ x l. elim (plain.each x) [
-      | inl e ↦ inl (e ∙ w.spared x (before (omega (arith, l, k.first))))
+      | inl e ↦ inl (e ∙ w.spared x (before l))
       | inr e ↦
           (let same : x - 0 ≡ x = omega arith in
-          inr (e ∙ get_or-written_within mid 0 (canon new) x (omega arith) (omega arith) (omega arith) ∙ ap (λ (y : ℕ). get_or (canon new) y 0) same))
+          inr (e ∙ get_or-written_within mid 0 head x (omega (arith, low)) (omega (arith, low)) (omega (arith, low)) ∙ ap (λ (y : ℕ). get_or head y 0) same))
     ];
-    past = λ x l. by_rest x (omega (arith, spaced_low b end ss spaced, k.first, k.last, l)) ∙ w.spared x (past (omega (arith, l, k.last)));
-    stays = λ s i e x l m. by_rest x (omega (arith, spaced_from b end ss s spaced (member s i), k.first, l)) ∙ w.spared x (in_place s (member s i) e l m);
+    past = λ x l. by_rest x (omega (arith, low, l)) ∙ w.spared x (past l);
+    stays = λ s i e x l m. by_rest x (omega (arith, spaced_from (length head) end ss s spaced i, l)) ∙ w.spared x (in_place s i e l m);
   }
     where
-      plain : PartlyWritten 0 (canon new) mid left
-      plain = subst (λ (y : ℕ). PartlyWritten y (canon new) mid left) p (subst (λ (d : List ℕ). PartlyWritten place d mid left) c q)
+      low : length head ≤ end
+      low = spaced_low (length head) end ss spaced
+
+      plain : PartlyWritten 0 head mid left
+      plain = subst (λ (y : ℕ). PartlyWritten y head mid left) p q
 
       length_same : length left ≡ length mid
-      length_same = plain.len ∙ length-written_inside mid 0 (canon new) (omega arith)
+      length_same = plain.len ∙ length-written_inside mid 0 head (omega (arith, low))
 
-      by_rest : (x : ℕ) → header_len new ≤ x → at left x ≡ at mid x
-      by_rest x l = elim (plain.each x) [ inl e ↦ e | inr e ↦ e ∙ at-written_after mid (canon new) 0 x (omega arith) ]
+      by_rest : (x : ℕ) → length head ≤ x → at left x ≡ at mid x
+      by_rest x l = elim (plain.each x) [ inl e ↦ e | inr e ↦ e ∙ at-written_after mid head 0 x (omega arith) ]
 
   -- ---- one call more
 
-  pub on_way_grown : (held now : Option (List ℕ)) → BothTold (IsLengthened end) held now → BothTold (IsOnWay b end ss) held now
-  on_way_grown held now t = told_as (IsLengthened end) (IsOnWay b end ss) held now (λ file left l. way_grown b end ss file left l) t
+  on_way_grown : (held now : Option (List ℕ)) → BothTold (IsLengthened end) held now → BothTold (IsOnWay (length head) end ss) held now
+  on_way_grown held now t = told_as (IsLengthened end) (IsOnWay (length head) end ss) held now (λ file left l. way_grown (length head) end ss file left l) t
 
-  on_way_kept : (P : ℕ → Type 0) (held mid now : Option (List ℕ)) → ((x : ℕ) → Spared b end ss x → P x) → BothTold (IsOnWay b end ss) held mid → BothTold (IsKept P) mid now
-      → BothTold (IsOnWay b end ss) held now
+  on_way_kept : (P : ℕ → Type 0) (held mid now : Option (List ℕ)) → ((x : ℕ) → Spared (length head) end ss x → P x) → BothTold (IsOnWay (length head) end ss) held mid
+      → BothTold (IsKept P) mid now → BothTold (IsOnWay (length head) end ss) held now
   on_way_kept P held mid now f t u =
-      told_twice (IsOnWay b end ss) (IsKept P) (IsOnWay b end ss) held mid now (λ file one two w q. way_kept b end ss P file one two f w q) t u
+      told_twice (IsOnWay (length head) end ss) (IsKept P) (IsOnWay (length head) end ss) held mid now (λ file one two w q. way_kept (length head) end ss P file one two f w q) t u
 
-  pub on_way_moved : (held mid now : Option (List ℕ)) → BothTold (IsOnWay b end ss) held mid → BothTold (IsKept (IsUnmoved ss)) mid now → BothTold (IsOnWay b end ss) held now
-  on_way_moved held mid now t u = on_way_kept (IsUnmoved ss) held mid now (λ x s. spared_unmoved b end ss x spaced s) t u
+  on_way_moved : (held grown now : Option (List ℕ)) → BothTold (IsLengthened end) held grown → BothTold (IsKept (IsUnmoved ss)) grown now
+      → BothTold (IsOnWay (length head) end ss) held now
+  on_way_moved held grown now g u = on_way_kept (IsUnmoved ss) held grown now (λ x s. spared_unmoved (length head) end ss x spaced s) (on_way_grown held grown g) u
 
-  pub on_way_cleared : (held mid now : Option (List ℕ)) → BothTold (IsOnWay b end ss) held mid → BothTold (IsKept (IsBeside (gaps b end ss))) mid now
-      → BothTold (IsOnWay b end ss) held now
-  on_way_cleared held mid now t u = on_way_kept (IsBeside (gaps b end ss)) held mid now (λ x s. spared_beside b end ss x spaced s) t u
+  on_way_cleared : (held grown moved now : Option (List ℕ)) → BothTold (IsLengthened end) held grown → BothTold (IsKept (IsUnmoved ss)) grown moved
+      → BothTold (IsKept (IsBeside (gaps (length head) end ss))) moved now → BothTold (IsOnWay (length head) end ss) held now
+  on_way_cleared held grown moved now g u v =
+      on_way_kept (IsBeside (gaps (length head) end ss)) held moved now (λ x s. spared_beside (length head) end ss x spaced s) (on_way_moved held grown moved g u) v
 
-  pub on_way_end : (held now : Option (List ℕ)) → BothTold (IsOnWay b end ss) held now → BothTold (IsPartlyCarried old new) held now
-  on_way_end held now t = told_as (IsOnWay b end ss) (IsPartlyCarried old new) held now (λ file left w. way_end file left w) t
+  on_way_end : (held now : Option (List ℕ)) → BothTold (IsOnWay (length head) end ss) held now → BothTold (IsPartlyRewritten ss head end) held now
+  on_way_end held now t = told_as (IsOnWay (length head) end ss) (IsPartlyRewritten ss head end) held now (λ file left w. way_end file left w) t
 
-  pub on_way_headed : (held mid now : Option (List ℕ)) (bytes : List ℕ) (place : ℕ) → bytes ≡ canon new → place ≡ 0 → IfSome mid (λ file. end ≤ length file)
-      → BothTold (IsOnWay b end ss) held mid → BothTold (PartlyWritten place bytes) mid now → BothTold (IsPartlyCarried old new) held now
-  on_way_headed None mid now bytes place c p room w q = subst (λ (m : Option (List ℕ)). BothTold (PartlyWritten place bytes) m now) w q
-  on_way_headed (Some file) mid now bytes place c p room w q =
-      let t : BothTold (PartlyWritten place bytes) (Some w.0) now = subst (λ (m : Option (List ℕ)). BothTold (PartlyWritten place bytes) m now) w.1 q in
+  -- ---- where a call was refused
+
+  pub cut_grown : (held now : Option (List ℕ)) → BothTold (IsLengthened end) held now → BothTold (IsPartlyRewritten ss head end) held now
+  cut_grown held now g = on_way_end held now (on_way_grown held now g)
+
+  pub cut_moved : (held grown now : Option (List ℕ)) → BothTold (IsLengthened end) held grown → BothTold (IsKept (IsUnmoved ss)) grown now
+      → BothTold (IsPartlyRewritten ss head end) held now
+  cut_moved held grown now g u = on_way_end held now (on_way_moved held grown now g u)
+
+  pub cut_cleared : (held grown moved now : Option (List ℕ)) → BothTold (IsLengthened end) held grown → BothTold (IsKept (IsUnmoved ss)) grown moved
+      → BothTold (IsKept (IsBeside (gaps (length head) end ss))) moved now → BothTold (IsPartlyRewritten ss head end) held now
+  cut_cleared held grown moved now g u v = on_way_end held now (on_way_cleared held grown moved now g u v)
+
+  by_head : (held mid now : Option (List ℕ)) (place : ℕ) → place ≡ 0 → IfSome mid (λ file. end ≤ length file)
+      → BothTold (IsOnWay (length head) end ss) held mid → BothTold (PartlyWritten place head) mid now → BothTold (IsPartlyRewritten ss head end) held now
+  by_head None mid now place p room w q = subst (λ (m : Option (List ℕ)). BothTold (PartlyWritten place head) m now) w q
+  by_head (Some file) mid now place p room w q =
+      let t : BothTold (PartlyWritten place head) (Some w.0) now = subst (λ (m : Option (List ℕ)). BothTold (PartlyWritten place head) m now) w.1 q in
       let l : end ≤ length w.0 = subst (λ (m : Option (List ℕ)). IfSome m (λ f. end ≤ length f)) w.1 room in
-      (t.0, t.1, way_headed file w.0 t.0 bytes place c p (omega (arith, l, spaced_low b end ss spaced, k.first)) w.2 t.2)
+      (t.0, t.1, way_headed file w.0 t.0 place p l w.2 t.2)
+
+  pub cut_headed : (held grown moved cleared now : Option (List ℕ)) (place : ℕ) → place ≡ 0 → grown ≡ after (λ file. longer file end) held → BothTold (IsLengthened end) held grown
+      → BothTold (IsKept (IsUnmoved ss)) grown moved → BothTold (IsKept (IsBeside (gaps (length head) end ss))) moved cleared
+      → BothTold (PartlyWritten place head) cleared now → BothTold (IsPartlyRewritten ss head end) held now
+  cut_headed held grown moved cleared now place p e g u v q =
+      by_head held cleared now place p (room_kept _ moved cleared end (room_kept _ grown moved end (room_grown held grown end e) u) v) (on_way_cleared held grown moved cleared g u v) q
 
 -- ---- what a relocation promises
 

@@ -190,25 +190,15 @@ attr_there name a vs k e =
     attr_at name a vs k there.0 there.1 (ap p (sym (get_or_from_slice_get vs k there.0 there.0 there.1)) ∙ found.1) found.2
     ∙ sym (given_is vs k there.0 a there.1)
 
-pub attr_nowhere : (name : List ℕ) (a : Attr) (vs : List Var) → position (λ (v : Var). bytes_eq v.name name) vs ≡ None → with_var_attr name a vs ≡ vs
-attr_nowhere name a vs e = all_other vs (fewer _ _ e)
-  where
-    fewer : (n m : ℕ) → cond (nat_lt n m) (Some n) None ≡ None → m ≤ n
-    fewer n m g = by_test (nat_lt n m) refl g
-      where
-        by_test : (t : Bool) → nat_lt n m ≡ t → cond t (Some n) None ≡ None → m ≤ n
-        by_test true f g = cc
-        by_test false f g = grind (arith, nat_tests)
+past_last : (n m : ℕ) → cond (nat_lt n m) (Some n) None ≡ None → m ≤ n
+past_last n m g = grind (arith, nat_tests)
 
-    all_other : (ws : List Var) → length ws ≤ prefix_len (λ (v : Var). not (bytes_eq v.name name)) ws → with_var_attr name a ws ≡ ws
-    all_other [] h = refl
-    all_other (w ∷ ws) h = by_name (bytes_eq w.name name) h (all_other ws)
-      where
-        by_name : (t : Bool) → length (w ∷ ws) ≤ cond (not t) (1 + prefix_len (λ (v : Var). not (bytes_eq v.name name)) ws) 0
-            → (length ws ≤ prefix_len (λ (v : Var). not (bytes_eq v.name name)) ws → with_var_attr name a ws ≡ ws)
-            → cond t (record w { attrs = w.attrs ++ a ∷ [] } ∷ ws) (w ∷ with_var_attr name a ws) ≡ w ∷ ws
-        by_name true g rest = absurd (omega arith)
-        by_name false g rest = ap (λ vs. w ∷ vs) (rest (omega arith))
+all_other : (name : List ℕ) (a : Attr) (vs : List Var) → length vs ≤ prefix_len (λ (v : Var). not (bytes_eq v.name name)) vs → with_var_attr name a vs ≡ vs
+all_other name a [] h = refl
+all_other name a (v ∷ vs) h = grind (arith, nat_tests, all_other name a vs)
+
+pub attr_nowhere : (name : List ℕ) (a : Attr) (vs : List Var) → position (λ (v : Var). bytes_eq v.name name) vs ≡ None → with_var_attr name a vs ≡ vs
+attr_nowhere name a vs e = all_other name a vs (past_last _ _ e)
 
 -- what the header has under an owner's name
 found_attrs : (header : Header) (owner : List ℕ) → attrs_of_var header owner ≡ elim (find_var header owner) [ None ↦ [] | Some k ↦ attrs_at header (Some k) ]

@@ -17,7 +17,7 @@ pub use Rattle.redef_laws.proofs.WrittenLaws.{found_fails}
 pub use Rattle.redef_laws.specs.Applied.{IsApplied}
 pub use Rattle.redef_laws.specs.RisingSlabs.{IsRisen, changes, first_slab, fixed_slabs, gaps, lowest_first, record_slabs, rising, slabs_of_record, stands_below}
 pub use Rattle.redef_laws.specs.Shifted.{AreShifted, IsMoved, new_end}
-pub use Rattle.redef_mover.specs.Carried.{IsCarriable, IsPartlyCarried, carried, carry_calls}
+pub use Rattle.redef_mover.specs.Carried.{IsCarriable, IsPartlyCarried, IsPartlyRewritten, carried, carry_calls, rewrite_calls}
 pub use Rattle.redef_mover.specs.Indexed.{IsIndexOf, attrs_among, attrs_at, given, has_name, is_same, place_of}
 pub use Rattle.redef_mover.specs.Kept.{IsBeside, IsKept, IsOutside, IsUnmoved}
 pub use Rattle.redef_mover.specs.Moves.{AreClearable, AreMovable, AreSpaced, AreSteps, IsMovable, all_calls, all_cleared, all_moved, behind, cleared, first_slabs, further, gap_calls, gaps_before, is_kind, listed, slab_calls, slab_moved, slab_of, slabs_at, window, window_calls}

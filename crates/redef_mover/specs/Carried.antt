@@ -3,6 +3,7 @@
 --     carried old new file           the file, longer where it is too short, with its slabs at the new places, zeros in the gaps, and the new header
 --     carry_calls z old new file     the calls, in windows of z bytes
 --     IsPartlyCarried old new file left      what it leaves of a file where it is refused
+--     rewritten, rewrite_calls, IsPartlyRewritten      the same, by the slabs, the bytes of the header and the end
 use Rattle.std.specs.Prelude.{◌≡◌, ℕ, ◌+◌, ◌^◌, ◌<◌, ◌≤◌, max, ◌⊎◌, List, [], ◌∷◌, ◌++◌, length, reverse, true}
 use Rattle.nc_base.specs.declared.header.Header.{Header}
 use Rattle.nc_base.specs.declared.step.DiskCall.{DiskCall}
@@ -23,22 +24,30 @@ pub record IsCarriable (old new : Header) : Type 0 where
   pub risen : IsRisen (header_len old) (header_len new) (rising old new)
   pub inside : (s : Slab) → In (rising old new) s → s.to + s.len ≤ new_end old new
 
+-- ---- with its slabs at the new places, in a file that ends at `end`, and with these bytes at its front
+
+abbrev pub rewritten : List Slab → List ℕ → ℕ → List ℕ → List ℕ
+rewritten ss head end file = written (all_cleared (all_moved (longer file end) (reverse ss)) (gaps (length head) end ss)) 0 head
+
+-- so many bytes at the front
+abbrev pub rewrite_calls : ℕ → List Slab → ℕ → ℕ → List ℕ → List DiskCall
+rewrite_calls z ss n end file = grow_to (length file) end ++ all_calls z (reverse ss) ++ gap_calls z (gaps n end ss) ++ Store 0 n ∷ []
+
+-- At the front each byte is old or the new one; bytes past the end stay, and those of each slab that has its place already.
+pub record IsPartlyRewritten (ss : List Slab) (front : List ℕ) (end : ℕ) (file left : List ℕ) : Type 0 where
+  pub long : length file ≤ length left
+  pub short : length left ≤ max (length file) end
+  pub head : (x : ℕ) → x < length front → (at left x ≡ at file x) ⊎ (at left x ≡ at front x)
+  pub past : (x : ℕ) → end ≤ x → at left x ≡ at file x
+  pub stays : (s : Slab) → In ss s → s.from ≡ s.to → (x : ℕ) → s.to ≤ x → x < s.to + s.len → at left x ≡ at file x
+
+-- ---- the same of two headers
+
 abbrev pub carried : Header → Header → List ℕ → List ℕ
-carried old new file =
-    let end = new_end old new in
-    let moved = all_moved (longer file end) (reverse (rising old new)) in
-    written (all_cleared moved (gaps (header_len new) end (rising old new))) 0 (canon new)
+carried old new file = rewritten (rising old new) (canon new) (new_end old new) file
 
 abbrev pub carry_calls : ℕ → Header → Header → List ℕ → List DiskCall
-carry_calls z old new file =
-    let end = new_end old new in
-    grow_to (length file) end ++ all_calls z (reverse (rising old new)) ++ gap_calls z (gaps (header_len new) end (rising old new)) ++ Store 0 (header_len new) ∷ []
+carry_calls z old new file = rewrite_calls z (rising old new) (header_len new) (new_end old new) file
 
--- Where the new header stands, each byte is old or that of the header; bytes past the new end stay, and those of each slab that
--- has its place already.
-pub record IsPartlyCarried (old new : Header) (file left : List ℕ) : Type 0 where
-  pub long : length file ≤ length left
-  pub short : length left ≤ max (length file) (new_end old new)
-  pub head : (x : ℕ) → x < header_len new → (at left x ≡ at file x) ⊎ (at left x ≡ at (canon new) x)
-  pub past : (x : ℕ) → new_end old new ≤ x → at left x ≡ at file x
-  pub stays : (s : Slab) → In (rising old new) s → s.from ≡ s.to → (x : ℕ) → s.to ≤ x → x < s.to + s.len → at left x ≡ at file x
+abbrev pub IsPartlyCarried : Header → Header → List ℕ → List ℕ → Type 0
+IsPartlyCarried old new file left = IsPartlyRewritten (rising old new) (canon new) (new_end old new) file left

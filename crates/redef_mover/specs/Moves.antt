@@ -11,7 +11,7 @@
 --     cleared file g          the file with zeros in a gap, given by its place and length
 --     all_cleared file gaps   the same of many gaps
 --     gaps_before at ss       the gaps before slabs, from `at` on, and behind at ss the place behind the last of them
---     IsMovable long z room s      a slab moves up or stays in a file so long, and a buffer so long holds a window of it
+--     IsMovable long z room s      a slab moves up or stays in a file so long, its end is a number of the code, and a buffer so long holds a window of it
 --     AreMovable, AreListed        the same of all slabs, and of those of the lists, whose steps to each record are numbers of the code
 --     AreSpaced at end ss          slabs lie one behind another from `at` to the end at the latest
 --     AreClearable long z room at ss      the same to an end in a file so long, and a buffer so long holds a window of each gap
@@ -74,6 +74,7 @@ all_calls z ss = flat_map (slab_calls z) (filter changes ss)
 pub record IsMovable (long z room : ℕ) (s : Slab) : Type 0 where
   pub up : s.from ≤ s.to
   pub inside : s.to + s.len ≤ long
+  pub small : s.to + s.len < 2 ^ 64
   pub fits : min z s.len ≤ room
 
 abbrev pub AreMovable : ℕ → ℕ → ℕ → List Slab → Type 0

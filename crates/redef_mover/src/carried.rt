@@ -1,19 +1,17 @@
 // A whole relocation, of headers whose slabs rise.
-ghost use Rattle.std.specs.Prelude.{◌≡◌, ◌≤◌, ◌<◌, ◌^◌, max, length, IfSome, OnOk, OnErr};
+ghost use Rattle.std.specs.Prelude.{◌≡◌, ◌≤◌, ◌<◌, ◌^◌, length, min, IfSome, OnOk, OnErr};
 ghost use Rattle.nc_outside.specs.Cause.{HasDiskCause};
 ghost use Rattle.nc_outside.specs.Told.{after, with_end, BothTold};
 ghost use Rattle.redef_laws.specs.Shifted.{new_end};
-ghost use Rattle.redef_mover.specs.Carried.{carried, carry_calls, IsCarriable, IsPartlyCarried};
-ghost use Rattle.serial_spec.specs.DeviceCalls.{grow_to};
-ghost use Rattle.serial_spec.specs.File.{longer};
-ghost use Rattle.serial_spec.specs.Torn.{IsLengthened};
+ghost use Rattle.redef_mover.specs.Carried.{carried, carry_calls, rewrite_calls, rewritten, IsCarriable, IsPartlyCarried, IsPartlyRewritten};
+ghost use Rattle.redef_mover.specs.Moves.{listed, AreListed, AreSpaced};
 
 use crate::gaps::{Zeros, clear_gaps};
 use crate::moving::move_all;
 use crate::slabs::Slabs;
 use cdf_header::encode;
 use nc_base::{Header, StepErr};
-use nc_outside::Disk;
+use nc_outside::{Disk, grow_to};
 use std::alloc::Global;
 use var_layout::end_of;
 
@@ -43,30 +41,39 @@ pub(crate) fn carry<D: Disk>(
     let slabs = Slabs::new(alloc, old, new)?;
     let head = encode(alloc, new)?;
     let mut buf = vec![in alloc; 0; size.min(end) as usize]?;
-    grow_to(alloc, disk, end)?;
-    move_all(alloc, disk, &slabs, size, &mut buf)?;
-    buf.fill(0);
-    let zeros = Zeros {
-        bytes: &buf,
-        window: size,
-    };
-    clear_gaps(alloc, disk, &slabs, head.len() as u64, end, zeros)?;
-    disk.write_at(alloc, 0, head.as_slice())
+    rewrite(alloc, disk, &slabs, head.as_slice(), end, size, &mut buf)
 }
 
-// Makes the file longer, if it is too short.
-fn grow_to<D: Disk>(alloc: Global, disk: &mut D, end: u64) -> Result<(), StepErr>
+// Makes the file as long as `end`, moves the slabs, writes zeros between them, and the bytes of the head last. It takes no memory for itself.
+fn rewrite<D: Disk>(
+    alloc: Global,
+    disk: &mut D,
+    slabs: &Slabs,
+    head: &[u8],
+    end: u64,
+    size: u64,
+    buf: &mut [u8],
+) -> Result<(), StepErr>
     requires from { D.from disk.old ≡ 0 }
-    requires below { end < 2 ^ 63 }
-    ensures bytes { OnOk result (D.held disk.new ≡ after (λ file. longer file end) (D.held disk.old)) }
-    ensures grown { BothTold (IsLengthened end) (D.held disk.old) (D.held disk.new) }
-    ensures calls { OnOk result (IfSome (D.held disk.old) (λ file. D.calls disk.new ≡ with_end (D.calls disk.old) (grow_to (length file) end))) }
+    requires slabs { AreListed end size (length buf.old) slabs.now }
+    requires spaced { AreSpaced (length head.now) end (listed slabs.now) }
+    requires below { end < 2 ^ 62 }
+    requires some { 1 ≤ size }
+    requires room { min size end ≤ length buf.old }
+    ensures bytes { OnOk result (D.held disk.new ≡ after (rewritten (listed slabs.now) head.now end) (D.held disk.old)) }
+    ensures refused { OnErr result (BothTold (IsPartlyRewritten (listed slabs.now) head.now end) (D.held disk.old) (D.held disk.new)) }
+    ensures calls { OnOk result (IfSome (D.held disk.old) (λ file. D.calls disk.new ≡ with_end (D.calls disk.old) (rewrite_calls size (listed slabs.now) (length head.now) end file))) }
     ensures from { D.from disk.new ≡ 0 }
-    ensures len { OnOk result (D.len disk.new ≡ max (D.len disk.old) end) }
+    ensures len { OnOk result (end ≤ D.len disk.new) }
     ensures cause { HasDiskCause (D.faults disk.old) (D.faults disk.new) result }
 {
-    if disk.size() < end {
-        disk.grow(alloc, end)?;
-    }
-    Ok(())
+    grow_to(alloc, disk, end)?;
+    move_all(alloc, disk, slabs, size, buf)?;
+    buf.fill(0);
+    let zeros = Zeros {
+        bytes: buf,
+        window: size,
+    };
+    clear_gaps(alloc, disk, slabs, head.len() as u64, end, zeros)?;
+    disk.write_at(alloc, 0, head)
 }

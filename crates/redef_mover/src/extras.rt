@@ -58,8 +58,13 @@ fn with_extra<'a>(
     match extra {
         Extra::Dim(dim) => header.with_dim(alloc, dim),
         Extra::Var { kind, name, dims } => {
-            let var = new_var(alloc, &header, *kind, name, dims)?;
-            header.with_var(name.as_slice(), var)
+            match new_var(alloc, &header, *kind, name, dims) {
+                Ok(var) => header.with_var(name.as_slice(), var),
+                Err(fault) => {
+                    drop(header);
+                    Err(fault)
+                }
+            }
         }
         Extra::Att { owner: None, attr } => header.with_attr(alloc, attr),
         Extra::Att {

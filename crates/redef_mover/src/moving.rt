@@ -60,7 +60,6 @@ fn move_slabs<D: Disk>(
     ensures len { D.len disk.new ≡ D.len disk.old }
     ensures cause { HasDiskCause (D.faults disk.old) (D.faults disk.new) result }
 {
-    let _length = disk.size();
     for k in (0..slabs.len()).rev() {
         move_changed(alloc, disk, &slabs[k].further(offset), size, buf)?;
     }
@@ -109,7 +108,6 @@ fn move_slab<D: Disk>(
     ensures len { D.len disk.new ≡ D.len disk.old }
     ensures cause { HasDiskCause (D.faults disk.old) (D.faults disk.new) result }
 {
-    let _length = disk.size();
     for number in 0..slab.len.div_ceil(size) {
         move_window(alloc, disk, &slab.window(size, number), buf)?;
     }
@@ -134,7 +132,6 @@ fn move_window<D: Disk>(
     ensures len { D.len disk.new ≡ D.len disk.old }
     ensures cause { HasDiskCause (D.faults disk.old) (D.faults disk.new) result }
 {
-    let _length = disk.size();
     let bytes = &mut buf[..window.len as usize];
     disk.read_at(alloc, window.from, bytes)?;
     disk.write_at(alloc, window.to, bytes)

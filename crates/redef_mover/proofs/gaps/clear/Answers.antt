@@ -20,7 +20,7 @@ loop-window-preserved g c =
     record {
       from = c.in_ok-write_at.ensures.from ∙ c.loop-window.invariant.from;
       len = c.in_ok-write_at.ensures.len ∙ c.loop-window.invariant.len;
-      bytes = told_more _ _ _ _ _ _ c.size-length.ensures.told (λ file e. window_cleared _ _ _ _ _ _ _ _ _ (omega arith) inside c.min.ensures zeros c.loop-window.invariant.from refl) c.loop-window.invariant.bytes c.in_ok-write_at.ensures.bytes;
+      bytes = told_more _ _ _ _ _ _ (g.D.Disk.told c.args.disk.now) (λ file e. window_cleared _ _ _ _ _ _ _ _ _ (omega arith) inside c.min.ensures zeros c.loop-window.invariant.from refl) c.loop-window.invariant.bytes c.in_ok-write_at.ensures.bytes;
       calls = calls_more _ _ _ _ _ _ (stores_more _ _ _ _ _ _ _ refl c.min.ensures (zeros_count _ _ zeros)) c.loop-window.invariant.calls c.in_ok-write_at.ensures.calls;
       faults = omega arith;
     }
@@ -54,8 +54,8 @@ returns-in_err-write_at-clause-kept g c =
     let some = c.min.ensures in
     let zero = c.loop-window.invariant.from in
     let place : x + j * z - g.D.Disk.from c.loop-window.disk ≡ x + j * z = omega arith in
-    let before = first_kept _ _ _ _ _ _ c.size-length.ensures.told (omega arith) end c.loop-window.invariant.bytes in
-    kept_more _ _ _ _ _ (λ y h. outside_part _ _ _ _ _ (omega arith) (omega arith) h) before (kept_written _ _ _ _ _ _ _ _ _ (kept_long _ _ _ _ c.size-length.ensures.told before) refl place (zeros_count _ _ zeros) (omega arith) c.write_at.ensures.bytes c.write_at.ensures.refused)
+    let before = first_kept _ _ _ _ _ _ (g.D.Disk.told c.args.disk.now) (omega arith) end c.loop-window.invariant.bytes in
+    kept_more _ _ _ _ _ (λ y h. outside_part _ _ _ _ _ (omega arith) (omega arith) h) before (kept_written _ _ _ _ _ _ _ _ _ (kept_long _ _ _ _ (g.D.Disk.told c.args.disk.now) before) refl place (zeros_count _ _ zeros) (omega arith) c.write_at.ensures.bytes c.write_at.ensures.refused)
 
 pub returns-clause-kept : goal.returns-clause-kept
-returns-clause-kept g c = first_kept _ _ _ _ _ _ c.size-length.ensures.told (omega arith) c.requires.inside c.loop-window.invariant.bytes
+returns-clause-kept g c = first_kept _ _ _ _ _ _ (g.D.Disk.told c.args.disk.now) (omega arith) c.requires.inside c.loop-window.invariant.bytes

@@ -11,7 +11,7 @@ some_movable long now z room more some all h e f within s i =
     let up = fit.up in
     let inside = fit.inside in
     let fits = fit.fits in
-    record { up = up; inside = omega arith; fits = omega arith }
+    record { up = up; inside = omega arith; small = fit.small; fits = omega arith }
 
 pub move_slabs-requires-clause-movable : goal.move_slabs-requires-clause-movable
 move_slabs-requires-clause-movable g c κs within =

@@ -18,7 +18,7 @@ loop-number-preserved g c =
     record {
       from = c.in_ok-move_window.ensures.from;
       len = c.in_ok-move_window.ensures.len ∙ c.loop-number.invariant.len;
-      bytes = told_more _ _ _ _ _ _ c.size-length.ensures.told (λ file e. ap (λ w. slab_moved (slab_moved file (upper z s j)) w) c.window.ensures ∙ window_moved _ _ _ _ up inside (omega arith)) c.loop-number.invariant.bytes c.in_ok-move_window.ensures.bytes;
+      bytes = told_more _ _ _ _ _ _ (g.D.Disk.told c.args.disk.now) (λ file e. ap (λ w. slab_moved (slab_moved file (upper z s j)) w) c.window.ensures ∙ window_moved _ _ _ _ up inside (omega arith)) c.loop-number.invariant.bytes c.in_ok-move_window.ensures.bytes;
       calls = calls_more _ _ _ _ _ _ (ap (λ w. calls_before z s j ++ window_calls w) c.window.ensures ∙ window_called _ _ _) c.loop-number.invariant.calls c.in_ok-move_window.ensures.calls;
       faults = omega arith;
     }
@@ -29,7 +29,7 @@ returns-clause-bytes g c =
     let same : c.loop-number.number ≡ c.div_ceil-number-end.result = omega arith in
     let times : c.loop-number.number * c.args.size ≡ c.div_ceil-number-end.result * c.args.size = ap (λ (n : ℕ). n * c.args.size) same in
     omega arith) in
-    told_end _ _ _ _ c.size-length.ensures.told (λ file e. whole_moved _ _ _ _ reached) c.loop-number.invariant.bytes
+    told_end _ _ _ _ (g.D.Disk.told c.args.disk.now) (λ file e. whole_moved _ _ _ _ reached) c.loop-number.invariant.bytes
 
 pub returns-clause-calls : goal.returns-clause-calls
 returns-clause-calls g c = c.loop-number.invariant.calls
@@ -37,7 +37,7 @@ returns-clause-calls g c = c.loop-number.invariant.calls
 
 pub returns-in_err-move_window-clause-kept : goal.returns-in_err-move_window-clause-kept
 returns-in_err-move_window-clause-kept g c =
-    kept_more _ _ _ _ _ (λ x h. outside_window _ _ _ _ _ c.window.ensures h) (upper_kept _ _ _ _ _ _ c.size-length.ensures.told c.requires.movable.inside c.loop-number.invariant.bytes) c.in_err-move_window.ensures.kept
+    kept_more _ _ _ _ _ (λ x h. outside_window _ _ _ _ _ c.window.ensures h) (upper_kept _ _ _ _ _ _ (g.D.Disk.told c.args.disk.now) c.requires.movable.inside c.loop-number.invariant.bytes) c.in_err-move_window.ensures.kept
 
 pub returns-clause-kept : goal.returns-clause-kept
-returns-clause-kept g c = upper_kept _ _ _ _ _ _ c.size-length.ensures.told c.requires.movable.inside c.loop-number.invariant.bytes
+returns-clause-kept g c = upper_kept _ _ _ _ _ _ (g.D.Disk.told c.args.disk.now) c.requires.movable.inside c.loop-number.invariant.bytes

@@ -15,7 +15,7 @@ pub further-requires : goal.further-requires
 further-requires g c =
     let here = fit _ c.args.size _ c.args.offset.old c.args.offset.new (c.loop-k.k - 1) c.args.slabs.now _ c.requires.movable (omega arith) refl in
     let up = here.up in
-    let inside = here.inside in
+    let small = here.small in
     record { old_end = omega arith; end = omega arith }
 
 pub move_changed-requires-clause-movable : goal.move_changed-requires-clause-movable
@@ -25,7 +25,7 @@ move_changed-requires-clause-movable g c κs within =
     let inside = here.inside in
     let fits = here.fits in
     let same = c.loop-k.invariant.len in
-    record { up = up; inside = omega arith; fits = omega arith }
+    record { up = up; inside = omega arith; small = here.small; fits = omega arith }
 
 pub loop-k-init : goal.loop-k-init
 loop-k-init g c = record {

@@ -6,7 +6,7 @@ use Rattle.redef_mover.proofs.moving.move_window.Goals as goal
 
 pub returns-clause-bytes : goal.returns-clause-bytes
 returns-clause-bytes g c = on_ok_weaker c.write_at.result
-    (window_told _ _ _ _ _ _ _ _ _ c.size-length.ensures.told c.requires.old_end (length-take c.args.window.now.len c.args.buf.now ∙ (let room = c.requires.room in omega arith)) c.requires.from c.in_ok-read_at.ensures.from c.in_ok-read_at.ensures.read c.in_ok-read_at.ensures.bytes)
+    (window_told _ _ _ _ _ _ _ _ _ (g.D.Disk.told c.args.disk.now) c.requires.old_end (length-take c.args.window.now.len c.args.buf.now ∙ (let room = c.requires.room in omega arith)) c.requires.from c.in_ok-read_at.ensures.from c.in_ok-read_at.ensures.read c.in_ok-read_at.ensures.bytes)
     c.write_at.ensures.bytes
 
 pub returns-in_err-read_at-clause-kept : goal.returns-in_err-read_at-clause-kept
@@ -19,4 +19,4 @@ returns-clause-kept g c =
     let place : c.args.window.now.to - g.D.Disk.from c.read_at.new.self ≡ c.args.window.now.to = omega arith in
     let room = c.requires.room in
     let long : length c.read_at.new.into ≡ c.args.window.now.len = c.read_at.auto.into ∙ length-take c.args.window.now.len c.args.buf.now ∙ omega arith in
-    kept_written _ _ _ _ _ _ _ _ _ c.size-length.ensures.told c.in_ok-read_at.ensures.bytes place long c.requires.end c.write_at.ensures.bytes c.write_at.ensures.refused
+    kept_written _ _ _ _ _ _ _ _ _ (g.D.Disk.told c.args.disk.now) c.in_ok-read_at.ensures.bytes place long c.requires.end c.write_at.ensures.bytes c.write_at.ensures.refused
