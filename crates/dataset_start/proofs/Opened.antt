@@ -1,5 +1,5 @@
 -- The front of a file that is opened, and the file made longer.
-use Rattle.dataset_start.proofs.Words.{◌≡◌, ℕ, ◌^◌, ◌≤◌, List, [], ◌++◌, length, take, drop, min, Option, Some, None, refl, sym, ap, inl, inr, ◌⊎◌, subst, ◌∙◌, arith, IfSome, Result, Ok, Err, IsErrAnd, cases_lt, DiskCall, after, with_end, head_load, take-append-drop, take_all, HeaderErr, IsOpened, stop_of_header, Stop, Memory, Spells, first_check, HasFault, fault_only, spells_once, BeginsWith, nat_tests}
+use Rattle.dataset_start.proofs.Words.{grow_to, if◌then◌else◌, is_ok, OnOk, ◌≡◌, ℕ, ◌^◌, ◌≤◌, List, [], ◌++◌, length, take, drop, min, Option, Some, None, refl, sym, ap, inl, inr, ◌⊎◌, subst, ◌∙◌, arith, IfSome, Result, Ok, Err, IsErrAnd, cases_lt, DiskCall, after, with_end, head_load, take-append-drop, take_all, HeaderErr, IsOpened, stop_of_header, Stop, Memory, Spells, first_check, HasFault, fault_only, spells_once, BeginsWith, nat_tests}
 use Rattle.dataset_start.specs.Dataset as headline
 use Rattle.dataset_start.specs.declared.stop.Stop.TheVariants.{Header}
 use Rattle.nc_base.specs.declared.errors.HeaderErr.TheVariants as fault
@@ -35,6 +35,18 @@ front_is bytes n e = elim (cases_lt (2 ^ 20) (length bytes)) [
 pub read_front : (held : Option (List ℕ)) (len n : ℕ) (read : List ℕ) → IfSome held (λ bytes. length bytes ≡ len) → n ≡ min len (2 ^ 20)
     → IfSome held (λ bytes. read ≡ take n (drop 0 bytes)) → IfSome held (λ file. read ≡ headline.front file)
 read_front held len n read told e h = grind (arith, nat_tests, front_is)
+
+-- nothing is read of a file that is empty
+pub empty_front : (held : Option (List ℕ)) (len : ℕ) → IfSome held (λ bytes. length bytes ≡ len) → min len (2 ^ 20) ≡ 0 → IfSome held (λ file. [] ≡ headline.front file)
+empty_front None len told e = tt
+empty_front (Some file) len told e = front_is file 0 (omega (arith, told, e))
+
+-- the calls by which a file that is told is made longer, where they were answered Ok
+pub grown_calls : {T E : Type 0} (r : Result T E) (held : Option (List ℕ)) (told now : Option (List DiskCall)) (len end most : ℕ) → IfSome held (λ bytes. length bytes ≡ len) → end ≡ most
+    → now ≡ (if is_ok r then with_end told (grow_to len end) else told) → OnOk r (IfSome held (λ file. now ≡ with_end told (grow_to (length file) most)))
+grown_calls (Ok x) None told now len end most l e g = tt
+grown_calls (Ok x) (Some file) told now len end most l e g = g ∙ ap (λ (n : ℕ). with_end told (grow_to n end)) (sym l) ∙ ap (λ (n : ℕ). with_end told (grow_to (length file) n)) e
+grown_calls (Err x) held told now len end most l e g = tt
 
 -- ---- what the front that was read tells of the file
 

@@ -1,5 +1,5 @@
 -- The words of this crate's proofs, from where they stand.
-pub use Rattle.list_laws.proofs.Std.{Bool, IfErr, IfOk, IfSome, IsErrAnd, IsSomeAnd, List, None, Option, Some, [], ap, append_assoc, arith, both_ways, cases_lt, common_steps, drop, drop-replicate, false, if◌then◌else◌, inl, inr, length, length-replicate, length-take, list_all, min, nat_tests, on_err_weaker, refl, replicate, rules, subst, sym, take, take-add, take-append-drop, take_all, take_rest, true, vec_len, with_items, with_items_is, ℕ, ◌++◌, ◌+◌, ◌-◌, ◌<◌, ◌^◌, ◌∙◌, ◌∷◌, ◌≡◌, ◌≤◌, ◌⊎◌}
+pub use Rattle.list_laws.proofs.Std.{Bool, IfErr, IfOk, IfSome, IsErrAnd, IsSomeAnd, List, None, Option, OnOk, Some, [], ap, append_assoc, arith, both_ways, cases_lt, common_steps, drop, drop-replicate, false, if◌then◌else◌, inl, inr, is_ok, length, length-replicate, length-take, list_all, min, nat_tests, on_err_weaker, refl, replicate, rules, subst, sym, take, take-add, take-append-drop, take_all, take_rest, true, vec_len, with_items, with_items_is, ℕ, ◌++◌, ◌+◌, ◌-◌, ◌<◌, ◌^◌, ◌∙◌, ◌∷◌, ◌≡◌, ◌≤◌, ◌⊎◌}
 pub use Rattle.std.proofs.Common.{eqb-true, fold, zip, ◌==◌}
 pub use Rattle.std.proofs.lemmas.List.{length-append}
 pub use Rattle.std.specs.Prelude.{Err, Ok, Result}

@@ -16,7 +16,7 @@ use crate::redefined::redefine;
 use crate::stop::Stop;
 use cdf_header::decode;
 use nc_base::{Header, MAX_HEADER_BYTES, Script, StepErr};
-use nc_outside::Disk;
+use nc_outside::{Disk, grow_to};
 use std::alloc::Global;
 use var_layout::end_of;
 
@@ -120,8 +120,5 @@ fn lengthen<D: Disk>(alloc: Global, disk: &mut D, header: &Header) -> Result<(),
     ensures cause { HasDiskCause (D.faults disk.old) (D.faults disk.new) result }
 {
     let end = end_of(header, header.records);
-    if disk.size() < end {
-        disk.grow(alloc, end)?;
-    }
-    Ok(())
+    grow_to(alloc, disk, end)
 }

@@ -1,5 +1,5 @@
 use Rattle.dataset_start.proofs.Words.{◌≡◌, ◌-◌, ◌^◌, min, ℕ, List, take, drop, length, sym, subst, arith, rules, IfSome, with_items, with_items_is, front}
-use Rattle.dataset_start.proofs.Opened.{read_front}
+use Rattle.dataset_start.proofs.Opened.{empty_front, read_front}
 use Rattle.dataset_start.proofs.existing.read_front.Goals as goal
 
 pub returns-clause-bytes : goal.returns-clause-bytes
@@ -8,5 +8,10 @@ returns-clause-bytes g c =
     let len : length c.deref_mut.result.now ≡ min (g.D.Disk.len c.args.disk.now) (2 ^ 20) = search rules in
     let place : 0 - g.D.Disk.from c.args.disk.now ≡ 0 = omega arith in
     subst (λ (t : List ℕ). IfSome (g.D.Disk.held c.args.disk.now) (λ file. t ≡ front file)) (sym back)
-    (read_front (g.D.Disk.held c.args.disk.now) (g.D.Disk.len c.args.disk.now) (length c.deref_mut.result.now) c.read_at.new.into c.size.ensures.told len
+    (read_front (g.D.Disk.held c.args.disk.now) (g.D.Disk.len c.args.disk.now) (length c.deref_mut.result.now) c.read_at.new.into (g.D.Disk.told c.args.disk.now) len
     (subst (λ (x : ℕ). IfSome (g.D.Disk.held c.args.disk.now) (λ bytes. c.read_at.new.into ≡ take (length c.deref_mut.result.now) (drop x bytes))) place c.in_ok-read_at.ensures.read))
+
+pub returns-then-len-eq0-clause-bytes : goal.returns-then-len-eq0-clause-bytes
+returns-then-len-eq0-clause-bytes g c =
+    let none : min (g.D.Disk.len c.args.disk.now) (2 ^ 20) ≡ 0 = omega arith in
+    rw c.new.ensures.items (empty_front (g.D.Disk.held c.args.disk.now) (g.D.Disk.len c.args.disk.now) (g.D.Disk.told c.args.disk.now) none)
