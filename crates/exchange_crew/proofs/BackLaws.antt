@@ -3,11 +3,11 @@ use Rattle.exchange_crew.proofs.Words.{◌≡◌, ℕ, zero, suc, ◌+◌, ◌<�
 
 -- ---- two lists, place by place
 
--- each beside what was found at its place
-pub zip_push : {A B : Type 0} (xs : List A) (ys : List B) (x : A) (y : B) → slice_get ys (length xs) ≡ Some y → zip (xs ++ x ∷ []) ys ≡ zip xs ys ++ (x, y) ∷ []
-zip_push [] (z ∷ ys) x y e = let same : z ≡ y = cc in λ i. (x, same i) ∷ []
-zip_push (w ∷ xs) (z ∷ ys) x y e = λ i. (w, z) ∷ zip_push xs ys x y e i
-zip_push _ _ x y e = absurd cc
+-- each beside what stands at its place, and one place more
+pub zip_next : {A B : Type 0} (xs : List A) (ys : List B) (k : ℕ) (x : A) (y : B) → slice_get xs k ≡ Some x → slice_get ys k ≡ Some y → zip (take (suc k) xs) ys ≡ zip (take k xs) ys ++ (x, y) ∷ []
+zip_next (z ∷ xs) (w ∷ ys) zero x y e f = let a : z ≡ x = cc in let b : w ≡ y = cc in λ i. (a i, b i) ∷ []
+zip_next (z ∷ xs) (w ∷ ys) (suc k) x y e f = λ i. (z, w) ∷ zip_next xs ys k x y e f i
+zip_next _ _ k x y e f = absurd cc
 
 pub some_more : {A B : Type 0} (R : A → B → Type 0) (xs : List A) (ys : List B) (x : A) (y : B) → SomeZip R xs ys → SomeZip R (xs ++ x ∷ []) (ys ++ y ∷ [])
 some_more R (a ∷ xs) (b ∷ ys) x y (inl r) = inl r
@@ -95,40 +95,26 @@ longest_more size i list d old new l each here grown e m = grind (arith, nat_tes
 
 -- ---- one part more came back
 
--- what was done on the parts that came back, and a fault among them
-pub record IsBack {A B D T : Type 0} (Done : Result T StepErr → A → D → Type 0) (Failing : B → D → Type 0) (pairs : List A) (xs : List B) (back : List D) (end : Result T StepErr) : Type 0 where
+-- what was done on the parts of helpers that came back, and a fault among them
+pub record IsBack {S D T : Type 0} (Done : Result T StepErr → S → D → Type 0) (Failing : S → D → Type 0) (xs : List S) (back : List D) (end : Result T StepErr) : Type 0 where
   pub long : length back ≡ length xs
-  pub done : AllZip (Done end) pairs back
+  pub done : AllZip (Done end) xs back
   pub failed : IsErrOf end Disk → SomeZip Failing xs back
 
 -- what was done stays so where the end is no better
 abbrev pub IsLater : {A D T : Type 0} → (Result T StepErr → A → D → Type 0) → Type 0
 IsLater {A} {D} {T} Done = (r q : Result T StepErr) (p : A) (d : D) → OnOk q (IsOk r) → Done r p d → Done q p d
 
-pub one_back : {A B D T : Type 0} (Done : Result T StepErr → A → D → Type 0) (Failing : B → D → Type 0) (pairs more : List A) (pair : A) (xs : List B) (x : B) (back now : List D) (y : D)
-    (end came : Result T StepErr) → IsLater Done → more ≡ pairs ++ pair ∷ [] → now ≡ back ++ y ∷ [] → OnOk came (IsOk end) → IsBack Done Failing pairs xs back end → Done came pair y
-    → (IsErrOf came Disk → IsErrOf end Disk ⊎ Failing x y) → IsBack Done Failing more (xs ++ x ∷ []) now came
-one_back Done Failing pairs more pair xs x back now y end came later e pushed ok s own fault = rw (e, pushed) (record {
-  long = omega (arith, length-append xs (x ∷ []), length-append back (y ∷ []), s.long);
-  done = all_zipped_more (Done came) pairs back pair y (zip_weaker (Done end) (Done came) pairs back (λ p d h. later end came p d ok h) s.done) own;
-  failed = λ f. elim (fault f) [ inl g ↦ some_more Failing xs back x y (s.failed g) | inr r ↦ some_last Failing xs back x y s.long r ];
-})
-
--- one of a helper that was joined
 pub joined_back : {S D T : Type 0} (Done : Result T StepErr → S → D → Type 0) (Failing : S → D → Type 0) (xs : List S) (x : S) (back now : List D) (y : D) (end came both : Result T StepErr)
-    → IsLater Done → both ≡ result_and end came → now ≡ back ++ y ∷ [] → IsBack Done Failing xs xs back end → Done came x y → (IsErrOf came Disk → Failing x y)
-    → IsBack Done Failing (xs ++ x ∷ []) (xs ++ x ∷ []) now both
-joined_back Done Failing xs x back now y end came both later is pushed s own fault =
-    one_back Done Failing xs (xs ++ x ∷ []) x xs x back now y end both later refl pushed (and_first_ok end came both is) s (later came both x y (and_second_ok end came both is) own)
-    (λ f. elim (and_failed end came both is f) [ inl g ↦ inl g | inr r ↦ inr (fault r) ])
+    → IsLater Done → both ≡ result_and end came → now ≡ back ++ y ∷ [] → IsBack Done Failing xs back end → Done came x y → (IsErrOf came Disk → Failing x y)
+    → IsBack Done Failing (xs ++ x ∷ []) now both
+joined_back Done Failing xs x back now y end came both later is pushed s own fault = rw pushed (record {
+  long = omega (arith, length-append xs (x ∷ []), length-append back (y ∷ []), s.long);
+  done = all_zipped_more (Done both) xs back x y (zip_weaker (Done end) (Done both) xs back (λ p d h. later end both p d (and_first_ok end came both is) h) s.done)
+      (later came both x y (and_second_ok end came both is) own);
+  failed = λ f. elim (and_failed end came both is f) [ inl g ↦ some_more Failing xs back x y (s.failed g) | inr r ↦ some_last Failing xs back x y s.long (fault r) ];
+})
 
 pub err_not_ok : {T E : Type 0} (P : Type 0) (r : Result T E) → IsErr r → OnOk r P
 err_not_ok P (Ok x) e = absurd cc
 err_not_ok P (Err x) e = tt
-
--- ---- parts and domains at one place
-
-pub zip_same : {A B : Type 0} (Q : A × B → A → Type 0) (xs : List A) (ds : List B) → length ds ≡ length xs → ((x : A) (d : B) → Q (x, d) x) → AllZip Q (zip xs ds) xs
-zip_same Q (x ∷ xs) [] long f = absurd (omega arith)
-zip_same Q (x ∷ xs) (d ∷ ds) long f = (f x d, zip_same Q xs ds (omega arith) f)
-zip_same _ _ _ long f = tt

@@ -1,5 +1,5 @@
 -- Helpers that were handed parts one after another, each the next part.
-use Rattle.exchange_crew.proofs.Words.{ℕ, ◌≡◌, ◌+◌, ◌∙◌, List, [], ◌∷◌, ◌++◌, length, map, take, Option, None, Some, Result, Ok, Err, refl, sym, ap, subst, arith, append-nil, append_assoc, length-append, length-map, map-append, same_Some, slice_get, zip, ForSome, IfErr, IfOk, OnOk, AllZip, middle_at, take_next, Aggregator, AreHanded, Extent, HasAdded, In, IsDomainOf, IsNext, Owned, Shares, SomeZip, domain_in, in_either, nat_tests, ◌<◌, ◌≤◌, slice_get_within, drop, result_and}
+use Rattle.exchange_crew.proofs.Words.{ℕ, ◌≡◌, ◌+◌, ◌∙◌, List, [], ◌∷◌, ◌++◌, length, map, take, Option, None, Some, Result, Ok, Err, refl, sym, ap, subst, arith, append-nil, append_assoc, length-append, length-map, map-append, same_Some, slice_get, zip, ForSome, IfErr, IfOk, OnOk, AllZip, middle_at, take_next, Aggregator, AreHanded, Extent, HasAdded, In, IsDomainOf, IsNext, Owned, Shares, SomeZip, domain_in, in_either, nat_tests, ◌<◌, ◌≤◌, slice_get_within, drop, result_and, vec_capacity}
 use Rattle.exchange_crew.proofs.SplitLaws.{first_parts, parts_behind}
 use Rattle.exchange_crew.proofs.BackLaws.{some_mapped, zip_mapped, AreKept, map_new}
 
@@ -31,30 +31,8 @@ none_handed {W} Fresh part share domains shares no_workers no_rest = record {
   workers = λ worker m. absurd (subst (λ (ws : List W). In ws worker) no_workers m);
 }
 
--- the domain at the place of a part
-pub part_domain : {D : Type 0} (from len : D → ℕ) (list : List Owned) (domains : List Extent) (parts yielded more : List D) (own : D) (place : ℕ) (domain : Extent)
-    → ((k : ℕ) (p : D) (d : Extent) → slice_get parts k ≡ Some p → slice_get domains k ≡ Some d → IsDomainOf list (from p) (len p) d) → yielded ++ own ∷ more ≡ parts → place ≡ length yielded
-    → slice_get domains place ≡ Some domain → IsDomainOf list (from own) (len own) domain
-part_domain from len list domains parts yielded more own place domain all whole e at =
-    all (length yielded) own domain (middle_at yielded more parts own whole) (subst (λ (k : ℕ). slice_get domains k ≡ Some domain) e at)
-
--- those handed out are fewer than all parts
-pub handed_few : {W D : Type 0} (part : W → D) (shares : Shares W D) (parts yielded more : List D) (own : D) → yielded ++ own ∷ more ≡ parts → map part shares.workers.items ++ shares.rest.items ≡ yielded
-    → length shares.workers.items + length shares.rest.items < length parts
-handed_few part shares parts yielded more own whole handed =
-    omega (arith, workers_few part shares.workers.items shares.rest.items yielded handed, slice_get_within parts (length yielded) own (middle_at yielded more parts own whole))
-
--- the domain of the next aggregator
-pub next_domain : {W D : Type 0} (part : W → D) (from len : D → ℕ) (list : List Owned) (domains : List Extent) (parts yielded more : List D) (own : D) (shares : Shares W D) (next : Option Aggregator)
-    → ((k : ℕ) (p : D) (d : Extent) → slice_get parts k ≡ Some p → slice_get domains k ≡ Some d → IsDomainOf list (from p) (len p) d) → yielded ++ own ∷ more ≡ parts
-    → map part shares.workers.items ++ shares.rest.items ≡ yielded → IsNext domains shares next → ForSome next (λ a. IsDomainOf list (from own) (len own) a.domain)
-next_domain {W} {D} part from len list domains parts yielded more own shares next all whole handed n a e =
-    let few = workers_few part shares.workers.items shares.rest.items yielded handed in
-    let none = ap (λ (ds : List D). length ds) (n.none_left a e) in
-    part_domain from len list domains parts yielded more own (length shares.workers.items) a.domain all whole (omega arith) (n.domain a e)
-
 -- one part more was handed out, or is left
-pub handed_more : {W D : Type 0} (Fresh : W → Type 0) (part : W → D) (share : W → Extent) (domains : List Extent) (yielded : List D) (own : D) (old new : Shares W D) (next : Option Aggregator) (handed : Result W D)
+handed_more : {W D : Type 0} (Fresh : W → Type 0) (part : W → D) (share : W → Extent) (domains : List Extent) (yielded : List D) (own : D) (old new : Shares W D) (next : Option Aggregator) (handed : Result W D)
     → AreHanded Fresh part share domains yielded old → IsNext domains old next → HasAdded handed old new → IfOk handed Fresh → IfOk handed (λ worker. part worker ≡ own)
     → IfOk handed (λ worker. domain_in next ≡ Some (share worker)) → IfErr handed (λ back. back ≡ own) → AreHanded Fresh part share domains (yielded ++ own ∷ []) new
 handed_more {W} {D} Fresh part share domains yielded own old new (Some a) (Ok worker) h n e fresh is of kept = record {
@@ -71,6 +49,45 @@ handed_more {W} {D} Fresh part share domains yielded own old new next (Err back)
       of_domains = subst (λ (ws : List W). map share ws ≡ take (length ws) domains) (sym same) h.of_domains;
       workers = subst (λ (ws : List W). (worker : W) → In ws worker → Fresh worker) (sym same) h.workers;
     }
+
+-- ---- parts on their way to helpers
+
+-- each part so far was handed to a helper, or is left, and the lists have room for the others
+pub record IsHanding {W D : Type 0} (Fresh : W → Type 0) (part : W → D) (share : W → Extent) (domains : List Extent) (parts yielded left : List D) (first now : Shares W D) : Type 0 where
+  pub all : yielded ++ left ≡ parts
+  pub handed : AreHanded Fresh part share domains yielded now
+  pub workers_room : vec_capacity now.workers ≡ vec_capacity first.workers
+  pub rest_room : vec_capacity now.rest ≡ vec_capacity first.rest
+  pub back : now.back ≡ first.back
+
+module _ {W D : Type 0} {Fresh : W → Type 0} {part : W → D} {share : W → Extent} {domains : List Extent} {parts yielded left more : List D} {first now : Shares W D} {own : D}
+    (s : IsHanding Fresh part share domains parts yielded left first now) (e : left ≡ own ∷ more) where
+  next_part : yielded ++ own ∷ more ≡ parts
+  next_part = ap (λ (ds : List D). yielded ++ ds) (sym e) ∙ s.all
+
+  -- the domain of the next aggregator
+  pub handing_domain : (from len : D → ℕ) (list : List Owned) (next : Option Aggregator)
+      → ((k : ℕ) (p : D) (d : Extent) → slice_get parts k ≡ Some p → slice_get domains k ≡ Some d → IsDomainOf list (from p) (len p) d) → IsNext domains now next
+      → ForSome next (λ a. IsDomainOf list (from own) (len own) a.domain)
+  handing_domain from len list next all n a h =
+      let many = workers_few part now.workers.items now.rest.items yielded s.handed.of_parts in
+      let none = ap (λ (ds : List D). length ds) (n.none_left a h) in
+      let place : length now.workers.items ≡ length yielded = omega arith in
+      all (length yielded) own a.domain (middle_at yielded more parts own next_part) (rw place at (n.domain a h))
+
+  pub handing_few : length now.workers.items + length now.rest.items < length parts
+  handing_few =
+      omega (arith, workers_few part now.workers.items now.rest.items yielded s.handed.of_parts, slice_get_within parts (length yielded) own (middle_at yielded more parts own next_part))
+
+  pub handing_next : (new : Shares W D) (next : Option Aggregator) (handed : Result W D) → IsNext domains now next → HasAdded handed now new → IfOk handed Fresh → IfOk handed (λ worker. part worker ≡ own)
+      → IfOk handed (λ worker. domain_in next ≡ Some (share worker)) → IfErr handed (λ back. back ≡ own) → IsHanding Fresh part share domains parts (yielded ++ own ∷ []) more first new
+  handing_next new next handed n added fresh is of kept = record {
+    all = append_assoc yielded (own ∷ []) more ∙ next_part;
+    handed = handed_more Fresh part share domains yielded own now new next handed s.handed n added fresh is of kept;
+    workers_room = added.workers_room ∙ s.workers_room;
+    rest_room = added.rest_room ∙ s.rest_room;
+    back = added.back ∙ s.back;
+  }
 
 -- ---- one part more came back
 

@@ -6,3 +6,4 @@ pub mod PlanLaws
 pub mod CrewLaws
 pub mod SplitLaws
 pub mod OneChanged
+pub mod PartsInTurn

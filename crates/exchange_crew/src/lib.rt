@@ -1,5 +1,5 @@
-//! What the puts and the gets of an exchange stand on: what each is lent, the windows of a part with their entries, and helpers, from the
-//! part that one is handed to what comes back of it.
+//! What the puts and the gets of an exchange stand on: what each is lent, the windows of a part with their entries, whose window is next,
+//! and helpers, from the part that one is handed to what comes back of it.
 //!
 //! A helper goes over the windows that stand in its job, and the caller over the same ones. So both know how many items go over a line,
 //! and nobody has to say where it ends.
@@ -7,6 +7,7 @@
 
 mod errand;
 mod plan;
+mod rounds;
 mod shared_job;
 mod shares;
 mod spares;
@@ -14,6 +15,7 @@ mod walk;
 
 pub use errand::{Errand, PartBack, PartEnds};
 pub use plan::{Aggregator, GetPlan, PutPlan, Tools};
+pub use rounds::{InRounds, first_in_turn};
 pub use shared_job::SharedJob;
 pub use shares::{
     STACK_SIZE, Shares, add_handed, aggregator_at, give_back, make_rooms, next_aggregator,

@@ -1,14 +1,10 @@
 -- The windows of all parts, each read of its own part, are the file's bytes of all entries.
-use Rattle.get_exchange.proofs.Words.{◌≡◌, ℕ, ◌+◌, ◌-◌, ◌<◌, ◌≤◌, ◌⊎◌, inl, inr, refl, sym, ◌∙◌, ap, subst, List, [], ◌∷◌, ◌++◌, length, map, Option, Some, None, Result, Ok, Err, arith, slice_get_within, append-nil, length-map, slice_get, zip, IfErr, IfSome, IsErrOf, IsOk, OnOk, AllZip, result_and, entry_below, Extent, StepErr, Disk, Memory, at, read, read_at, read_same, In, in_either, in_left, in_right, at_in, in_at, in_map, in_zip, map_in, zip_in, IsCovered, AreAsLong, FitTable, HasRead, HaveOnePlaces, get_turns, AreRead, IsGetPlanned, told_in, HasReadParts, HasReadTurns, HasTaken, HaveTakenTurns, IsKept, IsReadOf, Log, IsDomainOf, domain_of, part_of, turns_due, IsFresh, Told, ReadWorker, GetPlan, domain_part, domain_windows, nat_tests, AllZip-long, length-zip, take, drop, map-append, zip_split, IsSplit, AreKept, HaveServed, DiskGhosts, zip_same}
+use Rattle.get_exchange.proofs.Words.{◌≡◌, ℕ, ◌+◌, ◌-◌, ◌<◌, ◌≤◌, inl, inr, refl, sym, ◌∙◌, ap, subst, List, [], ◌∷◌, ◌++◌, length, map, Option, Some, None, Result, Ok, Err, arith, slice_get_within, append-nil, length-map, slice_get, zip, IfErr, IfSome, IsErrOf, OnOk, result_and, entry_below, Extent, StepErr, Disk, Memory, at, read, read_at, read_same, In, in_either, in_left, in_right, at_in, in_at, in_map, in_zip, map_in, zip_in, IsCovered, AreAsLong, FitTable, HasRead, HaveOnePlaces, get_turns, AreRead, IsGetPlanned, told_in, HasReadParts, HasReadTurns, HasTaken, HaveTakenTurns, IsKept, IsReadOf, Log, IsDomainOf, domain_of, part_of, turns_due, IsFresh, Told, ReadWorker, GetPlan, domain_part, domain_windows, nat_tests, take, drop, map-append, zip_split, IsSplit, AreKept, HaveServed, DiskGhosts, IsErr, slice_kept, zip_next, err_not_ok, suc}
 use Rattle.get_exchange.proofs.FetchLaws.{GotBy}
 use Rattle.get_exchange.proofs.ReadLaws.{log_joined, read_law}
 use Rattle.get_exchange.proofs.TakeLaws.{items_read}
 
 -- ---- part after part
-
-pub none_zip : {A B : Type 0} (R : A → B → Type 0) (ys : List B) → ys ≡ [] → AllZip R [] ys
-none_zip R [] e = tt
-none_zip R (y ∷ ys) e = absurd cc
 
 told_at : (held : Option (List ℕ)) (start : ℕ) (log : Log) (e : Told × List ℕ) → In log e
     → IfSome held (λ file. (u : Told × List ℕ) → In log u → u.1 ≡ read file (u.0.0 - start) u.0.1) → IfSome held (λ file. e.1 ≡ read file (e.0.0 - start) e.0.1)
@@ -51,13 +47,13 @@ module _ {D : Type 0} (from : D → ℕ) (held : D → Option (List ℕ)) (plan 
     ];
   }
 
-  -- as long as nothing was refused
-  pub parts_on : {T E : Type 0} (pairs more : List (D × Extent)) (pair : D × Extent) (old mid now : List (List (List ℕ))) (end came : Result T E) → more ≡ pairs ++ pair ∷ [] → OnOk came (IsOk end)
-      → OnOk end (HasReadParts from held plan pairs old mid) → OnOk came (HasReadTurns plan.list.now (get_turns plan pair.1) (from pair.0) (held pair.0) mid now)
-      → OnOk came (HasReadParts from held plan more old now)
-  parts_on pairs more pair old mid now end (Err x) e ok h t = tt
-  parts_on pairs more pair old mid now (Err y) (Ok x) e ok h t = absurd cc
-  parts_on pairs more pair old mid now (Ok y) (Ok x) e ok h t = rw e (parts_both pairs (pair ∷ []) old mid now h (one_part pair mid now t))
+  pub parts_next : (parts : List D) (domains : List Extent) (k : ℕ) (part : D) (domain : Extent) (old mid now : List (List (List ℕ))) → slice_get parts k ≡ Some part → slice_get domains k ≡ Some domain
+      → HasReadParts from held plan (zip (take k parts) domains) old mid → HasReadTurns plan.list.now (get_turns plan domain) (from part) (held part) mid now
+      → HasReadParts from held plan (zip (take (k + 1) parts) domains) old now
+  parts_next parts domains k part domain old mid now at is h t =
+      let next : suc k ≡ k + 1 = omega arith in
+      subst (λ (n : ℕ). HasReadParts from held plan (zip (take n parts) domains) old now) next
+      (rw (zip_next parts domains k part domain at is) (parts_both (zip (take k parts) domains) ((part, domain) ∷ []) old mid now h (one_part (part, domain) mid now t)))
 
   -- the first parts, which helpers read, and those behind them, which are read in turn
   pub parts_joined : {T E : Type 0} (n : ℕ) (parts rest : List D) (domains more : List Extent) (old mid now : List (List (List ℕ))) (end came both : Result T E) → IsSplit n parts rest domains more
@@ -68,10 +64,6 @@ module _ {D : Type 0} (from : D → ℕ) (held : D → Option (List ℕ)) (plan 
       rw (zip_split n parts domains split.long)
       (parts_both (zip (take n parts) (take n domains)) (zip (drop n parts) (drop n domains)) old mid now h (rw (split.behind, split.later) at t))
   parts_joined _ _ _ _ _ old mid now _ _ _ split is h t = absurd cc
-
--- as many parts come back as were read
-pub back_long : {A B C : Type 0} (Q : A × B → C → Type 0) (xs : List A) (ds : List B) (ys : List C) → length ds ≡ length xs → AllZip Q (zip xs ds) ys → length ys ≡ length xs
-back_long Q xs ds ys long all = omega (arith, AllZip-long Q (zip xs ds) ys all, length-zip xs ds)
 
 -- ---- helpers of which all was taken
 
@@ -195,7 +187,9 @@ pub rows_long : (old now : List (List (List ℕ))) → AreAsLong old now → len
 rows_long old now h = grind (arith, nat_tests, length-map)
 
 -- nothing was read
-pub got_none : {D : Type 0} (disk : DiskGhosts D) (plan : GetPlan) (parts : List D) (domains : List Extent) (e : StepErr) → length domains ≡ length parts
-    → AllZip (GotBy {T = Unit {0}} disk plan (Err e)) (zip parts domains) parts
-got_none disk plan parts domains e long =
-    zip_same (GotBy disk plan (Err e)) parts domains long (λ p domain. record { from = refl; len = refl; held = refl; device = tt; later = omega arith })
+pub got_kept : {D : Type 0} (disk : DiskGhosts D) (plan : GetPlan) (end : Result (Unit {0}) StepErr) → IsErr end → (p : D × Extent) → GotBy disk plan end p p.0
+got_kept disk plan end cut p = record { from = refl; len = refl; held = refl; device = err_not_ok _ end cut; later = omega arith }
+
+-- a table that was lent, and came back filled
+pub table_back : (len : ℕ) (table lent filled : List (List (List ℕ))) → lent ≡ table → len ≡ length table → AreAsLong lent filled → take len (filled ++ drop (length filled) table) ≡ filled
+table_back len table lent filled given room long = slice_kept len filled table room (rows_long lent filled long ∙ ap (λ (t : List (List (List ℕ))). length t) given)

@@ -1,9 +1,18 @@
 -- The next window of a part, whose hull is to be taken, and what is left behind it.
-use Rattle.get_exchange.proofs.Words.{◌≡◌, ℕ, ◌<◌, sym, ap, List, [], ◌∷◌, length, Option, Some, None, arith, IfSome, IfNone, Owned, IsWalk, Window, WindowWalk, told_window, entries_left, IsAt, turns_due_of, IsShelfOf, Told, turns_ahead, ReadWalk, nat_tests, subst, IsNextUp, IsShelfIn, Shelf}
+use Rattle.get_exchange.proofs.Words.{◌≡◌, ℕ, ◌<◌, refl, sym, ap, List, [], ◌∷◌, length, Option, Some, None, arith, IfSome, IfNone, Owned, IsWalk, Window, WindowWalk, told_window, entries_left, IsAt, turns_due_of, IsShelfOf, Told, turns_ahead, ReadWalk, nat_tests, subst, IsNextUp, IsShelfIn, Shelf, round_of}
 
 -- the window that is next on a shelf
 pub next_up : (list : List Owned) (shelf : Shelf) (window : Window) (ready : IsShelfIn list shelf) → shelf.next ≡ Some window → IsNextUp list ready.0 window shelf.walk
 next_up list shelf window ready is = subst (λ (o : Option Window). IsShelfOf list ready.0 o shelf.walk) is ready.1
+
+-- nothing is due where there is no next window
+pub none_due : (next : Option Window) (rest : WindowWalk) → round_of next ≡ None → turns_due_of next rest ≡ []
+none_due None rest e = refl
+none_due (Some w) rest e = absurd cc
+
+pub some_due : (next : Option Window) (rest : WindowWalk) → (round_of next ≡ None → ⊥) → turns_due_of next rest ≡ [] → ⊥
+some_due None rest n e = n refl
+some_due (Some w) rest n e = cc
 
 -- the first window
 pub shelf_first : (list left : List Owned) (room : ℕ) (next : Option Window) (ahead : List Told) (walk : ReadWalk) → IsAt list room ahead left → entries_left walk.entries ≡ left

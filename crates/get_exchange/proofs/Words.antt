@@ -1,5 +1,5 @@
 -- The words of this crate's proofs, from where they stand.
-pub use Rattle.list_laws.proofs.Std.{AllZip, AllZip-long, Bool, Err, IfErr, IfNone, IfSome, IsErrOf, IsOk, List, None, Ok, OnOk, Option, Result, Some, [], and_from, ap, append-nil, append_assoc, arith, common_steps, cond, drop, drop_all, ext_get_or, false, filter-append, flat_map, fold-append, get_or, get_or-set_other, get_or-set_same, get_or_default, inl, inr, is_some, length, length-drop, length-map, length-take, length-zip, map, map-append, map-set_same, min, nat_tests, on_ok_weaker, refl, result_and, rules, same_Some, set, slice_get, slice_get-get_or, slice_get_within, subst, suc, sym, take, take_all, take_more, true, vec_capacity, zero, zip, ℕ, ◌&&◌, ◌++◌, ◌+◌, ◌-◌, ◌<◌, ◌==◌, ◌^◌, ◌∙◌, ◌∷◌, ◌≡◌, ◌≢◌, ◌≤◌, ◌⊎◌, eqb_tells, eqb-true, eqb-false}
+pub use Rattle.list_laws.proofs.Std.{AllZip, Err, IfErr, IfNone, IfSome, IsErr, IsErrOf, IsOk, List, None, Ok, OnOk, Option, Result, Some, [], and_from, ap, append-nil, append_assoc, arith, common_steps, drop, drop_all, ext_get_or, false, filter-append, flat_map, fold-append, get_or, get_or-set_other, get_or-set_same, get_or_default, inl, inr, length, length-drop, length-map, length-take, map, map-append, map-set_same, min, nat_tests, on_ok_weaker, refl, result_and, rules, same_Some, set, slice_get, slice_get-get_or, slice_get_within, subst, suc, sym, take, take_all, take_more, true, vec_capacity, zero, zip, ℕ, ◌&&◌, ◌++◌, ◌+◌, ◌-◌, ◌<◌, ◌==◌, ◌^◌, ◌∙◌, ◌∷◌, ◌≡◌, ◌≤◌, eqb_tells, eqb-true, eqb-false}
 pub use Rattle.std.proofs.Common.{length-set}
 pub use Rattle.std.proofs.Math.ListN.{get_or-map}
 pub use Rattle.std.proofs.lemmas.List.{length-append}
@@ -10,14 +10,15 @@ pub use Rattle.aggregator_rounds.proofs.SplitSteps.{dropped_past, entry_ends, ex
 pub use Rattle.aggregator_rounds.specs.EntryParts.{AreFilled, IsCovered, buffer_cell, got_cells, part_in, places_of}
 pub use Rattle.aggregator_rounds.specs.Left.{IsPast, entries_left}
 pub use Rattle.aggregator_rounds.specs.ToldWindows.{told_window}
-pub use Rattle.exchange_crew.proofs.BackLaws.{AreKept, IsLater, and_first_ok, err_not_ok, joined_back, kept_all, lent_kept, middle_in, one_back, slice_kept, zip_push, zip_same}
-pub use Rattle.exchange_crew.proofs.CrewLaws.{HaveServed, all_served, each_joined, handed_few, handed_more, have_served, next_domain, none_handed, part_domain, some_served}
+pub use Rattle.exchange_crew.proofs.BackLaws.{AreKept, IsLater, and_first_ok, err_not_ok, joined_back, kept_all, lent_kept, middle_in, slice_kept, zip_next}
+pub use Rattle.exchange_crew.proofs.CrewLaws.{HaveServed, all_served, each_joined, IsHanding, handing_domain, handing_few, handing_next, have_served, none_handed, some_served}
 pub use Rattle.exchange_crew.proofs.DomainTurns.{domain_part, domain_turns, domain_windows}
 pub use Rattle.exchange_crew.proofs.OneChanged.{fewer_all, set_each}
+pub use Rattle.exchange_crew.proofs.PartsInTurn.{AreServedTo, all_kept, all_served_to, none_served, one_cut, one_failed, one_served}
 pub use Rattle.exchange_crew.proofs.SplitLaws.{IsSplit, all_joined, domains_behind, failed_joined, split_at, split_long, zip_split}
 pub use Rattle.exchange_crew.proofs.TurnLaws.{IsDue, at_begin, at_next, due_now, front_carried, in_served, left_ends, left_filled, left_sorted, served_ends, served_in, served_now, turn_limit}
 pub use Rattle.exchange_crew.specs.Cursor.{AreInFront, AreServed, IsAt}
-pub use Rattle.exchange_crew.specs.Handed.{AreHanded, domain_in}
+pub use Rattle.exchange_crew.specs.Handed.{domain_in}
 pub use Rattle.exchange_crew.specs.Hulls.{AreTurns, LieOnPart}
 pub use Rattle.exchange_crew.specs.Parts.{PartState, SomeZip, part_state}
 pub use Rattle.exchange_crew.specs.Plan.{IsDomainOf}
@@ -28,8 +29,8 @@ pub use Rattle.file_domains.specs.declared.walk.Window.{Window}
 pub use Rattle.file_domains.specs.declared.walk.WindowWalk.{WindowWalk}
 pub use Rattle.get_exchange.specs.Blobs.{AreAsLong, FitTable, HasCollected, HasRead, HaveOnePlaces, blob_at, got_in_hull, of_request, with_blob}
 pub use Rattle.get_exchange.specs.Fetched.{HasFetched}
-pub use Rattle.get_exchange.specs.Gets.{AreRead, HasGot, IsGetPlan, IsGetPlanned, entries_in, get_turns, reading_of}
-pub use Rattle.get_exchange.specs.Lenders.{AreReady, IsReady}
+pub use Rattle.get_exchange.specs.Gets.{AreRead, HasGot, IsGetPlan, IsGetPlanned, get_turns, reading_of}
+pub use Rattle.get_exchange.specs.Lenders.{AreReady, IsReady, round_of}
 pub use Rattle.get_exchange.specs.Logs.{HasCollectedLog, HasReadParts, HasReadTurn, HasReadTurns, HasTaken, HasTakenOf, HasTakenTurn, HaveTakenTurns, IsKept, IsReadOf, IsShelfIn, IsTakenOf, Log, log_cells, told_in}
 pub use Rattle.get_exchange.specs.Shelves.{IsFresh, IsNextUp, IsShelfOf, IsStartedFor, domain_of, part_of, turns_due, turns_due_of}
 pub use Rattle.get_exchange.specs.declared.buffers.Lender.{Lender}
@@ -38,7 +39,7 @@ pub use Rattle.get_exchange.specs.declared.reading.Reading.{Reading}
 pub use Rattle.get_exchange.specs.declared.reading.Reading.TheVariants.{Hull}
 pub use Rattle.get_exchange.specs.declared.shelf.Shelf.{Shelf}
 pub use Rattle.get_exchange.specs.declared.walk.ReadWalk.{ReadWalk}
-pub use Rattle.list_laws.proofs.Common.{and_first, and_second, entry_below, entry_set, entry_set_other, equal_true, middle_at, no_both, refilled, zip_weaker}
+pub use Rattle.list_laws.proofs.Common.{and_first, and_second, entry_below, entry_set, entry_set_other, equal_true, no_both, refilled, zip_weaker}
 pub use Rattle.list_laws.proofs.Types.{Disk, DiskCall, Extent, Memory, Owned, StepErr}
 pub use Rattle.nc_outside.proofs.ToldLaws.{with_end-nil, with_end-with_end}
 pub use Rattle.nc_outside.specs.Cause.{Rose}

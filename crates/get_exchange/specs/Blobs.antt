@@ -4,15 +4,17 @@
 --     HasRead file list old new       each blob with the file's bytes of its entries
 --     AreAsLong old new               as many blobs as before, each as long as before
 --     FitTable table list             each entry's bytes lie in its blob
+--     CanCollect table list           what copying the bytes of entries out of a hull asks of them
 --     HaveOnePlaces list              no byte of a blob is read from two places
 --     got_in_hull file list t         the file's bytes of the entries' parts in a hull, each at its place in the blob
 --     with_blob table rank slot blob  the table with this blob
 --     HasCollected lo hi buf ..       each blob with the bytes that its entries have in a buffer
-use Rattle.std.specs.Prelude.{◌≡◌, ℕ, ◌+◌, ◌≤◌, List, [], map, filter, length, ◌==◌, ◌&&◌, slice_index_or, slice_set}
+use Rattle.std.specs.Prelude.{◌≡◌, ℕ, ◌+◌, ◌^◌, ◌≤◌, List, [], map, filter, length, ◌==◌, ◌&&◌, slice_index_or, slice_set}
 use Rattle.nc_base.specs.declared.plan.Owned.{Owned}
 use Rattle.serial_spec.specs.Said.{Cell, write_cells, IsOneValued}
 use Rattle.overlay_laws.specs.Entries.{got_cell, In}
-use Rattle.aggregator_rounds.specs.EntryParts.{buffer_cell, part_in, got_cells, places_of}
+use Rattle.overlay_laws.specs.Lines.{extents, EndBelow}
+use Rattle.aggregator_rounds.specs.EntryParts.{AreFilled, buffer_cell, part_in, got_cells, places_of}
 use Rattle.exchange_crew.specs.Turns.{Told}
 
 abbrev pub of_request : ℕ → ℕ → List Owned → List Owned
@@ -33,6 +35,11 @@ AreAsLong old new = map (λ blobs. map (λ blob. length blob) blobs) new ≡ map
 -- each entry's bytes lie in its blob
 abbrev pub FitTable : List (List (List ℕ)) → List Owned → Type 0
 FitTable table list = (o : Owned) → In list o → o.from + o.extent.len ≤ length (blob_at table o.rank o.slot)
+
+pub record CanCollect (table : List (List (List ℕ))) (list : List Owned) : Type 0 where
+  pub ends : EndBelow (2 ^ 62) (extents list)
+  pub filled : AreFilled list
+  pub fit : FitTable table list
 
 -- no byte of a blob is read from two places
 abbrev pub HaveOnePlaces : List Owned → Type 0

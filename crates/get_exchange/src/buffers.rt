@@ -1,9 +1,9 @@
 // The blobs that hulls are read into. They go round among the helpers of a step.
-ghost use Rattle.std.specs.Prelude.{◌≡◌, ◌<◌, ℕ, length, slice_get, IfOk, IfSome, OnOk, Some};
+ghost use Rattle.std.specs.Prelude.{IfOk, OnOk};
 ghost use Rattle.get_exchange.specs.Gets.{IsGetPlanned};
 ghost use Rattle.get_exchange.specs.Lenders.{AreReady, IsReady};
 
-use exchange_crew::{GetPlan, Spares};
+use exchange_crew::{GetPlan, InRounds, Spares, first_in_turn};
 use file_domains::{Window, WindowWalk, windows};
 use nc_base::{Blob, Extent, Memory};
 use ruled_line::{LinePut, LineTake, line};
@@ -79,7 +79,7 @@ fn make_blobs(
 
 impl<'a> Lending<'a> {
     ghost use Rattle.get_exchange.specs.Gets.{IsGetPlanned};
-    ghost use Rattle.get_exchange.specs.Lenders.{AreReady};
+    ghost use Rattle.get_exchange.specs.Lenders.{AreReady, IsReady};
 
     // A line for each domain, behind the others.
     fn add_lines(
@@ -94,9 +94,19 @@ impl<'a> Lending<'a> {
     {
         for domain in domains {
             let (put, take) = line::<Blob>(alloc, 1)?;
-            self.lenders.each.push(Lender::new(plan, *domain, put))?;
-            self.lines.push(take)?;
+            self.add(Lender::new(plan, *domain, put), take)?;
         }
+        Ok(())
+    }
+
+    // One lender more, and the helper's end of its line.
+    fn add(&mut self, lender: Lender<'a>, line: LineTake<Blob>) -> Result<(), Memory>
+        requires ready { AreReady self.old.lenders.each.items }
+        requires lender { IsReady lender }
+        ensures { OnOk result (AreReady self.new.lenders.each.items) }
+    {
+        self.lenders.each.push(lender)?;
+        self.lines.push(line)?;
         Ok(())
     }
 }
@@ -118,14 +128,6 @@ impl<'a> Lender<'a> {
             windows,
             lent: false,
         }
-    }
-
-    // The round of the window for which a blob can be lent now.
-    fn wanting(&self) -> Option<u64> {
-        if self.lent {
-            return None;
-        }
-        Some(self.next?.round)
     }
 
     // Lends a blob for the next window.
@@ -192,35 +194,24 @@ impl<'a> Lenders<'a> {
         requires { AreReady self.old.each.items }
         ensures { AreReady self.new.each.items }
     {
-        match first_wanting(&self.each) {
+        match first_in_turn(&self.each) {
             Some(k) => self.each[k].lend(rt, blob),
             None => spares.keep(blob.into_vec()),
         }
     }
 }
 
-// The first of the lenders whose window is of the least round.
-fn first_wanting(lenders: &[Lender]) -> Option<usize>
-    ensures { IfSome result (λ k. k < length lenders.now) }
-{
-    let mut first = None;
-    let mut least = None;
-    for (k, lender) in lenders.iter().enumerate() {
-        let wanting = lender.wanting();
-        if is_before(wanting, least) {
-            first = Some(k);
-            least = wanting;
-        }
-    }
-    first
-}
+impl<'a> InRounds for Lender<'a> {
+    ghost use Rattle.get_exchange.specs.Lenders.{wanted_by};
 
-// Whether there is a round, and it is before the other, where there is one.
-fn is_before(round: Option<u64>, other: Option<u64>) -> bool {
-    match (round, other) {
-        (Some(round), Some(other)) => round < other,
-        (Some(_), None) => true,
-        (None, _) => false,
+    ghost next = { λ lender. wanted_by lender };
+
+    // That of the window for which a blob can be lent now.
+    fn next_round(&self) -> Option<u64> {
+        if self.lent {
+            return None;
+        }
+        Some(self.next?.round)
     }
 }
 

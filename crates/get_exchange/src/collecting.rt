@@ -1,10 +1,9 @@
 // What the calling thread does: round by round it takes the hulls off the lines, and copies their bytes into the blobs of the entries.
-ghost use Rattle.std.specs.Prelude.{◌≡◌, ◌+◌, ◌^◌, ◌<◌, ◌≤◌, ℕ, [], length, slice_get, IfErr, IfNone, IfSome, None, OnOk, Some};
+ghost use Rattle.std.specs.Prelude.{◌≡◌, ◌+◌, ◌^◌, ◌<◌, ◌≤◌, ℕ, [], length, slice_get, IfErr, OnOk, Some};
 ghost use Rattle.serial_spec.specs.File.{written};
 ghost use Rattle.nc_base.specs.declared.step.StepErr.TheVariants as fault;
-ghost use Rattle.overlay_laws.specs.Lines.{extents, EndBelow};
-ghost use Rattle.aggregator_rounds.specs.EntryParts.{AreFilled, buffer_cell};
-ghost use Rattle.get_exchange.specs.Blobs.{blob_at, with_blob, AreAsLong, FitTable, HasCollected, HaveOnePlaces};
+ghost use Rattle.aggregator_rounds.specs.EntryParts.{buffer_cell};
+ghost use Rattle.get_exchange.specs.Blobs.{blob_at, with_blob, AreAsLong, CanCollect, FitTable, HasCollected, HaveOnePlaces};
 ghost use Rattle.get_exchange.specs.Gets.{entries_in, IsGetPlanned};
 ghost use Rattle.get_exchange.specs.Lenders.{AreReady};
 ghost use Rattle.get_exchange.specs.Logs.{HasTakenTurn, HaveTakenTurns, IsKept, IsShelfIn};
@@ -17,7 +16,7 @@ use crate::reading::Reading;
 use crate::shelf::Shelf;
 use crate::walk::ReadTurn;
 use aggregator_rounds::collect_entry;
-use exchange_crew::{GetPlan, Spares, next_window};
+use exchange_crew::{GetPlan, InRounds, Spares, first_in_turn, next_window};
 use nc_base::{Blob, BlobList, Extent, Owned, StepErr};
 use nc_outside::Disk;
 use std::sync::Wait;
@@ -45,7 +44,7 @@ pub(crate) fn take_all<R: Wait, D: Disk>(
     ensures memory { IfErr result (λ e. e ≡ fault.Memory) }
 {
     let mut end = Ok(());
-    'rounds: while let Some(k) = least_round(workers) {
+    'rounds: while let Some(k) = first_in_turn(workers) {
         let shelf = &mut workers[k].shelf;
         let (came, blob) = take_turn(rt, plan, shelf, table);
         end = end.and(came);
@@ -69,35 +68,6 @@ fn hand_on<R: Wait>(
     lenders.come_back(number, ended);
     if let Some(blob) = blob {
         lenders.lend(rt, spares, blob);
-    }
-}
-
-// The first of the helpers whose next window is of the least round.
-fn least_round<D: Disk>(workers: &[ReadWorker<D>]) -> Option<usize>
-    ensures some { IfSome result (λ k. (k < length workers.now) × ((worker : ReadWorker D) → slice_get workers.now k ≡ Some worker → turns_due worker.shelf ≡ [] → ⊥)) }
-    ensures none { IfNone result ((k : ℕ) (worker : ReadWorker D) → slice_get workers.now k ≡ Some worker → turns_due worker.shelf ≡ []) }
-{
-    let mut least = None;
-    let mut round = None;
-    for (k, worker) in workers.iter().enumerate() {
-        let earlier = round_before(&worker.shelf, round);
-        if earlier.is_some() {
-            least = Some(k);
-            round = earlier;
-        }
-    }
-    least
-}
-
-// The round of the next window of a helper, where it has one that is earlier.
-fn round_before(shelf: &Shelf, than: Option<u64>) -> Option<u64>
-    ensures some { IfSome result (λ _. turns_due shelf.now ≡ [] → ⊥) }
-    ensures none { IfNone result (than ≡ None → turns_due shelf.now ≡ []) }
-{
-    let round = shelf.next?.round;
-    match than {
-        Some(other) if other <= round => None,
-        _ => Some(round),
     }
 }
 
@@ -141,9 +111,7 @@ pub(crate) fn take_turn<R: Wait>(
 // Copies the entries' bytes out of those of a window's hull. What another thread put is known only by its type, so its length is tested.
 fn collect_hull(turn: &ReadTurn, bytes: &Blob, table: &mut [BlobList]) -> Result<(), StepErr>
     requires hull { turn.now.window.hull.at + turn.now.window.hull.len < 2 ^ 62 }
-    requires ends { EndBelow (2 ^ 62) (extents (entries_in turn.now)) }
-    requires filled { AreFilled (entries_in turn.now) }
-    requires fit { FitTable table.old (entries_in turn.now) }
+    requires can { CanCollect table.old (entries_in turn.now) }
     ensures long { OnOk result (length bytes.now ≡ turn.now.window.hull.len) }
     ensures collected { OnOk result (HasCollected turn.now.window.hull.at (turn.now.window.hull.at + turn.now.window.hull.len) bytes.now (entries_in turn.now) table.old table.new) }
     ensures blobs { AreAsLong table.old table.new }
@@ -160,9 +128,7 @@ fn collect_hull(turn: &ReadTurn, bytes: &Blob, table: &mut [BlobList]) -> Result
 pub(crate) fn collect_entries(turn: &ReadTurn, buf: &[u8], table: &mut [BlobList])
     requires hull { turn.now.window.hull.at + turn.now.window.hull.len < 2 ^ 62 }
     requires room { length buf.now ≡ turn.now.window.hull.len }
-    requires ends { EndBelow (2 ^ 62) (extents (entries_in turn.now)) }
-    requires filled { AreFilled (entries_in turn.now) }
-    requires fit { FitTable table.old (entries_in turn.now) }
+    requires can { CanCollect table.old (entries_in turn.now) }
     ensures each { HasCollected turn.now.window.hull.at (turn.now.window.hull.at + turn.now.window.hull.len) buf.now (entries_in turn.now) table.old table.new }
     ensures long { AreAsLong table.old table.new }
 {
@@ -174,9 +140,7 @@ pub(crate) fn collect_entries(turn: &ReadTurn, buf: &[u8], table: &mut [BlobList
 fn collect_all(hull: Extent, entries: &[Owned], buf: &[u8], table: &mut [BlobList])
     requires hull { hull.at + hull.len < 2 ^ 62 }
     requires room { length buf.now ≡ hull.len }
-    requires ends { EndBelow (2 ^ 62) (extents entries.now) }
-    requires filled { AreFilled entries.now }
-    requires fit { FitTable table.old entries.now }
+    requires can { CanCollect table.old entries.now }
     ensures each { HasCollected hull.at (hull.at + hull.len) buf.now entries.now table.old table.new }
     ensures long { AreAsLong table.old table.new }
 {
@@ -196,4 +160,14 @@ fn collect_get(hull: Extent, entry: &Owned, buf: &[u8], table: &mut [BlobList])
 {
     let blobs = table[entry.rank as usize].as_mut_slice();
     collect_entry(hull, entry, buf, blobs);
+}
+
+impl<'a, D: Disk> InRounds for ReadWorker<'a, D> {
+    ghost use Rattle.get_exchange.specs.Lenders.{round_of};
+
+    ghost next = { λ worker. round_of worker.shelf.next };
+
+    fn next_round(&self) -> Option<u64> {
+        Some(self.shelf.next?.round)
+    }
 }

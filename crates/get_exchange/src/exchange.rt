@@ -23,7 +23,7 @@ use crate::in_turn::get_in_turn;
 use crate::results::take_back;
 use crossbeam_channel::Sender;
 use exchange_crew::{Errand, GetPlan, Shares, Spares, Tools, give_back, make_rooms};
-use nc_base::{Extent, GotTable, Memory, StepErr};
+use nc_base::{BlobList, Extent, GotTable, Memory, StepErr};
 use nc_outside::{Disk, Gate};
 use std::alloc::Global;
 use std::sync::Wait;
@@ -58,7 +58,10 @@ pub fn exchange_get<R: Wait, D: Disk, G: Gate, P: Send + Drop>(
     ensures blobs { AreAsLong into.old into.new }
     ensures failed { IsErrOf result.1 fault.Disk → SomeZip (λ old new. Rose (D.faults old) (D.faults new)) parts.items result.0.items }
 {
-    get_parts(tools, helpers, spares, plan, domains, parts, into)
+    let mut table = into.take().into_vec();
+    let came = get_parts(tools, helpers, spares, plan, domains, parts, &mut table);
+    *into = GotTable::from_vec(table);
+    came
 }
 
 // The gets of all parts.
@@ -69,7 +72,7 @@ fn get_parts<R: Wait, D: Disk, G: Gate, P: Send + Drop>(
     plan: &GetPlan,
     domains: &[Extent],
     parts: Vec<D>,
-    into: &mut GotTable,
+    table: &mut [BlobList],
 ) -> (Vec<D>, Result<(), StepErr>)
     requires plan { IsGetPlanned plan.now }
     requires line_low { 1 ≤ plan.now.hints.now.line_room }
@@ -77,21 +80,24 @@ fn get_parts<R: Wait, D: Disk, G: Gate, P: Send + Drop>(
     requires few { length domains.now ≤ 64 }
     requires one_each { length domains.now ≡ length parts.items }
     requires domains { (k : ℕ) (part : D) (domain : Extent) → slice_get parts.items k ≡ Some part → slice_get domains.now k ≡ Some domain → IsDomainOf plan.now.list.now (D.from part) (D.len part) domain }
-    requires fit { FitTable into.old plan.now.list.now }
+    requires fit { FitTable table.old plan.now.list.now }
     requires one_place { HaveOnePlaces plan.now.list.now }
     ensures got { AllZip (λ p new. HasGot (get_turns plan.now p.1)
         (part_state D.Disk p.0) (part_state D.Disk new) result.1) (zip parts.items domains.now) result.0.items }
-    ensures read { OnOk result.1 (HasReadParts (λ part. D.from part) (λ part. D.held part) plan.now (zip parts.items domains.now) into.old into.new) }
-    ensures blobs { AreAsLong into.old into.new }
+    ensures read { OnOk result.1 (HasReadParts (λ part. D.from part) (λ part. D.held part) plan.now (zip parts.items domains.now) table.old table.new) }
+    ensures blobs { AreAsLong table.old table.new }
     ensures failed { IsErrOf result.1 fault.Disk → SomeZip (λ old new. Rose (D.faults old) (D.faults new)) parts.items result.0.items }
 {
-    if helpers.is_empty() {
-        return get_in_turn(tools, spares, plan, 0, domains, parts, into);
+    if !helpers.is_empty() {
+        if let Ok(fetching) = fetching_of(tools.alloc, spares, plan, domains) {
+            return get_helped(
+                tools, helpers, spares, plan, domains, parts, fetching, table,
+            );
+        }
     }
-    match fetching_of(tools.alloc, spares, plan, domains) {
-        Ok(fetching) => get_helped(tools, helpers, spares, plan, domains, parts, fetching, into),
-        Err(Memory) => get_in_turn(tools, spares, plan, 0, domains, parts, into),
-    }
+    let mut parts = parts;
+    let end = get_in_turn(tools, spares, plan, 0, domains, &mut parts, table);
+    (parts, end)
 }
 
 // The lists that are made before a part is handed out, and the blobs that are lent.
@@ -125,7 +131,7 @@ fn get_helped<'a, R: Wait, D: Disk, G: Gate, P: Send + Drop>(
     domains: &[Extent],
     parts: Vec<D>,
     fetching: Fetching<'a, D>,
-    into: &mut GotTable,
+    table: &mut [BlobList],
 ) -> (Vec<D>, Result<(), StepErr>)
     requires plan { IsGetPlanned plan.now }
     requires line_low { 1 ≤ plan.now.hints.now.line_room }
@@ -133,32 +139,34 @@ fn get_helped<'a, R: Wait, D: Disk, G: Gate, P: Send + Drop>(
     requires few { length domains.now ≤ 64 }
     requires one_each { length domains.now ≡ length parts.items }
     requires domains { (k : ℕ) (part : D) (domain : Extent) → slice_get parts.items k ≡ Some part → slice_get domains.now k ≡ Some domain → IsDomainOf plan.now.list.now (D.from part) (D.len part) domain }
-    requires fit { FitTable into.old plan.now.list.now }
+    requires fit { FitTable table.old plan.now.list.now }
     requires one_place { HaveOnePlaces plan.now.list.now }
     requires lenders { AreReady fetching.lending.lenders.each.items }
     requires rooms { HasRooms (length parts.items) fetching.shares }
     ensures got { AllZip (λ p new. HasGot (get_turns plan.now p.1)
         (part_state D.Disk p.0) (part_state D.Disk new) result.1) (zip parts.items domains.now) result.0.items }
-    ensures read { OnOk result.1 (HasReadParts (λ part. D.from part) (λ part. D.held part) plan.now (zip parts.items domains.now) into.old into.new) }
-    ensures blobs { AreAsLong into.old into.new }
+    ensures read { OnOk result.1 (HasReadParts (λ part. D.from part) (λ part. D.held part) plan.now (zip parts.items domains.now) table.old table.new) }
+    ensures blobs { AreAsLong table.old table.new }
     ensures failed { IsErrOf result.1 fault.Disk → SomeZip (λ old new. Rose (D.faults old) (D.faults new)) parts.items result.0.items }
 {
     let Served {
         mut back,
-        rest,
+        mut rest,
         end,
-    } = get_served(tools, helpers, spares, plan, domains, parts, fetching, into);
+    } = get_served(
+        tools, helpers, spares, plan, domains, parts, fetching, table,
+    );
     let served = back.len();
-    let (others, other) = get_in_turn(
+    let other = get_in_turn(
         tools,
         spares,
         plan,
         served as u32,
         &domains[served..],
-        rest,
-        into,
+        &mut rest,
+        table,
     );
-    give_back(others, &mut back);
+    give_back(rest, &mut back);
     (back, end.and(other))
 }
 
@@ -179,7 +187,7 @@ fn get_served<'a, R: Wait, D: Disk, G: Gate, P: Send + Drop>(
     domains: &[Extent],
     parts: Vec<D>,
     fetching: Fetching<'a, D>,
-    into: &mut GotTable,
+    table: &mut [BlobList],
 ) -> Served<D>
     requires plan { IsGetPlanned plan.now }
     requires line_low { 1 ≤ plan.now.hints.now.line_room }
@@ -187,7 +195,7 @@ fn get_served<'a, R: Wait, D: Disk, G: Gate, P: Send + Drop>(
     requires few { length domains.now ≤ 64 }
     requires one_each { length domains.now ≡ length parts.items }
     requires domains { (k : ℕ) (part : D) (domain : Extent) → slice_get parts.items k ≡ Some part → slice_get domains.now k ≡ Some domain → IsDomainOf plan.now.list.now (D.from part) (D.len part) domain }
-    requires fit { FitTable into.old plan.now.list.now }
+    requires fit { FitTable table.old plan.now.list.now }
     requires one_place { HaveOnePlaces plan.now.list.now }
     requires lenders { AreReady fetching.lending.lenders.each.items }
     requires rooms { HasRooms (length parts.items) fetching.shares }
@@ -197,8 +205,8 @@ fn get_served<'a, R: Wait, D: Disk, G: Gate, P: Send + Drop>(
     ensures got { AllZip (λ p new. HasGot (get_turns plan.now p.1)
         (part_state D.Disk p.0) (part_state D.Disk new) result.end) (zip (take (length result.back.items) parts.items) (take (length result.back.items) domains.now)) result.back.items }
     ensures read { OnOk result.end (HasReadParts (λ part. D.from part) (λ part. D.held part) plan.now
-        (zip (take (length result.back.items) parts.items) (take (length result.back.items) domains.now)) into.old into.new) }
-    ensures blobs { AreAsLong into.old into.new }
+        (zip (take (length result.back.items) parts.items) (take (length result.back.items) domains.now)) table.old table.new) }
+    ensures blobs { AreAsLong table.old table.new }
     ensures failed { IsErrOf result.end fault.Disk → SomeZip (λ old new. Rose (D.faults old) (D.faults new)) (take (length result.back.items) parts.items) result.back.items }
 {
     let Fetching {
@@ -219,16 +227,7 @@ fn get_served<'a, R: Wait, D: Disk, G: Gate, P: Send + Drop>(
     } = shares;
     lenders.keep(workers.len());
     lenders.lend_first(tools.rt, spares, blobs);
-    let mut table = into.take().into_vec();
-    let came = take_all(
-        tools.rt,
-        spares,
-        plan,
-        &mut workers,
-        &mut lenders,
-        &mut table,
-    );
-    *into = GotTable::from_vec(table);
+    let came = take_all(tools.rt, spares, plan, &mut workers, &mut lenders, table);
     let end = take_back(tools.rt, plan, workers, &mut back);
     Served {
         back,

@@ -185,7 +185,7 @@ fn ask<R: Wait, D: Disk, G, P: Send + Drop>(
         ends: Snapshot::of(&ends),
     };
     let Ok((answer, awaited)) = reply::<PartBack<D, GetLines>, GetDuty<D>>(tools.alloc, duty) else {
-        return Err(ends.part);
+        return Err(ends.into_part());
     };
     let job = GetJob {
         number,
@@ -195,10 +195,7 @@ fn ask<R: Wait, D: Disk, G, P: Send + Drop>(
     };
     match send_get(tools.rt, helper, job) {
         Ok(()) => Ok(awaited),
-        Err(back) => {
-            let GetJob { ends, .. } = back;
-            Err(ends.part)
-        }
+        Err(back) => Err(back.into_part()),
     }
 }
 

@@ -61,6 +61,16 @@ impl<D: Disk> Model for GetJob<D> {
         × ForSome job.answer (λ duty. (duty.windows.value ≡ job.windows) × (duty.ends.value ≡ job.ends)) };
 }
 
+impl<D: Disk> GetJob<D> {
+    /// The part, where nobody does the job.
+    pub(crate) fn into_part(self) -> D
+        ensures { result ≡ self.part }
+    {
+        let GetJob { ends, .. } = self;
+        ends.into_part()
+    }
+}
+
 /// Does a job, and answers. The job comes in its parts: the kit does not cover a call that takes by value both a part and an answer whose
 /// promise is made of its type.
 pub fn serve<R: Wait, D: Disk, G: Gate>(

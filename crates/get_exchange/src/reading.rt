@@ -7,6 +7,7 @@ ghost use Rattle.overlay_laws.specs.Changes.{load_calls};
 ghost use Rattle.serial_spec.specs.File.{read};
 ghost use Rattle.aggregator_rounds.specs.ToldWindows.{told_window};
 ghost use Rattle.get_exchange.specs.Gets.{reading_of, HasGot};
+ghost use Rattle.get_exchange.specs.declared.reading.Reading.TheVariants as reading;
 ghost use Rattle.exchange_crew.specs.Hulls.{LieOnPart};
 ghost use Rattle.exchange_crew.specs.Parts.{part_state};
 
@@ -53,19 +54,22 @@ pub(crate) fn read_part<R: Wait, D: Disk, G: Gate>(
             .gate
             .pass(tools.rt, Point::Window(number, window.round));
         let mut bytes = lines.spare.take(tools.rt).into_vec();
-        match read_turn(tools.alloc, window, part, &mut bytes) {
-            Ok(()) => lines
-                .line
-                .put(tools.rt, Reading::Hull(Blob::from_vec(bytes))),
-            Err(fault) => {
-                lines
-                    .line
-                    .put(tools.rt, Reading::Ended(Blob::from_vec(bytes)));
-                return Err(fault);
-            }
-        }
+        let came = read_turn(tools.alloc, window, part, &mut bytes);
+        lines.line.put(tools.rt, reading_after(&came, bytes));
+        came?;
     }
     Ok(())
+}
+
+// What is put on the line after a read into these bytes.
+fn reading_after(came: &Result<(), StepErr>, bytes: Vec<u8>) -> Reading
+    ensures { OnOk came.now (result ≡ reading.Hull bytes.items) }
+{
+    let blob = Blob::from_vec(bytes);
+    match came {
+        Ok(()) => Reading::Hull(blob),
+        Err(_) => Reading::Ended(blob),
+    }
 }
 
 // Reads the hull of one window into bytes, which become exactly as many.
@@ -84,7 +88,6 @@ fn read_turn<D: Disk>(
     ensures len { D.len part.new ≡ D.len part.old }
     ensures cause { HasDiskCause (D.faults part.old) (D.faults part.new) result }
 {
-    let _size = part.size();
     resize_by_blocks(bytes, window.hull.len as usize)?;
     get_window(alloc, part, window, bytes)?;
     Ok(())

@@ -6,7 +6,6 @@ mod PackLaws
 mod MailLaws
 mod TakenLaws
 mod ServeLaws
-mod RoundLaws
 mod MessageLaws
 mod InTurnLaws
 mod WorkerLaws

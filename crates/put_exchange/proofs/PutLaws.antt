@@ -1,5 +1,5 @@
 -- A window that is put on a part: each byte is old or new, and once no window is ahead each byte that the entries say is new.
-use Rattle.put_exchange.proofs.Words.{◌≡◌, ℕ, ◌+◌, ◌-◌, ◌<◌, ◌≤◌, ◌⊎◌, inl, inr, refl, sym, ◌∙◌, ap, subst, List, [], ◌∷◌, length, drop, Bool, true, false, Option, Some, None, arith, Result, Err, length-take, ltb-true, ltb-false, nat_lt, IfSome, enumerate_from, no_none_some, Owned, after, BothTold, at, Cell, byte_or, said_at, said_by, write_cells, moved_down, IsFrom, IsWithin, IsOneValued, Says, cells_said, IsBetween, In, Source, cell_of, clips, IsPart, between_next, says_cases, says_left, says_right, cells_long, one_said, said_is, same_file, clips_from, clips_in, clips_within, moved_said, none_below, none_past, within_lowered, within_more, from_less, put_part, HasPut, cells_in, put_window, Told, HaveWindows, entry_cells, nat_tests, DiskGhosts, PutPlan, Extent, StepErr, IsLater, part_state, planned_turns, source_in, AllZip, zip, zip_same, map}
+use Rattle.put_exchange.proofs.Words.{◌≡◌, ℕ, ◌+◌, ◌-◌, ◌<◌, ◌≤◌, ◌⊎◌, inl, inr, refl, sym, ◌∙◌, ap, subst, List, [], ◌∷◌, length, drop, Bool, true, false, Option, Some, None, arith, Result, length-take, ltb-true, ltb-false, nat_lt, IfSome, enumerate_from, no_none_some, Owned, after, BothTold, at, Cell, byte_or, said_at, said_by, write_cells, moved_down, IsFrom, IsWithin, IsOneValued, Says, cells_said, IsBetween, In, Source, cell_of, clips, IsPart, between_next, says_cases, says_left, says_right, cells_long, one_said, said_is, same_file, clips_from, clips_in, clips_within, moved_said, none_below, none_past, within_lowered, within_more, from_less, put_part, HasPut, cells_in, put_window, Told, HaveWindows, entry_cells, nat_tests, DiskGhosts, PutPlan, Extent, StepErr, IsLater, part_state, planned_turns, source_in, map, IsErr, err_not_ok, told_as}
 
 -- ---- which entry says a byte
 
@@ -231,8 +231,7 @@ told_more source list picked from len t (Some old) mid now told one p low high b
 
 pub told_between : (source : Source) (list : List Owned) (from : ℕ) (ts : List Told) (held now : Option (List ℕ)) → BothTold (λ old now. IsPutSoFar source list from ts old now) held now
     → BothTold (λ old left. IsBetween old (put_part source list from old) left) held now
-told_between source list from ts None now b = b
-told_between source list from ts (Some old) now b = (b.0, b.1, b.2.between)
+told_between source list from ts held now b = told_as (λ old left. IsPutSoFar source list from ts old left) (λ old left. IsBetween old (put_part source list from old) left) held now (λ old left s. s.between) b
 
 pub told_end : (source : Source) (list : List Owned) (from : ℕ) (held now : Option (List ℕ)) → BothTold (λ old now. IsPutSoFar source list from [] old now) held now
     → now ≡ after (put_part source list from) held
@@ -249,7 +248,12 @@ pub put_later : {D T : Type 0} (disk : DiskGhosts D) (plan : PutPlan) → IsLate
 put_later disk plan end came p new ok h = grind (arith, nat_tests)
 
 -- nothing was done
-pub put_none : {D : Type 0} (disk : DiskGhosts D) (plan : PutPlan) (parts : List D) (domains : List Extent) (e : StepErr) → length domains ≡ length parts
-    → AllZip (PutBy {T = Unit {0}} disk plan (Err e)) (zip parts domains) parts
-put_none disk plan parts domains e long = zip_same (PutBy disk plan (Err e)) parts domains long (λ p domain.
-    record { from = refl; len = refl; bytes = tt; between = told_nothing (disk.held p) (put_part (source_in plan) plan.list.now (disk.from p)); device = tt; later = omega arith })
+pub put_kept : {D : Type 0} (disk : DiskGhosts D) (plan : PutPlan) (end : Result (Unit {0}) StepErr) → IsErr end → (p : D × Extent) → PutBy disk plan end p p.0
+put_kept disk plan end cut p = record {
+  from = refl;
+  len = refl;
+  bytes = err_not_ok _ end cut;
+  between = told_nothing (disk.held p.0) (put_part (source_in plan) plan.list.now (disk.from p.0));
+  device = err_not_ok _ end cut;
+  later = omega arith;
+}

@@ -1,5 +1,5 @@
 -- The words of this crate's proofs, from where they stand.
-pub use Rattle.list_laws.proofs.Std.{AllZip, Bool, Err, IfNone, IfSome, IsErr, IsErrOf, IsOk, List, None, Ok, OnOk, Option, Result, Some, Vec, [], and_from, and_parts, and_right, ap, append-nil, append_assoc, arith, common_steps, cond, drop, drop-append_seam, drop_all, enumerate_from, eqb-true, eqb_tells, false, filter, filter-append, flat_map, fold-append, get_or, inl, inr, le-ltb, length, length-drop, length-map, length-take, lt-ltb, ltb-false, ltb-true, map, map-append, min, nat_lt, nat_tests, range_with_len, refl, rules, same_Some, set, slice_get, slice_get-get_or, slice_get_within, subst, suc, sym, take, take-append_seam, take_more, true, vec_capacity, zero, zip, ℕ, ◌&&◌, ◌++◌, ◌+◌, ◌-◌, ◌<◌, ◌==◌, ◌^◌, ◌∙◌, ◌∷◌, ◌≡◌, ◌≤◌, ◌⊎◌}
+pub use Rattle.list_laws.proofs.Std.{AllZip, Bool, Err, IfSome, IsErr, IsErrOf, IsOk, List, None, Ok, OnOk, Option, Result, Some, Vec, [], and_from, and_parts, and_right, ap, append-nil, append_assoc, arith, common_steps, cond, drop, drop-append_seam, drop_all, enumerate_from, eqb-true, eqb_tells, false, filter, filter-append, flat_map, fold-append, get_or, inl, inr, le-ltb, length, length-drop, length-map, length-take, lt-ltb, ltb-false, ltb-true, map, map-append, min, nat_lt, nat_tests, range_with_len, refl, rules, same_Some, set, slice_get, slice_get-get_or, slice_get_within, subst, suc, sym, take, take-append_seam, take_more, true, vec_capacity, zero, ℕ, ◌&&◌, ◌++◌, ◌+◌, ◌-◌, ◌<◌, ◌==◌, ◌^◌, ◌∙◌, ◌∷◌, ◌≡◌, ◌≤◌, ◌⊎◌}
 pub use Rattle.std.proofs.Common.{length-set}
 pub use Rattle.std.proofs.lemmas.List.{length-append}
 pub use Rattle.std.proofs.lemmas.List.Concat.{flat_map-append}
@@ -12,14 +12,15 @@ pub use Rattle.aggregator_rounds.proofs.SplitSteps.{entry_ends}
 pub use Rattle.aggregator_rounds.specs.EntryParts.{IsCovered}
 pub use Rattle.aggregator_rounds.specs.Left.{IsPast}
 pub use Rattle.aggregator_rounds.specs.ToldWindows.{told_window}
-pub use Rattle.exchange_crew.proofs.BackLaws.{AreKept, IsLater, err_not_ok, joined_back, kept_all, lent_kept, middle_in, one_back, slice_kept, zip_push, zip_same}
-pub use Rattle.exchange_crew.proofs.CrewLaws.{all_served, handed_few, handed_more, have_served, next_domain, none_handed, part_domain, some_served}
-pub use Rattle.exchange_crew.proofs.OneChanged.{each_twice, fewer_all, no_more_all}
+pub use Rattle.exchange_crew.proofs.BackLaws.{AreKept, IsLater, err_not_ok, joined_back, kept_all, lent_kept, middle_in, slice_kept}
+pub use Rattle.exchange_crew.proofs.CrewLaws.{all_served, IsHanding, handing_domain, handing_few, handing_next, have_served, none_handed, some_served}
+pub use Rattle.exchange_crew.proofs.OneChanged.{fewer_all, set_each}
+pub use Rattle.exchange_crew.proofs.PartsInTurn.{AreServedTo, all_kept, all_served_to, none_served, one_cut, one_failed, one_served}
 pub use Rattle.exchange_crew.proofs.PlanLaws.{plan_on, plan_turns, plan_windows}
 pub use Rattle.exchange_crew.proofs.SplitLaws.{all_joined, domains_behind, failed_joined, split_at, split_long}
 pub use Rattle.exchange_crew.proofs.TurnLaws.{at_begin, at_next, turn_end, turn_in, due_now, in_served, served_are, served_covered, served_ends, served_in, served_now, turn_limit}
 pub use Rattle.exchange_crew.specs.Cursor.{AreInFront, AreServed, IsAt}
-pub use Rattle.exchange_crew.specs.Handed.{AreHanded, domain_in}
+pub use Rattle.exchange_crew.specs.Handed.{domain_in}
 pub use Rattle.exchange_crew.specs.Hulls.{AreTurns, HaveWindows, IsTurn, LieOnPart}
 pub use Rattle.exchange_crew.specs.Parts.{PartState, SomeZip, part_state}
 pub use Rattle.exchange_crew.specs.Pieces.{ArePieces, meets, of_rank, pieces_in}
@@ -28,15 +29,15 @@ pub use Rattle.exchange_crew.specs.Turns.{IsTurnWalk, Told, puts_of_some, source
 pub use Rattle.exchange_crew.specs.declared.plan.PutPlan.{PutPlan}
 pub use Rattle.exchange_crew.specs.declared.walk.TurnWalk.{TurnWalk}
 pub use Rattle.file_domains.specs.declared.walk.Window.{Window}
-pub use Rattle.list_laws.proofs.Common.{each_more, equal_true, left_more, middle_at, no_none_some}
+pub use Rattle.list_laws.proofs.Common.{equal_true, middle_at, no_none_some}
 pub use Rattle.list_laws.proofs.Types.{Batch, Disk, DiskCall, Extent, Job, Owned, Post, StepErr}
-pub use Rattle.nc_outside.proofs.ToldLaws.{calls_more, with_end-nil}
+pub use Rattle.nc_outside.proofs.ToldLaws.{calls_more, told_as, with_end-nil}
 pub use Rattle.nc_outside.specs.Cause.{Rose}
 pub use Rattle.nc_outside.specs.Told.{BothTold, after, with_end}
 pub use Rattle.nc_outside.specs.declared.disk.Disk.{Ghosts as DiskGhosts}
 pub use Rattle.overlay_laws.proofs.Common.{AreFound, EndBelow, In, IsBetween, IsByPlace, IsPart, Source, between_next, cell_of, cells_long, clip, clips, clips_from, clips_in, clips_within, entry_in, extents, filter_none, flat_in, in_flat, in_left, in_map, in_range, in_right, map_in, moved_said, none_below, none_past, one_said, said_is, same_file, says_cases, says_left, says_right, store_calls, within_lowered, within_more}
 pub use Rattle.put_exchange.specs.Dues.{AreDue, counts_due, turns_due}
-pub use Rattle.put_exchange.specs.Feeds.{HasRound, HasSent, HaveFed, IsNotBefore, earlier_of, next_round_of, number_of, rounds_in, sent_in}
+pub use Rattle.put_exchange.specs.Feeds.{HasSent, HaveFed, number_of, rounds_in, sent_in}
 pub use Rattle.put_exchange.specs.Helped.{HasServed, IsPlanOn}
 pub use Rattle.put_exchange.specs.Put.{HasPut, put_part}
 pub use Rattle.put_exchange.specs.Sent.{AreCuts, Sent, binned, bytes_of, cells_in, cells_of, cut_in, cuts_by, has_pieces, hull_of, message_counts, messages_in, messages_of, posts_of, sent, sent_by}

@@ -44,13 +44,14 @@ pub fn exchange_put<R: Wait, D: Disk, G: Gate, K: Send + Drop>(
         (part_state D.Disk p.0) (part_state D.Disk new) result.1) (zip parts.items domains.now) result.0.items }
     ensures failed { IsErrOf result.1 fault.Disk → SomeZip (λ old new. Rose (D.faults old) (D.faults new)) parts.items result.0.items }
 {
-    if helpers.is_empty() {
-        return put_in_turn(tools, spares, plan, 0, domains, parts);
+    if !helpers.is_empty() {
+        if let Ok(shares) = make_rooms(tools.alloc, parts.len()) {
+            return put_helped(tools, helpers, spares, plan, domains, parts, shares);
+        }
     }
-    match make_rooms(tools.alloc, parts.len()) {
-        Ok(shares) => put_helped(tools, helpers, spares, plan, domains, parts, shares),
-        Err(_) => put_in_turn(tools, spares, plan, 0, domains, parts),
-    }
+    let mut parts = parts;
+    let end = put_in_turn(tools, spares, plan, 0, domains, &mut parts);
+    (parts, end)
 }
 
 // The puts by helpers, and on the parts that none has in turn.
@@ -76,12 +77,19 @@ fn put_helped<R: Wait, D: Disk, G: Gate, K: Send + Drop>(
 {
     let Served {
         mut back,
-        rest,
+        mut rest,
         end,
     } = put_served(tools, helpers, spares, plan, domains, parts, shares);
     let served = back.len();
-    let (others, other) = put_in_turn(tools, spares, plan, served as u32, &domains[served..], rest);
-    give_back(others, &mut back);
+    let other = put_in_turn(
+        tools,
+        spares,
+        plan,
+        served as u32,
+        &domains[served..],
+        &mut rest,
+    );
+    give_back(rest, &mut back);
     (back, end.and(other))
 }
 

@@ -123,7 +123,7 @@ fn hand_one<'a, R: Wait, D: Disk, G, K: Send + Drop>(
     })
 }
 
-// A line, the messages of a domain, and a buffer for its windows.
+// A buffer for the windows of a domain, their messages, and a line.
 fn outfit_of<'a>(
     alloc: Global,
     spares: &mut Spares,
@@ -138,10 +138,11 @@ fn outfit_of<'a>(
     ensures past { IsPast ahead.new.place plan.now.list.now ahead.new.entries.now }
     ensures outfit { IfOk result (λ outfit. IsOutfit plan.now domain outfit) }
 {
-    let (put, taken) = line::<Message>(alloc, plan.hints.line_room)?;
-    let Mail { rounds, dues } = mail_of(alloc, plan, domain, ahead)?;
     let room = plan.hints.cb_buffer.min(domain.len) as usize;
     let buf = spares.take(alloc, room)?;
+    let mail = mail_of(alloc, plan, domain, ahead)?;
+    let (put, taken) = line::<Message>(alloc, plan.hints.line_room)?;
+    let Mail { rounds, dues } = mail;
     Ok(Outfit {
         lines: PutLines { line: taken, buf },
         dues,
@@ -168,7 +169,7 @@ fn ask<R: Wait, D: Disk, G, K: Send + Drop>(
         ends: Snapshot::of(&ends),
     };
     let Ok((answer, awaited)) = reply::<PartBack<D, PutLines>, PutDuty<D>>(tools.alloc, duty) else {
-        return Err(ends.part);
+        return Err(ends.into_part());
     };
     let job = PutJob {
         number,
@@ -178,10 +179,7 @@ fn ask<R: Wait, D: Disk, G, K: Send + Drop>(
     };
     match send_put(tools.rt, helper, job) {
         Ok(()) => Ok(awaited),
-        Err(back) => {
-            let PutJob { ends, .. } = back;
-            Err(ends.part)
-        }
+        Err(back) => Err(back.into_part()),
     }
 }
 

@@ -59,6 +59,16 @@ impl<D: Disk> Model for PutJob<D> {
         × ForSome job.answer (λ duty. (duty.dues.value ≡ job.dues) × (duty.ends.value ≡ job.ends)) };
 }
 
+impl<D: Disk> PutJob<D> {
+    /// The part, where nobody does the job.
+    pub(crate) fn into_part(self) -> D
+        ensures { result ≡ self.part }
+    {
+        let PutJob { ends, .. } = self;
+        ends.into_part()
+    }
+}
+
 /// Does a job, and answers. The job comes in its parts: the kit does not cover a call that takes by value both a part and an answer whose
 /// promise is made of its type.
 pub fn serve<R: Wait, D: Disk, G: Gate>(

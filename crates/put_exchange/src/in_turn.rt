@@ -1,15 +1,16 @@
 // The parts served in turn, on the calling thread, by no line.
-ghost use Rattle.std.specs.Prelude.{◌≡◌, ◌∷◌, [], ◌⊎◌, ◌+◌, ◌^◌, ◌<◌, ◌≤◌, length, map, min, slice_get, zip, ℕ, Some, IsErrOf, IsOk, OnOk};
+ghost use Rattle.std.specs.Prelude.{◌≡◌, ◌∷◌, [], ◌+◌, ◌^◌, ◌<◌, ◌≤◌, length, map, min, slice_get, zip, ℕ, Some, IsErrOf, OnOk};
 ghost use Rattle.std.specs.List.{AllZip};
 ghost use Rattle.nc_base.specs.declared.plan.Extent.{Extent};
 ghost use Rattle.nc_outside.specs.Cause.{HasDiskCause, Rose};
 ghost use Rattle.nc_base.specs.declared.step.StepErr.TheVariants as fault;
 ghost use Rattle.nc_outside.specs.Told.{after, with_end, BothTold};
 ghost use Rattle.overlay_laws.specs.Changes.{store_calls, IsBetween};
-ghost use Rattle.overlay_laws.specs.Entries.{cell_of};
+ghost use Rattle.overlay_laws.specs.Entries.{cell_of, In};
 ghost use Rattle.overlay_laws.specs.Windows.{clip, clips};
 ghost use Rattle.serial_spec.specs.Said.{write_cells, moved_down};
 ghost use Rattle.aggregator_rounds.specs.ToldWindows.{told_window};
+ghost use Rattle.exchange_crew.specs.Hulls.{IsInReach};
 ghost use Rattle.exchange_crew.specs.Pieces.{ArePieces, IsPiece};
 ghost use Rattle.exchange_crew.specs.Plan.{planned_turns, source_in, IsDomainOf, IsPlanned};
 ghost use Rattle.exchange_crew.specs.Parts.{part_state, SomeZip};
@@ -42,7 +43,6 @@ pub(crate) fn lay_in_turn<R: Wait, D: Disk, G: Gate>(
         (part_state D.Disk part.old) (part_state D.Disk part.new) result }
     ensures failed { IsErrOf result fault.Disk → Rose (D.faults part.old) (D.faults part.new) }
 {
-    let _size = part.size();
     let batches = plan.job.job().batches.as_slice();
     let mut walk = TurnWalk::new(plan, aggregator.domain);
     'turns: while let Some(turn) = walk.next_turn() {
@@ -63,10 +63,7 @@ fn put_turn<D: Disk>(
     batches: &[Batch],
     buf: &mut [u8],
 ) -> Result<(), StepErr>
-    requires low { D.from part.old ≤ turn.now.window.hull.at }
-    requires high { turn.now.window.hull.at + turn.now.window.hull.len ≤ D.from part.old + D.len part.old }
-    requires hull { turn.now.window.hull.at + turn.now.window.hull.len < 2 ^ 62 }
-    requires room { turn.now.window.hull.len ≤ length buf.old }
+    requires reach { IsInReach (D.from part.old) (D.len part.old) (length buf.old) (told_window turn.now.window) }
     requires pieces { ArePieces (source_of batches.now) turn.now.entries.now }
     requires whole { IsFilledBy (told_window turn.now.window) (cells_in (source_of batches.now) (told_window turn.now.window) turn.now.entries.now) }
     ensures bytes { OnOk result (D.held part.new ≡ after (put_window (source_of batches.now) (D.from part.old) (told_window turn.now.window) turn.now.entries.now) (D.held part.old)) }
@@ -76,7 +73,6 @@ fn put_turn<D: Disk>(
     ensures len { D.len part.new ≡ D.len part.old }
     ensures cause { HasDiskCause (D.faults part.old) (D.faults part.new) result }
 {
-    let _size = part.size();
     let bytes = &mut buf[..turn.window.hull.len as usize];
     open_window(alloc, part, &turn.window, bytes)?;
     lay_entries(turn.window.hull, turn.entries, batches, bytes);
@@ -106,66 +102,51 @@ fn lay_piece(hull: Extent, entry: &Owned, batches: &[Batch], buf: &mut [u8])
     lay_entry(hull, entry, &batches[entry.rank as usize].puts, buf);
 }
 
-/// Serves the parts one after another, by one buffer, up to the first fault. They come back in order. The first has this number.
+/// Serves the parts one after another, by one buffer, up to the first fault. The first has this number.
 pub(crate) fn put_in_turn<R: Wait, D: Disk, G: Gate>(
     tools: &Tools<R, G>,
     spares: &mut Spares,
     plan: &PutPlan,
     first: u32,
     domains: &[Extent],
-    parts: Vec<D>,
-) -> (Vec<D>, Result<(), StepErr>)
+    parts: &mut [D],
+) -> Result<(), StepErr>
     requires plan { IsPlanned plan.now }
     requires few { first + length domains.now ≤ 64 }
-    requires one_each { length domains.now ≡ length parts.items }
-    requires domains { (k : ℕ) (part : D) (domain : Extent) → slice_get parts.items k ≡ Some part → slice_get domains.now k ≡ Some domain → IsDomainOf plan.now.list.now (D.from part) (D.len part) domain }
-    ensures long { length result.0.items ≡ length parts.items }
+    requires one_each { length domains.now ≡ length parts.old }
+    requires domains { (k : ℕ) (part : D) (domain : Extent) → slice_get parts.old k ≡ Some part → slice_get domains.now k ≡ Some domain → IsDomainOf plan.now.list.now (D.from part) (D.len part) domain }
     ensures put { AllZip (λ p new. HasPut (source_in plan.now) plan.now.list.now (planned_turns plan.now p.1)
-        (part_state D.Disk p.0) (part_state D.Disk new) result.1) (zip parts.items domains.now) result.0.items }
-    ensures failed { IsErrOf result.1 fault.Disk → SomeZip (λ old new. Rose (D.faults old) (D.faults new)) parts.items result.0.items }
+        (part_state D.Disk p.0) (part_state D.Disk new) result) (zip parts.old domains.now) parts.new }
+    ensures failed { IsErrOf result fault.Disk → SomeZip (λ old new. Rose (D.faults old) (D.faults new)) parts.old parts.new }
 {
-    let mut back = match Vec::with_capacity(tools.alloc, parts.len()) {
-        Ok(back) => back,
-        Err(_) => return (parts, Err(StepErr::Memory)),
-    };
     let size = longest_window(plan.hints.cb_buffer, domains) as usize;
-    let mut buf = match spares.take(tools.alloc, size) {
-        Ok(buf) => buf,
-        Err(_) => return (parts, Err(StepErr::Memory)),
-    };
-    let mut end = Ok(());
-    for part in parts {
-        let place = back.len();
-        let aggregator = aggregator_at(first, domains, place);
-        let (part, came) = serve_next(tools, plan, aggregator, part, &mut buf, end);
-        back.push_reserved(part);
-        end = came;
-    }
+    let mut buf = spares.take(tools.alloc, size)?;
+    let end = put_parts(tools, plan, first, domains, parts, &mut buf);
     spares.keep(buf);
-    (back, end)
+    end
 }
 
-// Serves a part, unless something was refused before.
-fn serve_next<R: Wait, D: Disk, G: Gate>(
+// Serves the parts one after another, up to the first fault. The buffer holds the longest hull.
+fn put_parts<R: Wait, D: Disk, G: Gate>(
     tools: &Tools<R, G>,
     plan: &PutPlan,
-    aggregator: Aggregator,
-    part: D,
+    first: u32,
+    domains: &[Extent],
+    parts: &mut [D],
     buf: &mut [u8],
-    before: Result<(), StepErr>,
-) -> (D, Result<(), StepErr>)
+) -> Result<(), StepErr>
     requires plan { IsPlanned plan.now }
-    requires domain { IsDomainOf plan.now.list.now (D.from part) (D.len part) aggregator.domain }
-    requires room { min plan.now.hints.now.cb_buffer aggregator.domain.len ≤ length buf.old }
-    ensures put { HasPut (source_in plan.now) plan.now.list.now (planned_turns plan.now aggregator.domain)
-        (part_state D.Disk part) (part_state D.Disk result.0) result.1 }
-    ensures ok { OnOk result.1 (IsOk before) }
-    ensures failed { IsErrOf result.1 fault.Disk → IsErrOf before fault.Disk ⊎ Rose (D.faults part) (D.faults result.0) }
+    requires few { first + length domains.now ≤ 64 }
+    requires one_each { length domains.now ≡ length parts.old }
+    requires domains { (k : ℕ) (part : D) (domain : Extent) → slice_get parts.old k ≡ Some part → slice_get domains.now k ≡ Some domain → IsDomainOf plan.now.list.now (D.from part) (D.len part) domain }
+    requires room { (domain : Extent) → In domains.now domain → min plan.now.hints.now.cb_buffer domain.len ≤ length buf.old }
+    ensures put { AllZip (λ p new. HasPut (source_in plan.now) plan.now.list.now (planned_turns plan.now p.1)
+        (part_state D.Disk p.0) (part_state D.Disk new) result) (zip parts.old domains.now) parts.new }
+    ensures failed { IsErrOf result fault.Disk → SomeZip (λ old new. Rose (D.faults old) (D.faults new)) parts.old parts.new }
 {
-    if let Err(fault) = before {
-        return (part, Err(fault));
+    for (place, part) in parts.iter_mut().enumerate() {
+        let aggregator = aggregator_at(first, domains, place);
+        lay_in_turn(tools, plan, aggregator, part, buf)?;
     }
-    let mut part = part;
-    let end = lay_in_turn(tools, plan, aggregator, &mut part, buf);
-    (part, end)
+    Ok(())
 }

@@ -1,10 +1,11 @@
 // What a helper does: window after window it takes the messages of its part, and lays them.
-ghost use Rattle.std.specs.Prelude.{◌≡◌, ◌+◌, ◌^◌, ◌<◌, ◌≤◌, [], length, IsOk, IsErr, IsErrOf, OnOk, ◌⊎◌};
+ghost use Rattle.std.specs.Prelude.{◌≡◌, ◌≤◌, [], length, IsOk, IsErr, IsErrOf, OnOk, ◌⊎◌};
 ghost use Rattle.nc_outside.specs.Cause.{HasDiskCause, Rose};
 ghost use Rattle.nc_base.specs.declared.step.StepErr.TheVariants as fault;
 ghost use Rattle.nc_outside.specs.Told.{with_end};
 ghost use Rattle.overlay_laws.specs.Changes.{store_calls};
 ghost use Rattle.aggregator_rounds.specs.ToldWindows.{told_window};
+ghost use Rattle.exchange_crew.specs.Hulls.{IsInReach};
 ghost use Rattle.exchange_crew.specs.Parts.{part_state};
 ghost use Rattle.put_exchange.specs.Dues.{turns_due, AreDue};
 ghost use Rattle.put_exchange.specs.Helped.{HasServed};
@@ -43,7 +44,6 @@ pub(crate) fn lay_part<R: Wait, D: Disk, G: Gate>(
     ensures of { line.new.of ≡ line.old.of }
     ensures served { HasServed dues.now (part_state D.Disk part.old) (part_state D.Disk part.new) line.new.items result }
 {
-    let _size = part.size();
     let mut end = Ok(());
     for due in dues {
         tools
@@ -63,10 +63,7 @@ fn serve_turn<R: Wait, D: Disk, G>(
     buf: &mut [u8],
     before: Result<(), StepErr>,
 ) -> Result<(), StepErr>
-    requires low { D.from part.old ≤ due.now.window.hull.at }
-    requires high { due.now.window.hull.at + due.now.window.hull.len ≤ D.from part.old + D.len part.old }
-    requires hull { due.now.window.hull.at + due.now.window.hull.len < 2 ^ 62 }
-    requires room { due.now.window.hull.len ≤ length buf.old }
+    requires { IsInReach (D.from part.old) (D.len part.old) (length buf.old) (told_window due.now.window) }
     ensures of { line.new.of ≡ line.old.of }
     ensures taken { HasTaken due.now.count line.old.items line.new.items }
     ensures put { IsOk before → HasPutTaken (turn_due (D.from part.old) (told_window due.now.window) due.now.count) line.old.items line.new.items (D.held part.old) (D.held part.new) result }
@@ -93,10 +90,7 @@ fn put_turn<R: Wait, D: Disk, G>(
     line: &mut LineTake<Message>,
     buf: &mut [u8],
 ) -> Result<(), StepErr>
-    requires low { D.from part.old ≤ due.now.window.hull.at }
-    requires high { due.now.window.hull.at + due.now.window.hull.len ≤ D.from part.old + D.len part.old }
-    requires hull { due.now.window.hull.at + due.now.window.hull.len < 2 ^ 62 }
-    requires room { due.now.window.hull.len ≤ length buf.old }
+    requires { IsInReach (D.from part.old) (D.len part.old) (length buf.old) (told_window due.now.window) }
     ensures of { line.new.of ≡ line.old.of }
     ensures put { HasPutTaken (turn_due (D.from part.old) (told_window due.now.window) due.now.count) line.old.items line.new.items (D.held part.old) (D.held part.new) result }
     ensures calls { OnOk result (D.calls part.new ≡ with_end (D.calls part.old) (store_calls (told_window due.now.window))) }
@@ -104,7 +98,6 @@ fn put_turn<R: Wait, D: Disk, G>(
     ensures len { D.len part.new ≡ D.len part.old }
     ensures cause { HasDiskCause (D.faults part.old) (D.faults part.new) result }
 {
-    let _size = part.size();
     let bytes = &mut buf[..due.window.hull.len as usize];
     let opened = open_window(tools.alloc, part, &due.window, bytes);
     take_messages(tools.rt, due.window.hull, due.count, line, bytes);

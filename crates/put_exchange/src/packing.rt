@@ -17,6 +17,7 @@ ghost use Rattle.put_exchange.specs.Sent.{binned, cells_of, cut_in, cuts_by, has
 use crate::laying::Due;
 use crate::message::{Cut, Message};
 use exchange_crew::{PutPlan, SharedJob, Turn, TurnWalk};
+use file_domains::Window;
 use nc_base::{Batch, Extent, Memory, Owned};
 use std::alloc::Global;
 use std::collections::VecDeque;
@@ -56,26 +57,37 @@ pub(crate) fn mail_of<'a>(
     ensures windows { IfOk result (λ mail. turns_due mail.dues.items ≡ planned_turns plan.now domain) }
     ensures counts { IfOk result (λ mail. counts_due mail.dues.items ≡ planned_counts plan.now domain) }
 {
-    let mut rounds = VecDeque::new(alloc);
-    let mut dues = Vec::new(alloc);
+    let mut mail = Mail {
+        rounds: VecDeque::new(alloc),
+        dues: Vec::new(alloc),
+    };
     let mut walk = walk_of(plan, domain, ahead);
     'turns: while let Some(turn) = walk.next_turn() {
         let window = turn.window;
         let messages = messages_of(alloc, plan.job, &turn)?;
-        dues.push(Due {
-            window,
-            count: messages.len(),
-        })?;
-        rounds.push_back(Round {
-            number: window.round,
-            messages,
-        })?;
+        mail.add(window, messages)?;
         *ahead = Ahead {
             place: window.hull.at + window.hull.len,
             entries: walk.entries,
         };
     }
-    Ok(Mail { rounds, dues })
+    Ok(mail)
+}
+
+impl Mail {
+    // One window more, with its messages.
+    fn add(&mut self, window: Window, messages: Vec<Message>) -> Result<(), Memory>
+        ensures dues { OnOk result (self.new.dues.items ≡ self.old.dues.items ++ record { window = window; count = length messages.items } ∷ []) }
+        ensures rounds { OnOk result (self.new.rounds.items ≡ self.old.rounds.items ++ record { number = window.round; messages = messages } ∷ []) }
+    {
+        let count = messages.len();
+        self.dues.push(Due { window, count })?;
+        self.rounds.push_back(Round {
+            number: window.round,
+            messages,
+        })?;
+        Ok(())
+    }
 }
 
 // The walk over the windows of a domain, which goes on from where packing has come to. It begins anew where the domain begins before that.

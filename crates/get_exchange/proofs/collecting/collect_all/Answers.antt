@@ -10,21 +10,21 @@ pub loop-entry-init : goal.loop-entry-init
 loop-entry-init c = record { each = λ r s. refl; long = refl }
 
 pub collect_get-requires-clause-end : goal.collect_get-requires-clause-end
-collect_get-requires-clause-end c = entry_ends c.args.entries.now c.loop-entry.entry-index none c.requires.ends c.loop-entry-test.true
+collect_get-requires-clause-end c = entry_ends c.args.entries.now c.loop-entry.entry-index none c.requires.can.ends c.loop-entry-test.true
 
 pub collect_get-requires-clause-filled : goal.collect_get-requires-clause-filled
-collect_get-requires-clause-filled c = c.requires.filled (get_or c.args.entries.now c.loop-entry.entry-index none) (entry_in c.args.entries.now _ none c.loop-entry-test.true)
+collect_get-requires-clause-filled c = c.requires.can.filled (get_or c.args.entries.now c.loop-entry.entry-index none) (entry_in c.args.entries.now _ none c.loop-entry-test.true)
 
 pub collect_get-requires-clause-fit : goal.collect_get-requires-clause-fit
-collect_get-requires-clause-fit c = fit_as_long c.args.table.now c.loop-entry.table c.args.entries.now c.loop-entry.invariant.long c.requires.fit
+collect_get-requires-clause-fit c = fit_as_long c.args.table.now c.loop-entry.table c.args.entries.now c.loop-entry.invariant.long c.requires.can.fit
     (get_or c.args.entries.now c.loop-entry.entry-index none) (entry_in c.args.entries.now c.loop-entry.entry-index none c.loop-entry-test.true)
 
 pub loop-entry-preserved : goal.loop-entry-preserved
 loop-entry-preserved c =
     let entry = get_or c.args.entries.now c.loop-entry.entry-index none in
     let inside = entry_in c.args.entries.now c.loop-entry.entry-index none c.loop-entry-test.true in
-    let fit = fit_as_long c.args.table.now c.loop-entry.table c.args.entries.now c.loop-entry.invariant.long c.requires.fit entry inside in
-    let filled = c.requires.filled entry inside in
+    let fit = fit_as_long c.args.table.now c.loop-entry.table c.args.entries.now c.loop-entry.invariant.long c.requires.can.fit entry inside in
+    let filled = c.requires.can.filled entry inside in
     record {
       each = collected_more c.args.hull.at (c.args.hull.at + c.args.hull.len) c.args.buf.now c.args.table.now c.loop-entry.table c.collect_get.new.table c.args.entries.now
           c.loop-entry.entry-index entry none c.loop-entry-test.true refl (omega arith) c.collect_get.ensures c.loop-entry.invariant.each;

@@ -1,6 +1,7 @@
 -- One window of one helper was taken.
 use Rattle.get_exchange.proofs.Words.{◌≡◌, ◌∙◌, refl, sym, subst, set, Some, Result, get_or, length-set, same_Some, slice_get-get_or, slice_get, IfErr, OnOk, StepErr, Memory, HaveTakenTurns, IsKept, IsShelfIn, turns_due, ReadWorker, fewer_all, set_each}
 use Rattle.get_exchange.proofs.CollectLaws.{fit_as_long}
+use Rattle.get_exchange.proofs.ShelfLaws.{none_due, some_due}
 use Rattle.get_exchange.proofs.TakeLaws.{both_memory, kept_more, kept_none, taken_none, taken_on}
 use Rattle.get_exchange.proofs.collecting.take_all.Goals as goal
 
@@ -30,7 +31,7 @@ rounds-smaller g c =
     let worker = get_or c.rounds.workers k c.index-workers-k.result in
     let own = slice_get-get_or c.rounds.workers k c.index-workers-k.result some.0 in
     fewer_all (λ (s : ReadWorker g.row.D.Denot). turns_due s.shelf) c.rounds.workers k worker (record { helper = worker.helper; shelf = c.take_turn-came.new.shelf }) own
-    (c.take_turn-came.ensures.fewer (some.1 worker own))
+    (c.take_turn-came.ensures.fewer (some_due worker.shelf.next worker.shelf.walk.windows (some.1 worker own)))
 
 pub rounds-preserved : goal.rounds-preserved
 rounds-preserved g c =
@@ -54,3 +55,6 @@ rounds-preserved g c =
       lenders = c.hand_on.ensures;
       memory = subst (λ (r : Result (Unit {0}) StepErr). IfErr r (λ e. e ≡ Memory)) (sym c.and-end.ensures) (both_memory c.rounds.end c.take_turn-came.result.0 c.rounds.invariant.memory c.take_turn-came.ensures.memory);
     }
+
+pub returns-clause-none : goal.returns-clause-none
+returns-clause-none g c = λ k worker e. none_due worker.shelf.next worker.shelf.walk.windows (c.in_default.ensures.none k worker e)

@@ -23,9 +23,11 @@ collect_hull-came-requires g c =
     let served = served_now _ _ _ _ _ (turns_ahead walk.windows) t up.at (sym same) c.turn-turn.ensures.front in
     record {
       hull = turn_limit _ _ _ _ (turns_ahead walk.windows) t c.requires.plan.ends up.at (sym same);
-      ends = served_ends _ _ _ _ served c.requires.plan.ends;
-      filled = filled_served _ _ _ _ served c.requires.plan.filled;
-      fit = fit_served c.args.table.now _ _ _ _ served c.requires.fit;
+      can = record {
+        ends = served_ends _ _ _ _ served c.requires.plan.ends;
+        filled = filled_served _ _ _ _ served c.requires.plan.filled;
+        fit = fit_served c.args.table.now _ _ _ _ served c.requires.fit;
+      };
     }
 
 pub go_past-requires : goal.go_past-requires

@@ -30,40 +30,24 @@ turn-turn-requires g c =
       end = turn_limit _ _ _ _ _ _ c.requires.plan.ends s.here c.in-Some.ensures.some;
     }
 
-pub collect_turn-requires-clause-low : goal.collect_turn-requires-clause-low
-collect_turn-requires-clause-low g c κs within =
+pub collect_turn-requires-clause-reach : goal.collect_turn-requires-clause-reach
+collect_turn-requires-clause-reach g c κs within =
     let due = reading_due _ c.next_window.new.windows _ c.turn-turn.result.window c.requires.plan.ends c.turns.invariant.reading c.in-Some.ensures.some c.turn-turn.ensures.window c.turn-turn.ensures.front in
-    omega (arith, due.low, c.turns.invariant.from)
+    record {
+      low = omega (arith, due.low, c.turns.invariant.from);
+      high = omega (arith, due.high, c.turns.invariant.from, c.turns.invariant.len);
+      limit = due.limit;
+      short = omega (arith, due.turn.short, c.requires.room);
+    }
 
-pub collect_turn-requires-clause-high : goal.collect_turn-requires-clause-high
-collect_turn-requires-clause-high g c κs within =
+pub collect_turn-requires-clause-can : goal.collect_turn-requires-clause-can
+collect_turn-requires-clause-can g c κs within =
     let due = reading_due _ c.next_window.new.windows _ c.turn-turn.result.window c.requires.plan.ends c.turns.invariant.reading c.in-Some.ensures.some c.turn-turn.ensures.window c.turn-turn.ensures.front in
-    omega (arith, due.high, c.turns.invariant.from, c.turns.invariant.len)
-
-pub collect_turn-requires-clause-hull : goal.collect_turn-requires-clause-hull
-collect_turn-requires-clause-hull g c κs within =
-    let due = reading_due _ c.next_window.new.windows _ c.turn-turn.result.window c.requires.plan.ends c.turns.invariant.reading c.in-Some.ensures.some c.turn-turn.ensures.window c.turn-turn.ensures.front in
-    due.limit
-
-pub collect_turn-requires-clause-ends : goal.collect_turn-requires-clause-ends
-collect_turn-requires-clause-ends g c κs within =
-    let due = reading_due _ c.next_window.new.windows _ c.turn-turn.result.window c.requires.plan.ends c.turns.invariant.reading c.in-Some.ensures.some c.turn-turn.ensures.window c.turn-turn.ensures.front in
-    due.ends
-
-pub collect_turn-requires-clause-filled : goal.collect_turn-requires-clause-filled
-collect_turn-requires-clause-filled g c κs within =
-    let due = reading_due _ c.next_window.new.windows _ c.turn-turn.result.window c.requires.plan.ends c.turns.invariant.reading c.in-Some.ensures.some c.turn-turn.ensures.window c.turn-turn.ensures.front in
-    filled_served _ _ _ _ due.served c.requires.plan.filled
-
-pub collect_turn-requires-clause-fit : goal.collect_turn-requires-clause-fit
-collect_turn-requires-clause-fit g c κs within =
-    let due = reading_due _ c.next_window.new.windows _ c.turn-turn.result.window c.requires.plan.ends c.turns.invariant.reading c.in-Some.ensures.some c.turn-turn.ensures.window c.turn-turn.ensures.front in
-    fit_served c.turns.table _ _ _ _ due.served (fit_as_long c.args.table.now c.turns.table c.args.plan.now.list.now c.turns.invariant.reading.long c.requires.fit)
-
-pub collect_turn-requires-clause-room : goal.collect_turn-requires-clause-room
-collect_turn-requires-clause-room g c κs within =
-    let due = reading_due _ c.next_window.new.windows _ c.turn-turn.result.window c.requires.plan.ends c.turns.invariant.reading c.in-Some.ensures.some c.turn-turn.ensures.window c.turn-turn.ensures.front in
-    omega (arith, due.turn.short, c.requires.room)
+    record {
+      ends = due.ends;
+      filled = filled_served _ _ _ _ due.served c.requires.plan.filled;
+      fit = fit_served c.turns.table _ _ _ _ due.served (fit_as_long c.args.table.now c.turns.table c.args.plan.now.list.now c.turns.invariant.reading.long c.requires.fit);
+    }
 
 pub go_past-requires : goal.go_past-requires
 go_past-requires g c =

@@ -1,74 +1,79 @@
--- One part more was read.
-use Rattle.get_exchange.proofs.Words.{ℕ, ◌≡◌, ◌∙◌, ◌++◌, ◌∷◌, [], refl, sym, ap, subst, length, append_assoc, List, Some, Ok, rules, arith, slice_get, slice_get_within, common_steps, zip, OnOk, Rose, at_in, HasReadParts, middle_at, part_domain, zip_push, one_back}
+-- One part more was read, or cut off.
+use Rattle.get_exchange.proofs.Words.{◌∙◌, List, refl, sym, subst, get_or, zip, Err, Ok, rules, arith, common_steps, slice_get-get_or, take_all, Rose, at_in, err_not_ok, HasReadParts, all_served_to, none_served, one_cut, one_failed, one_served}
 use Rattle.get_exchange.proofs.CollectLaws.{fit_as_long}
 use Rattle.get_exchange.proofs.FetchLaws.{GotBy, got_later}
-use Rattle.get_exchange.proofs.PartReads.{none_zip, parts_none, parts_on}
+use Rattle.get_exchange.proofs.PartReads.{got_kept, parts_next, parts_none}
 use Rattle.get_exchange.proofs.in_turn.read_parts.Goals as goal
 
-pub loop-part-init : goal.loop-part-init
-loop-part-init g c =
-    record {
-      all = first_of (search rules, grind (arith, common_steps));
-      long = ap (λ (ds : List g.row.D.Denot). length ds) c.requires.none;
-      room = refl;
-      buf = refl;
-      got = none_zip (GotBy g.D.Disk c.args.plan.now (Ok (tt {0}))) c.args.back.items c.requires.none;
-      read = parts_none (λ d. g.D.Disk.from d) (λ d. g.D.Disk.held d) c.args.plan.now c.args.room.now.table.items;
-      blobs = refl;
-      past = c.new-ahead.ensures.past;
-      failed = λ f. absurd cc;
-    }
+pub loop-place-init : goal.loop-place-init
+loop-place-init g c = record {
+  served = none_served (GotBy g.D.Disk c.args.plan.now (Ok (tt {0}))) c.args.domains.now c.args.parts.now;
+  buf = refl;
+  read = parts_none (λ d. g.D.Disk.from d) (λ d. g.D.Disk.held d) c.args.plan.now c.args.table.now;
+  blobs = refl;
+  past = c.new-ahead.ensures.past;
+}
 
 pub aggregator_at-aggregator-requires-clause-place : goal.aggregator_at-aggregator-requires-clause-place
-aggregator_at-aggregator-requires-clause-place g c =
-    let middle = ap (λ v. c.loop-part.yielded ++ v) (sym c.in-Some.ensures.steps.0) ∙ c.loop-part.invariant.all in
-    let low = slice_get_within c.args.parts.items (length c.loop-part.yielded) c.in-Some.part (middle_at c.loop-part.yielded _ c.args.parts.items c.in-Some.part middle) in
-    let number : c.len-place.result ≡ length c.loop-part.back.items = first_of (search rules, grind (arith, common_steps)) in
-    omega (arith, low, number, c.loop-part.invariant.long, c.requires.one_each)
+aggregator_at-aggregator-requires-clause-place g c = omega (arith, c.loop-place.invariant.served.long, c.requires.one_each)
 
-pub read_next-part-requires-clause-domain : goal.read_next-part-requires-clause-domain
-read_next-part-requires-clause-domain g c κs within =
-    let number : c.len-place.result ≡ length c.loop-part.back.items = first_of (search rules, grind (arith, common_steps)) in
-    part_domain (λ d. g.D.Disk.from d) (λ d. g.D.Disk.len d) c.args.plan.now.list.now c.args.domains.now c.args.parts.items c.loop-part.yielded _ c.in-Some.part c.len-place.result
-    c.aggregator_at-aggregator.result.domain c.requires.domains (ap (λ v. c.loop-part.yielded ++ v) (sym c.in-Some.ensures.steps.0) ∙ c.loop-part.invariant.all) (number ∙ c.loop-part.invariant.long)
-    c.aggregator_at-aggregator.ensures
+pub collect_part-requires-clause-domain : goal.collect_part-requires-clause-domain
+collect_part-requires-clause-domain g c κs within =
+    let i = c.loop-place.place in
+    let at = slice_get-get_or c.loop-place.parts i c.index-parts-place.result (omega arith) in
+    c.requires.domains i _ c.aggregator_at-aggregator.result.domain (sym (c.loop-place.invariant.served.left i (omega arith)) ∙ at) c.aggregator_at-aggregator.ensures
 
-pub read_next-part-requires-clause-room : goal.read_next-part-requires-clause-room
-read_next-part-requires-clause-room g c κs within =
+pub collect_part-requires-clause-room : goal.collect_part-requires-clause-room
+collect_part-requires-clause-room g c κs within =
     let domain = c.aggregator_at-aggregator.result.domain in
-    omega (arith, c.requires.buf_room domain (at_in c.args.domains.now c.len-place.result domain c.aggregator_at-aggregator.ensures), c.loop-part.invariant.buf)
+    omega (arith, c.requires.room domain (at_in c.args.domains.now c.loop-place.place domain c.aggregator_at-aggregator.ensures), c.loop-place.invariant.buf)
 
-pub read_next-part-requires-clause-fit : goal.read_next-part-requires-clause-fit
-read_next-part-requires-clause-fit g c κs within =
-    fit_as_long c.args.room.now.table.items c.loop-part.room.table.items c.args.plan.now.list.now c.loop-part.invariant.blobs c.requires.fit
+pub collect_part-requires-clause-fit : goal.collect_part-requires-clause-fit
+collect_part-requires-clause-fit g c κs within = fit_as_long c.args.table.now c.loop-place.table c.args.plan.now.list.now c.loop-place.invariant.blobs c.requires.fit
 
-pub loop-part-preserved : goal.loop-part-preserved
-loop-part-preserved g c =
-    let s = c.loop-part.invariant in
-    let number : c.len-place.result ≡ length c.loop-part.back.items = first_of (search rules, grind (arith, common_steps)) in
+pub loop-place-preserved : goal.loop-place-preserved
+loop-place-preserved g c =
+    let s = c.loop-place.invariant in
+    let plan = c.args.plan.now in
+    let parts = c.loop-place.parts in
+    let i = c.loop-place.place in
+    let part = get_or parts i c.index-parts-place.result in
     let domain = c.aggregator_at-aggregator.result.domain in
-    let at = subst (λ (k : ℕ). slice_get c.args.domains.now k ≡ Some domain) (number ∙ s.long) c.aggregator_at-aggregator.ensures in
-    let more = zip_push c.loop-part.yielded c.args.domains.now c.in-Some.part domain at in
-    let came = c.read_next-part.ensures in
-    let Failing : g.row.D.Denot → g.row.D.Denot → Type 0 = λ a b. Rose (g.D.Disk.faults a) (g.D.Disk.faults b) in
-    let back = one_back (GotBy g.D.Disk c.args.plan.now) Failing (zip c.loop-part.yielded c.args.domains.now) _ (c.in-Some.part, domain) c.loop-part.yielded c.in-Some.part c.loop-part.back.items _
-    c.read_next-part.result.0 c.loop-part.end c.read_next-part.result.1 (got_later g.D.Disk c.args.plan.now) more c.push_reserved.ensures.items came.ok
-    (record { long = s.long; done = s.got; failed = s.failed }) came.got came.failed in
+    let at = slice_get-get_or parts i c.index-parts-place.result (omega arith) in
+    let done = c.in_ok-collect_part.ensures in
     record {
-      all = append_assoc c.loop-part.yielded (c.in-Some.part ∷ []) _ ∙ ap (λ v. c.loop-part.yielded ++ v) (sym c.in-Some.ensures.steps.0) ∙ s.all;
-      long = back.long;
-      room = c.push_reserved.ensures.capacity ∙ s.room;
-      buf = came.buf ∙ s.buf;
-      got = back.done;
-      read = parts_on (λ d. g.D.Disk.from d) (λ d. g.D.Disk.held d) c.args.plan.now (zip c.loop-part.yielded c.args.domains.now) _ (c.in-Some.part, domain) c.args.room.now.table.items
-          c.loop-part.room.table.items c.read_next-part.new.room.table.items c.loop-part.end c.read_next-part.result.1 more came.ok s.read came.read;
-      blobs = came.blobs ∙ s.blobs;
+      served = one_served part c.collect_part.new.part domain at c.aggregator_at-aggregator.ensures (GotBy g.D.Disk plan (Ok (tt {0}))) s.served done.got;
+      buf = c.collect_part.auto.buf ∙ s.buf;
+      read = parts_next (λ d. g.D.Disk.from d) (λ d. g.D.Disk.held d) plan c.args.parts.now c.args.domains.now i part domain c.args.table.now c.loop-place.table c.collect_part.new.table
+          (sym (s.served.left i (omega arith)) ∙ at) c.aggregator_at-aggregator.ensures s.read done.read;
+      blobs = done.blobs ∙ s.blobs;
       past = c.reach-entries.ensures.past;
-      failed = back.failed;
     }
+
+pub returns-in_err-collect_part : goal.returns-in_err-collect_part
+returns-in_err-collect_part g c =
+    let served = c.loop-place.invariant.served in
+    let parts = c.loop-place.parts in
+    let part = get_or parts c.loop-place.place c.index-parts-place.result in
+    let at = slice_get-get_or parts c.loop-place.place c.index-parts-place.result (omega arith) in
+    let domain = c.aggregator_at-aggregator.result.domain in
+    let is = c.aggregator_at-aggregator.ensures in
+    let end = c.from_residual.result in
+    let cut = c.from_residual.ensures.0 in
+    record {
+      got = one_cut part c.collect_part.new.part domain at is (GotBy g.D.Disk c.args.plan.now) (Ok (tt {0})) end (got_later g.D.Disk c.args.plan.now) (err_not_ok _ end cut) (got_kept g.D.Disk c.args.plan.now end cut) c.requires.one_each
+          served (got_later g.D.Disk c.args.plan.now (Err _) end _ _ (err_not_ok _ end cut) c.in_err-collect_part.ensures.got);
+      read = err_not_ok _ end cut;
+      blobs = c.in_err-collect_part.ensures.blobs ∙ c.loop-place.invariant.blobs;
+      failed = λ f.
+          let rose : Rose (g.D.Disk.faults part) (g.D.Disk.faults c.collect_part.new.part) = first_of (search rules, grind (arith, common_steps)) in
+          one_failed part c.collect_part.new.part domain at is (λ a b. Rose (g.D.Disk.faults a) (g.D.Disk.faults b)) served rose;
+    }
+
+pub returns-clause-got : goal.returns-clause-got
+returns-clause-got g c = all_served_to (GotBy g.D.Disk c.args.plan.now (Ok (tt {0}))) c.loop-place.invariant.served c.loop-place-test.false c.requires.one_each
 
 pub returns-clause-read : goal.returns-clause-read
 returns-clause-read g c =
-    let whole : c.loop-part.yielded ≡ c.args.parts.items = first_of (search rules, grind (arith, common_steps)) in
-    subst (λ (ps : List g.row.D.Denot). OnOk c.loop-part.end (HasReadParts (λ d. g.D.Disk.from d) (λ d. g.D.Disk.held d) c.args.plan.now (zip ps c.args.domains.now) c.args.room.now.table.items c.loop-part.room.table.items))
-    whole c.loop-part.invariant.read
+    subst (λ (ps : List g.row.D.Denot). HasReadParts (λ d. g.D.Disk.from d) (λ d. g.D.Disk.held d) c.args.plan.now (zip ps c.args.domains.now) c.args.table.now c.loop-place.table)
+    (take_all c.loop-place.place c.args.parts.now c.loop-place-test.false) c.loop-place.invariant.read

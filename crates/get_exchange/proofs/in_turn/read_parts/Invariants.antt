@@ -1,18 +1,13 @@
--- The parts so far were read, up to the first fault.
-use Rattle.get_exchange.proofs.Words.{◌≡◌, ◌++◌, length, vec_capacity, zip, IsErrOf, OnOk, AllZip, Rose, Disk, AreAsLong, get_turns, HasGot, HasReadParts, IsPast, part_state, SomeZip}
+-- The parts so far were read, and the others are as they were.
+use Rattle.get_exchange.proofs.Words.{◌≡◌, length, take, zip, Ok, AreAsLong, AreServedTo, HasReadParts, IsPast}
+use Rattle.get_exchange.proofs.FetchLaws.{GotBy}
 use Rattle.get_exchange.proofs.in_turn.read_parts.Given as goal
 
-abbrev pub invariant-loop-part : goal.invariant-loop-part
-invariant-loop-part g l = record {
-  all : l.yielded ++ l.part-iterator.rest.items ≡ l.fn.parts.items;
-  long : length l.back.items ≡ length l.yielded;
-  room : vec_capacity l.back ≡ vec_capacity l.initial.back;
-  buf : length l.room.buf.items ≡ length l.initial.room.buf.items;
-  got : AllZip
-      (λ p new. HasGot (get_turns l.plan p.1)
-      (part_state g.D.Disk p.0) (part_state g.D.Disk new) l.end) (zip l.yielded l.domains) l.back.items;
-  read : OnOk l.end (HasReadParts (λ part. g.D.Disk.from part) (λ part. g.D.Disk.held part) l.plan (zip l.yielded l.domains) l.initial.room.table.items l.room.table.items);
-  blobs : AreAsLong l.initial.room.table.items l.room.table.items;
+abbrev pub invariant-loop-place : goal.invariant-loop-place
+invariant-loop-place g l = record {
+  served : AreServedTo (GotBy g.D.Disk l.plan (Ok (tt {0}))) l.place l.domains l.initial.parts l.parts;
+  buf : length l.buf ≡ length l.initial.buf;
+  read : HasReadParts (λ part. g.D.Disk.from part) (λ part. g.D.Disk.held part) l.plan (zip (take l.place l.initial.parts) l.domains) l.initial.table l.table;
+  blobs : AreAsLong l.initial.table l.table;
   past : IsPast l.ahead.place l.plan.list.now l.ahead.entries.now;
-  failed : IsErrOf l.end Disk → SomeZip (λ old new. Rose (g.D.Disk.faults old) (g.D.Disk.faults new)) l.yielded l.back.items;
 }

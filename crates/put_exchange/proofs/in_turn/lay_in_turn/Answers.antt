@@ -16,26 +16,21 @@ turns-init g c =
     record {
       served = in_turn_begin (source_in plan) _ _ _ _ _ _ (g.D.Disk.held c.args.part.now) (g.D.Disk.calls c.args.part.now)
           c.new-walk.ensures.ready c.new-walk.ensures.at c.new-walk.ensures.windows
-          (plan_on _ _ _ _ _ _ _ c.requires.plan c.requires.domain) (plan_windows _ _ _ _ _ _ _ c.requires.plan c.requires.domain) c.size-size.ensures.told;
+          (plan_on _ _ _ _ _ _ _ c.requires.plan c.requires.domain) (plan_windows _ _ _ _ _ _ _ c.requires.plan c.requires.domain) (g.D.Disk.told c.args.part.now);
       from = refl;
       len = refl;
       later = omega arith;
     }
 
-pub put_turn-requires-clause-low : goal.put_turn-requires-clause-low
-put_turn-requires-clause-low g c κs within =
+pub put_turn-requires-clause-reach : goal.put_turn-requires-clause-reach
+put_turn-requires-clause-reach g c κs within =
     let due = due_now _ _ _ _ _ _ _ _ (told_window c.in-Some.turn.window) c.requires.plan.ends c.turns.invariant.served.here c.turns.invariant.served.on_part c.in-Some.ensures.some c.in-Some.ensures.front in
-    omega (arith, due.low, c.turns.invariant.from)
-
-pub put_turn-requires-clause-high : goal.put_turn-requires-clause-high
-put_turn-requires-clause-high g c κs within =
-    let due = due_now _ _ _ _ _ _ _ _ (told_window c.in-Some.turn.window) c.requires.plan.ends c.turns.invariant.served.here c.turns.invariant.served.on_part c.in-Some.ensures.some c.in-Some.ensures.front in
-    omega (arith, due.high, c.turns.invariant.from, c.turns.invariant.len)
-
-pub put_turn-requires-clause-room : goal.put_turn-requires-clause-room
-put_turn-requires-clause-room g c κs within =
-    let due = due_now _ _ _ _ _ _ _ _ (told_window c.in-Some.turn.window) c.requires.plan.ends c.turns.invariant.served.here c.turns.invariant.served.on_part c.in-Some.ensures.some c.in-Some.ensures.front in
-    omega (arith, due.turn.short, c.requires.room)
+    record {
+      low = omega (arith, due.low, c.turns.invariant.from);
+      high = omega (arith, due.high, c.turns.invariant.from, c.turns.invariant.len);
+      limit = due.limit;
+      short = omega (arith, due.turn.short, c.requires.room);
+    }
 
 pub put_turn-requires-clause-pieces : goal.put_turn-requires-clause-pieces
 put_turn-requires-clause-pieces g c κs within =
@@ -60,7 +55,7 @@ turns-preserved g c =
     let later = c.in_ok-put_turn.ensures.cause.later in
     let before = c.turns.invariant.later in
     record {
-      served = in_turn_next _ _ _ _ _ _ _ _ _ t _ _ (g.D.Disk.held c.put_turn.new.part) _ _ _ c.size-size.ensures.told c.requires.plan.one c.turns.invariant.served c.in-Some.ensures.some c.in-Some.ensures.ready c.in-Some.ensures.front c.in-Some.ensures.past
+      served = in_turn_next _ _ _ _ _ _ _ _ _ t _ _ (g.D.Disk.held c.put_turn.new.part) _ _ _ (g.D.Disk.told c.args.part.now) c.requires.plan.one c.turns.invariant.served c.in-Some.ensures.some c.in-Some.ensures.ready c.in-Some.ensures.front c.in-Some.ensures.past
           (subst (λ (bs : List Batch). g.D.Disk.held c.put_turn.new.part ≡ after (put_window (source_of bs) from t begun) (g.D.Disk.held c.turns.part)) (c.as_slice-batches.ensures ∙ ap (λ (j : Job). j.batches) c.job.ensures)
           (subst (λ (n : ℕ). g.D.Disk.held c.put_turn.new.part ≡ after (put_window (source_of c.as_slice-batches.result.now) n t begun) (g.D.Disk.held c.turns.part)) c.turns.invariant.from
           c.in_ok-put_turn.ensures.bytes))
@@ -82,7 +77,7 @@ returns-in_err-put_turn-clause-put g c =
       from = c.in_err-put_turn.ensures.from ∙ c.turns.invariant.from;
       len = c.in_err-put_turn.ensures.len ∙ c.turns.invariant.len;
       bytes = err_not_ok _ _ c.from_residual.ensures.0;
-      between = in_turn_cut _ _ _ _ _ _ _ _ c.next_turn.new.self t _ _ (g.D.Disk.held c.put_turn.new.part) _ _ c.size-size.ensures.told c.requires.plan.one c.turns.invariant.served c.in-Some.ensures.some c.in-Some.ensures.front
+      between = in_turn_cut _ _ _ _ _ _ _ _ c.next_turn.new.self t _ _ (g.D.Disk.held c.put_turn.new.part) _ _ (g.D.Disk.told c.args.part.now) c.requires.plan.one c.turns.invariant.served c.in-Some.ensures.some c.in-Some.ensures.front
           (subst (λ (bs : List Batch). BothTold (λ old left. IsBetween old (put_window (source_of bs) from t begun old) left) (g.D.Disk.held c.turns.part) (g.D.Disk.held c.put_turn.new.part)) (c.as_slice-batches.ensures ∙ ap (λ (j : Job). j.batches) c.job.ensures)
           (subst (λ (n : ℕ). BothTold (λ old left. IsBetween old (put_window (source_of c.as_slice-batches.result.now) n t begun old) left) (g.D.Disk.held c.turns.part) (g.D.Disk.held c.put_turn.new.part))
           c.turns.invariant.from c.in_err-put_turn.ensures.between));

@@ -12,7 +12,7 @@ returns-clause-bytes g c =
     let len = window.hull.len in
     let room : length c.open_window.new.buf ≡ len = first_of (search rules, grind (arith, common_steps)) in
     window_told_by _ _ (g.D.Disk.held c.close_window.new.disk) window.full c.open_window.new.buf _ _ _ at _ (g.D.Disk.len c.args.part.now) _ c.in_ok-open_window.ensures.from c.in_ok-open_window.ensures.bytes c.lay_entries.ensures
-    c.size-size.ensures.told room c.requires.low c.requires.high
+    (g.D.Disk.told c.args.part.now) room c.requires.reach.low c.requires.reach.high
     (clips_from at (at + len) (map (λ o. cell_of source o) entries) (omega arith))
     (clips_within at (at + len) (map (λ o. cell_of source o) entries) (omega arith))
     c.requires.whole c.in_ok-open_window.ensures.read c.in_ok-close_window.ensures.bytes
@@ -20,7 +20,7 @@ returns-clause-bytes g c =
 pub returns-clause-between : goal.returns-clause-between
 returns-clause-between g c =
     told_whole (source_of c.args.batches.now) c.args.turn.now.entries.now (g.D.Disk.from c.args.part.now) (g.D.Disk.len c.args.part.now) (told_window c.args.turn.now.window)
-    (g.D.Disk.held c.args.part.now) (g.D.Disk.held c.close_window.new.disk) c.size-size.ensures.told c.requires.low c.requires.high (returns-clause-bytes g c)
+    (g.D.Disk.held c.args.part.now) (g.D.Disk.held c.close_window.new.disk) (g.D.Disk.told c.args.part.now) c.requires.reach.low c.requires.reach.high (returns-clause-bytes g c)
 
 pub returns-clause-calls : goal.returns-clause-calls
 returns-clause-calls g c = calls_more _ _ _ _ _ _ refl c.in_ok-open_window.ensures.calls c.in_ok-close_window.ensures.calls
@@ -34,7 +34,7 @@ returns-in_err-close_window-clause-between g c =
     let len = window.hull.len in
     let room : length c.open_window.new.buf ≡ len = first_of (search rules, grind (arith, common_steps)) in
     window_refused_by _ _ _ window.full c.open_window.new.buf _ _ _ at _ (g.D.Disk.len c.args.part.now) _ c.in_ok-open_window.ensures.from c.in_ok-open_window.ensures.bytes c.lay_entries.ensures
-    c.size-size.ensures.told room c.requires.low c.requires.high
+    (g.D.Disk.told c.args.part.now) room c.requires.reach.low c.requires.reach.high
     (clips_from at (at + len) (map (λ o. cell_of source o) entries) (omega arith))
     (clips_within at (at + len) (map (λ o. cell_of source o) entries) (omega arith))
     c.requires.whole c.in_ok-open_window.ensures.read c.in_err-close_window.ensures.refused

@@ -11,31 +11,24 @@ loop-due-init g c = record {
   of = refl;
   buf = refl;
   served = λ source ranks list plan.
-      served_begin source _ _ ranks _ _ _ _ (g.D.Disk.held c.args.part.now) (g.D.Disk.calls c.args.part.now) _ plan.turns plan.windows c.size-size.ensures.told c.requires.empty;
+      served_begin source _ _ ranks _ _ _ _ (g.D.Disk.held c.args.part.now) (g.D.Disk.calls c.args.part.now) _ plan.turns plan.windows (g.D.Disk.told c.args.part.now) c.requires.empty;
   from = refl;
   len = refl;
   later = omega arith;
   failed = λ e. absurd cc;
 }
 
-pub serve_turn-end-requires-clause-low : goal.serve_turn-end-requires-clause-low
-serve_turn-end-requires-clause-low g c κs within =
-    let on = c.requires.due.on_part (told_window (get_or c.args.dues.now c.loop-due.due-index none).window) (due_in c.args.dues.now _ none c.loop-due-test.true) in
-    omega (arith, on.0, c.loop-due.invariant.from)
-
-pub serve_turn-end-requires-clause-high : goal.serve_turn-end-requires-clause-high
-serve_turn-end-requires-clause-high g c κs within =
-    let on = c.requires.due.on_part (told_window (get_or c.args.dues.now c.loop-due.due-index none).window) (due_in c.args.dues.now _ none c.loop-due-test.true) in
-    omega (arith, on.1, c.loop-due.invariant.from, c.loop-due.invariant.len)
-
-pub serve_turn-end-requires-clause-hull : goal.serve_turn-end-requires-clause-hull
-serve_turn-end-requires-clause-hull g c κs within =
-    c.requires.due.limit (told_window (get_or c.args.dues.now c.loop-due.due-index none).window) (due_in c.args.dues.now _ none c.loop-due-test.true)
-
-pub serve_turn-end-requires-clause-room : goal.serve_turn-end-requires-clause-room
-serve_turn-end-requires-clause-room g c κs within =
-    let short = c.requires.due.short (told_window (get_or c.args.dues.now c.loop-due.due-index none).window) (due_in c.args.dues.now _ none c.loop-due-test.true) in
-    omega (arith, short, c.loop-due.invariant.buf)
+pub serve_turn-end-requires-after_bounds : goal.serve_turn-end-requires-after_bounds
+serve_turn-end-requires-after_bounds g c κs within =
+    let t = told_window (get_or c.args.dues.now c.loop-due.due-index none).window in
+    let inside = due_in c.args.dues.now _ none c.loop-due-test.true in
+    let on = c.requires.due.on_part t inside in
+    record {
+      low = omega (arith, on.0, c.loop-due.invariant.from);
+      high = omega (arith, on.1, c.loop-due.invariant.from, c.loop-due.invariant.len);
+      limit = c.requires.due.limit t inside;
+      short = omega (arith, c.requires.due.short t inside, c.loop-due.invariant.buf);
+    }
 
 pub loop-due-preserved : goal.loop-due-preserved
 loop-due-preserved g c =
@@ -53,7 +46,7 @@ loop-due-preserved g c =
       served = λ source ranks list plan.
           served_next _ _ (g.D.Disk.len c.args.part.now) _ _ _ _ _ _ _ t _ c.serve_turn-end.new.line.items _ _ (g.D.Disk.held c.serve_turn-end.new.part) _ _
           (g.D.Disk.calls c.serve_turn-end.new.part) _ c.serve_turn-end.result
-          (record { pieces = plan.pieces; below = plan.below; one = plan.one; told = c.size-size.ensures.told })
+          (record { pieces = plan.pieces; below = plan.below; one = plan.one; told = (g.D.Disk.told c.args.part.now) })
           (c.loop-due.invariant.served source ranks list plan) (dues_left dues i none c.loop-due-test.true) on.0 on.1
           (count_at (λ (u : Told). length (messages_in source ranks list u)) dues i none c.loop-due-test.true plan.counts)
           (record {

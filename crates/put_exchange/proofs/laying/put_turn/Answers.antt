@@ -19,7 +19,7 @@ returns-clause-put g c =
     c.open_window-opened.new.buf c.take_messages.new.buf from (g.D.Disk.from c.open_window-opened.new.disk) at len
     (g.D.Disk.len c.args.part.now) (cells_in source t picked)
     c.in_ok-opened.ensures.from c.in_ok-opened.ensures.bytes (c.take_messages.ensures.laid.laid carry.hull ∙ ap (λ (cells : List Cell). write_cells c.open_window-opened.new.buf (moved_down at cells)) carry.cells)
-    c.size-size.ensures.told room c.requires.low c.requires.high
+    (g.D.Disk.told c.args.part.now) room c.requires.low c.requires.high
     (clips_from at (at + len) (map (λ o. cell_of source o) picked) (omega arith))
     (clips_within at (at + len) (map (λ o. cell_of source o) picked) (omega arith))
     whole c.in_ok-opened.ensures.read c.in_ok-close_window.ensures.bytes in
@@ -29,7 +29,7 @@ returns-clause-put g c =
       many = c.take_messages.ensures.laid.many;
       bytes = bytes;
       between = λ source picked carry whole.
-          told_whole source picked from (g.D.Disk.len c.args.part.now) t (g.D.Disk.held c.args.part.now) (g.D.Disk.held c.close_window.new.disk) c.size-size.ensures.told c.requires.low c.requires.high
+          told_whole source picked from (g.D.Disk.len c.args.part.now) t (g.D.Disk.held c.args.part.now) (g.D.Disk.held c.close_window.new.disk) (g.D.Disk.told c.args.part.now) c.requires.low c.requires.high
           (bytes source picked carry whole);
     }
 
@@ -51,7 +51,7 @@ returns-in_err-close_window-clause-put g c =
       bytes = λ source picked carry whole. err_not_ok _ _ c.from_residual-in_err-close_window.ensures.0;
       between = λ source picked carry whole.
           window_refused_by _ _ _ c.args.due.now.window.full c.open_window-opened.new.buf _ _ _ at _ (g.D.Disk.len c.args.part.now) _ c.in_ok-opened.ensures.from c.in_ok-opened.ensures.bytes (c.take_messages.ensures.laid.laid carry.hull ∙ ap (λ (cells : List Cell). write_cells c.open_window-opened.new.buf (moved_down at cells)) carry.cells)
-          c.size-size.ensures.told room c.requires.low c.requires.high
+          (g.D.Disk.told c.args.part.now) room c.requires.low c.requires.high
           (clips_from at (at + len) (map (λ o. cell_of source o) picked) (omega arith))
           (clips_within at (at + len) (map (λ o. cell_of source o) picked) (omega arith))
           whole c.in_ok-opened.ensures.read c.in_err-close_window.ensures.refused;

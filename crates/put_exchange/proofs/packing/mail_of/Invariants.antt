@@ -6,7 +6,7 @@ use Rattle.put_exchange.proofs.packing.mail_of.Given as goal
 abbrev pub invariant-turns : goal.invariant-turns
 invariant-turns l = record {
   packing : IsPacking (source_in l.plan) (length l.plan.job.now.batches) (min l.plan.hints.now.cb_buffer l.fn.domain.len) l.plan.list.now (planned_turns l.plan l.fn.domain)
-      l.walk l.rounds.items l.dues.items;
+      l.walk l.mail.rounds.items l.mail.dues.items;
   past : IsPast l.ahead.place l.plan.list.now l.ahead.entries.now;
 }
 
