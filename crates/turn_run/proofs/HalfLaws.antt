@@ -1,5 +1,5 @@
 -- A half of a meeting for which no batch has a request.
-use Rattle.turn_run.proofs.Words.{◌≡◌, ℕ, ◌+◌, ◌-◌, ◌≤◌, List, [], ◌∷◌, ◌++◌, length, map, replicate, Bool, true, Option, Some, None, refl, sym, ap, ◌∙◌, arith, append-nil, flat_map, nat_lt, enumerate_from, list_all, and_parts, Pair, Batch, Post, Hints, OverlapRule, Refuse, Serial, DiskCall, after, with_end, collective_windows, get_bytes, loads, put_calls, store_records, longer, Counted, Setting, after_puts, end_for, get_post, raised, told, told_under, needed_now, Puts, no_need, is_empty, after_round, counted, gets_in, puts_in, puts_of_batch, no_calls, none_windows, map_map, IfSome, longer-enough}
+use Rattle.turn_run.proofs.Words.{◌≡◌, ℕ, ◌+◌, ◌≤◌, List, [], ◌∷◌, ◌++◌, length, map, Bool, true, Option, Some, None, refl, sym, ap, ◌∙◌, arith, append-nil, flat_map, nat_lt, enumerate_from, list_all, and_parts, Pair, Batch, Post, Hints, OverlapRule, Refuse, Serial, DiskCall, after, with_end, collective_windows, get_bytes, loads, put_calls, store_records, Counted, Setting, after_puts, end_for, get_post, raised, told, told_under, needed_now, Puts, no_need, is_empty, after_round, counted, gets_in, puts_in, puts_of_batch, no_calls, none_windows, map_map, IfSome, longer-enough}
 use Rattle.turn_run.proofs.MeetFile.{not_below, raised_none}
 use Rattle.turn_run.proofs.StageLaws.{some_each}
 use Rattle.serial_spec.proofs.MemberLaws.{empty_list}

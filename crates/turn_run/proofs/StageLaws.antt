@@ -1,5 +1,5 @@
 -- Stages: steps one after another.
-use Rattle.turn_run.proofs.Words.{IfSome_then, ◌≡◌, ℕ, refl, sym, ◌∙◌, ap, subst, List, [], ◌∷◌, ◌++◌, Option, Some, None, append_assoc, append-nil, fold-append, fold, IfSome, Hints, Mark, DiskCall, with_end, Setting, calls_over, step_calls, step_to, Arrived, Stand, IsLike, stage, stand_of, HasLed, IsLed, Leads, LeadsAlike, Stage, with_end-with_end, with_end-nil, if_some_at, HasGone, rank_stage, set, slice_get}
+use Rattle.turn_run.proofs.Words.{IfSome_then, ◌≡◌, ℕ, refl, sym, ◌∙◌, ap, subst, List, [], ◌++◌, Option, Some, None, append_assoc, append-nil, fold-append, fold, IfSome, Hints, Mark, DiskCall, with_end, Setting, calls_over, step_to, Arrived, Stand, IsLike, stage, stand_of, HasLed, IsLed, Leads, LeadsAlike, Stage, with_end-with_end, with_end-nil, if_some_at, HasGone, rank_stage, set, slice_get}
 use Rattle.run_laws.proofs.ArrivalLaws.{calls_split}
 
 -- ---- steps one after another

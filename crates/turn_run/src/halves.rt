@@ -1,5 +1,5 @@
 // The two halves of a meeting, its puts and its gets: one for which no batch has a request is nothing.
-ghost use Rattle.std.specs.Prelude.{◌≡◌, ◌≤◌, ◌<◌, ◌++◌, [], map, flat_map, max, length, nat_lt, true, IfOk, IfSome, OnOk, OnErr};
+ghost use Rattle.std.specs.Prelude.{◌≡◌, ◌≤◌, ◌<◌, ◌++◌, [], map, flat_map, max, length, nat_lt, IfOk, IfSome, OnOk, OnErr};
 ghost use Rattle.std.specs.Int.{byte_len};
 ghost use Rattle.std.specs.List.{list_all};
 ghost use Rattle.nc_outside.specs.Cause.{HasDiskCause};
@@ -8,17 +8,14 @@ ghost use Rattle.serial_spec.specs.DeviceCalls.{collective_windows, get_bytes, l
 ghost use Rattle.serial_spec.specs.FileStep.{end_for, get_post, told};
 ghost use Rattle.serial_spec.specs.HeaderBytes.{count_width, header_len};
 ghost use Rattle.serial_spec.specs.Layout.{end_of};
-ghost use Rattle.serial_spec.specs.Lawful.{are_lawful_hints};
 ghost use Rattle.serial_spec.specs.Limits.{record_limit};
 ghost use Rattle.serial_spec.specs.Lists.{is_empty};
 ghost use Rattle.serial_spec.specs.Owner.{needed_now};
 ghost use Rattle.serial_spec.specs.RankSide.{wanted};
 ghost use Rattle.serial_spec.specs.SharedByte.{covered, holdings, IsOwnOnce};
-ghost use Rattle.serial_spec.specs.SoundHeaders.{is_sound};
 ghost use Rattle.serial_spec.specs.Torn.{IsTorn};
 ghost use Rattle.collective_round.specs.Ended.{pair_of};
 ghost use Rattle.collective_round.specs.Rounds.{after_round, counted, dataset_setting, gets_in, puts_in, AreFew, AreGets, ArePuts};
-ghost use Rattle.var_layout.specs.Measures.{AreMeasures};
 
 use collective_round::{Dataset, PutEnd, get_all, put_all};
 use nc_base::{Batch, BlobList, GotTable, Job, Memory, Post, StepErr};
@@ -38,12 +35,9 @@ pub(crate) fn put_half<'s, E, R: Threads + Wait + Sync, D: Disk + 's, G: Gate>(
     records: &mut u64,
     job: &SharedJob,
 ) -> Result<PutEnd, StepErr>
-    requires sound { is_sound dataset.now.header.now ≡ true }
-    requires measured { AreMeasures dataset.now.header.now dataset.now.measures.now }
     requires few { AreFew job.now.batches }
     requires puts { ArePuts dataset.now.header.now (puts_in job.now.batches) }
     requires own { IsOwnOnce (holdings dataset.now.header.now (puts_in job.now.batches)) }
-    requires hints { are_lawful_hints dataset.now.hints.now ≡ true }
     requires records { records.old < record_limit dataset.now.header.now.version }
     requires from { D.from disk.old ≡ 0 }
     requires long { end_of dataset.now.header.now (header_len dataset.now.header.now) 0 ≤ D.len disk.old }
@@ -82,11 +76,8 @@ pub(crate) fn get_half<'s, E, R: Threads + Wait + Sync, D: Disk + 's, G: Gate>(
     dataset: &Dataset,
     job: &Job,
 ) -> Result<GotTable, StepErr>
-    requires sound { is_sound dataset.now.header.now ≡ true }
-    requires measured { AreMeasures dataset.now.header.now dataset.now.measures.now }
     requires few { AreFew job.now.batches }
     requires gets { AreGets dataset.now.header.now (D.len disk.old) (gets_in job.now.batches) }
-    requires hints { are_lawful_hints dataset.now.hints.now ≡ true }
     requires from { D.from disk.old ≡ 0 }
     ensures got { IfOk result (λ table. IfSome (D.held disk.old) (λ file. table ≡ map (λ b. map (get_post (dataset_setting dataset.now) file) b.gets) job.now.batches)) }
     ensures fits { IfOk result (λ table. map (λ blobs. map (λ blob. length blob) blobs) table ≡ map (λ b. map (wanted dataset.now.header.now) b.gets) job.now.batches) }

@@ -17,7 +17,6 @@ ghost use Rattle.turn_run.specs.Running.{AreFree, AreRunners, HaveArrived, HaveM
 ghost use Rattle.turn_run.specs.Told.{HasTold};
 ghost use Rattle.turn_run.specs.Steps.{first_runner};
 ghost use Rattle.turn_run.specs.Setups.{stage_at, HasLedOn, HasToldOn, HaveSaidUpTo, IsCutOff, point_at};
-ghost use Rattle.var_layout.specs.Measures.{AreMeasures};
 
 use crate::lent::{Lent, Progress, Setup};
 use crate::meeting::meet;
@@ -146,9 +145,6 @@ fn hold_meetings<'s, E, R: Threads + Wait + Sync, D: Disk + 's, G: Gate, T: Told
     progress: &mut Progress,
     runners: &mut [Runner],
 ) -> Result<(), StepErr>
-    requires sound { is_sound lent.now.setup.header.now ≡ true }
-    requires measured { AreMeasures lent.now.setup.header.now lent.now.setup.measures.now }
-    requires lawful { is_lawful lent.now.setup.script.now ≡ true }
     requires none { progress.old.order ≡ [] }
     requires runners { AreRunners lent.now.setup.script.now lent.now.setup.header.now (D.len disk.old) progress.old.order runners.old }
     requires free { AreFree runners.old }
@@ -187,9 +183,6 @@ fn arrive_all<R: Threads + Wait + Sync, D: Disk, G: Gate, T: Told>(
     progress: &mut Progress,
     runners: &mut [Runner],
 ) -> Result<(), StepErr>
-    requires sound { is_sound lent.now.setup.header.now ≡ true }
-    requires measured { AreMeasures lent.now.setup.header.now lent.now.setup.measures.now }
-    requires lawful { is_lawful lent.now.setup.script.now ≡ true }
     requires runners { AreRunners lent.now.setup.script.now lent.now.setup.header.now (D.len disk.old) progress.old.order runners.old }
     requires free { AreFree runners.old }
     requires records { IsCount lent.now.setup.header.now (D.len disk.old) progress.old.records }

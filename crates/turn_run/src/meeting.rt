@@ -1,5 +1,5 @@
 // A meeting of all ranks.
-ghost use Rattle.std.specs.Prelude.{◌≡◌, ◌≤◌, ◌<◌, ◌++◌, ◌∷◌, [], List, map, max, length, true, None, Some, IfOk, IfSome, OnOk, OnErr, ◌⊎◌, Err};
+ghost use Rattle.std.specs.Prelude.{◌≡◌, ◌≤◌, ◌<◌, ◌++◌, ◌∷◌, [], List, map, max, length, None, Some, IfOk, IfSome, OnOk, OnErr, ◌⊎◌, Err};
 ghost use Rattle.std.specs.Int.{byte_len};
 ghost use Rattle.std.specs.Option.{option_to_list};
 ghost use Rattle.nc_base.specs.declared.step.Mark.TheVariants as mark;
@@ -9,8 +9,6 @@ ghost use Rattle.nc_outside.specs.Told.{after, with_end, BothTold};
 ghost use Rattle.serial_spec.specs.Owner.{needed_now};
 ghost use Rattle.serial_spec.specs.FileStep.{get_post, known_by, told};
 ghost use Rattle.serial_spec.specs.HeaderBytes.{count_width};
-ghost use Rattle.serial_spec.specs.SoundHeaders.{is_sound};
-ghost use Rattle.serial_spec.specs.Lawful.{are_lawful_hints, is_lawful};
 ghost use Rattle.serial_spec.specs.RankSide.{wanted};
 ghost use Rattle.serial_spec.specs.SerialEnd.{advance, after_mark, Going};
 ghost use Rattle.serial_spec.specs.SharedByte.{covered};
@@ -23,7 +21,6 @@ ghost use Rattle.turn_run.specs.Said.{all_between, HaveHeardInPart, KeepAnswers}
 ghost use Rattle.turn_run.specs.Running.{AreFree, AreFreed, IsFreed, AreHeard, AreRunners, AreToHear, HaveArrived, HaveMet};
 ghost use Rattle.turn_run.specs.Steps.{batches_of, held_offers, known_of, met, met_calls, IsJob, IsOneRise};
 ghost use Rattle.turn_run.specs.Setups.{all_at_next, setting_in, stage_at, AllSayUpTo, HasLedOn, HasToldOn, IsCutOff, point_at};
-ghost use Rattle.var_layout.specs.Measures.{AreMeasures};
 
 use crate::halves::{get_half, put_half};
 use crate::lent::{Lent, Progress};
@@ -50,9 +47,6 @@ pub(crate) fn meet<'s, E, R: Threads + Wait + Sync, D: Disk + 's, G: Gate, T: To
     runners: &mut [Runner],
     number: u32,
 ) -> Result<(), StepErr>
-    requires sound { is_sound lent.now.setup.header.now ≡ true }
-    requires measured { AreMeasures lent.now.setup.header.now lent.now.setup.measures.now }
-    requires lawful { is_lawful lent.now.setup.script.now ≡ true }
     requires number { number ≡ meetings progress.old.order }
     requires runners { AreRunners lent.now.setup.script.now lent.now.setup.header.now (D.len disk.old) progress.old.order runners.old }
     requires met { HaveMet runners.old }
@@ -91,6 +85,7 @@ pub(crate) fn meet<'s, E, R: Threads + Wait + Sync, D: Disk + 's, G: Gate, T: To
         &job,
         known,
     )?;
+    drop(job);
     let records = progress.records;
     note_step(
         lent.tools.rt,
@@ -181,9 +176,6 @@ pub fn meet_on_file<'s, E, R: Threads + Wait + Sync, D: Disk + 's, G: Gate>(
     job: &SharedJob,
     known: u64,
 ) -> Result<(Option<Pair>, GotTable), StepErr>
-    requires sound { is_sound dataset.now.header.now ≡ true }
-    requires measured { AreMeasures dataset.now.header.now dataset.now.measures.now }
-    requires hints { are_lawful_hints dataset.now.hints.now ≡ true }
     requires job { IsJob dataset.now.header.now (D.len disk.old) job.now.batches }
     requires known { IsRise dataset.now.header.now (D.len disk.old) known }
     requires records { IsCount dataset.now.header.now (D.len disk.old) records.old }

@@ -11,7 +11,6 @@ ghost use Rattle.serial_spec.specs.Lawful.{is_lawful};
 ghost use Rattle.serial_spec.specs.RankMachine.{new_rank};
 ghost use Rattle.serial_spec.specs.RankSide.{wanted};
 ghost use Rattle.serial_spec.specs.SerialEnd.{advance};
-ghost use Rattle.var_layout.specs.Measures.{AreMeasures};
 ghost use Rattle.rank_core.specs.Indexed.{IsIndexOf};
 ghost use Rattle.run_laws.specs.Ways.{IsOnWay, AsksAlone};
 ghost use Rattle.turn_run.specs.Counts.{IsAsked, IsCount};
@@ -75,9 +74,6 @@ impl<'a> Runner<'a> {
         progress: &mut Progress,
         number: u32,
     ) -> Result<(), StepErr>
-        requires sound { is_sound lent.now.setup.header.now ≡ true }
-        requires measured { AreMeasures lent.now.setup.header.now lent.now.setup.measures.now }
-        requires lawful { is_lawful lent.now.setup.script.now ≡ true }
         requires number { number < lent.now.setup.script.now.ranks }
         requires free { self.old.held ≡ None }
         requires runner { IsRunner lent.now.setup.script.now lent.now.setup.header.now progress.old.order number self.old }
@@ -175,9 +171,6 @@ impl<'a> Runner<'a> {
         progress: &mut Progress,
         ask: Ask,
     ) -> Result<(), StepErr>
-        requires sound { is_sound lent.now.setup.header.now ≡ true }
-        requires measured { AreMeasures lent.now.setup.header.now lent.now.setup.measures.now }
-        requires lawful { is_lawful lent.now.setup.script.now ≡ true }
         requires header { self.old.rank.header ≡ lent.now.setup.header.now }
         requires free { self.old.held ≡ None }
         requires asks { AsksAlone lent.now.setup.script.now lent.now.setup.header.now progress.old.order ask.number (asking (calls_of lent.now.setup.script.now ask.number) self.old) ask.offer }

@@ -1,12 +1,10 @@
 // The step of one rank alone.
-ghost use Rattle.std.specs.Prelude.{◌≡◌, ◌≤◌, ◌<◌, map, max, length, true, IfOk, IfSome, OnOk, OnErr};
+ghost use Rattle.std.specs.Prelude.{◌≡◌, ◌≤◌, ◌<◌, map, max, length, IfOk, IfSome, OnOk, OnErr};
 ghost use Rattle.nc_outside.specs.Cause.{HasDiskCause};
 ghost use Rattle.nc_outside.specs.Told.{after, with_end, BothTold};
 ghost use Rattle.serial_spec.specs.Owner.{needed_now};
 ghost use Rattle.serial_spec.specs.DeviceCalls.{solo_calls};
 ghost use Rattle.serial_spec.specs.FileStep.{needs, puts_of, solo, told};
-ghost use Rattle.serial_spec.specs.SoundHeaders.{is_sound};
-ghost use Rattle.serial_spec.specs.Lawful.{are_lawful_hints};
 ghost use Rattle.serial_spec.specs.RankSide.{wanted};
 ghost use Rattle.serial_spec.specs.SharedByte.{covered};
 ghost use Rattle.serial_spec.specs.Torn.{IsTorn};
@@ -15,7 +13,6 @@ ghost use Rattle.collective_round.specs.Ended.{pair_of};
 ghost use Rattle.collective_round.specs.Rounds.{dataset_setting, counted};
 ghost use Rattle.turn_run.specs.Counts.{IsCount, IsFit};
 ghost use Rattle.turn_run.specs.Steps.{needed_after};
-ghost use Rattle.var_layout.specs.Measures.{AreMeasures};
 
 use collective_round::{Dataset, PutEnd, get_solo, put_solo, records_needed_by};
 use nc_base::{Header, Offer, Pair, Reply, StepErr};
@@ -31,9 +28,6 @@ pub fn solo_reply<D: Disk>(
     number: u32,
     offer: &Offer,
 ) -> Result<Reply, StepErr>
-    requires sound { is_sound dataset.now.header.now ≡ true }
-    requires measured { AreMeasures dataset.now.header.now dataset.now.measures.now }
-    requires hints { are_lawful_hints dataset.now.hints.now ≡ true }
     requires fit { IsFit dataset.now.header.now (D.len disk.old) offer.now }
     requires from { D.from disk.old ≡ 0 }
     ensures reply { IfOk result (λ reply. IfSome (D.held disk.old) (λ file. reply ≡ (solo (dataset_setting dataset.now) number offer.now (counted file 0)).1)) }

@@ -51,7 +51,7 @@ loop-number-preserved g c =
     let was = slice_index_or runners n c.index-runners-number.result in let runner = c.arrive.new.self in
     let before = c.loop-number.invariant in let done = c.in_ok-arrive.ensures in
     let there : slice_get runners n ≡ Some was = get_at runners n c.index-runners-number.result (omega arith) in
-    let long = (ranks_lawful c.args.lent.now.setup.script.now c.requires.lawful).one_each in
+    let long = (ranks_lawful c.args.lent.now.setup.script.now c.args.lent.now.setup.lawful).one_each in
     record {
       from = done.from;
       longer = omega arith;
@@ -65,7 +65,7 @@ loop-number-preserved g c =
       same = left_more c.args.runners.now runners n runner before.same;
       others = λ r l. grown_beside n r c.loop-number.progress.order c.arrive.new.progress.order (λ e. absurd (omega arith)) done.grown ∙ before.others r (omega arith);
       led = λ records. has_led_then _ _ _ c.loop-number.progress.order _ _ _ _ (before.led records)
-          (gone_led c.args.lent.now.setup.script.now c.args.lent.now.setup.header.now runners n was runner c.loop-number.progress.order c.arrive.new.progress.order _ _ _ _ c.requires.lawful (omega arith) there done.gone records);
+          (gone_led c.args.lent.now.setup.script.now c.args.lent.now.setup.header.now runners n was runner c.loop-number.progress.order c.arrive.new.progress.order _ _ _ _ c.args.lent.now.setup.lawful (omega arith) there done.gone records);
       count = c.arrive.ensures.records ∙ before.count;
       told = told_then _ _ _ _ _ _ _ _ _ _ before.told (before.led c.args.progress.now.records)
           (rw before.count at (c.arrive.ensures.told (arrived_all c.args.lent.now.setup.header.now c.args.lent.now.setup.script.now.calls runners)
@@ -91,9 +91,9 @@ returns-in_err-arrive-clause-cut g c e is =
     let n = c.loop-number.number in let runners = c.loop-number.runners in let was = slice_index_or runners n c.index-runners-number.result in
     let there : slice_get runners n ≡ Some was = get_at runners n c.index-runners-number.result (omega arith) in
     rw (c.arrive.ensures.records ∙ before.count) (reached_then _ c.loop-number.progress.order (before.led c.args.progress.now.records)
-    (stopped_as (follows_next script header _ c.loop-number.progress.order c.arrive.new.progress.order runners n c.requires.lawful before.runners (omega arith) c.arrive.ensures.grown)
+    (stopped_as (follows_next script header _ c.loop-number.progress.order c.arrive.new.progress.order runners n c.args.lent.now.setup.lawful before.runners (omega arith) c.arrive.ensures.grown)
     (c.in_err-arrive.ensures.cut e (same_err c.from_residual.result e c.from_residual.ensures.1 is) c.args.progress.now.records (arrived_all header script.calls runners)
-    (arrived_at script header runners n was ((ranks_lawful script c.requires.lawful).one_each ∙ sym before.runners.all) there))))
+    (arrived_at script header runners n was ((ranks_lawful script c.args.lent.now.setup.lawful).one_each ∙ sym before.runners.all) there))))
 
 pub returns-in_err-arrive-clause-answered : goal.returns-in_err-arrive-clause-answered
 returns-in_err-arrive-clause-answered g c e is =
@@ -102,7 +102,7 @@ returns-in_err-arrive-clause-answered g c e is =
     let n = c.loop-number.number in let runners = c.loop-number.runners in
     let before = c.loop-number.invariant in let was = slice_index_or runners n c.index-runners-number.result in
     let there : slice_get runners n ≡ Some was = get_at runners n c.index-runners-number.result (omega arith) in
-    let long = (ranks_lawful script c.requires.lawful).one_each in
+    let long = (ranks_lawful script c.args.lent.now.setup.lawful).one_each in
     answers_cut script e n c.args.progress.now.order c.loop-number.progress.order c.arrive.new.progress.order c.args.runners.now runners was c.arrive.new.self s (g.D.Disk.held c.args.disk.now) (g.D.Disk.held c.loop-number.disk)
     (g.D.Disk.calls c.args.disk.now) (g.D.Disk.calls c.loop-number.disk) records (long ∙ sym before.runners.all) c.requires.free there (before.led records) c.arrive.ensures.grown before.others before.arrived
     before.same (c.in_err-arrive.ensures.answered e (same_err c.from_residual.result e c.from_residual.ensures.1 is) records (arrived_all header script.calls runners)
@@ -114,6 +114,6 @@ returns-in_err-arrive-clause-told g c =
     let n = c.loop-number.number in let runners = c.loop-number.runners in
     let before = c.loop-number.invariant in let was = slice_index_or runners n c.index-runners-number.result in
     let there : slice_get runners n ≡ Some was = get_at runners n c.index-runners-number.result (omega arith) in
-    let long = (ranks_lawful script c.requires.lawful).one_each in
+    let long = (ranks_lawful script c.args.lent.now.setup.lawful).one_each in
     told_then _ _ _ _ _ _ _ _ _ _ before.told (before.led c.args.progress.now.records)
     (rw before.count at (c.arrive.ensures.told (arrived_all header script.calls runners) (arrived_at script header runners n was (long ∙ sym before.runners.all) there)))

@@ -33,7 +33,7 @@ pub overflow_add-meetings : goal.overflow_add-meetings
 overflow_add-meetings g c =
     let k = c.meetings.invariant.number in let arrived = c.in_ok-arrive_all.ensures in
     let few : meetings c.arrive_all.new.progress.order < most_calls =
-    next_meeting c.args.lent.now.setup.script.now c.args.lent.now.setup.header.now _ c.arrive_all.new.progress.order c.arrive_all.new.runners c.requires.lawful arrived.runners arrived.arrived (c.all_hold.ensures.0 c.if-not-all_hold.false) in
+    next_meeting c.args.lent.now.setup.script.now c.args.lent.now.setup.header.now _ c.arrive_all.new.progress.order c.arrive_all.new.runners c.args.lent.now.setup.lawful arrived.runners arrived.arrived (c.all_hold.ensures.0 c.if-not-all_hold.false) in
     let same = arrived.meetings in
     omega arith
 
@@ -41,7 +41,7 @@ pub meetings-smaller : goal.meetings-smaller
 meetings-smaller g c =
     let k = c.meetings.invariant.number in let arrived = c.in_ok-arrive_all.ensures in
     let few : meetings c.arrive_all.new.progress.order < most_calls =
-    next_meeting c.args.lent.now.setup.script.now c.args.lent.now.setup.header.now _ c.arrive_all.new.progress.order c.arrive_all.new.runners c.requires.lawful arrived.runners arrived.arrived (c.all_hold.ensures.0 c.if-not-all_hold.false) in
+    next_meeting c.args.lent.now.setup.script.now c.args.lent.now.setup.header.now _ c.arrive_all.new.progress.order c.arrive_all.new.runners c.args.lent.now.setup.lawful arrived.runners arrived.arrived (c.all_hold.ensures.0 c.if-not-all_hold.false) in
     let same = arrived.meetings in
     omega arith
 
@@ -73,7 +73,7 @@ meetings-preserved g c =
 pub returns-then-not-all_hold-clause-free : goal.returns-then-not-all_hold-clause-free
 returns-then-not-all_hold-clause-free g c =
     let arrived = c.in_ok-arrive_all.ensures in
-    all_ended c.args.lent.now.setup.script.now c.args.lent.now.setup.header.now _ c.arrive_all.new.progress.order c.arrive_all.new.runners c.requires.lawful arrived.runners arrived.arrived
+    all_ended c.args.lent.now.setup.script.now c.args.lent.now.setup.header.now _ c.arrive_all.new.progress.order c.arrive_all.new.runners c.args.lent.now.setup.lawful arrived.runners arrived.arrived
     (λ met. true≢false (sym (c.all_hold.ensures.1 met) ∙ c.if-not-all_hold.true))
 
 pub returns-then-not-all_hold-clause-led : goal.returns-then-not-all_hold-clause-led

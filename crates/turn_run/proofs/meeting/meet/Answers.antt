@@ -11,11 +11,11 @@ use Rattle.turn_run.proofs.meeting.meet.Goals as goal
 
 -- ---- what the calls require
 
-pub meet_on_file-requires-clause-hints : goal.meet_on_file-requires-clause-hints
-meet_on_file-requires-clause-hints g c κs within = lawful_hints c.args.lent.now.setup.script.now c.requires.lawful
+pub invariant_of-dataset : goal.invariant_of-dataset
+invariant_of-dataset g c = let setup = c.args.lent.now.setup in record { sound = setup.sound; measured = setup.measured; lawful = lawful_hints setup.script.now setup.lawful }
 
 pub meet_on_file-requires-clause-job : goal.meet_on_file-requires-clause-job
-meet_on_file-requires-clause-job g c κs within = meets_job c.requires.lawful c.requires.runners c.requires.met c.requires.arrived c.in_ok-job.ensures.batches
+meet_on_file-requires-clause-job g c κs within = meets_job c.args.lent.now.setup.lawful c.requires.runners c.requires.met c.requires.arrived c.in_ok-job.ensures.batches
 
 pub meet_on_file-requires-clause-known : goal.meet_on_file-requires-clause-known
 meet_on_file-requires-clause-known g c κs within = meets_rise c.requires.runners c.requires.met c.requires.arrived c.in_ok-job.ensures.known
@@ -45,7 +45,7 @@ returns-clause-led g c =
     let wide = table_long c.args.lent.now.setup.header.now c.args.runners.now c.in_ok-job.job.batches c.in_ok-pair.table c.requires.met c.in_ok-job.ensures.batches c.in_ok-pair.ensures.fits in
     let once = meets_once c.requires.runners c.requires.met c.requires.arrived c.in_ok-job.ensures.known c.in_ok-job.ensures.batches in
     let met = c.in_ok-pair.ensures in
-    meeting_led c.args.number (taken_by c.requires.lawful c.requires.runners c.requires.met c.in_ok-job.ensures.batches c.in_ok-job.ensures.known)
+    meeting_led c.args.number (taken_by c.args.lent.now.setup.lawful c.requires.runners c.requires.met c.in_ok-job.ensures.batches c.in_ok-job.ensures.known)
     (have_done c.requires.runners c.requires.met c.requires.arrived c.in_ok-job.ensures.freed c.in_ok-hear_all.ensures.all wide)
     (record { shared = met.told; count = met.records; bytes = met.bytes; got = met.got }) met.fits (met.calls once) c.in_ok-note_step.ensures.order
 
@@ -53,12 +53,12 @@ pub returns-clause-between : goal.returns-clause-between
 returns-clause-between g c =
     let wide = table_long c.args.lent.now.setup.header.now c.args.runners.now c.in_ok-job.job.batches c.in_ok-pair.table c.requires.met c.in_ok-job.ensures.batches c.in_ok-pair.ensures.fits in
     let met = c.in_ok-pair.ensures in
-    meeting_between (meetings c.args.progress.now.order) (taken_by c.requires.lawful c.requires.runners c.requires.met c.in_ok-job.ensures.batches c.in_ok-job.ensures.known)
+    meeting_between (meetings c.args.progress.now.order) (taken_by c.args.lent.now.setup.lawful c.requires.runners c.requires.met c.in_ok-job.ensures.batches c.in_ok-job.ensures.known)
     (have_done c.requires.runners c.requires.met c.requires.arrived c.in_ok-job.ensures.freed c.in_ok-hear_all.ensures.all wide)
     (record { shared = met.told; count = met.records; bytes = met.bytes; got = met.got })
 
 pub returns-clause-told : goal.returns-clause-told
-returns-clause-told g c = told_meeting c.args.number (taken_by c.requires.lawful c.requires.runners c.requires.met c.in_ok-job.ensures.batches c.in_ok-job.ensures.known)
+returns-clause-told g c = told_meeting c.args.number (taken_by c.args.lent.now.setup.lawful c.requires.runners c.requires.met c.in_ok-job.ensures.batches c.in_ok-job.ensures.known)
     c.in_ok-note_step.ensures.order c.in_ok-note_step.ensures.heard c.in_ok-pair.ensures.records
 
 pub returns-clause-begun : goal.returns-clause-begun
@@ -74,7 +74,7 @@ returns-in_err-job-clause-cut g c e is = stopped_between (memory_of c.from_resid
 
 pub returns-in_err-job-clause-answered : goal.returns-in_err-job-clause-answered
 returns-in_err-job-clause-answered g c e is =
-    all_reached_here c.take_shared_job.new.runners c.requires.lawful c.requires.runners c.take_shared_job.auto.runners c.requires.arrived c.take_shared_job.ensures.kept refl
+    all_reached_here c.take_shared_job.new.runners c.args.lent.now.setup.lawful c.requires.runners c.take_shared_job.auto.runners c.requires.arrived c.take_shared_job.ensures.kept refl
 
 pub returns-in_err-job-clause-told : goal.returns-in_err-job-clause-told
 returns-in_err-job-clause-told g c = told_none _ _ _ _ _ _ _ _ refl refl
@@ -87,12 +87,12 @@ returns-in_err-pair-clause-begun g c = begun_still c.requires.runners refl
 pub returns-in_err-pair-clause-cut : goal.returns-in_err-pair-clause-cut
 returns-in_err-pair-clause-cut g c e is =
     let once = meets_once c.requires.runners c.requires.met c.requires.arrived c.in_ok-job.ensures.known c.in_ok-job.ensures.batches in
-    stopped_meet (meetings c.args.progress.now.order) (taken_by c.requires.lawful c.requires.runners c.requires.met c.in_ok-job.ensures.batches c.in_ok-job.ensures.known)
-    (next_meets c.requires.lawful c.requires.runners c.requires.met c.requires.arrived refl) refl (c.in_err-pair.ensures.refused once) (c.in_err-pair.ensures.kept once)
+    stopped_meet (meetings c.args.progress.now.order) (taken_by c.args.lent.now.setup.lawful c.requires.runners c.requires.met c.in_ok-job.ensures.batches c.in_ok-job.ensures.known)
+    (next_meets c.args.lent.now.setup.lawful c.requires.runners c.requires.met c.requires.arrived refl) refl (c.in_err-pair.ensures.refused once) (c.in_err-pair.ensures.kept once)
 
 pub returns-in_err-pair-clause-answered : goal.returns-in_err-pair-clause-answered
 returns-in_err-pair-clause-answered g c e is =
-    all_reached_here c.take_shared_job.new.runners c.requires.lawful c.requires.runners c.in_ok-job.ensures.freed.long c.requires.arrived c.take_shared_job.ensures.kept refl
+    all_reached_here c.take_shared_job.new.runners c.args.lent.now.setup.lawful c.requires.runners c.in_ok-job.ensures.freed.long c.requires.arrived c.take_shared_job.ensures.kept refl
 
 pub returns-in_err-pair-clause-told : goal.returns-in_err-pair-clause-told
 returns-in_err-pair-clause-told g c = told_none _ _ _ _ _ _ _ _ refl refl
@@ -105,14 +105,14 @@ returns-in_err-note_step-clause-begun g c = begun_still c.requires.runners c.in_
 pub returns-in_err-note_step-clause-cut : goal.returns-in_err-note_step-clause-cut
 returns-in_err-note_step-clause-cut g c e is =
     let s = setting_of c.args.lent.now.setup.script.now c.args.lent.now.setup.header.now in
-    stopped_meet (meetings c.args.progress.now.order) (taken_by c.requires.lawful c.requires.runners c.requires.met c.in_ok-job.ensures.batches c.in_ok-job.ensures.known)
-    (next_meets c.requires.lawful c.requires.runners c.requires.met c.requires.arrived c.in_err-note_step.ensures.kept) c.in_err-note_step.ensures.kept
+    stopped_meet (meetings c.args.progress.now.order) (taken_by c.args.lent.now.setup.lawful c.requires.runners c.requires.met c.in_ok-job.ensures.batches c.in_ok-job.ensures.known)
+    (next_meets c.args.lent.now.setup.lawful c.requires.runners c.requires.met c.requires.arrived c.in_err-note_step.ensures.kept) c.in_err-note_step.ensures.kept
     (met_done s c.in_ok-job.job.batches c.args.progress.now.records c.in_ok-job.known (g.D.Disk.held c.args.disk.now) (g.D.Disk.held c.meet_on_file.new.disk) c.in_ok-pair.ensures.bytes)
     (inr c.in_ok-pair.ensures.records)
 
 pub returns-in_err-note_step-clause-answered : goal.returns-in_err-note_step-clause-answered
 returns-in_err-note_step-clause-answered g c e is =
-    all_reached_here c.take_shared_job.new.runners c.requires.lawful c.requires.runners c.in_ok-job.ensures.freed.long c.requires.arrived c.take_shared_job.ensures.kept c.in_err-note_step.ensures.kept
+    all_reached_here c.take_shared_job.new.runners c.args.lent.now.setup.lawful c.requires.runners c.in_ok-job.ensures.freed.long c.requires.arrived c.take_shared_job.ensures.kept c.in_err-note_step.ensures.kept
 
 pub returns-in_err-note_step-clause-told : goal.returns-in_err-note_step-clause-told
 returns-in_err-note_step-clause-told g c = told_none _ _ _ _ _ _ _ _ c.in_err-note_step.ensures.kept c.in_err-note_step.ensures.untold
@@ -124,7 +124,7 @@ returns-in_err-hear_all-clause-begun g c = begun_after c.requires.runners c.requ
 
 pub returns-in_err-hear_all-clause-cut : goal.returns-in_err-hear_all-clause-cut
 returns-in_err-hear_all-clause-cut g c e is =
-    stopped_deaf c.args.number (taken_by c.requires.lawful c.requires.runners c.requires.met c.in_ok-job.ensures.batches c.in_ok-job.ensures.known)
+    stopped_deaf c.args.number (taken_by c.args.lent.now.setup.lawful c.requires.runners c.requires.met c.in_ok-job.ensures.batches c.in_ok-job.ensures.known)
     (memory_of c.from_residual-in_err-hear_all.result e c.from_residual-in_err-hear_all.ensures.1 is) c.in_ok-note_step.ensures.order c.in_ok-pair.ensures.bytes c.in_ok-pair.ensures.records
 
 pub returns-in_err-hear_all-clause-answered : goal.returns-in_err-hear_all-clause-answered
@@ -132,11 +132,11 @@ returns-in_err-hear_all-clause-answered g c e is =
     let wide = table_long c.args.lent.now.setup.header.now c.args.runners.now c.in_ok-job.job.batches c.in_ok-pair.table c.requires.met c.in_ok-job.ensures.batches c.in_ok-pair.ensures.fits in
     let mid = c.in_ok-job.ensures.freed in let met = c.in_ok-pair.ensures in
     reached_deaf c.hear_all.new.runners c.args.number refl (memory_of c.from_residual-in_err-hear_all.result e c.from_residual-in_err-hear_all.ensures.1 is) c.in_ok-note_step.ensures.order (c.hear_all.auto.runners ∙ mid.long) wide c.requires.runners
-    c.requires.arrived (taken_by c.requires.lawful c.requires.runners c.requires.met c.in_ok-job.ensures.batches c.in_ok-job.ensures.known)
+    c.requires.arrived (taken_by c.args.lent.now.setup.lawful c.requires.runners c.requires.met c.in_ok-job.ensures.batches c.in_ok-job.ensures.known)
     (record { shared = met.told; count = met.records; bytes = met.bytes; got = met.got })
     (part_of_freed c.in_ok-pair.pair c.meet_on_file.new.records c.in_ok-pair.table c.args.runners.now c.take_shared_job.new.runners c.hear_all.new.runners mid.long mid c.in_err-hear_all.ensures.part)
 
 pub returns-in_err-hear_all-clause-told : goal.returns-in_err-hear_all-clause-told
 returns-in_err-hear_all-clause-told g c =
-    told_meeting c.args.number (taken_by c.requires.lawful c.requires.runners c.requires.met c.in_ok-job.ensures.batches c.in_ok-job.ensures.known)
+    told_meeting c.args.number (taken_by c.args.lent.now.setup.lawful c.requires.runners c.requires.met c.in_ok-job.ensures.batches c.in_ok-job.ensures.known)
     c.in_ok-note_step.ensures.order c.in_ok-note_step.ensures.heard c.in_ok-pair.ensures.records

@@ -20,7 +20,7 @@ returns-in_err-end-clause-count g c =
 
 pub raise_records-requires-clause-records : goal.raise_records-requires-clause-records
 raise_records-requires-clause-records g c κs within = count_small c.args.dataset.now.header.now _ c.put_half.new.records
-    (round_count (setting c.args.dataset.now.header.now c.args.dataset.now.hints.now) _ _ c.args.records.now c.put_half.new.records (puts_in c.args.job.now.batches) c.requires.sound c.requires.job.puts
+    (round_count (setting c.args.dataset.now.header.now c.args.dataset.now.hints.now) _ _ c.args.records.now c.put_half.new.records (puts_in c.args.job.now.batches) c.args.dataset.now.sound c.requires.job.puts
     c.requires.records c.in_ok-end.ensures.grown c.in_ok-end.ensures.long c.in_ok-end.ensures.records)
 
 pub raise_records-requires-clause-needed : goal.raise_records-requires-clause-needed
@@ -32,14 +32,14 @@ raise_records-requires-clause-long g c κs within =
 
 pub returns-in_err-raise_records-clause-count : goal.returns-in_err-raise_records-clause-count
 returns-in_err-raise_records-clause-count g c =
-    let round = round_count (setting c.args.dataset.now.header.now c.args.dataset.now.hints.now) _ _ c.args.records.now c.put_half.new.records (puts_in c.args.job.now.batches) c.requires.sound c.requires.job.puts
+    let round = round_count (setting c.args.dataset.now.header.now c.args.dataset.now.hints.now) _ _ c.args.records.now c.put_half.new.records (puts_in c.args.job.now.batches) c.args.dataset.now.sound c.requires.job.puts
     c.requires.records c.in_ok-end.ensures.grown c.in_ok-end.ensures.long c.in_ok-end.ensures.records in
     count_still c.args.dataset.now.header.now _ _ c.put_half.new.records c.raise_records.new.records round (no_less _ _ c.in_err-raise_records.ensures.len) c.in_err-raise_records.ensures.kept
 
 pub returns-in_err-table-clause-count : goal.returns-in_err-table-clause-count
 returns-in_err-table-clause-count g c =
     let s = setting c.args.dataset.now.header.now c.args.dataset.now.hints.now in
-    let round = round_count s _ _ c.args.records.now c.put_half.new.records (puts_in c.args.job.now.batches) c.requires.sound c.requires.job.puts
+    let round = round_count s _ _ c.args.records.now c.put_half.new.records (puts_in c.args.job.now.batches) c.args.dataset.now.sound c.requires.job.puts
     c.requires.records c.in_ok-end.ensures.grown c.in_ok-end.ensures.long c.in_ok-end.ensures.records in
     met_count s _ _ _ c.put_half.new.records c.raise_records.new.records c.args.known round c.in_ok-end.ensures.grown c.requires.known (c.in_err-table.ensures.len ∙ c.in_ok-raise_records.ensures.len) c.in_ok-raise_records.ensures.records
 
@@ -68,7 +68,7 @@ returns-clause-calls g c one =
 pub returns-clause-count : goal.returns-clause-count
 returns-clause-count g c =
     let s = setting c.args.dataset.now.header.now c.args.dataset.now.hints.now in
-    let round = round_count s _ _ c.args.records.now c.put_half.new.records (puts_in c.args.job.now.batches) c.requires.sound c.requires.job.puts
+    let round = round_count s _ _ c.args.records.now c.put_half.new.records (puts_in c.args.job.now.batches) c.args.dataset.now.sound c.requires.job.puts
     c.requires.records c.in_ok-end.ensures.grown c.in_ok-end.ensures.long c.in_ok-end.ensures.records in
     met_count s _ _ _ c.put_half.new.records c.raise_records.new.records c.args.known round c.in_ok-end.ensures.grown c.requires.known (c.in_ok-table.ensures.len ∙ c.in_ok-raise_records.ensures.len) c.in_ok-raise_records.ensures.records
 

@@ -1,6 +1,5 @@
 -- Nothing went wrong before.
 use Rattle.turn_run.proofs.Words.{◌≡◌, ℕ, refl, sym, subst, None, true, rules, ◌∙◌, ap, Some, on_err_weaker, sound_small, is_sound, StepErr, on_ok, as_left, inl, inr}
-use Rattle.nc_base.specs.declared.step.StepErr.TheVariants as fault
 use Rattle.turn_run.proofs.CountLaws.{count_begins, count_small}
 use Rattle.turn_run.proofs.CutEnds.{closing_torn}
 use Rattle.turn_run.proofs.TurnKnown.{raised_sound}

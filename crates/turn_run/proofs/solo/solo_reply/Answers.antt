@@ -26,7 +26,7 @@ returns-clause-reply g c =
 
 pub returns-clause-count : goal.returns-clause-count
 returns-clause-count g c =
-    solo_count (setting c.args.dataset.now.header.now c.args.dataset.now.hints.now) c.args.number _ _ _ c.records_known.result c.args.offer.now c.in_ok-end.end c.requires.sound c.requires.fit.sound
+    solo_count (setting c.args.dataset.now.header.now c.args.dataset.now.hints.now) c.args.number _ _ _ c.records_known.result c.args.offer.now c.in_ok-end.end c.args.dataset.now.sound c.requires.fit.sound
     c.requires.fit.known c.in_ok-end.ensures.grown c.in_ok-got.ensures.len c.in_ok-end.ensures.told c.in_ok-end.ensures.long c.records_known.ensures
 
 pub returns-clause-told : goal.returns-clause-told

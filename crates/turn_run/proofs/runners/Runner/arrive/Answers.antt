@@ -8,7 +8,7 @@ use Rattle.turn_run.proofs.TellLaws.{told_gone, told_none}
 use Rattle.turn_run.proofs.runners.Runner.arrive.Goals as goal
 
 pub own_calls-calls-requires : goal.own_calls-calls-requires
-own_calls-calls-requires g c = let long = (ranks_lawful c.args.lent.now.setup.script.now c.requires.lawful).one_each in omega arith
+own_calls-calls-requires g c = let long = (ranks_lawful c.args.lent.now.setup.script.now c.args.lent.now.setup.lawful).one_each in omega arith
 
 pub alone-init : goal.alone-init
 alone-init g c = record {

@@ -9,8 +9,8 @@ use Rattle.turn_run.proofs.SaidLaws.{reached_here, reached_unheard, said_here, s
 use Rattle.turn_run.proofs.TellLaws.{told_alone, told_none}
 use Rattle.turn_run.proofs.runners.Runner.do_alone.Goals as goal
 
-pub solo_reply-requires-clause-hints : goal.solo_reply-requires-clause-hints
-solo_reply-requires-clause-hints g c κs within = lawful_hints c.args.lent.now.setup.script.now c.requires.lawful
+pub invariant_of-dataset : goal.invariant_of-dataset
+invariant_of-dataset g c = let setup = c.args.lent.now.setup in record { sound = setup.sound; measured = setup.measured; lawful = lawful_hints setup.script.now setup.lawful }
 
 pub solo_reply-requires-clause-fit : goal.solo_reply-requires-clause-fit
 solo_reply-requires-clause-fit g c κs within = asked_fit c.args.lent.now.setup.header.now _ c.args.self.now.rank.state.known c.args.ask.offer c.requires.asked c.requires.known
