@@ -15,7 +15,7 @@ ghost use Rattle.turn_run.specs.Known.{point};
 ghost use Rattle.turn_run.specs.Counts.{IsCount};
 ghost use Rattle.owner_laws.specs.ByArrivals.{IsCutByArrivals, IsDoneByArrivals};
 ghost use Rattle.file_owner.specs.Halted.{taken_from, of_fault, of_stranger, stopped, HasEndedOn, HasFinished, HasHaltedOn, HasHaltCause, HasSeenAll};
-ghost use Rattle.file_owner.specs.Lent.{AreSame, IsReadable};
+ghost use Rattle.file_owner.specs.Lent.{AreSame};
 ghost use Rattle.file_owner.specs.Owned.{owner_calls, first_standing, standing, AreSingle, IsSteady};
 ghost use Rattle.file_owner.specs.Refused.{HasCutService};
 ghost use Rattle.file_owner.specs.Service.{arrived, gained, opening, HasFailed, HasTaken, HasToldAlong, HavePut, IsDone, IsDoneSo, passed};
@@ -132,7 +132,6 @@ fn serve_to_end<'s, E, R: Threads + Wait + Sync, D: Disk + 's, G: Gate, T: Told>
     out: &mut Outlets<D, T>,
     inbox: &mut InTake<SentItem>,
 ) -> (MarkList, Halt)
-    requires dataset { IsReadable dataset.now }
     requires count { IsCount dataset.now.header.now (D.len out.old.disk.now) out.old.records.now }
     requires from { D.from out.old.disk.now ≡ 0 }
     requires lines { length out.old.back.now ≡ inbox.old.senders }
@@ -197,7 +196,6 @@ fn open_owner<'s, E, R: Threads + Wait + Sync, D: Disk + 's, G: Gate, T: Told>(
     senders: &mut Senders,
     inbox: &mut InTake<SentItem>,
 ) -> (MarkList, Halt)
-    requires dataset { IsReadable dataset.now }
     requires count { IsCount dataset.now.header.now (D.len out.old.disk.now) out.old.records.now }
     requires from { D.from out.old.disk.now ≡ 0 }
     requires lines { length out.old.back.now ≡ inbox.old.senders }
@@ -230,7 +228,6 @@ fn serve_all<'s, E, R: Threads + Wait + Sync, D: Disk + 's, G: Gate, T: Told>(
     senders: &mut Senders,
     inbox: &mut InTake<SentItem>,
 ) -> Halt
-    requires dataset { IsReadable dataset.now }
     requires from { D.from out.old.disk.now ≡ 0 }
     requires lines { length out.old.back.now ≡ inbox.old.senders }
     requires few { inbox.old.senders ≤ 64 }

@@ -7,7 +7,7 @@ ghost use Rattle.serial_spec.specs.Owner.{Client, freed, holds, is_strange, offe
 ghost use Rattle.collective_round.specs.Rounds.{dataset_setting};
 ghost use Rattle.rank_items.specs.Own.{HasOwnPuts};
 ghost use Rattle.turn_run.specs.Counts.{IsCount, IsFit};
-ghost use Rattle.file_owner.specs.Lent.{AreSame, IsReadable};
+ghost use Rattle.file_owner.specs.Lent.{AreSame};
 ghost use Rattle.file_owner.specs.Owned.{owner_of, replies, standing, Grows, HasDone, HoldSingle, IsAlone, IsSingle, IsSteady, IsTogether};
 ghost use Rattle.file_owner.specs.Refused.{IsRefusedAlone, IsRefusedArrival, IsRefusedTogether};
 ghost use Rattle.turn_run.specs.Steps.{batches_of, known_of};
@@ -47,7 +47,6 @@ impl Owner {
         number: u32,
         item: RankItem,
     ) -> Result<(), StepErr>
-        requires dataset { IsReadable dataset.now }
         requires number { number < length self.old.clients.items }
         requires own { HasOwnPuts item }
         requires fit { (file : List ℕ) → is_strange (dataset_setting dataset.now) (owner_of self.old file out.old.records.now) (number, item) ≡ false }
@@ -105,7 +104,6 @@ impl Owner {
         out: &mut Outlets<D, T>,
         solo: &Solo,
     ) -> Result<(), StepErr>
-        requires dataset { IsReadable dataset.now }
         requires number { solo.now.number < length self.old.clients.items }
         requires lines { length out.old.back.now ≡ length self.old.clients.items }
         requires fit { IsFit dataset.now.header.now (D.len out.old.disk.now) solo.now.offer.now }
@@ -146,7 +144,6 @@ impl Owner {
         out: &mut Outlets<D, T>,
         solo: &Solo,
     ) -> Result<(), StepErr>
-        requires dataset { IsReadable dataset.now }
         requires number { solo.now.number < length out.old.back.now }
         requires fit { IsFit dataset.now.header.now (D.len out.old.disk.now) solo.now.offer.now }
         requires known { solo.now.offer.now.known ≤ self.old.reached }
@@ -192,7 +189,6 @@ impl Owner {
         dataset: &Dataset,
         out: &mut Outlets<D, T>,
     ) -> Result<(), StepErr>
-        requires dataset { IsReadable dataset.now }
         requires all { list_all holds self.old.clients.items ≡ true }
         requires steady { IsSteady dataset.now.header.now (D.len out.old.disk.now) (standing D.Disk T.Told self.old out.old) }
         requires from { D.from out.old.disk.now ≡ 0 }
@@ -241,7 +237,6 @@ impl Owner {
         dataset: &Dataset,
         out: &mut Outlets<D, T>,
     ) -> Result<(), StepErr>
-        requires dataset { IsReadable dataset.now }
         requires all { list_all holds self.old.clients.items ≡ true }
         requires steady { IsSteady dataset.now.header.now (D.len out.old.disk.now) (standing D.Disk T.Told self.old out.old) }
         requires from { D.from out.old.disk.now ≡ 0 }
@@ -260,9 +255,10 @@ impl Owner {
         ensures cause { HasDiskCause (D.faults out.old.disk.now) (D.faults out.new.disk.now) result }
     {
         let Tools { rt, alloc, gate: _ } = *tools;
+        let met = next_number(self.met)?;
         let (job, known) = self.take_job(alloc)?;
         let (pair, table) = meet_on_file(tools, crew, out.disk, dataset, out.records, &job, known)?;
-        let met = next_number(self.met)?;
+        drop(job);
         let mark = Mark::Meet(self.met);
         let records = *out.records;
         note_step(rt, alloc, &mut self.order, out.told, mark, records)?;

@@ -8,19 +8,19 @@ use Rattle.file_owner.proofs.owner.Owner.arrive.Goals as goal
 pub do_alone-requires-clause-fit : goal.do_alone-requires-clause-fit
 do_alone-requires-clause-fit g c κs within =
     let b = standing g.D.Disk g.T.Told c.args.self.now c.args.out.now in
-    (good_at (dataset_setting c.args.dataset.now) (g.D.Disk.len c.args.out.now.disk.now) b c.args.number c.in-Offer.call c.args.item c.in-Offer.offer c.requires.dataset.sound c.requires.steady c.requires.number c.requires.own
+    (good_at (dataset_setting c.args.dataset.now) (g.D.Disk.len c.args.out.now.disk.now) b c.args.number c.in-Offer.call c.args.item c.in-Offer.offer c.args.dataset.now.sound c.requires.steady c.requires.number c.requires.own
     c.requires.fit c.in-Offer.is).fit
 
 pub do_alone-requires-clause-known : goal.do_alone-requires-clause-known
 do_alone-requires-clause-known g c κs within =
     let b = standing g.D.Disk g.T.Told c.args.self.now c.args.out.now in
-    (good_at (dataset_setting c.args.dataset.now) (g.D.Disk.len c.args.out.now.disk.now) b c.args.number c.in-Offer.call c.args.item c.in-Offer.offer c.requires.dataset.sound c.requires.steady c.requires.number c.requires.own
+    (good_at (dataset_setting c.args.dataset.now) (g.D.Disk.len c.args.out.now.disk.now) b c.args.number c.in-Offer.call c.args.item c.in-Offer.offer c.args.dataset.now.sound c.requires.steady c.requires.number c.requires.own
     c.requires.fit c.in-Offer.is).known
 
 pub do_together-requires-clause-steady : goal.do_together-requires-clause-steady
 do_together-requires-clause-steady g c κs within =
     let b = standing g.D.Disk g.T.Told c.args.self.now c.args.out.now in
-    let good = good_at (dataset_setting c.args.dataset.now) (g.D.Disk.len c.args.out.now.disk.now) b c.args.number c.in-Offer.call c.args.item c.in-Offer.offer c.requires.dataset.sound c.requires.steady c.requires.number
+    let good = good_at (dataset_setting c.args.dataset.now) (g.D.Disk.len c.args.out.now.disk.now) b c.args.number c.in-Offer.call c.args.item c.in-Offer.offer c.args.dataset.now.sound c.requires.steady c.requires.number
     c.requires.own c.requires.fit c.in-Offer.is in
     steady_held c.args.dataset.now.header.now (g.D.Disk.len c.args.out.now.disk.now) b c.args.number c.in-Offer.call c.in-Offer.offer c.hold.new.self c.in-Meet.field-0 c.requires.steady good
     (held_now good c.index_mut-in-Meet.result.now c.hold.new.self c.index_mut-in-Meet.ensures.value c.hold.ensures) c.in-Meet.is
@@ -46,7 +46,7 @@ returns-else-memory-clause-steady g c =
 pub returns-in-Solo-clause-done : goal.returns-in-Solo-clause-done
 returns-in-Solo-clause-done g c =
     let b = standing g.D.Disk g.T.Told c.args.self.now c.args.out.now in
-    let good = good_at (dataset_setting c.args.dataset.now) (g.D.Disk.len c.args.out.now.disk.now) b c.args.number c.in-Offer.call c.args.item c.in-Offer.offer c.requires.dataset.sound c.requires.steady c.requires.number
+    let good = good_at (dataset_setting c.args.dataset.now) (g.D.Disk.len c.args.out.now.disk.now) b c.args.number c.in-Offer.call c.args.item c.in-Offer.offer c.args.dataset.now.sound c.requires.steady c.requires.number
     c.requires.own c.requires.fit c.in-Offer.is in
     on_ok_weaker c.do_alone.result (λ h.
     as_item c.args.dataset.now.hints.now (dataset_setting c.args.dataset.now) c.args.number c.args.item (item.Offer c.in-Offer.call c.in-Offer.offer) b
@@ -72,7 +72,7 @@ returns-in-Solo-clause-count g c =
 pub returns-then-all_hold-clause-done : goal.returns-then-all_hold-clause-done
 returns-then-all_hold-clause-done g c =
     let b = standing g.D.Disk g.T.Told c.args.self.now c.args.out.now in
-    let good = good_at (dataset_setting c.args.dataset.now) (g.D.Disk.len c.args.out.now.disk.now) b c.args.number c.in-Offer.call c.args.item c.in-Offer.offer c.requires.dataset.sound c.requires.steady c.requires.number
+    let good = good_at (dataset_setting c.args.dataset.now) (g.D.Disk.len c.args.out.now.disk.now) b c.args.number c.in-Offer.call c.args.item c.in-Offer.offer c.args.dataset.now.sound c.requires.steady c.requires.number
     c.requires.own c.requires.fit c.in-Offer.is in
     let now = standing g.D.Disk g.T.Told c.do_together.new.self c.do_together.new.out in
     on_ok_weaker c.do_together.result (λ h.
@@ -83,7 +83,7 @@ returns-then-all_hold-clause-done g c =
 pub returns-then-all_hold-clause-stopped : goal.returns-then-all_hold-clause-stopped
 returns-then-all_hold-clause-stopped g c =
     let b = standing g.D.Disk g.T.Told c.args.self.now c.args.out.now in
-    let good = good_at (dataset_setting c.args.dataset.now) (g.D.Disk.len c.args.out.now.disk.now) b c.args.number c.in-Offer.call c.args.item c.in-Offer.offer c.requires.dataset.sound c.requires.steady c.requires.number
+    let good = good_at (dataset_setting c.args.dataset.now) (g.D.Disk.len c.args.out.now.disk.now) b c.args.number c.in-Offer.call c.args.item c.in-Offer.offer c.args.dataset.now.sound c.requires.steady c.requires.number
     c.requires.own c.requires.fit c.in-Offer.is in
     on_err_weaker c.do_together.result (λ h.
     stopped_as (owner_of c.args.self.now [] 0) c.args.number c.args.item (item.Offer c.in-Offer.call c.in-Offer.offer) c.args.out.now.back.now c.do_together.new.out.back.now c.in-Offer.is
@@ -93,7 +93,7 @@ returns-then-all_hold-clause-stopped g c =
 pub returns-else-all_hold-clause-done : goal.returns-else-all_hold-clause-done
 returns-else-all_hold-clause-done g c =
     let b = standing g.D.Disk g.T.Told c.args.self.now c.args.out.now in
-    let good = good_at (dataset_setting c.args.dataset.now) (g.D.Disk.len c.args.out.now.disk.now) b c.args.number c.in-Offer.call c.args.item c.in-Offer.offer c.requires.dataset.sound c.requires.steady c.requires.number
+    let good = good_at (dataset_setting c.args.dataset.now) (g.D.Disk.len c.args.out.now.disk.now) b c.args.number c.in-Offer.call c.args.item c.in-Offer.offer c.args.dataset.now.sound c.requires.steady c.requires.number
     c.requires.own c.requires.fit c.in-Offer.is in
     as_item c.args.dataset.now.hints.now (dataset_setting c.args.dataset.now) c.args.number c.args.item (item.Offer c.in-Offer.call c.in-Offer.offer) b _ c.in-Offer.is
     (done_held c.args.dataset.now.hints.now (dataset_setting c.args.dataset.now) b c.args.number c.in-Offer.call c.in-Offer.offer good.client c.hold.new.self c.in-Meet.field-0 good.there
@@ -102,7 +102,7 @@ returns-else-all_hold-clause-done g c =
 pub returns-else-all_hold-clause-steady : goal.returns-else-all_hold-clause-steady
 returns-else-all_hold-clause-steady g c =
     let b = standing g.D.Disk g.T.Told c.args.self.now c.args.out.now in
-    let good = good_at (dataset_setting c.args.dataset.now) (g.D.Disk.len c.args.out.now.disk.now) b c.args.number c.in-Offer.call c.args.item c.in-Offer.offer c.requires.dataset.sound c.requires.steady c.requires.number
+    let good = good_at (dataset_setting c.args.dataset.now) (g.D.Disk.len c.args.out.now.disk.now) b c.args.number c.in-Offer.call c.args.item c.in-Offer.offer c.args.dataset.now.sound c.requires.steady c.requires.number
     c.requires.own c.requires.fit c.in-Offer.is in
     steady_held c.args.dataset.now.header.now (g.D.Disk.len c.args.out.now.disk.now) b c.args.number c.in-Offer.call c.in-Offer.offer c.hold.new.self c.in-Meet.field-0 c.requires.steady good
     (held_now good c.index_mut-in-Meet.result.now c.hold.new.self c.index_mut-in-Meet.ensures.value c.hold.ensures) c.in-Meet.is
@@ -110,7 +110,7 @@ returns-else-all_hold-clause-steady g c =
 pub returns-in-Solo-clause-refused : goal.returns-in-Solo-clause-refused
 returns-in-Solo-clause-refused g c =
     let b = standing g.D.Disk g.T.Told c.args.self.now c.args.out.now in
-    let good = good_at (dataset_setting c.args.dataset.now) (g.D.Disk.len c.args.out.now.disk.now) b c.args.number c.in-Offer.call c.args.item c.in-Offer.offer c.requires.dataset.sound c.requires.steady c.requires.number
+    let good = good_at (dataset_setting c.args.dataset.now) (g.D.Disk.len c.args.out.now.disk.now) b c.args.number c.in-Offer.call c.args.item c.in-Offer.offer c.args.dataset.now.sound c.requires.steady c.requires.number
     c.requires.own c.requires.fit c.in-Offer.is in
     on_err_weaker c.do_alone.result (λ h held single.
     arrival_alone (dataset_setting c.args.dataset.now) b c.args.number c.in-Offer.call c.do_alone.new.out.records.now c.args.item c.in-Offer.offer good.client (g.D.Disk.held c.do_alone.new.out.disk.now) c.in-Offer.is good.there
@@ -119,7 +119,7 @@ returns-in-Solo-clause-refused g c =
 pub returns-then-all_hold-clause-refused : goal.returns-then-all_hold-clause-refused
 returns-then-all_hold-clause-refused g c =
     let b = standing g.D.Disk g.T.Told c.args.self.now c.args.out.now in
-    let good = good_at (dataset_setting c.args.dataset.now) (g.D.Disk.len c.args.out.now.disk.now) b c.args.number c.in-Offer.call c.args.item c.in-Offer.offer c.requires.dataset.sound c.requires.steady c.requires.number
+    let good = good_at (dataset_setting c.args.dataset.now) (g.D.Disk.len c.args.out.now.disk.now) b c.args.number c.in-Offer.call c.args.item c.in-Offer.offer c.args.dataset.now.sound c.requires.steady c.requires.number
     c.requires.own c.requires.fit c.in-Offer.is in
     on_err_weaker c.do_together.result (λ h.
     arrival_together (dataset_setting c.args.dataset.now) b c.args.number c.in-Offer.call c.do_together.new.out.records.now c.args.item c.in-Offer.offer good.client c.hold.new.self c.in-Meet.field-0

@@ -1,5 +1,5 @@
 -- The meeting is done, and its replies are put.
-use Rattle.file_owner.proofs.Words.{ℕ, ◌+◌, ◌++◌, ◌∷◌, [], sym, ◌∙◌, ap, subst, length, map, max, List, length-map, Batch, Offer, Meet, with_end, offers_held, wanted, IsRise, offers_long, dataset_setting, standing, standing_at, IsJob, refl, on_err}
+use Rattle.file_owner.proofs.Words.{ℕ, ◌++◌, ◌∷◌, [], sym, ◌∙◌, ap, subst, length, map, max, List, length-map, Batch, Offer, Meet, with_end, offers_held, wanted, IsRise, offers_long, dataset_setting, standing, standing_at, IsJob, refl, on_err}
 use Rattle.file_owner.proofs.HeldLaws.{held_job, held_low, held_once, held_rise, steady_freed}
 use Rattle.file_owner.proofs.TogetherSteps.{together}
 use Rattle.file_owner.proofs.RefusedSteps.{done_once, none_once, refused_once}
@@ -36,7 +36,7 @@ returns-clause-done g c =
       order = c.in_ok-note_step.ensures.order ∙ (λ i. c.in_ok-job.ensures.order i ++ Meet (c.in_ok-job.ensures.met i) ∷ []);
       heard = c.in_ok-note_step.ensures.heard ∙ ap (λ k. with_end (g.T.Told.heard c.args.out.now.told.now) ((Meet k, c.meet_on_file.new.records) ∷ [])) c.in_ok-job.ensures.met;
       clients = c.in_ok-job.ensures.freed;
-      met_more = c.in_ok-met.ensures ∙ ap (λ k. k + 1) c.in_ok-job.ensures.met;
+      met_more = c.in_ok-met.ensures;
       reached = c.max-self.ensures ∙ ap (λ k. max k c.meet_on_file.new.records) c.in_ok-job.ensures.reached;
       lines = c.reply_all.ensures;
     })
@@ -61,8 +61,7 @@ returns-in_err-pair-clause-refused g c =
 pub returns-in_err-met-clause-refused : goal.returns-in_err-met-clause-refused
 returns-in_err-met-clause-refused g c =
     let b = standing g.D.Disk g.T.Told c.args.self.now c.args.out.now in
-    on_err _ (done_once (dataset_setting c.args.dataset.now) b c.in_ok-job.job.batches c.in_ok-job.known c.meet_on_file.new.records (g.D.Disk.held c.meet_on_file.new.disk)
-    c.in_ok-job.ensures.batches c.in_ok-job.ensures.known c.in_ok-pair.ensures.bytes c.in_ok-pair.ensures.records)
+    on_err _ (none_once (dataset_setting c.args.dataset.now) b c.args.out.now.records.now (g.D.Disk.held c.args.out.now.disk.now) refl refl)
 
 pub returns-in_err-note_step-clause-refused : goal.returns-in_err-note_step-clause-refused
 returns-in_err-note_step-clause-refused g c =
