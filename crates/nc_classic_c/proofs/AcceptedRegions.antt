@@ -1,5 +1,5 @@
 -- Regions that a check accepts: their variable is there, and they have few extents.
-use Rattle.nc_classic_c.proofs.Words.{◌≡◌, ℕ, suc, ◌≤◌, ◌<◌, ◌^◌, List, [], ◌∷◌, length, Bool, false, Option, Some, None, refl, ap, sym, ◌∙◌, arith, slice_get, IfSome, Header, Var, Extent, Region, Direction, product, check, check_some, check_var, asks_too_much, joined_to, joined, extents_of, element_extents, IsAccepted, passed, length-element_extents, if_some_at, Accepted, NcvRegion, HasRegion, Accepts, direction_of, nat_tests, subst, region_of}
+use Rattle.nc_classic_c.proofs.Words.{◌≡◌, ℕ, suc, ◌≤◌, ◌<◌, ◌^◌, List, [], ◌∷◌, length, Bool, false, Option, Some, None, refl, ap, sym, ◌∙◌, arith, slice_get, IfSome, Header, Var, Extent, Region, Direction, product, check_some, check_var, asks_too_much, joined_to, joined, extents_of, element_extents, IsAccepted, passed, length-element_extents, if_some_at, Accepted, NcvRegion, HasRegion, Accepts, direction_of, nat_tests, subst, region_of}
 use Rattle.nc_base.specs.declared.answer.Code.TheVariants as code
 
 pub accepted_there : (header : Header) (o : Option Var) (g : Region) (known : ℕ) (direction : Direction)

@@ -2,9 +2,6 @@
 use Rattle.nc_classic_c.proofs.Words.{◌≡◌, ap, ◌∙◌, ℤ, to_z-of_z, Refusal, number_of, arith, nat_tests}
 use mir.Syntax.{w32}
 use mir.Val.{to_z, of_z, SFits}
-use Rattle.nc_base.specs.declared.answer.Code.TheVariants as code
-use Rattle.nc_classic_c.specs.declared.answers.Refusal.TheVariants as refusal
-use Rattle.nc_classic_c.specs.declared.causes.Cause.TheVariants as cause
 
 number_small : (r : Refusal) → SFits w32 (number_of r)
 number_small r = grind (arith, nat_tests)

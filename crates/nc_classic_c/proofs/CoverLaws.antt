@@ -1,14 +1,11 @@
 -- The cover of extents has their bytes, and reaches from the first to the last.
-use Rattle.nc_classic_c.proofs.Words.{◌≡◌, ℕ, ◌+◌, ◌-◌, ◌≤◌, ◌^◌, List, [], ◌∷◌, length, map, true, inl, inr, ap, subst, Some, arith, flat_map, range_with_len, IsPermutation, flat_map-map, same_Some, passes_each, no_none_some, Extent, Owned, first_of, last_of, spans, at_in, In, HaveSame, ranges, extents, EndBelow, IsCover, cover_in_order, last_joined, last_of_range, range_first, same_permuted, flat_in, in_flat, in_range, range_high, each_in, in_map, map_in, NcvExtent, bytes_asked, bytes_of, end_is_low, end_of, ends_are_low, entry, nat_tests, ◌<◌, ◌∙◌, ltb-true, slice_get}
+use Rattle.nc_classic_c.proofs.Words.{◌≡◌, ℕ, ◌+◌, ◌-◌, ◌≤◌, ◌^◌, List, [], ◌∷◌, length, map, true, ap, Some, arith, range_with_len, IsPermutation, flat_map-map, same_Some, passes_each, no_none_some, Extent, Owned, first_of, last_of, spans, at_in, HaveSame, ranges, extents, EndBelow, IsCover, cover_in_order, last_joined, last_of_range, range_first, same_permuted, each_in, map_in, NcvExtent, bytes_asked, end_is_low, end_of, ends_are_low, entry, nat_tests, ltb-true, slice_get}
 use Rattle.overlay_laws.proofs.CoverLaws.{ranges_moved}
 
 abbrev bytes : Owned → List ℕ
 bytes o = range_with_len o.extent.at o.extent.len
 
 -- ---- entries in any order
-
-ranges_asked : (asked : List NcvExtent) → ranges (map entry asked) ≡ flat_map bytes_of asked
-ranges_asked asked = flat_map-map bytes entry asked
 
 pub entries_low : (asked : List NcvExtent) (list : List Owned) → ends_are_low asked ≡ true → IsPermutation (map entry asked) list → EndBelow (2 ^ 62) (extents list)
 entries_low asked list h p e m = grind (arith, nat_tests, same_permuted (map entry asked) list p, passes_each end_is_low asked h, map_in, ltb-true, each_in)
@@ -17,7 +14,7 @@ entries_low asked list h p e m = grind (arith, nat_tests, same_permuted (map ent
 
 pub cover_bytes : (cover : List Extent) (list : List Owned) (asked : List NcvExtent) → IsCover cover → HaveSame (spans cover) (ranges list) → IsPermutation (map entry asked) list
     → spans cover ≡ bytes_asked asked
-cover_bytes cover list asked h same p = grind (arith, nat_tests, same_permuted (map entry asked) list p, ranges_asked asked, cover_in_order, ranges_moved)
+cover_bytes cover list asked h same p = grind (arith, nat_tests, same_permuted (map entry asked) list p, flat_map-map bytes entry asked, cover_in_order, ranges_moved)
 
 -- ---- from the first byte to the last
 

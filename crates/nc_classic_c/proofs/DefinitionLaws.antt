@@ -1,8 +1,7 @@
 -- Definitions that can all be taken make a header that can be laid out and written.
-use Rattle.nc_classic_c.proofs.Words.{◌≡◌, ℕ, suc, ◌+◌, ◌-◌, ◌*◌, ◌/◌, ◌%◌, ◌^◌, ◌<◌, ◌≤◌, List, [], ◌∷◌, ◌++◌, map, drop, length, Bool, true, false, cond, ◌&&◌, ◌||◌, Option, None, refl, sym, ap, subst, ◌∙◌, arith, length-append, nat_lt, nat_le, ◌==◌, slice_get, count_by, AllByRecursion, list_any, div-le_self, div-mul-le_self, mod-eq-sub-div-mul, and_from, or_parts, ltb-false, leb-false, le-leb, le-ltb, length-map, list_any-append, sum_by-cons, each_map, each_passes, each_fails, each_weaker, fails_each, both_none, none_before_map, told_else, equal_true, not_zero, Dim, Var, size_of, is_version, two_record_dims, record_later, bad_id, length_of, most_dims, most_vars, most_dims_of_var, record_limit, counts_are_small, fits_count, is_type, is_writable_dim, is_writable_attr, is_writable_list, small_field, small_count, is_unplaced, has_writable_names, has_writable_parts, kind_of, Unmade, NcvAttDef, NcvDimDef, NcvVarDef, NcvHeaderDef, type_cause, is_record_dim, is_record_id, att_cause, var_cause, first_refused, dim_refusal, att_refusal, atts_refusal, var_refusal, definition_refusal, most_atts, name_cause, dimension_of, attribute_of, variable_of, header_of, nat_tests, not}
+use Rattle.nc_classic_c.proofs.Words.{◌≡◌, ℕ, suc, ◌+◌, ◌-◌, ◌*◌, ◌/◌, ◌%◌, ◌^◌, ◌<◌, ◌≤◌, List, [], ◌∷◌, ◌++◌, map, drop, length, Bool, true, false, cond, ◌&&◌, ◌||◌, Option, None, refl, sym, ap, subst, ◌∙◌, arith, length-append, nat_le, ◌==◌, slice_get, count_by, AllByRecursion, list_any, div-le_self, div-mul-le_self, mod-eq-sub-div-mul, and_from, or_parts, ltb-false, leb-false, le-leb, le-ltb, length-map, list_any-append, sum_by-cons, each_map, each_passes, each_fails, each_weaker, fails_each, both_none, none_before_map, told_else, equal_true, not_zero, Dim, Var, size_of, is_version, two_record_dims, record_later, bad_id, length_of, most_dims, most_vars, most_dims_of_var, record_limit, counts_are_small, fits_count, is_type, is_writable_dim, is_writable_attr, is_writable_list, small_field, small_count, is_unplaced, has_writable_names, has_writable_parts, kind_of, Unmade, NcvAttDef, NcvDimDef, NcvVarDef, NcvHeaderDef, type_cause, is_record_dim, is_record_id, att_cause, var_cause, first_refused, dim_refusal, att_refusal, atts_refusal, var_refusal, definition_refusal, name_cause, dimension_of, attribute_of, variable_of, header_of, nat_tests, not}
 use Rattle.serial_spec.specs.HeaderBytes.{number_of}
 use Rattle.serial_spec.specs.HeaderFaults as faults
-use Rattle.nc_classic_c.specs.declared.causes.Cause.TheVariants as cause
 
 -- ---- one after another
 
@@ -72,11 +71,7 @@ att_taken : (version owner : ℕ) (before : List NcvAttDef) (a : NcvAttDef) → 
 att_taken version owner before a h =
     let b = both_none (name_cause a.name.now) _ (none_before_map _ (att_cause version before a) h) in
     let c = both_none (type_cause version a.kind) _ b.1 in
-    let d = told_else (nat_lt 0 (length a.values.now % size_of (kind_of a.kind))) cause.Inval _ c.1 in
-    let e = told_else (nat_lt (2 ^ 20) (length a.values.now)) cause.TooLarge _ d.1 in
-    let f = told_else _ cause.NameInUse _ e.1 in
-    let g = told_else (nat_le most_atts (length before)) cause.MaxAtts _ f.1 in
-    record { name = b.0; kind = c.0; whole = ltb-false 0 (length a.values.now % size_of (kind_of a.kind)) d.0; few_bytes = ltb-false (2 ^ 20) (length a.values.now) e.0; few = leb-false most_atts (length before) g.0 }
+    grind (arith, nat_tests, b, c, told_else, ltb-false, leb-false)
 
 att_fits : (version : ℕ) (before : List NcvAttDef) (a : NcvAttDef) → AttTaken version before a → is_writable_attr version (attribute_of a) ≡ true
 att_fits version before a t =
@@ -116,13 +111,7 @@ var_taken version dims before v h =
     let both = both_none _ (atts_refusal version (length before) v.attrs.now) h in
     let a = both_none (name_cause v.name.now) _ (none_before_map _ (var_cause version dims before v) both.0) in
     let b = both_none (type_cause version v.kind) _ a.1 in
-    let c = told_else _ cause.NameInUse _ b.1 in
-    let d = told_else (list_any (λ id. nat_le (length dims) id) v.ids.now) cause.BadDim _ c.1 in
-    let e = told_else (list_any (is_record_id dims) (drop 1 v.ids.now)) cause.UnlimPos _ d.1 in
-    let f = told_else (nat_lt most_dims_of_var (length v.ids.now)) cause.MaxDims _ e.1 in
-    let g = told_else (nat_le most_vars (length before)) cause.MaxVars _ f.1 in
-    let few_dims = ltb-false most_dims_of_var (length v.ids.now) f.0 in
-    record { name = a.0; kind = b.0; ids = d.0; record_first = e.0; few_dims = few_dims; few = leb-false most_vars (length before) g.0; attrs = both.1 }
+    grind (arith, nat_tests, both, a, b, told_else, ltb-false, leb-false)
 
 -- the same id in the header
 same_id : (dims : List NcvDimDef) (id : ℕ) → (length_of (slice_get (map dimension_of dims) id) == 0) ≡ is_record_id dims id

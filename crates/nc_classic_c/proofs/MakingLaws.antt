@@ -1,5 +1,5 @@
 -- What is answered of a header that is defined, by its parts.
-use Rattle.nc_classic_c.proofs.Words.{◌≡◌, ℕ, ◌^◌, ◌≤◌, List, ◌++◌, drop, take, length, true, Option, None, Result, Ok, Err, sym, ap, subst, ◌∙◌, IfErr, OnOk, le-ltb, second_counts, and_first, Header, Align, canon, header_len, is_version, is_sound, is_writable, BeginsWith, Refusal, Unmade, NcvHeaderDef, definition_refusal, filled, is_align, of_whole, made_header, align_of, argument_refusal, place_refusal, refusal_of, len_told, IsMade, IsUnmade, header_of, arith, nat_tests}
+use Rattle.nc_classic_c.proofs.Words.{◌≡◌, ℕ, ◌^◌, ◌≤◌, List, ◌++◌, drop, take, length, true, Option, None, Result, Ok, Err, sym, ap, subst, ◌∙◌, IfErr, OnOk, le-ltb, second_counts, and_first, Header, Align, canon, header_len, is_version, is_writable, BeginsWith, Refusal, Unmade, NcvHeaderDef, definition_refusal, filled, is_align, of_whole, made_header, align_of, argument_refusal, place_refusal, refusal_of, len_told, IsMade, IsUnmade, header_of, arith, nat_tests}
 use Rattle.nc_classic_c.specs.declared.answers.Refusal.TheVariants as refusal
 use Rattle.nc_classic_c.specs.declared.causes.Cause.TheVariants as cause
 use Rattle.nc_classic_c.specs.Making.{is_asked}

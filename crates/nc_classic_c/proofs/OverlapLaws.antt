@@ -1,5 +1,5 @@
 -- Entries of several requests, in any order, hold what the requests hold.
-use Rattle.nc_classic_c.proofs.Words.{◌≡◌, ℕ, ◌+◌, ◌<◌, ◌^◌, List, [], ◌∷◌, true, inl, inr, range_with_len, IsPermutation, and_second, Owned, Key, Holds, holdings_of_entries, shared_pair_of, same_pair, extents, EndBelow, same_permuted, holder_of, holds_by, map_in, NcvHeld, holdings, ends_low, arith, nat_tests, map_map, map, In}
+use Rattle.nc_classic_c.proofs.Words.{passes_each, ltb-true, each_in, ◌≡◌, ℕ, ◌^◌, List, true, range_with_len, IsPermutation, Owned, Key, Holds, holdings_of_entries, shared_pair_of, same_pair, extents, EndBelow, same_permuted, holder_of, holds_by, map_in, NcvHeld, holdings, ends_low, arith, nat_tests, map_map, map, In}
 use Rattle.nc_classic_c.specs.Overlaps.{ends_are_low, entry}
 
 abbrev key : Owned → Key
@@ -25,10 +25,5 @@ pair_of_entries held list p =
 
 -- ---- where they end
 
-held_low : (held : List NcvHeld) → ends_are_low held ≡ true → (o : Owned) → In (map entry held) o → o.extent.at + o.extent.len < 2 ^ 62
-held_low [] h o m = absurd m
-held_low (x ∷ xs) h o (inl e) = grind (arith, nat_tests)
-held_low (x ∷ xs) h o (inr m) = held_low xs (and_second (ends_low x) (ends_are_low xs) h) o m
-
 pub entries_low : (held : List NcvHeld) (list : List Owned) → ends_are_low held ≡ true → IsPermutation (map entry held) list → EndBelow (2 ^ 62) (extents list)
-entries_low held list h p e m = grind (arith, nat_tests, same_permuted (map entry held) list p, map_in, held_low)
+entries_low held list h p e m = grind (arith, nat_tests, same_permuted (map entry held) list p, passes_each ends_low held h, map_in, ltb-true, each_in)

@@ -1,5 +1,5 @@
 -- The windows of all domains, domain after domain.
-use Rattle.nc_classic_c.proofs.Words.{◌≡◌, ◌↔◌, ℕ, zero, suc, ◌+◌, ◌-◌, ◌/◌, ◌^◌, ◌<◌, ◌≤◌, List, [], ◌∷◌, ◌++◌, length, map, Bool, true, false, ◌&&◌, inl, inr, refl, ap, ◌∙◌, leb, arith, length-append, filter, flat_map, nat_lt, nat_le, ◌==◌, range_with_len, enumerate_from, le-leb, leb-true, length-map, map-map, equal_true, no_both, and_first, and_second, Extent, first_of, windows, spans, low_of, share_of, LiesIn, bytes_in, round_windows, window_told, Window, In, IsAscending, told_of, walked, filter_two, filter_ascends, first_least, last_most, windows_walked, Division, NcvWindow, end_of, is_division, shown, step_windows, window_shown, nat_tests, filter_at_most, sym, ltb-true, ltb-false, eqb-true}
+use Rattle.nc_classic_c.proofs.Words.{and_from, lt-ltb, ◌≡◌, ◌↔◌, ℕ, zero, suc, ◌+◌, ◌-◌, ◌/◌, ◌^◌, ◌<◌, ◌≤◌, List, [], ◌∷◌, ◌++◌, length, map, Bool, true, refl, ap, ◌∙◌, leb, arith, length-append, filter, flat_map, nat_lt, nat_le, ◌==◌, range_with_len, enumerate_from, le-leb, leb-true, length-map, map-map, equal_true, and_first, and_second, Extent, first_of, windows, spans, low_of, share_of, LiesIn, bytes_in, round_windows, window_told, Window, In, IsAscending, told_of, walked, filter_two, filter_ascends, first_least, last_most, windows_walked, Division, NcvWindow, end_of, is_division, shown, step_windows, window_shown, nat_tests, filter_at_most, sym, ltb-true, eqb-true}
 use Rattle.overlay_laws.proofs.DomainLaws.{share}
 use Rattle.overlay_laws.proofs.HullLaws.{ascending_few}
 
@@ -17,20 +17,17 @@ divided d h = grind (arith, nat_tests, and_first, leb, leb-true, and_second)
 
 -- ---- the bytes of a domain
 
+same_tests : (s t : Bool) → (s ≡ true → t ≡ true) → (t ≡ true → s ≡ true) → s ≡ t
+same_tests s t f g = grind (arith, nat_tests, f, g)
+
 -- the covered bytes of a domain are those of its share
 share_is : (cover : List Extent) (e : Extent) (lo hi low s a : ℕ) → ((x : ℕ) → LiesIn e x ↔ ((lo ≤ x) × (x < hi) × ((x - low) / s ≡ a)))
     → ((x : ℕ) → In (spans cover) x → (lo ≤ x) × (x < hi)) → bytes_in e cover ≡ share low s (spans cover) a
 share_is cover e lo hi low s a cut within =
-    filter_two (λ x. (x - low) / s == a) (λ y. nat_lt y (e.at + e.len)) (λ y. nat_le e.at y) (spans cover) (λ y m. by_end y m (nat_lt y (e.at + e.len)) refl)
-  where
-    outside : (y : ℕ) → In (spans cover) y → (LiesIn e y → ⊥) → (t : Bool) → ((y - low) / s == a) ≡ t → t ≡ false
-    outside y m none t g = grind (arith, nat_tests, eqb-true)
-
-    by_begin : (y : ℕ) → In (spans cover) y → y < e.at + e.len → (t : Bool) → nat_le e.at y ≡ t → ((y - low) / s == a) ≡ t
-    by_begin y m k t g = grind (arith, nat_tests, equal_true, leb-true, outside, no_both, le-leb)
-
-    by_end : (y : ℕ) → In (spans cover) y → (t : Bool) → nat_lt y (e.at + e.len) ≡ t → ((y - low) / s == a) ≡ (t && nat_le e.at y)
-    by_end y m t g = grind (arith, nat_tests, by_begin, ltb-true, outside, ltb-false)
+    filter_two (λ x. (x - low) / s == a) (λ y. nat_lt y (e.at + e.len)) (λ y. nat_le e.at y) (spans cover)
+    (λ y m. same_tests _ _
+    (λ t. let l = (cut y).1 ((within y m).0, (within y m).1, eqb-true _ _ t) in and_from _ _ (lt-ltb _ _ l.1) (le-leb _ _ l.0))
+    (λ t. equal_true _ _ ((cut y).0 (leb-true _ _ (and_second (nat_lt y (e.at + e.len)) _ t), ltb-true _ _ (and_first _ (nat_le e.at y) t))).2))
 
 within_ends : (bytes : List ℕ) (x : ℕ) → IsAscending bytes → In bytes x → (first_of bytes ≤ x) × (x < end_of bytes)
 within_ends bytes x h m = grind (arith, nat_tests, last_most, first_least)
@@ -64,11 +61,8 @@ numbered {X} {Y} g f k (suc n) = ap (λ (l : List Y). g (k, f k) ++ l) (numbered
 abbrev pub windows_from : ℕ → ℕ → Division → List ℕ → ℕ → List NcvWindow
 windows_from lo hi d bytes a = flat_map (share_windows lo hi d bytes) (range_with_len a (d.aggregators - a))
 
-from_first : (lo hi : ℕ) (d : Division) (bytes : List ℕ) → windows_from lo hi d bytes 0 ≡ flat_map (share_windows lo hi d bytes) (range_with_len 0 d.aggregators)
-from_first lo hi d bytes = grind (arith, nat_tests)
-
 pub all_windows : (lo hi : ℕ) (d : Division) (bytes : List ℕ) → lo ≡ first_of bytes → hi ≡ end_of bytes → windows_from lo hi d bytes 0 ≡ step_windows d bytes
-all_windows lo hi d bytes e f = grind (arith, nat_tests, from_first, numbered)
+all_windows lo hi d bytes e f = grind (arith, nat_tests, numbered)
 
 -- a domain's windows, and those of the domains behind it
 pub record IsNext (lo hi : ℕ) (d : Division) (bytes : List ℕ) (a : ℕ) (left : List Window) : Type 0 where

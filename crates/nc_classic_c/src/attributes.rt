@@ -60,9 +60,13 @@ pub extern "C" fn ncv_inq_att(
                 *att = att_shown(found);
                 fill(found.name.as_slice(), name);
                 fill(found.bytes.as_slice(), values);
+                drop(header);
                 OK
             }
-            Err(refusal) => number_of(refusal),
+            Err(refusal) => {
+                drop(header);
+                number_of(refusal)
+            }
         },
         Err(refusal) => number_of(refusal),
     }
@@ -85,9 +89,13 @@ pub extern "C" fn ncv_inq_attid(
         Ok((header, _)) => match attribute_named(&header, owner, name) {
             Ok(found) => {
                 *number = found;
+                drop(header);
                 OK
             }
-            Err(refusal) => number_of(refusal),
+            Err(refusal) => {
+                drop(header);
+                number_of(refusal)
+            }
         },
         Err(refusal) => number_of(refusal),
     }

@@ -1,9 +1,10 @@
 // Whether definitions can be taken, one after another.
-ghost use Rattle.std.specs.Prelude.{◌≡◌, [], drop, nat_le, length};
+ghost use Rattle.std.specs.Prelude.{◌≡◌, ℕ, List, [], drop, nat_le, length, bytes_eq, Option};
 ghost use Rattle.std.specs.List.{list_any};
 ghost use Rattle.std.specs.Result.{result_err};
 ghost use Rattle.serial_spec.specs.HeaderBytes as header_bytes;
-ghost use Rattle.nc_classic_c.specs.Definitions.{is_record_dim, is_record_id, has_dim_name, has_att_name, has_var_name, type_cause, dim_cause, att_cause, var_cause, first_refused, dim_refusal, att_refusal, atts_refusal, var_refusal, definition_refusal};
+ghost use Rattle.nc_classic_c.specs.declared.causes.Unmade.{Unmade as Refused};
+ghost use Rattle.nc_classic_c.specs.Definitions.{is_record_dim, is_record_id, type_cause, dim_cause, att_cause, var_cause, first_refused, dim_refusal, att_refusal, atts_refusal, var_refusal, definition_refusal};
 
 use crate::causes::{Cause, Part, Unmade};
 use crate::looks::DATASET;
@@ -35,18 +36,70 @@ fn check_type(version: u8, number: u32) -> Result<(), Cause>
     }
 }
 
+// ---- one after another
+
+/// A definition that has a name.
+trait Named {
+    ghost name_of: { Self → List ℕ };
+
+    fn name(&self) -> &[u8]
+        ensures { result.now ≡ name_of self.now };
+}
+
+impl Named for NcvDimDef<'_> {
+    ghost name_of = { λ d. d.name.now };
+
+    fn name(&self) -> &[u8] {
+        self.name
+    }
+}
+
+impl Named for NcvAttDef<'_> {
+    ghost name_of = { λ a. a.name.now };
+
+    fn name(&self) -> &[u8] {
+        self.name
+    }
+}
+
+impl Named for NcvVarDef<'_> {
+    ghost name_of = { λ v. v.name.now };
+
+    fn name(&self) -> &[u8] {
+        self.name
+    }
+}
+
+fn has_name<T: Named>(items: &[T], name: &[u8]) -> bool
+    ensures { result ≡ list_any (λ x. bytes_eq (T.name_of x) name.now) items.now }
+{
+    items.iter().any(|item| item.name() == name)
+}
+
+/// A definition that is taken, or not, after those before it; `among` is what else that depends on.
+trait Checked<C>: Sized {
+    ghost refusal: { C → List Self → Self → Option Refused };
+
+    fn check(&self, among: C, before: &[Self]) -> Result<(), Unmade>
+        ensures { result_err result ≡ refusal among before.now self.now };
+}
+
+/// Refuses the first that can't be taken.
+fn check_all<C: Copy, T: Checked<C>>(among: C, items: &[T]) -> Result<(), Unmade>
+    ensures { result_err result ≡ first_refused (T.refusal among) [] items.now }
+{
+    for (k, item) in items.iter().enumerate() {
+        item.check(among, &items[..k])?;
+    }
+    Ok(())
+}
+
 // ---- dimensions
 
 fn has_record_dim(dims: &[NcvDimDef]) -> bool
     ensures { result ≡ list_any is_record_dim dims.now }
 {
     dims.iter().any(|dim| dim.length == 0)
-}
-
-fn has_dim(dims: &[NcvDimDef], name: &[u8]) -> bool
-    ensures { result ≡ list_any (has_dim_name name.now) dims.now }
-{
-    dims.iter().any(|dim| dim.name == name)
 }
 
 fn try_dim(version: u8, before: &[NcvDimDef], dim: &NcvDimDef) -> Result<(), Cause>
@@ -57,7 +110,7 @@ fn try_dim(version: u8, before: &[NcvDimDef], dim: &NcvDimDef) -> Result<(), Cau
         Err(Cause::DimSize)
     } else if dim.length == 0 && has_record_dim(before) {
         Err(Cause::Unlimit)
-    } else if has_dim(before, dim.name) {
+    } else if has_name(before, dim.name) {
         Err(Cause::NameInUse)
     } else if MAX_DIMS <= before.len() {
         Err(Cause::MaxDims)
@@ -66,33 +119,26 @@ fn try_dim(version: u8, before: &[NcvDimDef], dim: &NcvDimDef) -> Result<(), Cau
     }
 }
 
-/// A dimension after those before it.
-fn check_dim(version: u8, before: &[NcvDimDef], dim: &NcvDimDef) -> Result<(), Unmade>
-    ensures { result_err result ≡ dim_refusal version before.now dim.now }
-{
-    let part = Part::Dim(before.len());
-    match try_dim(version, before, dim) {
-        Ok(()) => Ok(()),
-        Err(cause) => Err(Unmade { cause, part }),
+/// Among those of a version.
+impl Checked<u8> for NcvDimDef<'_> {
+    ghost refusal = { λ version before d. dim_refusal version before d };
+
+    fn check(&self, version: u8, before: &[Self]) -> Result<(), Unmade> {
+        let part = Part::Dim(before.len());
+        match try_dim(version, before, self) {
+            Ok(()) => Ok(()),
+            Err(cause) => Err(Unmade { cause, part }),
+        }
     }
 }
 
 fn check_dims(version: u8, dims: &[NcvDimDef]) -> Result<(), Unmade>
     ensures { result_err result ≡ first_refused (dim_refusal version) [] dims.now }
 {
-    for (k, dim) in dims.iter().enumerate() {
-        check_dim(version, &dims[..k], dim)?;
-    }
-    Ok(())
+    check_all(version, dims)
 }
 
 // ---- attributes
-
-fn has_att(attrs: &[NcvAttDef], name: &[u8]) -> bool
-    ensures { result ≡ list_any (has_att_name name.now) attrs.now }
-{
-    attrs.iter().any(|attr| attr.name == name)
-}
 
 fn try_att(version: u8, before: &[NcvAttDef], attr: &NcvAttDef) -> Result<(), Cause>
     ensures { result_err result ≡ att_cause version before.now attr.now }
@@ -104,7 +150,7 @@ fn try_att(version: u8, before: &[NcvAttDef], attr: &NcvAttDef) -> Result<(), Ca
         Err(Cause::Inval)
     } else if MAX_HEADER_BYTES < bytes {
         Err(Cause::TooLarge)
-    } else if has_att(before, attr.name) {
+    } else if has_name(before, attr.name) {
         Err(Cause::NameInUse)
     } else if MAX_ATTS <= before.len() {
         Err(Cause::MaxAtts)
@@ -113,14 +159,16 @@ fn try_att(version: u8, before: &[NcvAttDef], attr: &NcvAttDef) -> Result<(), Ca
     }
 }
 
-/// An attribute of this owner after those before it.
-fn check_att(version: u8, owner: u64, before: &[NcvAttDef], attr: &NcvAttDef) -> Result<(), Unmade>
-    ensures { result_err result ≡ att_refusal version owner before.now attr.now }
-{
-    let part = Part::Att(owner, before.len());
-    match try_att(version, before, attr) {
-        Ok(()) => Ok(()),
-        Err(cause) => Err(Unmade { cause, part }),
+/// Among those of a version and an owner.
+impl Checked<(u8, u64)> for NcvAttDef<'_> {
+    ghost refusal = { λ among before a. att_refusal among.0 among.1 before a };
+
+    fn check(&self, among: (u8, u64), before: &[Self]) -> Result<(), Unmade> {
+        let part = Part::Att(among.1, before.len());
+        match try_att(among.0, before, self) {
+            Ok(()) => Ok(()),
+            Err(cause) => Err(Unmade { cause, part }),
+        }
     }
 }
 
@@ -128,19 +176,10 @@ fn check_att(version: u8, owner: u64, before: &[NcvAttDef], attr: &NcvAttDef) ->
 fn check_atts(version: u8, owner: u64, attrs: &[NcvAttDef]) -> Result<(), Unmade>
     ensures { result_err result ≡ atts_refusal version owner attrs.now }
 {
-    for (k, attr) in attrs.iter().enumerate() {
-        check_att(version, owner, &attrs[..k], attr)?;
-    }
-    Ok(())
+    check_all((version, owner), attrs)
 }
 
 // ---- variables
-
-fn has_var(vars: &[NcvVarDef], name: &[u8]) -> bool
-    ensures { result ≡ list_any (has_var_name name.now) vars.now }
-{
-    vars.iter().any(|var| var.name == name)
-}
 
 fn has_bad_id(dims: &[NcvDimDef], ids: &[u32]) -> bool
     ensures { result ≡ list_any (λ id. nat_le (length dims.now) id) ids.now }
@@ -175,7 +214,7 @@ fn try_var(
 {
     check_name(var.name)?;
     check_type(version, var.kind)?;
-    if has_var(before, var.name) {
+    if has_name(before, var.name) {
         Err(Cause::NameInUse)
     } else if has_bad_id(dims, var.ids) {
         Err(Cause::BadDim)
@@ -190,29 +229,24 @@ fn try_var(
     }
 }
 
-/// A variable after those before it, then its attributes.
-fn check_var(
-    version: u8,
-    dims: &[NcvDimDef],
-    before: &[NcvVarDef],
-    var: &NcvVarDef,
-) -> Result<(), Unmade>
-    ensures { result_err result ≡ var_refusal version dims.now before.now var.now }
-{
-    let part = Part::Var(before.len());
-    match try_var(version, dims, before, var) {
-        Ok(()) => check_atts(version, before.len() as u64, var.attrs),
-        Err(cause) => Err(Unmade { cause, part }),
+/// Among those of a version over these dimensions: the variable, then its attributes.
+impl<'a> Checked<(u8, &'a [NcvDimDef<'a>])> for NcvVarDef<'_> {
+    ghost refusal = { λ among before v. var_refusal among.0 among.1.now before v };
+
+    fn check(&self, among: (u8, &'a [NcvDimDef<'a>]), before: &[Self]) -> Result<(), Unmade> {
+        let (version, dims) = among;
+        let part = Part::Var(before.len());
+        match try_var(version, dims, before, self) {
+            Ok(()) => check_atts(version, before.len() as u64, self.attrs),
+            Err(cause) => Err(Unmade { cause, part }),
+        }
     }
 }
 
 fn check_vars(version: u8, dims: &[NcvDimDef], vars: &[NcvVarDef]) -> Result<(), Unmade>
     ensures { result_err result ≡ first_refused (var_refusal version dims.now) [] vars.now }
 {
-    for (k, var) in vars.iter().enumerate() {
-        check_var(version, dims, &vars[..k], var)?;
-    }
-    Ok(())
+    check_all((version, dims), vars)
 }
 
 /// Refuses the first of the definitions that can't be taken after those before it.

@@ -49,9 +49,13 @@ pub extern "C" fn ncv_inq_dim(
             Ok(found) => {
                 *dim = dim_shown(found);
                 fill(found.name.as_slice(), name);
+                drop(header);
                 OK
             }
-            Err(refusal) => number_of(refusal),
+            Err(refusal) => {
+                drop(header);
+                number_of(refusal)
+            }
         },
         Err(refusal) => number_of(refusal),
     }
@@ -68,9 +72,13 @@ pub extern "C" fn ncv_inq_dimid(alloc: Global, bytes: &[u8], name: &[u8], number
         Ok((header, _)) => match dimension_named(&header, name) {
             Ok(found) => {
                 *number = found;
+                drop(header);
                 OK
             }
-            Err(refusal) => number_of(refusal),
+            Err(refusal) => {
+                drop(header);
+                number_of(refusal)
+            }
         },
         Err(refusal) => number_of(refusal),
     }

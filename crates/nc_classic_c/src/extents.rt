@@ -76,6 +76,7 @@ pub extern "C" fn ncv_extents(
                 &accepted.region,
             );
             *total = lay(extents, from, into);
+            drop(accepted);
             OK
         }
         Err(refusal) => number_of(refusal),

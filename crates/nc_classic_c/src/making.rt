@@ -101,6 +101,21 @@ fn place(header: &mut Header, align: &Align, records: u64) -> Result<(), Unmade>
     Ok(())
 }
 
+/// The bytes of the header with begins and a record count.
+fn written(alloc: Global, header: &mut Header, align: &Align, records: u64) -> Result<Blob, Refusal>
+    requires unplaced { is_unplaced header.old ≡ true }
+    requires parts { has_writable_parts header.old ≡ true }
+    requires header_align { (0 < align.now.header) × (align.now.header ≤ 2 ^ 20) }
+    requires var_align { (0 < align.now.var) × (align.now.var ≤ 2 ^ 20) }
+    ensures none_refused { OnOk result (None ≡ place_refusal header.old align.now records) }
+    ensures bytes { IfOk result (λ bytes. bytes ≡ canon (placed_header header.old align.now records)) }
+    ensures writable { OnOk result (is_writable (placed_header header.old align.now records) ≡ true) }
+    ensures refused { IfErr result (IsUnmade (place_refusal header.old align.now records)) }
+{
+    place(header, align, records)?;
+    Ok(encode(alloc, header)?)
+}
+
 /// The bytes of the header that is defined.
 fn made(alloc: Global, defined: &NcvHeaderDef) -> Result<Blob, Refusal>
     ensures none_refused { OnOk result (refusal_of defined.now ≡ None) }
@@ -111,8 +126,7 @@ fn made(alloc: Global, defined: &NcvHeaderDef) -> Result<Blob, Refusal>
     let (version, align) = asked(defined)?;
     check_definitions(version, defined)?;
     let mut header = header_of(alloc, version, defined)?;
-    place(&mut header, &align, defined.records)?;
-    Ok(encode(alloc, &header)?)
+    written(alloc, &mut header, &align, defined.records)
 }
 
 /// Copies the bytes, if there is room for all of them, and tells how many they are.

@@ -64,6 +64,7 @@ pub extern "C" fn ncv_region_check(
     match accept(alloc, bytes, region, records, put) {
         Ok(accepted) => {
             *needs = needs_shown(&accepted.header, accepted.var, &accepted.region);
+            drop(accepted);
             OK
         }
         Err(refusal) => number_of(refusal),

@@ -60,9 +60,13 @@ pub extern "C" fn ncv_inq_sizes(
         Ok((header, _)) => match sizes_for(&header, records) {
             Ok(found) => {
                 *sizes = found;
+                drop(header);
                 OK
             }
-            Err(refusal) => number_of(refusal),
+            Err(refusal) => {
+                drop(header);
+                number_of(refusal)
+            }
         },
         Err(refusal) => number_of(refusal),
     }

@@ -3,9 +3,7 @@ ghost use Rattle.std.specs.Prelude.{◌≡◌, map, IfOk};
 ghost use Rattle.cdf_header.specs.Reading.{kind_of};
 ghost use Rattle.nc_classic_c.specs.Tables.{dimension_of, attribute_of, variable_of, header_of};
 
-use nc_base::{
-    Attr, AttrList, Blob, Dim, DimList, Header, IdList, Memory, Name, NcType, Var, VarList,
-};
+use nc_base::{Attr, Blob, Dim, Header, IdList, Items, Memory, Name, NcType, Var};
 use std::alloc::Global;
 use type_external::size_of;
 
@@ -70,67 +68,63 @@ pub(crate) fn kind_of(number: u32) -> NcType
     }
 }
 
-fn dimension_of(alloc: Global, defined: &NcvDimDef) -> Result<Dim, Memory>
-    ensures { IfOk result (λ d. d ≡ dimension_of defined.now) }
-{
-    Ok(Dim {
-        name: Name::from_slice(alloc, defined.name)?,
-        len: defined.length,
-    })
+/// A definition of what stands in a list of a header.
+trait Defines<T> {
+    ghost made: { Self → T };
+
+    fn make(&self, alloc: Global) -> Result<T, Memory>
+        ensures { IfOk result (λ x. x ≡ made self.now) };
 }
 
-fn attribute_of(alloc: Global, defined: &NcvAttDef) -> Result<Attr, Memory>
-    ensures { IfOk result (λ a. a ≡ attribute_of defined.now) }
-{
-    let kind = kind_of(defined.kind);
-    Ok(Attr {
-        name: Name::from_slice(alloc, defined.name)?,
-        kind,
-        count: defined.values.len() as u64 / size_of(kind),
-        bytes: Blob::from_slice(alloc, defined.values)?,
-    })
-}
+impl Defines<Dim> for NcvDimDef<'_> {
+    ghost made = { λ d. dimension_of d };
 
-fn dimensions_of(alloc: Global, defined: &[NcvDimDef]) -> Result<DimList, Memory>
-    ensures { IfOk result (λ dims. dims ≡ map dimension_of defined.now) }
-{
-    let mut dims = DimList::new(alloc);
-    for dim in defined {
-        dims.push(dimension_of(alloc, dim)?)?;
+    fn make(&self, alloc: Global) -> Result<Dim, Memory> {
+        Ok(Dim {
+            name: Name::from_slice(alloc, self.name)?,
+            len: self.length,
+        })
     }
-    Ok(dims)
 }
 
-fn attributes_of(alloc: Global, defined: &[NcvAttDef]) -> Result<AttrList, Memory>
-    ensures { IfOk result (λ attrs. attrs ≡ map attribute_of defined.now) }
-{
-    let mut attrs = AttrList::new(alloc);
-    for attr in defined {
-        attrs.push(attribute_of(alloc, attr)?)?;
+impl Defines<Attr> for NcvAttDef<'_> {
+    ghost made = { λ a. attribute_of a };
+
+    fn make(&self, alloc: Global) -> Result<Attr, Memory> {
+        let kind = kind_of(self.kind);
+        Ok(Attr {
+            name: Name::from_slice(alloc, self.name)?,
+            kind,
+            count: self.values.len() as u64 / size_of(kind),
+            bytes: Blob::from_slice(alloc, self.values)?,
+        })
     }
-    Ok(attrs)
 }
 
-fn variable_of(alloc: Global, defined: &NcvVarDef) -> Result<Var, Memory>
-    ensures { IfOk result (λ v. v ≡ variable_of defined.now) }
-{
-    Ok(Var {
-        name: Name::from_slice(alloc, defined.name)?,
-        dims: IdList::from_slice(alloc, defined.ids)?,
-        attrs: attributes_of(alloc, defined.attrs)?,
-        kind: kind_of(defined.kind),
-        begin: 0,
-    })
-}
+impl Defines<Var> for NcvVarDef<'_> {
+    ghost made = { λ v. variable_of v };
 
-fn variables_of(alloc: Global, defined: &[NcvVarDef]) -> Result<VarList, Memory>
-    ensures { IfOk result (λ vars. vars ≡ map variable_of defined.now) }
-{
-    let mut vars = VarList::new(alloc);
-    for var in defined {
-        vars.push(variable_of(alloc, var)?)?;
+    fn make(&self, alloc: Global) -> Result<Var, Memory> {
+        Ok(Var {
+            name: Name::from_slice(alloc, self.name)?,
+            dims: IdList::from_slice(alloc, self.ids)?,
+            attrs: make_all(alloc, self.attrs)?,
+            kind: kind_of(self.kind),
+            begin: 0,
+        })
     }
-    Ok(vars)
+}
+
+/// What the definitions of a list make.
+fn make_all<T: Drop, D: Defines<T>>(alloc: Global, defined: &[D]) -> Result<Items<T>, Memory>
+    ensures { IfOk result (λ items. items ≡ map D.made defined.now) }
+{
+    let mut items = Items::new(alloc);
+    for one in defined {
+        let item = one.make(alloc)?;
+        items.push(item)?;
+    }
+    Ok(items)
 }
 
 /// The header that is defined, of this version, before its variables have places.
@@ -145,8 +139,8 @@ pub(crate) fn header_of(
     Ok(Header {
         version,
         records: 0,
-        dims: dimensions_of(alloc, defined.dims)?,
-        attrs: attributes_of(alloc, defined.attrs)?,
-        vars: variables_of(alloc, defined.vars)?,
+        dims: make_all(alloc, defined.dims)?,
+        attrs: make_all(alloc, defined.attrs)?,
+        vars: make_all(alloc, defined.vars)?,
     })
 }

@@ -73,9 +73,13 @@ pub extern "C" fn ncv_inq_var(
                 *var = var_shown(&header, number, found);
                 fill(found.name.as_slice(), name);
                 fill(found.dims.as_slice(), ids);
+                drop(header);
                 OK
             }
-            Err(refusal) => number_of(refusal),
+            Err(refusal) => {
+                drop(header);
+                number_of(refusal)
+            }
         },
         Err(refusal) => number_of(refusal),
     }
@@ -92,9 +96,13 @@ pub extern "C" fn ncv_inq_varid(alloc: Global, bytes: &[u8], name: &[u8], number
         Ok((header, _)) => match variable_named(&header, name) {
             Ok(found) => {
                 *number = found;
+                drop(header);
                 OK
             }
-            Err(refusal) => number_of(refusal),
+            Err(refusal) => {
+                drop(header);
+                number_of(refusal)
+            }
         },
         Err(refusal) => number_of(refusal),
     }

@@ -3,5 +3,5 @@ use Rattle.nc_classic_c.proofs.Words.{inr, refl}
 use Rattle.nc_classic_c.proofs.Answering.{number_kept}
 use Rattle.nc_classic_c.proofs.sizes.ncv_inq_sizes.Goals as goal
 
-pub returns-in-Ok : goal.returns-in-Ok
-returns-in-Ok c = inr (c.in-Err-sizes_for.refusal, number_kept _ c.in-Err-sizes_for.refusal c.number_of.ensures, (inr (c.in-Ok.header, c.in-Ok.ensures.header, c.in-Err-sizes_for.ensures.refused), refl))
+pub returns-in-Err-sizes_for : goal.returns-in-Err-sizes_for
+returns-in-Err-sizes_for c = inr (c.in-Err-sizes_for.refusal, number_kept _ c.in-Err-sizes_for.refusal c.number_of.ensures, (inr (c.in-Ok.header, c.in-Ok.ensures.header, c.in-Err-sizes_for.ensures.refused), refl))

@@ -1,5 +1,5 @@
 -- The sizes are exact where they are below their limits.
-use Rattle.nc_classic_c.proofs.Words.{◌≡◌, ◌∙◌, ℕ, Bool, true, false, cond, Result, Ok, Err, ap, sym, arith, Header, recsize, capped, Refusal, NcvSizes, file_end, sizes_for, nat_tests}
+use Rattle.nc_classic_c.proofs.Words.{◌≡◌, ◌∙◌, ℕ, Bool, true, cond, Result, Ok, Err, ap, sym, arith, Header, recsize, capped, Refusal, NcvSizes, file_end, sizes_for, nat_tests}
 use Rattle.nc_base.specs.declared.answer.Code.TheVariants as code
 use Rattle.nc_classic_c.specs.Sizes.{fits}
 use Rattle.nc_classic_c.specs.declared.answers.Refusal.TheVariants as refusal

@@ -1,6 +1,0 @@
--- The ranks so far have gone up to their first offers.
-use Rattle.reference.proofs.FirstLaws.{AreFirst}
-use Rattle.reference.proofs.stand.Stand.first.Given as goal
-
-abbrev pub invariant-loop-own : goal.invariant-loop-own
-invariant-loop-own l = AreFirst l.script l.header l.own-index l.runners.items
