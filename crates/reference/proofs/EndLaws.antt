@@ -2,7 +2,6 @@
 use Rattle.reference.proofs.Words.{◌≡◌, ℕ, suc, ◌+◌, ◌<◌, ◌≤◌, refl, sym, ◌∙◌, ap, subst, inl, inr, List, [], ◌∷◌, ◌++◌, length, map, max, drop, take, fold, true, cond, Some, arith, cases_eq, nat_tests, drop_more, take_all, take-append-drop, get_or_from_slice_get, slice_get_within, slice_get, nat_lt, map_map, entry_below, take_next, Answer, Header, Script, Mark, Setting, IsLegal, concerns, equal_itself, is_lawful, record_limit, with_records, serial_from, setting_of, close_by, counted, less_max, first_stand, step_to, serial_of_arrivals, most_known, AreLow, going_of, IsRunner, IsWaiting, stand_of, HasHeard, HaveHeard, HeardOne, IsStanding, Runner, Stand, some_limit}
 use Rattle.nc_base.specs.declared.step.Mark.TheVariants as mark
 use Rattle.serial_spec.specs.RankMachine as machine
-use Rattle.run_laws.specs.Arrivals as arrivals
 use Rattle.reference.proofs.NextLaws.{beside_runner, heard_next, waits_next}
 
 -- ---- the next mark of an order

@@ -1,11 +1,6 @@
 -- The ranks before the first step, one after another.
 use Rattle.reference.proofs.Words.{◌≡◌, ℕ, ◌+◌, ◌<◌, ◌≤◌, sym, ◌∙◌, ap, subst, inl, inr, ◌⊎◌, cases_lt, List, [], ◌∷◌, ◌++◌, length, map, take, get_or, true, Some, length-append, arith, nat_tests, map-append, take_all, take_more, get_or_from_slice_get, same_Some, slice_get_read, slice_get_within, slice_get, Header, Call, Script, is_sound, is_lawful, record_limit, advance, first_going, sound_small, Arrived, first_stand, ranks_lawful, way_begins, counted, going_of, HasGone, IsRunner, MayGoOn, all_arrived, IsStanding, Runner, Stand, get_left, get_right}
-
--- the first ranks of a script, gone up to their first offers
-pub record AreFirst (script : Script) (header : Header) (n : ℕ) (runners : List Runner) : Type 0 where
-  pub long : length runners ≡ n
-  pub arrived : all_arrived runners ≡ map (λ (own : List Call). advance header (first_going header own)) (take n script.calls)
-  pub each : (r : ℕ) (runner : Runner) → slice_get runners r ≡ Some runner → IsRunner script header [] r runner
+use Rattle.reference.specs.Stands.{AreFirst}
 
 -- the calls of a rank, as they are read
 pub own_there : (calls list : List (List Call)) (i : ℕ) (item own : List Call) → list ≡ calls → i < length list → item ≡ get_or list i item → own ≡ item

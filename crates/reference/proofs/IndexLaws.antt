@@ -22,6 +22,12 @@ index_step starts counts strides number inner a b c below few e =
     (split starts a) (split counts b) (split strides c) below few in
     grind (arith, nat_tests, step)
 
+pub first_low : (starts counts strides : List ℕ) (number inner : ℕ) → 1 ≤ length starts → 1 ≤ length counts → 1 ≤ length strides
+    → number < product counts → product counts ≤ 2 ^ 20 → inner ≡ min (product (rest counts)) (2 ^ 64 - 1) → AreBelow (2 ^ 62) (index_at starts strides (coordinates_of counts number))
+    → get_or starts 0 0 + number / inner * get_or strides 0 0 < 2 ^ 62
+first_low starts counts strides number inner a b c below few e low =
+    (subst (λ (l : List ℕ). AreBelow (2 ^ 62) l) (index_step starts counts strides number inner a b c below few e).is low).0
+
 -- all elements of a region that a check accepts are counted
 counted : (header : Header) (k : ℕ) (v : Var) (g : Region) (counts : List ℕ) (n : ℕ) → slice_get header.vars k ≡ Some v → IsAccepted header k g → counts ≡ g.count
     → n ≡ min (product counts) (2 ^ 64 - 1) → n ≡ product g.count
@@ -39,6 +45,15 @@ all_numbered header k v g counts n i there accepted same e past =
     let count = counted header k v g counts n there accepted same e in let long = length-places header v g in omega (arith, past, count, long)
 
 -- ---- none left
+
+pub no_starts : (starts counts strides : List ℕ) (number : ℕ) → length starts < 1 → index_at starts strides (coordinates_of counts number) ≡ []
+no_starts [] counts strides number h = refl
+no_starts (s ∷ starts) counts strides number h = absurd (omega arith)
+
+pub no_strides : (starts counts strides : List ℕ) (number : ℕ) → length strides < 1 → index_at starts strides (coordinates_of counts number) ≡ []
+no_strides [] counts strides number h = refl
+no_strides (s ∷ starts) counts [] number h = refl
+no_strides (s ∷ starts) counts (t ∷ strides) number h = absurd (omega arith)
 
 pub no_counts : (starts counts strides : List ℕ) (number : ℕ) → length counts < 1 → index_at starts strides (coordinates_of counts number) ≡ []
 no_counts [] counts strides number h = refl

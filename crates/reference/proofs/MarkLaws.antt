@@ -6,7 +6,6 @@ use Rattle.std.proofs.Math.Seq.{drop-cons}
 use Rattle.std.proofs.lemmas.List.{append_cancel_left}
 use Rattle.std.specs.Prelude.{filter, ◌↔◌}
 use Rattle.nc_base.specs.declared.request.Call.{Call}
-use Rattle.nc_base.specs.declared.request.Call.TheVariants as call
 use Rattle.nc_base.specs.declared.step.Mark.{Mark}
 use Rattle.serial_spec.specs.History.{concerns, is_collective, marks_from, mode_after}
 use Rattle.reference.specs.Walk.{BeginOtherwise, BeginWith, own_marks}

@@ -1,6 +1,5 @@
 -- The puts of a step, one after another.
 use Rattle.reference.proofs.Words.{◌≡◌, ℕ, ◌+◌, ◌^◌, ◌<◌, ◌≤◌, inl, inr, refl, sym, ap, ◌∙◌, List, [], ◌∷◌, length, drop, get_or, fold, max, Option, Some, None, true, arith, slice_get, IfSome, drop_all, Header, Var, Post, In, longer, after_puts, put_post, Setting, header_len, is_sound, end_of, needed, needed_by, records_of, records_of_some, put, Puts, sound_end, IsAccepted, small_of, nat_tests}
-use Rattle.nc_base.specs.declared.answer.Code.TheVariants as code
 use Rattle.reference.proofs.GatherLaws.{next_left}
 
 -- ---- the count

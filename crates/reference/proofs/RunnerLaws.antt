@@ -1,6 +1,5 @@
 -- A rank that goes through its calls, up to its next offer or to its end.
 use Rattle.reference.proofs.Words.{◌≡◌, ℕ, ◌+◌, ◌-◌, ◌<◌, ◌≤◌, sym, ◌∙◌, subst, inl, inr, ◌⊎◌, List, [], ◌∷◌, ◌++◌, length, take, drop, get_or, true, Option, None, Some, arith, take_rest, Header, Answer, Call, Script, Mark, Offer, Want, is_lawful_call, most_parts, Going, advance, IsRight, IsSoundOffer, IsSoundWant, posts_held, answered, asking, IsOnWay, AsksAlone, alone_keeps, meets_keeps, solo_keeps, comes_on, comes_to_end, comes_to_meeting, comes_to_solo, call_lawful, way_answers, way_meets, HasGone, MayGoOn, said_at, nat_tests, common_steps}
-use Rattle.nc_base.specs.declared.request.Direction.TheVariants as direction
 use Rattle.nc_base.specs.declared.step.Want.TheVariants as want
 use Rattle.serial_spec.specs.RankMachine as machine
 

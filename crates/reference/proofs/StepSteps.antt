@@ -1,6 +1,5 @@
 -- The gets of a step, one after another.
 use Rattle.reference.proofs.Words.{◌≡◌, ℕ, ◌+◌, ◌<◌, List, [], ◌∷◌, ◌++◌, length, drop, get_or, map, append_assoc, slice_get, IfSome, Header, Post, get_post, Setting, get, IsAccepted, arith, nat_tests}
-use Rattle.nc_base.specs.declared.answer.Code.TheVariants as code
 use Rattle.reference.proofs.GatherLaws.{next_left}
 
 pub got_step : (header : Header) (posts : List Post) (i : ℕ) (post : Post) (file blob : List ℕ) (got got' : List (List ℕ)) → i < length posts → post ≡ get_or posts i post

@@ -1,5 +1,5 @@
 -- The words of this crate's proofs, from where they stand.
-pub use Rattle.list_laws.proofs.Std.{AllByRecursion, Bool, IfOk-weaker, IfSome, IsSomeAnd, List, None, Option, Some, [], add-one, ap, append_assoc, append_cancel_left, arith, cases_eq, cases_lt, common_steps, cond, drop, drop-drop, drop_all, drop_more, enumerate_from, false, filter-append, flat_map, fold_more, get_or, get_or_from_slice_get, inl, inr, length, length-append, list_any, map, map-append, map-range_with_len_more, map-set, max, min, mul-le, nat_lt, nat_tests, not, on_ok_weaker, range_with_len, refl, rules, same_Some, set, slice_get, slice_get-get_or, slice_get-map, slice_get_read, slice_get_within, subst, suc, sym, take, take-append-drop, take_all, take_more, take_rest, true, with_items_is, zero, zip, ℕ, ◌%◌, ◌*◌, ◌++◌, ◌+◌, ◌-◌, ◌/◌, ◌<◌, ◌^◌, ◌∙◌, ◌∷◌, ◌≡◌, ◌≢◌, ◌≤◌, ◌⊎◌}
+pub use Rattle.list_laws.proofs.Std.{AllByRecursion, Bool, IfOk-weaker, IfSome, IsSomeAnd, List, None, Option, Some, [], add-one, ap, append_assoc, append_cancel_left, arith, cases_eq, cases_lt, common_steps, cond, drop, drop-drop, drop_all, drop_more, enumerate_from, false, filter-append, flat_map, fold_more, get_or, get_or_from_slice_get, inl, inr, length, length-append, list_any, map, map-append, map-range_with_len_more, map-set, max, min, mul-le, nat_lt, nat_tests, on_ok_weaker, range_with_len, refl, rules, same_Some, set, slice_get, slice_get-get_or, slice_get-map, slice_get_read, slice_get_within, subst, suc, sym, take, take-append-drop, take_all, take_more, take_rest, true, with_items_is, zero, zip, ℕ, ◌%◌, ◌*◌, ◌++◌, ◌+◌, ◌-◌, ◌/◌, ◌<◌, ◌^◌, ◌∙◌, ◌∷◌, ◌≡◌, ◌≢◌, ◌≤◌, ◌⊎◌}
 pub use Rattle.std.proofs.Common.{append-nil, filter, fold, length-set}
 pub use Rattle.join_laws.proofs.CountLaws.{less_max, sound_small}
 pub use Rattle.join_laws.proofs.RankLaws.{said_at}

@@ -5,16 +5,18 @@
 --     Heard header reply a b    a rank heard the reply, and went on
 --     AllHear, HaveHeard        the same of all ranks: by these replies, and by some
 --     HasHeard header rank ..   the same of one rank alone
+--     AreFirst script header n runners   the first n ranks at their first offers
 --     IsStanding script header order stand   the run has done these steps
-use Rattle.std.specs.Prelude.{◌≡◌, ◌≢◌, ℕ, ◌<◌, List, map, length, Some, slice_get}
+use Rattle.std.specs.Prelude.{◌≡◌, ◌≢◌, ℕ, ◌<◌, List, [], map, take, length, Some, slice_get}
 use Rattle.nc_base.specs.declared.header.Header.{Header}
+use Rattle.nc_base.specs.declared.request.Call.{Call}
 use Rattle.nc_base.specs.declared.script.Script.{Script}
 use Rattle.nc_base.specs.declared.step.Mark.{Mark}
 use Rattle.nc_base.specs.declared.step.Offer.{Offer}
 use Rattle.nc_base.specs.declared.step.Reply.{Reply}
 use Rattle.serial_spec.specs.Limits.{record_limit}
 use Rattle.serial_spec.specs.RankSide.{DoesFit}
-use Rattle.serial_spec.specs.SerialEnd.{hears}
+use Rattle.serial_spec.specs.SerialEnd.{advance, first_going, hears}
 use Rattle.reference.specs.Requests.{counted}
 use Rattle.run_laws.specs.Arrivals as arrivals
 use Rattle.reference.specs.Running.{arrived, going_of, HasGone, IsRunner, IsWaiting}
@@ -60,6 +62,11 @@ pub record HasHeard (header : Header) (rank : ℕ) (before now : List Runner) : 
   pub others : (r : ℕ) → r ≢ rank → slice_get now r ≡ slice_get before r
 
 -- ---- the run
+
+pub record AreFirst (script : Script) (header : Header) (n : ℕ) (runners : List Runner) : Type 0 where
+  pub long : length runners ≡ n
+  pub arrived : all_arrived runners ≡ map (λ (own : List Call). advance header (first_going header own)) (take n script.calls)
+  pub each : (r : ℕ) (runner : Runner) → slice_get runners r ≡ Some runner → IsRunner script header [] r runner
 
 pub record IsStanding (script : Script) (header : Header) (order : List Mark) (stand : Stand) : Type 0 where
   pub all : length stand.runners.items ≡ script.ranks

@@ -62,10 +62,10 @@ fn greatest_known(runners: &[Runner]) -> u64
 fn pending_of(alloc: Global, runners: &[Runner]) -> Result<SizeList, Memory>
     ensures { IfOk result (λ sizes. sizes ≡ map (λ runner. machine.pending runner.rank.state) runners.now) }
 {
-    let mut sizes = Vec::new(alloc);
-    for runner in runners {
-        sizes.push(runner.rank.pending())?;
-    }
+    let sizes: Vec<u64> = runners
+        .iter()
+        .map(|runner| runner.rank.pending())
+        .collect(alloc)?;
     Ok(SizeList::from_vec(sizes))
 }
 

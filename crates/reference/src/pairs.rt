@@ -202,18 +202,10 @@ fn pair_of(alloc: Global, keys: &[Key], at: u64) -> Result<Pair, Memory>
 fn others(alloc: Global, keys: &[Key], but: Key) -> Result<Vec<Key>, Memory>
     ensures { IfOk result (λ others. others.items ≡ filter (λ k. not (spec.same_key k but)) keys.now) }
 {
-    let mut others = Vec::new(alloc);
-    for key in keys {
-        push_other(&mut others, *key, but)?;
-    }
+    let others: Vec<Key> = keys
+        .iter()
+        .copied()
+        .filter(|key| !same_key(*key, but))
+        .collect(alloc)?;
     Ok(others)
-}
-
-fn push_other(others: &mut Vec<Key>, key: Key, but: Key) -> Result<(), Memory>
-    ensures { OnOk result (others.new.items ≡ others.old.items ++ filter (λ k. not (spec.same_key k but)) (key ∷ [])) }
-{
-    if !same_key(key, but) {
-        others.push(key)?;
-    }
-    Ok(())
 }

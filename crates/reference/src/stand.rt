@@ -11,7 +11,7 @@ ghost use Rattle.reference.specs.Requests.{setting};
 ghost use Rattle.rank_core.specs.Indexed.{IsIndexOf};
 ghost use Rattle.run_laws.specs.Arrivals.{first_stand, step_to};
 ghost use Rattle.reference.specs.Running.{arrived, IsWaiting};
-ghost use Rattle.reference.specs.Stands.{all_arrived, stand_of, AllHear, AreWaiting, DoFit, HaveHeard, HasHeard, IsStanding};
+ghost use Rattle.reference.specs.Stands.{all_arrived, stand_of, AllHear, AreFirst, AreWaiting, DoFit, HaveHeard, HasHeard, IsStanding};
 
 use crate::meetings::meeting;
 use crate::runners::Runner;
@@ -44,10 +44,7 @@ impl<'a> Stand<'a> {
         ensures stands { IfOk result (λ stand. IsStanding script.now header.now [] stand) }
     {
         let file = Vec::from_slice(alloc, bytes)?;
-        let mut runners = Vec::new(alloc);
-        for own in script.calls.as_slice() {
-            runners.push(Runner::new(alloc, header, names, own.as_slice())?)?;
-        }
+        let runners = first_runners(alloc, script, header, names)?;
         Ok(Stand {
             file,
             records: header.records,
@@ -122,6 +119,26 @@ impl<'a> Stand<'a> {
         }
         Ok(())
     }
+}
+
+/// The ranks of a script, each gone up to its first offer.
+fn first_runners<'a>(
+    alloc: Global,
+    script: &'a Script,
+    header: &'a Header,
+    names: &'a Names,
+) -> Result<Vec<Runner<'a>>, Memory>
+    requires sound { is_sound header.now ≡ true }
+    requires lawful { is_lawful script.now ≡ true }
+    requires names { IsIndexOf header.now names.now }
+    ensures { IfOk result (λ runners. AreFirst script.now header.now (length script.now.calls) runners.items) }
+{
+    let mut runners = Vec::new(alloc);
+    for own in script.calls.as_slice() {
+        let runner = Runner::new(alloc, header, names, own.as_slice())?;
+        runners.push(runner)?;
+    }
+    Ok(runners)
 }
 
 /// The offers that the ranks hold, in rank order.

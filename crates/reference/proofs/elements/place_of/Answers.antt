@@ -1,5 +1,5 @@
 -- The index is that of the element.
-use Rattle.reference.proofs.Words.{◌≡◌, ◌∙◌, arith, if_some_at, place, slice_get_within}
+use Rattle.reference.proofs.Words.{◌≡◌, ◌∙◌, ℕ, List, ap, arith, if_some_at, place, slice_get_within, small_of}
 use Rattle.reference.proofs.IndexLaws.{index_is, numbered_below, numbered_element, numbered_low}
 use Rattle.reference.proofs.elements.place_of.Goals as goal
 
@@ -7,6 +7,13 @@ pub push_index-requires-clause-low : goal.push_index-requires-clause-low
 push_index-requires-clause-low c =
     rw (c.as_slice.ensures, c.as_slice-2.ensures, c.as_slice-3.ensures)
     (numbered_below c.args.header.now c.args.var c.args.of.now c.args.region.now c.args.number c.requires.sound c.requires.there c.requires.accepted c.requires.number)
+
+pub push_index-requires-clause-number : goal.push_index-requires-clause-number
+push_index-requires-clause-number c = rw c.as_slice-2.ensures c.requires.number
+
+pub push_index-requires-clause-few : goal.push_index-requires-clause-few
+push_index-requires-clause-few c =
+    rw c.as_slice-2.ensures (small_of c.args.header.now c.args.var c.args.of.now c.args.region.now c.requires.there c.requires.accepted).elements
 
 pub place-requires : goal.place-requires
 place-requires c =
@@ -30,3 +37,9 @@ returns-clause-low c =
     c.requires.there in
     let is = if_some_at (λ v. c.place.result ≡ place c.args.header.now v c.as_slice-4.result.now) _ c.args.of.now c.requires.there c.place.ensures.value in
     omega (arith, low, is)
+
+pub returns-clause-place : goal.returns-clause-place
+returns-clause-place c =
+    if_some_at (λ v. c.place.result ≡ place c.args.header.now v c.as_slice-4.result.now) _ c.args.of.now c.requires.there c.place.ensures.value
+    ∙ ap (λ (index : List ℕ). place c.args.header.now c.args.of.now index)
+    (index_is c.args.region.now c.args.number _ _ _ _ _ c.new-index.ensures.items c.as_slice.ensures c.as_slice-2.ensures c.as_slice-3.ensures (c.as_slice-4.ensures.value ∙ c.in_ok-push_index.ensures))

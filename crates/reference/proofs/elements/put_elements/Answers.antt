@@ -1,8 +1,17 @@
 -- One element more.
-use Rattle.reference.proofs.Words.{◌*◌, ◌∙◌, ℕ, List, ap, take, drop, size_of, places}
+use Rattle.reference.proofs.Words.{◌≡◌, ◌+◌, ◌-◌, ◌*◌, ◌^◌, ◌<◌, ◌≤◌, ◌∙◌, ℕ, List, ap, arith, length, min, mul-le, product, take, drop, size_of, places}
 use Rattle.reference.proofs.IndexLaws.{all_numbered, numbered_place}
 use Rattle.reference.proofs.WriteSteps.{put_end, put_step}
 use Rattle.reference.proofs.elements.put_elements.Goals as goal
+
+-- the bytes of an element are within those of all
+within : (k n m size size' len : ℕ) → k < n → n ≡ min m (2 ^ 64 - 1) → size' ≡ size → len ≡ m * size → k * size' + size' ≤ len
+within k n m size size' len b e s l = let h = mul-le (k + 1) size m size (omega arith) (omega arith) in omega (arith, h, l, ap (λ (x : ℕ). k * x) s)
+
+pub element-requires : goal.element-requires
+element-requires c =
+    within c.loop-number.number c.element_count-number-end.result (product c.args.post.now.region.count) (size_of c.args.of.now.kind) c.size_of-size.result _ c.loop-number-test.true
+    (c.element_count-number-end.ensures ∙ ap (λ (l : List ℕ). min (product l) (2 ^ 64 - 1)) c.as_slice.ensures) c.size_of-size.ensures (ap length c.as_slice-bytes.ensures ∙ c.requires.whole)
 
 pub loop-number-preserved : goal.loop-number-preserved
 loop-number-preserved c =
