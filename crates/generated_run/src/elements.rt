@@ -169,6 +169,24 @@ fn call_elements(
     }
 }
 
+/// The elements of calls among which these are posted.
+fn calls_elements(
+    direction: Direction,
+    posts: &Posts,
+    calls: &[Call],
+    answers: &[Answer],
+) -> Result<u64, Memory>
+    ensures { IfOk result (λ n. n ≡ sum (map (call_done direction posts.now) (zip calls.now answers.now))) }
+{
+    let count = calls.len().min(answers.len());
+    let mut total = 0;
+    for number in 0..count {
+        let own = call_elements(direction, posts, &calls[number], &answers[number])?;
+        total = added(total, own)?;
+    }
+    Ok(total)
+}
+
 fn rank_elements(
     alloc: Global,
     direction: Direction,
@@ -178,13 +196,9 @@ fn rank_elements(
     ensures { IfOk result (λ n. n ≡ sum (map (call_done direction calls.now) (zip calls.now answers.now))) }
 {
     let posts = Posts::new(alloc, calls)?;
-    let count = calls.len().min(answers.len());
-    let mut total = 0;
-    for number in 0..count {
-        let own = call_elements(direction, &posts, &calls[number], &answers[number])?;
-        total = added(total, own)?;
-    }
-    Ok(total)
+    let total = calls_elements(direction, &posts, calls, answers);
+    drop(posts);
+    total
 }
 
 /// The elements of all ranks' puts, or of their gets, that were done.

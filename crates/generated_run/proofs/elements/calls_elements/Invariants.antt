@@ -1,5 +1,5 @@
 use Rattle.generated_run.proofs.Words.{◌≡◌, map, sum, take, zip, call_done}
-use Rattle.generated_run.proofs.elements.rank_elements.Given as goal
+use Rattle.generated_run.proofs.elements.calls_elements.Given as goal
 
 abbrev pub invariant-loop-number : goal.invariant-loop-number
-invariant-loop-number l = l.total ≡ sum (map (λ p. call_done l.direction l.fn.calls p) (take l.number (zip l.calls l.answers)))
+invariant-loop-number l = l.total ≡ sum (map (λ p. call_done l.direction l.posts p) (take l.number (zip l.calls l.answers)))
