@@ -1,4 +1,4 @@
-use Rattle.generated_run.proofs.Words.{◌≡◌, ◌+◌, refl, arith, calls_of_record}
+use Rattle.generated_run.proofs.Words.{◌+◌, refl, arith, calls_of_record}
 use Rattle.generated_run.proofs.Ranges.{all_pieces, next_piece}
 use Rattle.generated_run.proofs.calls.push_records.Goals as goal
 
