@@ -58,7 +58,7 @@ pub(crate) fn rank_of(word: &[u8]) -> Option<u32> {
 }
 
 /// The line before this one that names the same.
-pub(crate) fn first_naming(lines: &[Line<'_>], line: Line<'_>) -> Option<u32> {
+pub(crate) fn first_naming(lines: &[Line<'_>], line: Line<'_>) -> Option<u64> {
     for other in lines {
         if other.number >= line.number {
             return None;

@@ -1,4 +1,5 @@
 // What standard error says.
+use crate::fill::{Value, fill};
 use crate::header_fault::push_header_fault;
 use crate::heard_sink::HeardSink;
 use crate::kept_source::KeptSource;
@@ -8,7 +9,6 @@ use crate::opened_disk::OpenedDisk;
 use crate::pending::{Pending, push_pending};
 use crate::redefinition::push_redefinition;
 use crate::shortfall::{header_of, push_shortfall};
-use crate::shown::Shown;
 use crate::surplus::push_surplus;
 use nc_base::Header;
 use nc_outside::{Disk, Sink, Source};
@@ -120,8 +120,8 @@ fn push_cause(out: &mut String, dataset: &str, cause: Option<io::Error>) -> Resu
     let Some(cause) = cause else {
         return Ok(());
     };
-    let dataset = Shown(dataset.as_bytes());
-    write!(out, "{dataset}: {cause}")
+    fill(out, "{}: ", &[Value::Word(dataset.as_bytes())])?;
+    write!(out, "{cause}")
 }
 
 // What a run that ended well passed over.

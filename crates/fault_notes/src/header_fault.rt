@@ -1,6 +1,6 @@
 // What is wrong with the header of a dataset, in words: the field that is at fault, and whose it is.
+use crate::fill::{Value, fill};
 use crate::header_walk::{Field, Goal, Owner, Walk, spelled};
-use crate::shown::Shown;
 use crate::table::beside;
 use crate::told::last_number;
 use std::alloc::AllocError;
@@ -103,39 +103,46 @@ fn sharing(words: &[u8]) -> Option<u64> {
 const HDF5: &[u8] = b"\x89HDF";
 
 fn push_other_format(out: &mut String, front: &[u8]) -> Result<(), AllocError> {
-    let first = Shown(front.get(..4).unwrap_or(front));
     let other = if front.starts_with(HDF5) {
         "; this is HDF5, and `nccopy -k cdf5` makes a classic dataset of one of netCDF-4"
     } else {
         ""
     };
-    write!(
+    fill(
         out,
-        "it begins with {first}, and a classic dataset with `CDF`{other}"
+        "it begins with {}, and a classic dataset with `CDF`{}",
+        &[
+            Value::Word(front.get(..4).unwrap_or(front)),
+            Value::Text(other),
+        ],
     )
 }
 
 fn push_version(out: &mut String, front: &[u8]) -> Result<(), AllocError> {
     match front.get(3) {
-        Some(version) => write!(
+        Some(version) => fill(
             out,
-            "the fourth byte says version {version}; there are 1, 2 and 5"
+            "the fourth byte says version {}; there are 1, 2 and 5",
+            &[Value::Number(u64::from(*version))],
         ),
         None => Ok(()),
     }
 }
 
+// The field at a byte.
+fn push_at(out: &mut String, at: u64, walk: &Walk<'_>) -> Result<(), AllocError> {
+    fill(out, "at byte {} stands ", &[Value::Number(at)])?;
+    walk.push(out)
+}
+
 fn push_cut(out: &mut String, front: &[u8], length: u64, at: u64) -> Result<(), AllocError> {
-    let walk = Walk::to(Goal::Byte(at), front);
-    write!(
-        out,
-        "at byte {at} stands {walk}, and the file has {length} bytes"
-    )
+    push_at(out, at, &Walk::to(Goal::Byte(at), front))?;
+    fill(out, ", and the file has {} bytes", &[Value::Number(length)])
 }
 
 fn push_field(out: &mut String, front: &[u8], at: u64) -> Result<(), AllocError> {
     let walk = Walk::to(Goal::Byte(at), front);
-    write!(out, "at byte {at} stands {walk}")?;
+    push_at(out, at, &walk)?;
     match beside(walk.field, &WANTED) {
         Some(wanted) => push_value(out, &walk, wanted),
         None => push_number(out, &walk),
@@ -151,8 +158,11 @@ const WANTED: [(Field, &str); 4] = [
 ];
 
 fn push_value(out: &mut String, walk: &Walk<'_>, wanted: &str) -> Result<(), AllocError> {
-    let value = walk.value();
-    write!(out, ": {value}{wanted}")
+    fill(
+        out,
+        ": {}{}",
+        &[Value::Number(walk.value()), Value::Text(wanted)],
+    )
 }
 
 // What is wrong with a number.
@@ -168,34 +178,44 @@ fn push_number(out: &mut String, walk: &Walk<'_>) -> Result<(), AllocError> {
 
 fn push_record_dims(out: &mut String, front: &[u8]) -> Result<(), AllocError> {
     match Walk::to(Goal::RecordDims, front).record_dims {
-        [Some(first), Some(second)] => write!(
+        [Some(first), Some(second)] => fill(
             out,
-            "dimension {first} and dimension {second} both have the length 0, by which a dimension grows, and one may"
+            "dimension {} and dimension {} both have the length 0, by which a dimension grows, and one may",
+            &[first.value(), second.value()],
         ),
         _ => Ok(()),
     }
 }
 
 // A variable, and the numbers of its dimensions.
-fn push_ids(out: &mut String, walk: &Walk<'_>) -> Result<(), AllocError> {
-    if let Owner::Var(var) = walk.owner {
-        write!(out, "variable {var}")?;
-    }
+fn push_shape(out: &mut String, walk: &Walk<'_>) -> Result<(), AllocError> {
+    push_owner(out, walk.owner)?;
     out.push_str(" has the dimensions")?;
+    push_ids(out, walk)
+}
+
+fn push_owner(out: &mut String, owner: Owner<'_>) -> Result<(), AllocError> {
+    match owner {
+        Owner::Var(var) => fill(out, "variable {}", &[var.value()]),
+        _ => Ok(()),
+    }
+}
+
+fn push_ids(out: &mut String, walk: &Walk<'_>) -> Result<(), AllocError> {
     for id in walk.ids.chunks_exact(walk.width()) {
-        let id = spelled(id);
-        write!(out, " {id}")?;
+        fill(out, " {}", &[Value::Number(spelled(id))])?;
     }
     Ok(())
 }
 
 fn push_late(out: &mut String, front: &[u8], var: u64) -> Result<(), AllocError> {
     let walk = Walk::to(Goal::Var(var), front);
-    push_ids(out, &walk)?;
+    push_shape(out, &walk)?;
     match walk.record_dims[1] {
-        Some(dim) => write!(
+        Some(dim) => fill(
             out,
-            "; dimension {dim} grows, and stands first in a variable, and once"
+            "; dimension {} grows, and stands first in a variable, and once",
+            &[dim.value()],
         ),
         None => out.push_str(
             "; the record dimension grows, and stands first in a variable, and once",
@@ -205,9 +225,13 @@ fn push_late(out: &mut String, front: &[u8], var: u64) -> Result<(), AllocError>
 
 fn push_unknown(out: &mut String, front: &[u8], var: u64) -> Result<(), AllocError> {
     let walk = Walk::to(Goal::Var(var), front);
-    push_ids(out, &walk)?;
+    push_shape(out, &walk)?;
     match walk.dims.checked_sub(1) {
-        Some(last) => write!(out, "; those of the dataset count from 0 to {last}"),
+        Some(last) => fill(
+            out,
+            "; those of the dataset count from 0 to {}",
+            &[Value::Number(last)],
+        ),
         None => out.push_str("; the dataset has none"),
     }
 }
@@ -224,9 +248,12 @@ fn push_shared(out: &mut String, front: &[u8], first: u64, second: u64) -> Resul
 // Where a variable begins.
 fn push_begin(out: &mut String, front: &[u8], var: u64) -> Result<(), AllocError> {
     let walk = Walk::to(Goal::Var(var), front);
-    let begin = walk.begin;
     match walk.owner {
-        Owner::Var(var) => write!(out, "variable {var} begins at byte {begin}"),
+        Owner::Var(var) => fill(
+            out,
+            "variable {} begins at byte {}",
+            &[var.value(), Value::Number(walk.begin)],
+        ),
         _ => Ok(()),
     }
 }

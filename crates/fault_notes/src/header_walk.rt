@@ -1,9 +1,9 @@
 // A header that may have a fault, gone over field by field up to a place, by the netCDF classic format specification.
 ghost use Rattle.std.specs.Prelude.{◌<◌};
 
-use crate::shown::Shown;
+use crate::fill::{Value, fill};
 use crate::table::beside;
-use std::fmt;
+use std::alloc::AllocError;
 
 /// A dimension, variable or attribute by its number, from 0, and its name, which is empty where it wasn't read.
 #[derive(Clone, Copy)]
@@ -12,14 +12,10 @@ pub(crate) struct Named<'a> {
     pub name: &'a [u8],
 }
 
-impl fmt::Display for Named<'_> {
-    fn fmt<W: fmt::Write>(&self, f: &mut fmt::Formatter<W>) -> fmt::Result {
-        let number = self.number;
-        if self.name.is_empty() {
-            return write!(f, "{number}");
-        }
-        let name = Shown(self.name);
-        write!(f, "{number} {name}")
+impl<'a> Named<'a> {
+    /// As it stands in a note.
+    pub(crate) fn value(self) -> Value<'a> {
+        Value::Item(self.number, self.name)
     }
 }
 
@@ -81,13 +77,14 @@ pub(crate) enum Owner<'a> {
     Var(Named<'a>),
 }
 
-impl fmt::Display for Owner<'_> {
-    fn fmt<W: fmt::Write>(&self, f: &mut fmt::Formatter<W>) -> fmt::Result {
-        match *self {
+impl Owner<'_> {
+    // Adds whose a field is.
+    fn push(self, out: &mut String) -> Result<(), AllocError> {
+        match self {
             Owner::Header => Ok(()),
-            Owner::Dataset => f.write_str(" of the dataset"),
-            Owner::Dim(dim) => write!(f, " of dimension {dim}"),
-            Owner::Var(var) => write!(f, " of variable {var}"),
+            Owner::Dataset => out.push_str(" of the dataset"),
+            Owner::Dim(dim) => fill(out, " of dimension {}", &[dim.value()]),
+            Owner::Var(var) => fill(out, " of variable {}", &[var.value()]),
         }
     }
 }
@@ -103,7 +100,7 @@ pub(crate) enum Goal {
     RecordDims,
 }
 
-/// A walk that has ended: at which field, and what it came by. It is printed as that field, and whose it is.
+/// A walk that has ended: at which field, and what it came by.
 #[derive(Clone, Copy)]
 pub(crate) struct Walk<'a> {
     bytes: &'a [u8],
@@ -142,17 +139,6 @@ fn size_of(kind: u64) -> u64 {
     }
 }
 
-impl fmt::Display for Walk<'_> {
-    fn fmt<W: fmt::Write>(&self, f: &mut fmt::Formatter<W>) -> fmt::Result {
-        let field = self.field.name();
-        let owner = self.owner;
-        match self.attr {
-            Some(attr) => write!(f, "{field} of attribute {attr}{owner}"),
-            None => write!(f, "{field}{owner}"),
-        }
-    }
-}
-
 impl<'a> Walk<'a> {
     /// The walk over the first bytes of a dataset.
     pub(crate) fn to(goal: Goal, bytes: &'a [u8]) -> Self {
@@ -171,6 +157,20 @@ impl<'a> Walk<'a> {
         };
         let _ = walk.header();
         walk
+    }
+
+    /// Adds the field at which it ended, and whose it is.
+    pub(crate) fn push(&self, out: &mut String) -> Result<(), AllocError> {
+        out.push_str(self.field.name())?;
+        self.push_attr(out)?;
+        self.owner.push(out)
+    }
+
+    fn push_attr(&self, out: &mut String) -> Result<(), AllocError> {
+        match self.attr {
+            Some(attr) => fill(out, " of attribute {}", &[attr.value()]),
+            None => Ok(()),
+        }
     }
 
     /// How many bytes a count has.
@@ -199,12 +199,21 @@ impl<'a> Walk<'a> {
     fn block(&mut self, field: Field, length: usize) -> Option<&'a [u8]> {
         self.field = field;
         self.length = length;
-        if matches!(self.goal, Goal::Byte(at) if at <= self.at as u64) {
+        if self.is_there() {
             return None;
         }
-        let block = self.bytes.get(self.at..)?.get(..length)?;
-        self.at = self.at.saturating_add(length);
+        let end = self.at.saturating_add(length);
+        let block = self.bytes.get(self.at..end)?;
+        self.at = end;
         Some(block)
+    }
+
+    // Whether it has come to the byte at which it ends.
+    fn is_there(&self) -> bool {
+        match self.goal {
+            Goal::Byte(at) => at <= self.at as u64,
+            _ => false,
+        }
     }
 
     fn word(&mut self, field: Field) -> Option<u64> {

@@ -1,10 +1,10 @@
 // What was wanted in a script that is refused.
 use crate::cursor::{begins, word_at};
 use crate::earlier::{first_naming, record_dim, undefined};
+use crate::fill::{Value, fill};
 use crate::lines::{Line, Part, lines_of};
 use crate::meetings::push_difference;
 use crate::replay::{Refused, first_refused};
-use crate::shown::Shown;
 use crate::table::beside;
 use crate::words::{named_at, push_missing, push_refused};
 use nc_base::{LimitName, ScriptErr, ScriptKind};
@@ -46,8 +46,11 @@ fn is_told(alloc: Global, refused: &Refused<'_>, told: &[u8]) -> Result<bool, Al
     if refused.kind == ScriptKind::NoEnd {
         return Ok(told.ends_with(b": no end\n"));
     }
+    let Ok(line) = u32::try_from(refused.line.number) else {
+        return Ok(false);
+    };
     let fault = ScriptErr {
-        line: refused.line.number,
+        line,
         kind: refused.kind,
     };
     match script_line(alloc, &fault) {
@@ -94,48 +97,60 @@ fn push_twice(
     let Some(first) = first_naming(lines, refused.line) else {
         return Ok(());
     };
-    let number = refused.line.number;
-    let place = refused.place;
-    let word = named_at(alloc, refused.line, place)?;
-    write!(
+    let word = named_at(alloc, refused.line, refused.place)?;
+    fill(
         out,
-        "line {number}, word {place}: {word} is there on line {first} already"
+        "line {}, word {}: {} is there on line {} already",
+        &[
+            Value::Number(refused.line.number),
+            Value::Number(refused.place as u64),
+            word,
+            Value::Number(first),
+        ],
     )
 }
 
 fn push_undefined(out: &mut String, lines: &[Line<'_>], line: Line<'_>) -> Result<(), AllocError> {
-    let Some(name) = undefined(lines, line) else {
-        return Ok(());
-    };
-    let number = line.number;
-    let name = Shown(name);
-    write!(out, "line {number}: no line before it defines {name}")
+    match undefined(lines, line) {
+        Some(name) => fill(
+            out,
+            "line {}: no line before it defines {}",
+            &[Value::Number(line.number), Value::Word(name)],
+        ),
+        None => Ok(()),
+    }
 }
 
 fn push_ranks(out: &mut String, alloc: Global, refused: &Refused<'_>) -> Result<(), AllocError> {
-    let number = refused.line.number;
     let word = named_at(alloc, refused.line, 1)?;
-    let last = refused.ranks.saturating_sub(1);
-    write!(
+    fill(
         out,
-        "line {number}, word 1: {word} is no rank; the ranks are 0 to {last}"
+        "line {}, word 1: {} is no rank; the ranks are 0 to {}",
+        &[
+            Value::Number(refused.line.number),
+            word,
+            Value::Number(u64::from(refused.ranks.saturating_sub(1))),
+        ],
     )
 }
 
 fn push_shape(out: &mut String, lines: &[Line<'_>], line: Line<'_>) -> Result<(), AllocError> {
-    let number = line.number;
-    let Some(record) = other_record_dim(lines, line) else {
-        return write!(
+    match other_record_dim(lines, line) {
+        Some(record) => fill(
             out,
-            "line {number}: the record dimension stands first in a variable, and once"
-        );
-    };
-    let name = Shown(word_at(record.text, 1));
-    let first = record.number;
-    write!(
-        out,
-        "line {number}: a dataset has one unlimited dimension, and {name} is it on line {first}"
-    )
+            "line {}: a dataset has one unlimited dimension, and {} is it on line {}",
+            &[
+                Value::Number(line.number),
+                Value::Word(word_at(record.text, 1)),
+                Value::Number(record.number),
+            ],
+        ),
+        None => fill(
+            out,
+            "line {}: the record dimension stands first in a variable, and once",
+            &[Value::Number(line.number)],
+        ),
+    }
 }
 
 // The record dimension, where this line would define another.
@@ -151,38 +166,44 @@ fn other_record_dim<'a>(lines: &[Line<'a>], line: Line<'_>) -> Option<Line<'a>> 
 const BYTE_ORDER_MARK: &[u8] = b"\xEF\xBB\xBF";
 
 fn push_head(out: &mut String, line: Line<'_>) -> Result<(), AllocError> {
-    let number = line.number;
     let marked = if line.text.starts_with(BYTE_ORDER_MARK) {
         ", and not with a byte-order mark"
     } else {
         ""
     };
-    write!(
+    fill(
         out,
-        "line {number}: a script begins with `create 1`, `create 2`, `create 5` or `open`{marked}"
+        "line {}: a script begins with `create 1`, `create 2`, `create 5` or `open`{}",
+        &[Value::Number(line.number), Value::Text(marked)],
     )
 }
 
 fn push_end(out: &mut String, line: Line<'_>) -> Result<(), AllocError> {
-    let number = line.number;
     let wanted = if line.part == Part::Calls || begins(line.text, b"data") {
         "`end` is wanted"
     } else {
         "`data` and `end` are wanted"
     };
-    write!(out, "line {number} is the last one; {wanted} behind it")
+    fill(
+        out,
+        "line {} is the last one; {} behind it",
+        &[Value::Number(line.number), Value::Text(wanted)],
+    )
 }
 
 fn push_after_end(out: &mut String, lines: &[Line<'_>], line: Line<'_>) -> Result<(), AllocError> {
-    let number = line.number;
     match last_call(lines) {
-        Some(end) => write!(out, "line {number}: `end` stands on line {end}"),
+        Some(end) => fill(
+            out,
+            "line {}: `end` stands on line {}",
+            &[Value::Number(line.number), Value::Number(end)],
+        ),
         None => Ok(()),
     }
 }
 
 // The number of the last line of the calls.
-fn last_call(lines: &[Line<'_>]) -> Option<u32> {
+fn last_call(lines: &[Line<'_>]) -> Option<u64> {
     let mut last = None;
     for line in lines {
         if line.part == Part::Calls {
@@ -206,9 +227,12 @@ const LIMITS: [(LimitName, &str); 6] = [
 ];
 
 fn push_limit(out: &mut String, line: Line<'_>, name: LimitName) -> Result<(), AllocError> {
-    let Some(limit) = beside(name, &LIMITS) else {
-        return Ok(());
-    };
-    let number = line.number;
-    write!(out, "line {number}: {limit}")
+    match beside(name, &LIMITS) {
+        Some(limit) => fill(
+            out,
+            "line {}: {}",
+            &[Value::Number(line.number), Value::Text(limit)],
+        ),
+        None => Ok(()),
+    }
 }

@@ -1,8 +1,8 @@
 // A variable that gets no place in a dataset: its name, and the line of the script that defines it.
 use crate::cursor::word_at;
 use crate::definition::{Definition, nth_defining};
+use crate::fill::{Value, fill};
 use crate::lines::{Line, lines_of};
-use crate::shown::Shown;
 use crate::told::numbered;
 use nc_base::Header;
 use std::alloc::{AllocError, Global};
@@ -73,20 +73,26 @@ fn push_var(
         return push_new(out, lines, number);
     };
     match header.vars.as_slice().get(number) {
-        Some(var) => {
-            let name = Shown(var.name.as_slice());
-            write!(out, "the dataset's variable {name}")
-        }
+        Some(var) => fill(
+            out,
+            "the dataset's variable {}",
+            &[Value::Word(var.name.as_slice())],
+        ),
         None => push_new(out, lines, number.saturating_sub(header.vars.len())),
     }
 }
 
 // The same of one that the script defines, by its number among them.
 fn push_new(out: &mut String, lines: &[Line<'_>], number: usize) -> Result<(), AllocError> {
-    let Some(line) = nth_defining(lines, &[Definition::Var], number) else {
-        return Ok(());
-    };
-    let name = Shown(word_at(line.text, 2));
-    let number = line.number;
-    write!(out, "line {number}: {name}")
+    match nth_defining(lines, &[Definition::Var], number) {
+        Some(line) => fill(
+            out,
+            "line {}: {}",
+            &[
+                Value::Number(line.number),
+                Value::Word(word_at(line.text, 2)),
+            ],
+        ),
+        None => Ok(()),
+    }
 }

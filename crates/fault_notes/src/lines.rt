@@ -16,7 +16,7 @@ pub(crate) enum Part {
 #[derive(Clone, Copy)]
 pub(crate) struct Line<'a> {
     /// Its number in the text, from 1.
-    pub number: u32,
+    pub number: u64,
     /// The part of the script in which it stands; `data` is the last of the definitions, and `end` of the calls.
     pub part: Part,
     pub text: &'a [u8],
@@ -27,7 +27,7 @@ pub(crate) fn lines_of<'a>(alloc: Global, text: &'a [u8]) -> Result<Vec<Line<'a>
     let mut lines = Vec::new(alloc);
     let mut part = Part::Head;
     let mut rest = text;
-    for number in 1..u32::MAX {
+    for number in 1..u64::MAX {
         let end = memchr(b'\n', rest).unwrap_or(rest.len());
         let text = rest.get(..end).unwrap_or(&[]);
         let first = Cursor::new(text).take().unwrap_or(&[]);

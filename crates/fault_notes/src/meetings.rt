@@ -1,8 +1,8 @@
 // The collective calls of a script's ranks.
 use crate::cursor::word_at;
 use crate::earlier::rank_of;
+use crate::fill::{Value, fill};
 use crate::lines::{Line, Part};
-use crate::shown::Shown;
 use std::alloc::AllocError;
 
 // The collective calls whose words don't say so.
@@ -44,17 +44,27 @@ pub(crate) fn push_difference(
     call: u32,
     ranks: [u32; 2],
 ) -> Result<(), AllocError> {
-    write!(out, "collective call {call} of each rank: ")?;
+    fill(
+        out,
+        "collective call {} of each rank: ",
+        &[Value::Number(u64::from(call))],
+    )?;
     push_meeting(out, ranks[0], meeting(lines, ranks[0], call))?;
     out.push_str(", ")?;
     push_meeting(out, ranks[1], meeting(lines, ranks[1], call))
 }
 
 fn push_meeting(out: &mut String, rank: u32, line: Option<Line<'_>>) -> Result<(), AllocError> {
-    let Some(line) = line else {
-        return write!(out, "rank {rank} has none");
-    };
-    let call = Shown(word_at(line.text, 1));
-    let number = line.number;
-    write!(out, "rank {rank} has {call} on line {number}")
+    match line {
+        None => fill(out, "rank {} has none", &[Value::Number(u64::from(rank))]),
+        Some(line) => fill(
+            out,
+            "rank {} has {} on line {}",
+            &[
+                Value::Number(u64::from(rank)),
+                Value::Word(word_at(line.text, 1)),
+                Value::Number(line.number),
+            ],
+        ),
+    }
 }

@@ -1,4 +1,5 @@
 // Requests that nobody waited for.
+use crate::fill::{Value, fill};
 use memchr::memmem::find;
 use std::alloc::AllocError;
 
@@ -75,22 +76,31 @@ impl Pending {
 
 /// What is said of them.
 pub(crate) fn push_pending(out: &mut String, pending: Pending) -> Result<(), AllocError> {
-    let Pending {
-        requests,
-        ranks,
-        first,
-    } = pending;
-    let undone = if requests == 1 {
+    let undone = if pending.requests == 1 {
         "request, so it was not done"
     } else {
         "requests, so they were not done"
     };
-    if ranks == 1 {
-        write!(out, "rank {first} never waited for {requests} {undone}")
-    } else {
-        write!(
+    if pending.ranks == 1 {
+        fill(
             out,
-            "{ranks} ranks, the first of them rank {first}, never waited for {requests} {undone}"
+            "rank {} never waited for {} {}",
+            &[
+                Value::Number(u64::from(pending.first)),
+                Value::Number(pending.requests),
+                Value::Text(undone),
+            ],
+        )
+    } else {
+        fill(
+            out,
+            "{} ranks, the first of them rank {}, never waited for {} {}",
+            &[
+                Value::Number(u64::from(pending.ranks)),
+                Value::Number(u64::from(pending.first)),
+                Value::Number(pending.requests),
+                Value::Text(undone),
+            ],
         )
     }
 }

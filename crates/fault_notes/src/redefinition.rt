@@ -1,8 +1,8 @@
 // The line of a script that a dataset does not take.
 use crate::cursor::{begins, word_at};
 use crate::definition::{Definition, nth_defining};
+use crate::fill::{Value, fill};
 use crate::lines::{Line, lines_of};
-use crate::shown::Shown;
 use crate::table::beside;
 use crate::told::numbered;
 use std::alloc::{AllocError, Global};
@@ -54,21 +54,24 @@ const CAUSES: [(&[u8], Cause); 4] = [
 ];
 
 fn push_cause(out: &mut String, line: Line<'_>, cause: &[u8]) -> Result<(), AllocError> {
-    let number = line.number;
-    write!(out, "line {number}: ")?;
-    match beside(cause, &CAUSES) {
-        Some(Cause::Taken) => push_taken(out, line.text),
-        Some(Cause::Unknown) => push_unknown(out, line.text),
-        Some(Cause::Shape) => push_shape(out, line.text),
-        Some(Cause::Type) => push_type(out, line.text),
-        None => push_many(out, line.text),
+    fill(out, "line {}: ", &[Value::Number(line.number)])?;
+    push_refusal(out, line.text, beside(cause, &CAUSES))
+}
+
+fn push_refusal(out: &mut String, line: &[u8], cause: Option<Cause>) -> Result<(), AllocError> {
+    match cause {
+        Some(Cause::Taken) => push_taken(out, line),
+        Some(Cause::Unknown) => push_unknown(out, line),
+        Some(Cause::Shape) => push_shape(out, line),
+        Some(Cause::Type) => push_type(out, line),
+        None => push_many(out, line),
     }
 }
 
 // The name that a line adds.
-fn added(line: &[u8]) -> Shown<'_> {
+fn added(line: &[u8]) -> Value<'_> {
     let place = if is_dim(line) { 1 } else { 2 };
-    Shown(word_at(line, place))
+    Value::Word(word_at(line, place))
 }
 
 fn is_dim(line: &[u8]) -> bool {
@@ -77,20 +80,24 @@ fn is_dim(line: &[u8]) -> bool {
 
 fn push_taken(out: &mut String, line: &[u8]) -> Result<(), AllocError> {
     let name = added(line);
-    let kind = match Definition::of_text(line) {
-        Some(Definition::Dim) => "dimension",
-        Some(Definition::Var) => "variable",
-        _ => return push_taken_attribute(out, word_at(line, 1), name),
-    };
-    write!(out, "the dataset has a {kind} {name} already")
+    match Definition::of_text(line) {
+        Some(Definition::Dim) => fill(out, "the dataset has a dimension {} already", &[name]),
+        Some(Definition::Var) => fill(out, "the dataset has a variable {} already", &[name]),
+        _ => push_taken_attribute(out, word_at(line, 1), name),
+    }
 }
 
-fn push_taken_attribute(out: &mut String, owner: &[u8], name: Shown<'_>) -> Result<(), AllocError> {
-    if owner == b":".as_slice() {
-        return write!(out, "the dataset has an attribute {name} already");
-    }
-    let owner = Shown(owner);
-    write!(out, "{owner} has an attribute {name} already")
+fn push_taken_attribute<'a>(
+    out: &mut String,
+    owner: &'a [u8],
+    name: Value<'a>,
+) -> Result<(), AllocError> {
+    let owner = if owner == b":".as_slice() {
+        Value::Text("the dataset")
+    } else {
+        Value::Word(owner)
+    };
+    fill(out, "{} has an attribute {} already", &[owner, name])
 }
 
 fn push_unknown(out: &mut String, line: &[u8]) -> Result<(), AllocError> {
@@ -99,48 +106,46 @@ fn push_unknown(out: &mut String, line: &[u8]) -> Result<(), AllocError> {
     } else {
         ("lacks a dimension of", 3)
     };
-    let word = Shown(word_at(line, place));
-    write!(out, "the dataset {lacks} {word}")
+    fill(
+        out,
+        "the dataset {} {}",
+        &[Value::Text(lacks), Value::Word(word_at(line, place))],
+    )
 }
 
 fn push_shape(out: &mut String, line: &[u8]) -> Result<(), AllocError> {
     if is_dim(line) {
-        let name = Shown(word_at(line, 1));
-        return write!(
+        fill(
             out,
-            "the dataset has a record dimension already, so {name} can be none"
-        );
+            "the dataset has a record dimension already, so {} can be none",
+            &[Value::Word(word_at(line, 1))],
+        )
+    } else {
+        fill(
+            out,
+            "the record dimension stands first in a variable, and once, and not as in {}",
+            &[Value::Word(word_at(line, 3))],
+        )
     }
-    let dims = Shown(word_at(line, 3));
-    write!(
-        out,
-        "the record dimension stands first in a variable, and once, and not as in {dims}"
-    )
 }
 
 fn push_type(out: &mut String, line: &[u8]) -> Result<(), AllocError> {
-    match Definition::of_text(line) {
-        Some(Definition::Dim) => {
-            let length = Shown(word_at(line, 2));
-            write!(
-                out,
-                "a dataset of version 1 or 2 has no dimension so long as {length}"
-            )
-        }
-        Some(Definition::Var) => push_no_type(out, word_at(line, 1)),
-        _ => push_no_type(out, word_at(line, 3)),
-    }
-}
-
-fn push_no_type(out: &mut String, kind: &[u8]) -> Result<(), AllocError> {
-    let kind = Shown(kind);
-    write!(out, "a dataset of version 1 or 2 has no type {kind}")
+    let (lacks, place) = match Definition::of_text(line) {
+        Some(Definition::Dim) => ("dimension so long as", 2),
+        Some(Definition::Var) => ("type", 1),
+        _ => ("type", 3),
+    };
+    fill(
+        out,
+        "a dataset of version 1 or 2 has no {} {}",
+        &[Value::Text(lacks), Value::Word(word_at(line, place))],
+    )
 }
 
 fn push_many(out: &mut String, line: &[u8]) -> Result<(), AllocError> {
-    let name = added(line);
-    write!(
+    fill(
         out,
-        "{name} is one too many; a dataset has at most 1024 dimensions and 8192 variables"
+        "{} is one too many; a dataset has at most 1024 dimensions and 8192 variables",
+        &[added(line)],
     )
 }

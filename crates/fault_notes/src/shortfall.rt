@@ -1,6 +1,6 @@
 // A dataset that was shorter than its header says.
 use crate::ended::Run;
-use crate::shown::Shown;
+use crate::fill::{Value, fill};
 use cdf_header::decode;
 use nc_base::{Header, MAX_HEADER_BYTES};
 use std::alloc::{AllocError, Global};
@@ -29,14 +29,19 @@ pub(crate) fn push_shortfall(
     if there >= wanted {
         return Ok(());
     }
-    let dataset = Shown(dataset.as_bytes());
     let missing = if run.script.is_empty() {
         "what is missing reads as zeros"
     } else {
         "it was made so long, and what was missing reads as zeros"
     };
-    write!(
+    fill(
         out,
-        "{dataset} had {there} bytes, and its header says {wanted}; {missing}"
+        "{} had {} bytes, and its header says {}; {}",
+        &[
+            Value::Word(dataset.as_bytes()),
+            Value::Number(there),
+            Value::Number(wanted),
+            Value::Text(missing),
+        ],
     )
 }

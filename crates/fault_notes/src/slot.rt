@@ -1,5 +1,6 @@
 // What is said of a word that is refused, or missing, by what it is for.
 use crate::cursor::word_at;
+use crate::fill::{Value, fill};
 use crate::table::beside;
 use hint_table::{HINTS, HintForm, HintName};
 use memchr::memchr3;
@@ -259,8 +260,7 @@ impl Slot {
 fn push_hints(out: &mut String) -> Result<(), AllocError> {
     out.push_str("the hints are")?;
     for hint in &HINTS {
-        let word = text_of(hint.word());
-        write!(out, " {word}")?;
+        fill(out, " {}", &[Value::Text(text_of(hint.word()))])?;
     }
     Ok(())
 }
@@ -275,15 +275,26 @@ fn push_hint_value(out: &mut String, hint: &[u8]) -> Result<(), AllocError> {
 
 fn push_form(out: &mut String, form: HintForm) -> Result<(), AllocError> {
     match form {
-        HintForm::Within { low, high, unit: 1 } => write!(out, "it is from {low} to {high}"),
-        HintForm::Within { low, high, unit } => {
-            write!(out, "it is a multiple of {unit} from {low} to {high}")
-        }
-        HintForm::Either { zero, one } => {
-            let (zero, one) = (text_of(zero), text_of(one));
-            write!(out, "it is `{one}` or `{zero}`")
-        }
+        HintForm::Within { low, high, unit: 1 } => fill(
+            out,
+            "it is from {} to {}",
+            &[number(low), number(high)],
+        ),
+        HintForm::Within { low, high, unit } => fill(
+            out,
+            "it is a multiple of {} from {} to {}",
+            &[number(unit), number(low), number(high)],
+        ),
+        HintForm::Either { zero, one } => fill(
+            out,
+            "it is {} or {}",
+            &[Value::Word(one), Value::Word(zero)],
+        ),
     }
+}
+
+fn number(number: u32) -> Value<'static> {
+    Value::Number(u64::from(number))
 }
 
 // The text of a word of a hint.

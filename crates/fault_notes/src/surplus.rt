@@ -1,6 +1,7 @@
 // Values beyond those that a call asks for.
 use crate::access::Access;
 use crate::cursor::Cursor;
+use crate::fill::{Value, fill};
 use crate::lines::{Line, Part, lines_of};
 use crate::shapes::Shapes;
 use crate::values::{given, product, span};
@@ -24,7 +25,7 @@ pub(crate) fn push_surplus<'a>(
 /// A call that is given more values than it asks for.
 #[derive(Clone, Copy)]
 struct Surplus {
-    number: u32,
+    number: u64,
     asked: u64,
     given: u64,
     /// How many such calls follow.
@@ -32,20 +33,24 @@ struct Surplus {
 }
 
 fn push_found(out: &mut String, surplus: Surplus) -> Result<(), AllocError> {
-    let Surplus {
-        number,
-        asked,
-        given,
-        more,
-    } = surplus;
-    write!(
+    fill(
         out,
-        "line {number}: {given} values are given and {asked} asked for; what is beyond is left out"
+        "line {}: {} values are given and {} asked for; what is beyond is left out",
+        &[
+            Value::Number(surplus.number),
+            Value::Number(surplus.given),
+            Value::Number(surplus.asked),
+        ],
     )?;
-    if more > 0 {
-        write!(out, ", and so on {more} more lines")?;
+    push_more(out, surplus.more)
+}
+
+fn push_more(out: &mut String, more: u64) -> Result<(), AllocError> {
+    if more == 0 {
+        Ok(())
+    } else {
+        fill(out, ", and so on {} more lines", &[Value::Number(more)])
     }
-    Ok(())
 }
 
 // The first such call of a script, and how many follow.

@@ -9,7 +9,7 @@ pub(crate) fn numbered<'a>(
     behind: &[u8],
 ) -> Option<(u64, &'a [u8])> {
     let (digits, rest) = split_digits(told.strip_prefix(before)?)?;
-    Some((size_of_text(digits)?, rest.strip_prefix(behind)?))
+    size_of_text(digits).zip(rest.strip_prefix(behind))
 }
 
 // The digits at the front of a text, and the rest, of which there is some.
