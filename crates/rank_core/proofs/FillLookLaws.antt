@@ -1,5 +1,5 @@
 -- The posts that fill a share of a record are puts that a step takes, and hold no byte twice.
-use Rattle.rank_core.proofs.Words.{nat_tests, map_map, either, ◌≡◌, ℕ, zero, suc, ◌+◌, ◌-◌, ◌*◌, ◌<◌, ◌≤◌, refl, sym, ap, subst, ◌∙◌, List, [], ◌∷◌, length, map, replicate, Bool, true, false, not, cond, ltb, leb, eqb, ◌&&◌, ◌||◌, Option, None, Some, add-one, arith, flat_map, slice_get, slice_index, list_any, range_with_len, and_from, and_left, and_parts, and_right, eq-eqb, eqb-true, le-ltb, leb-false, leb-true, lt-leb, ne_eqb, not_from_true, or_from, or_parts, length-map, length-replicate, each_in, map_in, passes_at, pieces_long, Header, Var, Post, Put, Part, Region, boxes_few, In, size_of, boxes, fill_bytes, share_begin, header_len, is_sound, end_of, inner_lengths, is_record, lengths, length_of, product, starts_with_zero, without_record, file_limit, most_elements, record_limit, box_post, box_region, fills, find_var, is_record_past, look_fill, records_of, bad_edge, bad_start, bound, bounds, check_var, first_code, asks_too_much, other_shape, some_edge, some_start, end_grows, Look, as_look, posts_of, IsPut, ArePuts, IsSmall, found_long}
+use Rattle.rank_core.proofs.Words.{nat_tests, map_map, either, ◌≡◌, ℕ, zero, suc, ◌+◌, ◌-◌, ◌*◌, ◌<◌, ◌≤◌, refl, sym, ap, subst, ◌∙◌, List, [], ◌∷◌, length, map, replicate, true, false, not, ltb, leb, eqb, ◌||◌, Option, None, Some, add-one, arith, flat_map, slice_get, slice_index, list_any, range_with_len, and_from, and_left, and_parts, and_right, eq-eqb, eqb-true, le-ltb, leb-false, leb-true, lt-leb, not_from_true, or_from, or_parts, length-map, length-replicate, each_in, map_in, passes_at, pieces_long, Header, Var, Post, Put, Part, Region, boxes_few, In, size_of, boxes, fill_bytes, share_begin, header_len, is_sound, end_of, inner_lengths, is_record, lengths, length_of, product, starts_with_zero, without_record, file_limit, most_elements, record_limit, box_post, box_region, fills, find_var, is_record_past, look_fill, records_of, bad_edge, bad_start, bound, bounds, check_var, first_code, asks_too_much, other_shape, some_edge, some_start, end_grows, Look, as_look, posts_of, ArePuts, IsSmall, found_long}
 use Rattle.nc_base.specs.declared.answer.Code.TheVariants as code
 use Rattle.serial_spec.specs.Looks as looks
 use Rattle.serial_spec.specs.RankMachine as machine
