@@ -45,9 +45,6 @@ faultless e o x h = ap (or_fault e) h
 abbrev pub Read : {A : Type 0} → (List ℕ → Option A) → A → Type 0
 Read f x = (w : List ℕ) × (f w ≡ Some x)
 
-pub read_word : {A : Type 0} (f : List ℕ → Option A) (e : ScriptKind) (ws : List Word) (r : A × List Word) → reads_as f e ws ≡ Ok r → Read f r.0
-read_word f e ws r h = grind (arith, nat_tests, went, same_ok, faultless_some)
-
 pub word_read : {A : Type 0} (f : List ℕ → Option A) (e : ScriptKind) (w : List ℕ) (x : A) (more : List Word) → f w ≡ Some x → reads_as f e (Plain w ∷ more) ≡ Ok (x, more)
 word_read f e w x more h = ap (λ (o : Option _). or_fault e o >>= λ y. Ok (y, more)) h
 
