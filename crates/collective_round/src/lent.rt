@@ -1,6 +1,6 @@
 // What a step is lent.
 ghost use Rattle.std.specs.Prelude.{◌≡◌, true};
-ghost use Rattle.collective_round.specs.Lent.{AreMeasures-prop};
+ghost use Rattle.var_layout.specs.Measured.{AreMeasures-prop};
 ghost use Rattle.serial_spec.specs.Lawful.{are_lawful_hints};
 ghost use Rattle.serial_spec.specs.SoundHeaders.{is_sound};
 ghost use Rattle.var_layout.specs.Measures.{AreMeasures};

@@ -7,6 +7,5 @@ pub mod Requests
 pub mod OpenOffers
 pub mod Stepped
 pub mod Heard
-pub mod Measured
 pub mod Targets
 pub mod Fit

@@ -1,6 +1,6 @@
 // The steps of ranks in turn.
 ghost use Rattle.std.specs.Prelude.{◌≡◌, ◌≤◌, ◌<◌, ◌+◌, ◌^◌, ◌++◌, ◌∷◌, [], ℕ, length, map, max, slice_get, true, None, Some, IfNone, IfOk, IfSome, OnOk};
-ghost use Rattle.collective_round.specs.Lent.{AreMeasures-prop};
+ghost use Rattle.var_layout.specs.Measured.{AreMeasures-prop};
 ghost use Rattle.nc_base.specs.declared.plan.Post.{Post};
 ghost use Rattle.nc_base.specs.declared.step.OfferKind.TheVariants as kind;
 ghost use Rattle.overlay_laws.specs.Entries.{In};

@@ -2,7 +2,7 @@
 ghost use Rattle.std.specs.Prelude.{◌≡◌, true};
 ghost use Rattle.serial_spec.specs.Lawful.{is_lawful};
 ghost use Rattle.serial_spec.specs.SoundHeaders.{is_sound};
-ghost use Rattle.collective_round.specs.Lent.{AreMeasures-prop};
+ghost use Rattle.var_layout.specs.Measured.{AreMeasures-prop};
 ghost use Rattle.var_layout.specs.Measures.{AreMeasures};
 
 use nc_base::{Header, MarkList, Script};

@@ -2,7 +2,7 @@
 ghost use Rattle.std.specs.Prelude.{◌≡◌, true, Some, slice_get};
 ghost use Rattle.serial_spec.specs.SoundHeaders.{is_sound};
 ghost use Rattle.var_layout.specs.Measures.{AreMeasures};
-ghost use Rattle.rank_core.specs.Measured.{AreMeasures-prop};
+ghost use Rattle.var_layout.specs.Measured.{AreMeasures-prop};
 
 use crate::Rank;
 use nc_base::{Header, Var};

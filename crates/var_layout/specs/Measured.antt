@@ -1,4 +1,4 @@
--- That these are the measures of a header is said in one way.
+-- That these are the measures of a header is said in one way, so a ghost field may say it. (own)
 use Rattle.std.proofs.Props.{props}
 use Rattle.nc_base.specs.declared.header.Header.{Header}
 use Rattle.var_layout.specs.Measures.{AreMeasures}
