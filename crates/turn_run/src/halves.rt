@@ -55,7 +55,6 @@ pub(crate) fn put_half<'s, E, R: Threads + Wait + Sync, D: Disk + 's, G: Gate>(
     ensures cause { HasDiskCause (D.faults disk.old) (D.faults disk.new) result }
 {
     if have_no_puts(job.job().batches.as_slice()) {
-        let _size = disk.size();
         return Ok(PutEnd::Done);
     }
     put_all(tools, crew, disk, dataset, records, job)

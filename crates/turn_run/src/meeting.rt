@@ -194,7 +194,6 @@ pub fn meet_on_file<'s, E, R: Threads + Wait + Sync, D: Disk + 's, G: Gate>(
     ensures longer { D.len disk.old ≤ D.len disk.new }
     ensures cause { HasDiskCause (D.faults disk.old) (D.faults disk.new) result }
 {
-    let _size = disk.size();
     let end = put_half(tools, crew, disk, dataset, records, job)?;
     raise_records(tools.alloc, disk, dataset.header, records, known)?;
     let table = get_half(tools, crew, disk, dataset, job.job())?;

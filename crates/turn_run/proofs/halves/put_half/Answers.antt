@@ -6,7 +6,7 @@ use Rattle.turn_run.proofs.halves.put_half.Goals as goal
 pub returns-then-have_no_puts-clause-bytes : goal.returns-then-have_no_puts-clause-bytes
 returns-then-have_no_puts-clause-bytes g c =
     let none = puts_of_none _ _ (c.as_slice.ensures ∙ ap (λ (j : Job). j.batches) c.job.ensures) (sym c.have_no_puts.ensures ∙ c.if-have_no_puts.true) in
-    bytes_of_none _ _ _ _ _ none c.size-size.ensures.told c.requires.long
+    bytes_of_none _ _ _ _ _ none (g.D.Disk.told c.args.disk.now) c.requires.long
 
 pub returns-then-have_no_puts-clause-long : goal.returns-then-have_no_puts-clause-long
 returns-then-have_no_puts-clause-long g c =

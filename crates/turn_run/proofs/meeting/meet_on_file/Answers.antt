@@ -63,7 +63,7 @@ returns-clause-bytes g c =
 pub returns-clause-calls : goal.returns-clause-calls
 returns-clause-calls g c one =
     met_called c.args.dataset.now.hints.now (setting c.args.dataset.now.header.now c.args.dataset.now.hints.now) c.args.job.now.batches c.args.records.now c.put_half.new.records c.args.known _ _ _ _ _ _ one
-    c.size-size.ensures.told c.in_ok-end.ensures.calls c.in_ok-end.ensures.records c.in_ok-raise_records.ensures.calls (rw c.job.ensures at c.in_ok-table.ensures.calls)
+    (g.D.Disk.told c.args.disk.now) c.in_ok-end.ensures.calls c.in_ok-end.ensures.records c.in_ok-raise_records.ensures.calls (rw c.job.ensures at c.in_ok-table.ensures.calls)
 
 pub returns-clause-count : goal.returns-clause-count
 returns-clause-count g c =
