@@ -1,4 +1,3 @@
 pub mod RankSides
-pub mod Lent
 pub mod RankHandle
 pub mod Threads

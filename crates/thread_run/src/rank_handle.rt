@@ -3,7 +3,6 @@ ghost use Rattle.std.specs.Prelude.{◌≡◌, ◌<◌, [], true, IfSome};
 ghost use Rattle.rank_core.specs.Indexed.{IsIndexOf};
 ghost use Rattle.serial_spec.specs.SoundHeaders.{is_sound};
 ghost use Rattle.serial_spec.specs.Lawful.{is_lawful};
-ghost use Rattle.thread_run.specs.Lent.{IsRunnable};
 ghost use Rattle.thread_run.specs.RankHandle.{HasReturned, IsFresh, IsOf, IsRankHandle};
 
 use crate::lent::{Lent, Run};
@@ -65,7 +64,7 @@ pub(crate) fn start<'s, E, G: Gate, R: Threads + Wait + Sync>(
     lent: &Lent<'s, R, G>,
     out: InPut<SentItem>,
 ) -> Option<(RankHandle<'s>, LinePut<OwnerItem>)>
-    requires runnable { IsRunnable lent.now }
+    requires names { IsIndexOf lent.now.run.now.header.now lent.now.names.now }
     requires number { out.number < lent.now.run.now.script.now.ranks }
     requires put { out.items ≡ [] }
     ensures of { IfSome result (λ pair. IsOf lent.now.run.now.header.now lent.now.run.now.script.now pair.0) }
@@ -97,7 +96,7 @@ fn spawn<'s, E, G: Gate, R: Threads + Wait + Sync>(
     lent: &Lent<'s, R, G>,
     ends: Ends,
 ) -> Option<PromisedHandle<Returned, Part<'s>>>
-    requires runnable { IsRunnable lent.now }
+    requires names { IsIndexOf lent.now.run.now.header.now lent.now.names.now }
     requires number { ends.out.number < lent.now.run.now.script.now.ranks }
     requires fresh { IsFresh ends }
     ensures header { IfSome result (λ child. child.promise.header.value.now ≡ lent.now.run.now.header.now) }

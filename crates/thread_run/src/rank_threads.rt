@@ -13,7 +13,6 @@ ghost use Rattle.ruled_line.specs.Ends.{End, Line};
 ghost use Rattle.turn_run.specs.Run.{RunsOn};
 ghost use Rattle.turn_run.specs.Told.{HasTold};
 ghost use Rattle.rank_core.specs.Indexed.{IsIndexOf};
-ghost use Rattle.thread_run.specs.Lent.{IsRunnable};
 ghost use Rattle.thread_run.specs.RankHandle.{AreOf, AreRankHandles, IsToldToGo};
 ghost use Rattle.thread_run.specs.Threads.{HasRooms, HaveStarted};
 ghost use Rattle.thread_run.specs.declared.rank_handle.RankHandle.{RankHandle};
@@ -60,14 +59,14 @@ pub fn run_ranks<R: Threads + Wait + Sync, D: Disk, G: Gate>(
 
 /// The same run, of which `told` is told each step as it is finished, before any rank has its reply. Where `told` has no memory, the
 /// run ends with that fault, and the step is not in the order. The close is no step, and is not told.
-pub fn run_ranks_told<R: Threads + Wait + Sync, D: Disk, G: Gate, T: Told>(
-    rt: &R,
+pub fn run_ranks_told<'a, R: Threads + Wait + Sync, D: Disk, G: Gate, T: Told>(
+    rt: &'a R,
     alloc: Global,
     disk: &mut D,
-    header: &Header,
+    header: &'a Header,
     records: &mut u64,
-    script: &Script,
-    gate: &G,
+    script: &'a Script,
+    gate: &'a G,
     told: &mut T,
 ) -> RunEnd
     requires sound { is_sound header.now ≡ true }
@@ -134,8 +133,6 @@ fn run_scoped<R: Threads + Wait + Sync, D: Disk, G: Gate, T: Told>(
     records: &mut u64,
     told: &mut T,
 ) -> RunEnd
-    requires sound { is_sound run.now.header.now ≡ true }
-    requires lawful { is_lawful run.now.script.now ≡ true }
     requires names { IfSome names (λ names. IsIndexOf run.now.header.now names.now) }
     requires records { records.old ≡ run.now.header.now.records }
     requires from { D.from disk.old ≡ 0 }
@@ -153,7 +150,7 @@ fn run_scoped<R: Threads + Wait + Sync, D: Disk, G: Gate, T: Told>(
         thread::scope_env(),
         run.tools.rt,
         |scope| -> Scoped<D, T>
-            requires { (is_sound run.now.header.now ≡ true) × (is_lawful run.now.script.now ≡ true) × IfSome names (λ names. IsIndexOf run.now.header.now names.now)
+            requires { IfSome names (λ names. IsIndexOf run.now.header.now names.now)
                 × (count ≡ run.now.header.now.records) × (D.from disk.now ≡ 0)
                 × (end_of run.now.header.now (header_len run.now.header.now) run.now.header.now.records ≤ D.len disk.now) }
             ensures run { RunsOn D.Disk run.entry.now.script.now run.entry.now.header.now disk.entry.now result.disk.now result.records result.end }
@@ -198,8 +195,6 @@ fn run_in_scope<'s, 'd, 't, E, R: Threads + Wait + Sync, D: Disk + 's, G: Gate, 
     records: u64,
     told: &'t mut T,
 ) -> Scoped<'d, 't, D, T>
-    requires sound { is_sound run.now.header.now ≡ true }
-    requires lawful { is_lawful run.now.script.now ≡ true }
     requires names { IfSome names (λ names. IsIndexOf run.now.header.now names.now) }
     requires records { records ≡ run.now.header.now.records }
     requires from { D.from disk.old ≡ 0 }
@@ -236,8 +231,6 @@ fn start_ranks<'s, E, R: Threads + Wait + Sync, G: Gate>(
     run: &'s Run<'s, R, G>,
     names: Option<&'s Names>,
 ) -> Option<StartedRanks<'s>>
-    requires sound { is_sound run.now.header.now ≡ true }
-    requires lawful { is_lawful run.now.script.now ≡ true }
     requires names { IfSome names (λ names. IsIndexOf run.now.header.now names.now) }
     ensures { IfSome result (HaveStarted run.now.header.now run.now.script.now) }
 {
@@ -274,7 +267,7 @@ fn start_all<'s, E, R: Threads + Wait + Sync, G: Gate>(
     ones: &mut Vec<RankHandle<'s>>,
     lines: &mut Vec<LinePut<OwnerItem>>,
 ) -> bool
-    requires runnable { IsRunnable lent.now }
+    requires names { IsIndexOf lent.now.run.now.header.now lent.now.names.now }
     requires numbers { map (λ s. s.number) senders.items ≡ range_with_len 0 lent.now.run.now.script.now.ranks }
     requires put { All (λ s. s.items ≡ []) senders.items }
     requires ones { ones.old.items ≡ [] }
@@ -330,8 +323,6 @@ fn run_started<'s, E, R: Threads + Wait + Sync, D: Disk + 's, G: Gate, T: Told>(
     told: &mut T,
     started: StartedRanks,
 ) -> RunEnd
-    requires sound { is_sound run.now.header.now ≡ true }
-    requires lawful { is_lawful run.now.script.now ≡ true }
     requires records { records.old ≡ run.now.header.now.records }
     requires from { D.from disk.old ≡ 0 }
     requires long { end_of run.now.header.now (header_len run.now.header.now) run.now.header.now.records ≤ D.len disk.old }

@@ -8,7 +8,7 @@ use Rattle.thread_run.proofs.rank_threads.run_started.Goals as goal
 use Rattle.thread_run.proofs.ThreadTies.{OwnerSide}
 
 pub serve-served-requires-clause-hints : goal.serve-served-requires-clause-hints
-serve-served-requires-clause-hints g c κs within = lawful_hints c.args.run.now.script.now c.requires.lawful
+serve-served-requires-clause-hints g c κs within = lawful_hints c.args.run.now.script.now c.args.run.now.lawful
 
 pub join_all-requires-clause-handles : goal.join_all-requires-clause-handles
 join_all-requires-clause-handles g c =
@@ -29,10 +29,10 @@ end_run-requires-clause-known g c κs within =
     (subst (λ (v : List RankHandle). AreSettled inbox.items v c.into_vec.result.items ends) (with_items_is c.args.started.ones now (search rules)) c.join_all.ensures) in
     let script = c.args.run.now.script.now in let header = c.args.run.now.header.now in
     let arrivals = arrived c.args.started.inbox inbox in let given = gained c.from_vec-back.result back in
-    let all = told_all c.requires.lawful s settled in
+    let all = told_all c.args.run.now.lawful s settled in
     let senders = c.requires.started.senders in
     let clients = senders ∙ sym all.calls in
-    λ none whole. known_sound all c.requires.sound c.requires.lawful c.serve-served.result
+    λ none whole. known_sound all c.args.run.now.sound c.args.run.now.lawful c.serve-served.result
     (λ file. subst (λ (p : ℕ × ℕ). IsDone (setting_of script header) (opening p.1 (counted file header.records)) (passed arrivals p.0 given) c.serve-served.result.order c.serve-served.result.stranger)
     (λ i. (senders i, clients i)) (served.done none file)) whole
 
@@ -45,7 +45,7 @@ returns g c =
     (subst (λ (v : List RankHandle). AreSettled inbox.items v c.into_vec.result.items ends) (with_items_is c.args.started.ones now (search rules)) c.join_all.ensures) in
     let script = c.args.run.now.script.now in let header = c.args.run.now.header.now in
     let arrivals = arrived c.args.started.inbox inbox in let given = gained c.from_vec-back.result back in
-    let all = told_all c.requires.lawful s settled in let end = c.end_run.ensures in
+    let all = told_all c.args.run.now.lawful s settled in let end = c.end_run.ensures in
     let senders = c.requires.started.senders in
     let clients = senders ∙ sym all.calls in
     let owner = subst (λ (p : ℕ × ℕ). OwnerSide script header arrivals given p.0 p.1 (g.D.Disk.held c.args.disk.now) (g.D.Disk.calls c.args.disk.now) (g.D.Disk.faults c.args.disk.now) (g.T.Told.heard c.args.told.now)
@@ -62,7 +62,7 @@ returns g c =
       later = served.later;
     }) in
     record {
-      run = run_all all c.requires.sound c.requires.lawful owner (record {
+      run = run_all all c.args.run.now.sound c.args.run.now.lawful owner (record {
         order = end.order;
         went = end.served;
         closed = end.closed;
@@ -73,12 +73,12 @@ returns g c =
         first = end.first;
         cause = end.cause;
         later = end.later;
-      }) (run_cut all c.requires.sound c.requires.lawful {end = c.end_run.result} owner (λ e is. record {
+      }) (run_cut all c.args.run.now.sound c.args.run.now.lawful {end = c.end_run.result} owner (λ e is. record {
         order = end.order;
         at = end.at e is;
         rows = end.rows e is;
         whole = λ disk. end.broke (is ∙ ap (λ (x : StepErr). Some x) disk);
         kept = λ disk. end.kept (is ∙ ap (λ (x : StepErr). Some x) disk);
       }));
-      told = run_told all c.requires.sound c.requires.lawful owner c.end_run.result.order end.order;
+      told = run_told all c.args.run.now.sound c.args.run.now.lawful owner c.end_run.result.order end.order;
     }
