@@ -43,7 +43,6 @@ pub fn solo_reply<D: Disk>(
     ensures longer { D.len disk.old ≤ D.len disk.new }
     ensures cause { HasDiskCause (D.faults disk.old) (D.faults disk.new) result }
 {
-    let _size = disk.size();
     let end = put_solo(alloc, disk, dataset, number, &offer.batch)?;
     let got = get_solo(alloc, disk, dataset, &offer.batch)?;
     Ok(Reply {

@@ -2,7 +2,7 @@
 use Rattle.turn_run.proofs.Words.{◌∙◌, ap, max, setting, puts_of, told, done_torn, on_err}
 use Rattle.turn_run.proofs.CountLaws.{count_begins, count_longer}
 use Rattle.turn_run.proofs.MeetPosts.{get_of, needed_solo, put_of, ranked_puts, solo_count}
-use Rattle.turn_run.proofs.MeetSolo.{solo_replied}
+use Rattle.turn_run.proofs.MeetSolo.{solo_called, solo_replied}
 use Rattle.turn_run.proofs.solo.solo_reply.Goals as goal
 
 pub put_solo-requires-clause-puts : goal.put_solo-requires-clause-puts
@@ -23,6 +23,11 @@ pub returns-clause-reply : goal.returns-clause-reply
 returns-clause-reply g c =
     solo_replied (setting c.args.dataset.now.header.now c.args.dataset.now.hints.now) c.args.number c.records_known.result c.args.offer.now c.in_ok-end.end c.told_pair.result _ _ c.in_ok-got.got
     c.in_ok-end.ensures.told c.told_pair.ensures c.records_known.ensures c.in_ok-end.ensures.bytes c.in_ok-got.ensures.got
+
+pub returns-clause-calls : goal.returns-clause-calls
+returns-clause-calls g c =
+    solo_called c.args.dataset.now.hints.now (setting c.args.dataset.now.header.now c.args.dataset.now.hints.now) c.args.number (g.D.Disk.len c.args.disk.now) c.args.offer.now (g.D.Disk.held c.args.disk.now) _ _ _
+    (g.D.Disk.told c.args.disk.now) c.in_ok-end.ensures.calls c.in_ok-got.ensures.calls
 
 pub returns-clause-count : goal.returns-clause-count
 returns-clause-count g c =
