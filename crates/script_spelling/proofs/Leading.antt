@@ -1,5 +1,5 @@
 -- A line that leads from what is known to what is known then.
-use Rattle.script_spelling.proofs.Words.{◌≡◌, ◌∙◌, ℕ, ◌+◌, List, [], ◌∷◌, false, Option, Some, None, Result, Ok, Err, refl, arith, bytes_eq, codes, ScriptErr, line, Word, Plain, Quoted, Broken, Line, Known, known_after, definition_step, definitions, nat_tests, ◌==◌, Defined, definition, is_some, slice_set, hint_of_text, hint_form, hint_in, hint_value}
+use Rattle.script_spelling.proofs.Words.{◌≡◌, ◌∙◌, ℕ, ◌+◌, List, [], ◌∷◌, false, Option, Some, None, Result, Ok, Err, refl, arith, bytes_eq, codes, ScriptErr, Word, Plain, Quoted, Broken, Line, Known, known_after, definition_step, definitions, nat_tests, ◌==◌, Defined, definition, is_some, slice_set, hint_of_text, hint_form, hint_in, hint_value}
 use Rattle.script_spelling.proofs.Steps.{go_on, by_false}
 
 -- the line leads from what is known to this

@@ -1,5 +1,5 @@
 -- One attribute more of a variable, and how many values attributes have.
-use Rattle.script_spelling.proofs.Words.{◌≡◌, ℕ, zero, suc, ◌+◌, List, [], ◌∷◌, ◌++◌, position, true, false, Some, slice_get, slice_set, refl, sym, ap, subst, ⊎_elim, arith, bytes_eq, Attr, Var, var_names, attribute, with_attr_at, nat_tests}
+use Rattle.script_spelling.proofs.Words.{◌≡◌, ℕ, zero, suc, ◌+◌, List, [], ◌∷◌, ◌++◌, position, true, false, Some, slice_get, slice_set, refl, sym, ap, subst, ⊎_elim, arith, bytes_eq, Attr, Var, var_names, with_attr_at, nat_tests}
 use Rattle.script_spelling.proofs.Places.{bytes_same, Later, place_cases}
 
 -- one attribute more of the variable at this place

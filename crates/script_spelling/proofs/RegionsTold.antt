@@ -1,6 +1,7 @@
 -- Words that spell a region are read as this region, and what follows them is left.
-use Rattle.script_spelling.proofs.Words.{◌≡◌, ◌∙◌, ℕ, ◌≤◌, List, [], ◌∷◌, ◌++◌, flat_map, length, true, not, nat_lt, Ok, sym, ap, append_assoc, append-nil, arith, and_parts, le-ltb, leb-true, Form, Given, Part, most_parts, has_lists_of, is_given, Word, list_of_text, list, part_list, region, SpellsOne, Each, SpellsForm, SpellsRegion, nat_tests, Result, ◌>>=◌, given_of, ScriptKind, ◌+◌}
-use Rattle.script_spelling.proofs.Steps.{go_on, passed, word_read, carry_on, empty_list}
+use Rattle.script_spelling.proofs.Words.{◌≡◌, ◌∙◌, ℕ, ◌≤◌, List, [], ◌∷◌, ◌++◌, flat_map, length, true, not, nat_lt, Ok, sym, ap, append_assoc, append-nil, arith, and_parts, le-ltb, leb-true, Form, Given, Part, most_parts, has_lists_of, is_given, Word, list_of_text, list, part_list, region, SpellsOne, Each, SpellsForm, SpellsRegion, nat_tests, Result, ◌>>=◌, given_of, ScriptKind}
+use Rattle.script_spelling.proofs.Steps.{go_on, passed, word_read, carry_on}
+use Rattle.serial_spec.proofs.MemberLaws.{empty_list}
 use Rattle.nc_base.specs.declared.errors.ScriptKind.TheVariants as kind
 use Rattle.nc_base.specs.declared.request.Form.TheVariants as form
 

@@ -1,5 +1,5 @@
 -- Room for values, and what a word gives that may stand there.
-use Rattle.script_spelling.proofs.Words.{ℤ, List, refl, may_have, number_of_text, bits_of_text, number_for, pattern_for, ◌≡◌, ℕ, ◌+◌, ◌≤◌, Bool, true, false, cond, ◌&&◌, Option, Some, None, is_some, Ok, arith, and_from, NcType, most_elements, most_values, within_limits, values, nat_tests, cond_some}
+use Rattle.script_spelling.proofs.Words.{ℤ, List, refl, may_have, number_of_text, bits_of_text, number_for, pattern_for, ◌≡◌, ℕ, ◌+◌, ◌≤◌, Bool, true, false, cond, ◌&&◌, Option, Some, None, is_some, Ok, arith, and_from, NcType, most_elements, most_values, within_limits, nat_tests, cond_some}
 use Rattle.script_spelling.proofs.Steps.{looked}
 use Rattle.nc_base.specs.declared.request.Value.TheVariants as value
 

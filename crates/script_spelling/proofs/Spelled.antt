@@ -1,5 +1,5 @@
 -- A text that is read spells its script.
-use Rattle.script_spelling.proofs.Words.{◌≡◌, ◌∙◌, ℕ, zero, suc, ◌+◌, List, [], ◌∷◌, ◌++◌, map, replicate, length, Bool, true, false, not, nat_lt, ◌==◌, Some, None, Ok, refl, sym, ap, subst, append_assoc, arith, bytes_eq, codes, utf8_valid_len, AllZip, list_all, range_with_len, eqb-true, ne_eqb, length-replicate, Call, Script, Word, Plain, Quoted, Broken, Line, text_lines, significant, whole, hint_in, Known, nothing_known, Called, at_line, version_of_text, head, definitions, data_part, finish, script_of, no_calls, script_of_lines, Reads, read_lawful, Statement, Says, Stand, calls_in, ToDataset, Describes, IsVarOf, VarLine, attrs_of, vars_in, SpellsCallLine, SpellsHead, version_of_lines, Sections, lines_of, Spells, nat_tests, at_most_one, hint_values, Option, header_of, no_definition}
+use Rattle.script_spelling.proofs.Words.{◌≡◌, ◌∙◌, ℕ, zero, suc, ◌+◌, List, [], ◌∷◌, ◌++◌, map, replicate, length, Bool, true, false, not, nat_lt, ◌==◌, Some, None, Ok, refl, sym, ap, subst, append_assoc, arith, bytes_eq, codes, utf8_valid_len, AllZip, list_all, range_with_len, eqb-true, ne_eqb, length-replicate, Call, Script, Word, Plain, Quoted, Broken, Line, text_lines, significant, hint_in, Known, nothing_known, Called, at_line, version_of_text, head, definitions, data_part, finish, script_of, no_calls, script_of_lines, Reads, read_lawful, Statement, Says, Stand, calls_in, ToDataset, Describes, IsVarOf, VarLine, attrs_of, vars_in, SpellsCallLine, SpellsHead, version_of_lines, Sections, lines_of, Spells, nat_tests, at_most_one, hint_values, Option, header_of, no_definition}
 use Rattle.script_spelling.proofs.Steps.{same_ok, whole_value, tested, step_then}
 use Rattle.script_spelling.proofs.CallCounts.{line_ok, is_text}
 use Rattle.script_spelling.proofs.Places.{bytes_same}

@@ -1,15 +1,11 @@
 -- Steps from word to word, forwards and backwards.
-use Rattle.script_spelling.proofs.Words.{◌≡◌, ◌∙◌, ℕ, List, [], ◌∷◌, Bool, true, false, Option, Some, None, Result, Ok, Err, refl, ap, faultless_some, ScriptKind, Word, Plain, ◌>>=◌, refuse_if, or_fault, reads_as, ended, whole, arith, nat_tests, cond, not, and_parts, and_from, list_all, is_empty, words}
+use Rattle.script_spelling.proofs.Words.{◌≡◌, ◌∙◌, ℕ, List, [], ◌∷◌, Bool, true, false, Option, Some, None, Result, Ok, Err, refl, ap, ScriptKind, Word, Plain, ◌>>=◌, refuse_if, or_fault, reads_as, ended, whole, arith, nat_tests, cond, and_parts, and_from, list_all}
 
 pub all_more : {A : Type 0} (p q : A → Bool) → ((x : A) → p x ≡ true → q x ≡ true) → (xs : List A) → list_all p xs ≡ true → list_all q xs ≡ true
 all_more p q more [] h = refl
 all_more p q more (x ∷ xs) h =
     let both = and_parts _ _ h in
     and_from _ _ (more x both.0) (all_more p q more xs both.1)
-
-pub empty_list : {A : Type 0} (xs : List A) → is_empty xs ≡ true → xs ≡ []
-empty_list [] h = refl
-empty_list (x ∷ xs) h = absurd (cc)
 
 -- ---- what a step that gave something says of its parts
 
@@ -40,10 +36,6 @@ pub faultless : {A : Type 0} (e : ScriptKind) (o : Option A) (x : A) → o ≡ S
 faultless e o x h = ap (or_fault e) h
 
 -- ---- a word that is read
-
--- some text is read as this
-abbrev pub Read : {A : Type 0} → (List ℕ → Option A) → A → Type 0
-Read f x = (w : List ℕ) × (f w ≡ Some x)
 
 pub word_read : {A : Type 0} (f : List ℕ → Option A) (e : ScriptKind) (w : List ℕ) (x : A) (more : List Word) → f w ≡ Some x → reads_as f e (Plain w ∷ more) ≡ Ok (x, more)
 word_read f e w x more h = ap (λ (o : Option _). or_fault e o >>= λ y. Ok (y, more)) h
@@ -106,10 +98,6 @@ either P false x y h k = k
 pub maybe : {A B : Type 0} (P : B → Type 0) (o : Option A) (x : B) (f : A → B) → P x → ((a : A) → o ≡ Some a → P (f a)) → P (elim o as (λ t. B) [ None ↦ x | Some a ↦ f a ])
 maybe P None x f h k = h
 maybe P (Some a) x f h k = k a refl
-
-pub by_test : {A : Type 0} (P : A → Type 0) (b : Bool) (x y : A) → (b ≡ true → P x) → (b ≡ false → P y) → P (cond b x y)
-by_test P true x y h k = h refl
-by_test P false x y h k = k refl
 
 -- ---- what comes of two tests, one after the other
 

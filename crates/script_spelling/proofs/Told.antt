@@ -39,7 +39,7 @@ known_of s hints = record {
 }
 
 -- a dataset that is opened is not filled
-no_fill : (ss : List Statement) (dims : List Dim) (names : List (List ℕ)) (titles : List (List ℕ × List ℕ)) → Stand true dims names titles ss → fills_in ss ≡ 0
+pub no_fill : (ss : List Statement) (dims : List Dim) (names : List (List ℕ)) (titles : List (List ℕ × List ℕ)) → Stand true dims names titles ss → fills_in ss ≡ 0
 no_fill [] dims names titles h = refl
 no_fill (RanksAre n ∷ ss) dims names titles h = no_fill ss dims names titles h
 no_fill (HintIs i v ∷ ss) dims names titles h = no_fill ss dims names titles h
@@ -48,7 +48,7 @@ no_fill (DimIs d ∷ ss) dims names titles h = no_fill ss _ names titles h.1
 no_fill (VarIs line ∷ ss) dims names titles h = no_fill ss dims _ titles h.1
 no_fill (AttIs owner a ∷ ss) dims names titles h = no_fill ss dims names _ h.2
 
-not_filled : (filled : Bool) (n : ℕ) → n ≡ cond filled 1 0 → n ≡ 0 → filled ≡ false
+pub not_filled : (filled : Bool) (n : ℕ) → n ≡ cond filled 1 0 → n ≡ 0 → filled ≡ false
 not_filled true n h none = absurd (omega (arith, h, none))
 not_filled false n h none = refl
 

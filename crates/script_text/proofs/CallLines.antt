@@ -8,7 +8,7 @@ use Rattle.script_text.proofs.CallTokens.{call_tokens, call_spelled, call_plain}
 use Rattle.script_text.proofs.PrintedCalls.{call_named, call_shown}
 use Rattle.script_spelling.proofs.CallLinesRead.{words_of}
 use Rattle.script_text.proofs.Lexing.{is_good}
-use Rattle.script_spelling.proofs.Steps.{by_test}
+use Rattle.list_laws.proofs.Truth.{either}
 
 -- ---- calls that were read
 
@@ -32,7 +32,7 @@ in_rank_said r [] h = refl
 in_rank_said r (c ∷ called) h =
     let both = and_parts (is_expressible_call c.1) _ h in
     let more = in_rank_said r called both.1 in
-    by_test (λ (o : Option Call). list_all is_expressible_call (cons_option o (calls_in r called)) ≡ true) (c.0 == r) (Some c.1) None (λ e. and_from _ _ both.0 more) (λ e. more)
+    either (λ (o : Option Call). list_all is_expressible_call (cons_option o (calls_in r called)) ≡ true) (c.0 == r) (Some c.1) None (λ e. and_from _ _ both.0 more) (λ e. more)
 
 ranks_said : (a n : ℕ) (called : List (ℕ × Call)) → list_all (λ (c : ℕ × Call). is_expressible_call c.1) called ≡ true → are_named (map (λ r. calls_in r called) (range_with_len a n)) ≡ true
 ranks_said a zero called h = refl
@@ -119,7 +119,7 @@ own_by true c cs rest h = ap (λ (xs : List Call). c ∷ xs) h
 own_by false c cs rest h = h
 
 own_in : (r k : ℕ) (cs : List Call) → calls_in k (map (λ (c : Call). (r, c)) cs) ≡ cond (r == k) cs []
-own_in r k [] = by_test (λ (cs : List Call). [] ≡ cs) (r == k) [] [] (λ e. refl) (λ e. refl)
+own_in r k [] = either (λ (cs : List Call). [] ≡ cs) (r == k) [] [] (λ e. refl) (λ e. refl)
 own_in r k (c ∷ cs) = own_by (r == k) c cs (calls_in k (map (λ (x : Call). (r, x)) cs)) (own_in r k cs)
 
 rank_in : (r k : ℕ) (own : List Call) (more : List (List Call)) → calls_in k (called_from r (own ∷ more)) ≡ cond (r == k) own [] ++ calls_in k (called_from (r + 1) more)

@@ -1,7 +1,7 @@
 -- A lawful script that words can express is read from what is printed of it.
 use Rattle.script_text.proofs.Words.{◌≡◌, ℕ, ◌+◌, ◌≤◌, List, [], ◌∷◌, map, sum, length, length-append, codes, Bool, true, false, cond, nat_le, ◌&&◌, refl, sym, subst, arith, list_all, and_parts, cond-true, eqb-true, leb-true, length-map, sum_by-cons, Header, Extra, Script, Call, most_dims, most_vars, is_version, is_lawful, is_lawful_dim, is_lawful_header, is_lawful_var, shown, Plain, Reads, most_bytes, most_lines, is_expressible, is_expressible_call, is_expressible_header, printed_lines, nat_tests}
 use Rattle.serial_spec.proofs.Common.{lawful_parts}
-use Rattle.script_spelling.proofs.Steps.{empty_list}
+use Rattle.serial_spec.proofs.MemberLaws.{empty_list}
 use Rattle.script_spelling.proofs.Told.{spelled_read}
 use Rattle.script_text.proofs.CallLines.{call_tokens_of, own_lines, call_lines}
 use Rattle.script_text.proofs.DefinedChains.{lines_of_own, definition_lines}

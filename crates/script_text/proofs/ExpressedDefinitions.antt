@@ -1,6 +1,6 @@
 -- Definitions that words can express say themselves, printed, and stand behind those before them.
 use Rattle.script_text.proofs.Words.{◌≡◌, ◌∙◌, ◌⊎◌, ℕ, zero, suc, ◌+◌, ◌^◌, ◌≤◌, ◌<◌, List, [], ◌∷◌, ◌++◌, map, position, drop, length, Bool, true, false, not, cond, nat_lt, nat_le, ◌==◌, ◌&&◌, Some, refl, sym, ap, subst, inl, inr, append_assoc, length-append, arith, bytes_eq, list_all, list_any, and_parts, and_from, not-true, length-map, ne_eqb, ltb-true, leb-true, eqb-true, Dim, Attr, Var, Header, most_dims, most_vars, most_dims_of_var, record_limit, number_of, last_type, is_lawful_dim, is_lawful_var, is_empty, is_name, is_among, dim_names, is_record_dim, is_unlimited, is_new_name, are_expressible_dims, is_expressible_var, are_expressible_vars, is_expressible_header, nat_tests}
-use Rattle.script_spelling.proofs.Steps.{empty_list}
+use Rattle.serial_spec.proofs.MemberLaws.{empty_list}
 use Rattle.script_text.proofs.PrintedAttributes.{type_told}
 use Rattle.script_text.proofs.PrintedDefinitions.{length_told}
 use Rattle.script_text.proofs.StatementLines.{line_of_att, dim_shown, var_shown}

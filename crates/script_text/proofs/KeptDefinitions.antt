@@ -3,20 +3,11 @@ use Rattle.script_text.proofs.Words.{◌≡◌, ◌∙◌, ℕ, List, [], ◌∷
 use Rattle.script_spelling.specs.Statements.{Statement, RanksAre, HintIs, IsFilled, DimIs, VarIs, AttIs, VarLine, VarStands, ShapeStands, Stand}
 use Rattle.script_spelling.specs.Described.{Defines, IsVarOf, dims_in, vars_in, own_attrs, attrs_of, extras_in}
 use Rattle.script_spelling.proofs.Places.{name_at, names_shown, more_ids, more_records, bytes_same, bytes_own}
-use Rattle.script_spelling.proofs.Steps.{by_test}
+use Rattle.list_laws.proofs.Truth.{either}
 use Rattle.script_text.proofs.StatementLines.{line_of_var, extra_line, of_extra, Shown, Shows, AllAgain, att_shown}
 use Rattle.script_text.proofs.DefinedChains.{DimChain, line_for, VarOk, VarChain, AttrChain, OwnChains, DefinedOk}
 
--- ---- dimensions and variables
-
-dims_kept : (version : ℕ) (front : List Dim) (names : List (List ℕ)) (titles : List Title) (ss : List Statement) → AllAgain version ss → Stand false front names titles ss → DimChain version front (dims_in ss)
-dims_kept version front names titles [] again stand = tt
-dims_kept version front names titles (RanksAre n ∷ ss) again stand = dims_kept version front names titles ss again.1 stand
-dims_kept version front names titles (HintIs i v ∷ ss) again stand = dims_kept version front names titles ss again.1 stand
-dims_kept version front names titles (IsFilled ∷ ss) again stand = dims_kept version front names titles ss again.1 stand.1
-dims_kept version front names titles (DimIs d ∷ ss) again stand = (again.0, stand.0, dims_kept version (front ++ d ∷ []) names titles ss again.1 stand.1)
-dims_kept version front names titles (VarIs l ∷ ss) again stand = dims_kept version front _ titles ss again.1 stand.1
-dims_kept version front names titles (AttIs o a ∷ ss) again stand = dims_kept version front names _ ss again.1 stand.2
+-- ---- variables
 
 same_line : (t u : NcType) (m n : List ℕ) (ds es : List (List ℕ)) → t ≡ u → m ≡ n → ds ≡ es → ◌≡◌ {A = VarLine} (record { kind = t; name = m; dims = ds }) (record { kind = u; name = n; dims = es })
 same_line t u m n ds es a b c = cc
@@ -64,35 +55,33 @@ titled_pushed titles owner names m h n none =
     let other : bytes_eq n m ≡ false = sym (ap (λ (b : Bool). b && bytes_eq n m) (bytes_own owner)) ∙ (or_parts (same_title (owner, n) (owner, m)) false p.1).0 in
     list_any-append (bytes_eq n) names (m ∷ []) ∙ or_from _ _ (h n p.0) (or_from _ _ other refl)
 
-own_kept : (version : ℕ) (dims : List Dim) (names : List (List ℕ)) (titles : List Title) (done : List (List ℕ)) (ss : List Statement) → AllAgain version ss → Stand false dims names titles ss → Titled titles (codes ":") done
-    → AttrChain version done (own_attrs ss)
-own_kept version dims names titles done [] again stand h = tt
-own_kept version dims names titles done (RanksAre n ∷ ss) again stand h = own_kept version dims names titles done ss again.1 stand h
-own_kept version dims names titles done (HintIs i v ∷ ss) again stand h = own_kept version dims names titles done ss again.1 stand h
-own_kept version dims names titles done (IsFilled ∷ ss) again stand h = own_kept version dims names titles done ss again.1 stand.1 h
-own_kept version dims names titles done (DimIs d ∷ ss) again stand h = own_kept version _ names titles done ss again.1 stand.1 h
-own_kept version dims names titles done (VarIs l ∷ ss) again stand h = own_kept version dims _ titles done ss again.1 stand.1 h
-own_kept version dims names titles done (AttIs None a ∷ ss) again stand h =
-    (again.0.1, h a.name stand.1, own_kept version dims names (titles ++ (codes ":", a.name) ∷ []) (done ++ a.name ∷ []) ss again.1 stand.2 (titled_pushed titles (codes ":") done a.name h))
-own_kept version dims names titles done (AttIs (Some m) a ∷ ss) again stand h = own_kept version dims names (titles ++ (m, a.name) ∷ []) done ss again.1 stand.2 (titled_more titles (m, a.name) (codes ":") done h)
+-- the dimensions, the attributes of the dataset, and those of each variable
+abbrev Kept : ℕ → List Dim → List Title → List Statement → Type 0
+Kept version front titles ss =
+    DimChain version front (dims_in ss) × ((done : List (List ℕ)) → Titled titles (codes ":") done → AttrChain version done (own_attrs ss))
+    × ((n : List ℕ) (done : List (List ℕ)) → Titled titles n done → AttrChain version done (attrs_of n ss))
 
-attrs_kept : (version : ℕ) (dims : List Dim) (names : List (List ℕ)) (titles : List Title) (done : List (List ℕ)) (n : List ℕ) (ss : List Statement) → AllAgain version ss → Stand false dims names titles ss → Titled titles n done
-    → AttrChain version done (attrs_of n ss)
-attrs_kept version dims names titles done n [] again stand h = tt
-attrs_kept version dims names titles done n (RanksAre k ∷ ss) again stand h = attrs_kept version dims names titles done n ss again.1 stand h
-attrs_kept version dims names titles done n (HintIs i v ∷ ss) again stand h = attrs_kept version dims names titles done n ss again.1 stand h
-attrs_kept version dims names titles done n (IsFilled ∷ ss) again stand h = attrs_kept version dims names titles done n ss again.1 stand.1 h
-attrs_kept version dims names titles done n (DimIs d ∷ ss) again stand h = attrs_kept version _ names titles done n ss again.1 stand.1 h
-attrs_kept version dims names titles done n (VarIs l ∷ ss) again stand h = attrs_kept version dims _ titles done n ss again.1 stand.1 h
-attrs_kept version dims names titles done n (AttIs None a ∷ ss) again stand h = attrs_kept version dims names (titles ++ (codes ":", a.name) ∷ []) done n ss again.1 stand.2 (titled_more titles (codes ":", a.name) n done h)
-attrs_kept version dims names titles done n (AttIs (Some m) a ∷ ss) again stand h =
-    let next = titles ++ (m, a.name) ∷ [] in
-    by_test (AttrChain version done) (bytes_eq m n) (a ∷ attrs_of n ss) (attrs_of n ss)
-    (λ e.
-    let same = bytes_same m n e in
-    let pushed = subst (λ (x : List ℕ). Titled (titles ++ (x, a.name) ∷ []) n (done ++ a.name ∷ [])) (sym same) (titled_pushed titles n done a.name h) in
-    (again.0.1, h a.name (subst (λ (x : List ℕ). list_any (same_title (x, a.name)) titles ≡ false) same stand.1), attrs_kept version dims names next (done ++ a.name ∷ []) n ss again.1 stand.2 pushed))
-    (λ e. attrs_kept version dims names next done n ss again.1 stand.2 (titled_more titles (m, a.name) n done h))
+all_kept : (version : ℕ) (front : List Dim) (names : List (List ℕ)) (titles : List Title) (ss : List Statement) → AllAgain version ss → Stand false front names titles ss → Kept version front titles ss
+all_kept version front names titles [] again stand = (tt, λ done h. tt, λ n done h. tt)
+all_kept version front names titles (RanksAre n ∷ ss) again stand = all_kept version front names titles ss again.1 stand
+all_kept version front names titles (HintIs i v ∷ ss) again stand = all_kept version front names titles ss again.1 stand
+all_kept version front names titles (IsFilled ∷ ss) again stand = all_kept version front names titles ss again.1 stand.1
+all_kept version front names titles (DimIs d ∷ ss) again stand = let more = all_kept version (front ++ d ∷ []) names titles ss again.1 stand.1 in ((again.0, stand.0, more.0), more.1, more.2)
+all_kept version front names titles (VarIs l ∷ ss) again stand = all_kept version front _ titles ss again.1 stand.1
+all_kept version front names titles (AttIs None a ∷ ss) again stand =
+    let more = all_kept version front names (titles ++ (codes ":", a.name) ∷ []) ss again.1 stand.2 in
+    (more.0, λ done h. (again.0.1, h a.name stand.1, more.1 (done ++ a.name ∷ []) (titled_pushed titles (codes ":") done a.name h)), λ n done h. more.2 n done (titled_more titles (codes ":", a.name) n done h))
+all_kept version front names titles (AttIs (Some m) a ∷ ss) again stand =
+    let more = all_kept version front names (titles ++ (m, a.name) ∷ []) ss again.1 stand.2 in (
+      more.0,
+      λ done h. more.1 done (titled_more titles (m, a.name) (codes ":") done h),
+      λ n done h. either (AttrChain version done) (bytes_eq m n) (a ∷ attrs_of n ss) (attrs_of n ss)
+          (λ e.
+          let same = bytes_same m n e in
+          let pushed = subst (λ (x : List ℕ). Titled (titles ++ (x, a.name) ∷ []) n (done ++ a.name ∷ [])) (sym same) (titled_pushed titles n done a.name h) in
+          (again.0.1, h a.name (subst (λ (x : List ℕ). list_any (same_title (x, a.name)) titles ≡ false) same stand.1), more.2 n (done ++ a.name ∷ []) pushed))
+          (λ e. more.2 n done (titled_more titles (m, a.name) n done h)),
+    )
 
 all_attrs_kept : (version : ℕ) (all : List Dim) (f : List ℕ → List Attr) (ls : List VarLine) (vs : List Var) → AllZip (λ (l : VarLine) v. IsVarOf all (f l.name) l v) ls vs → ((n : List ℕ) → AttrChain version [] (f n)) → OwnChains version vs
 all_attrs_kept version all f [] [] told each = tt
@@ -104,12 +93,14 @@ all_attrs_kept version all f (l ∷ ls) (v ∷ vs) told each =
 -- ---- all definitions of a new dataset
 
 pub defined_kept : (version : ℕ) (ss : List Statement) (s : Script) → Defines ss s → AllAgain version ss → Stand false [] [] [] ss → DefinedOk version s.header
-defined_kept version ss s d again stand = record {
-  dims = subst (DimChain version []) (sym d.dims) (dims_kept version [] [] [] ss again stand);
-  vars = vars_kept version s.header.dims [] [] [] (λ n. attrs_of n ss) ss s.header.vars d.dims again stand d.vars;
-  attrs = subst (AttrChain version []) (sym d.attrs) (own_kept version [] [] [] [] ss again stand (λ n none. refl));
-  own = all_attrs_kept version s.header.dims (λ n. attrs_of n ss) (vars_in ss) s.header.vars d.vars (λ n. attrs_kept version [] [] [] [] n ss again stand (λ m none. refl));
-}
+defined_kept version ss s d again stand =
+    let kept = all_kept version [] [] [] ss again stand in
+    record {
+      dims = subst (DimChain version []) (sym d.dims) kept.0;
+      vars = vars_kept version s.header.dims [] [] [] (λ n. attrs_of n ss) ss s.header.vars d.dims again stand d.vars;
+      attrs = subst (AttrChain version []) (sym d.attrs) (kept.1 [] (λ n none. refl));
+      own = all_attrs_kept version s.header.dims (λ n. attrs_of n ss) (vars_in ss) s.header.vars d.vars (λ n. kept.2 n [] (λ m none. refl));
+    }
 
 -- ---- what is added to a dataset that is opened
 

@@ -3,7 +3,8 @@ use Rattle.script_text.proofs.Words.{◌≡◌, ◌∙◌, ℕ, zero, suc, ◌+�
 use Rattle.std.proofs.Common.{flat_map}
 use lib.Utf8.{scalar, scalars, encode, encodes, scalar_cases, next}
 use Rattle.script_text.proofs.Lexing.{spelling, is_byte, is_good, byte_bound, tail_of, joined_words, words_again, below_16}
-use Rattle.script_spelling.proofs.Steps.{by_test, all_more}
+use Rattle.script_spelling.proofs.Steps.{all_more}
+use Rattle.list_laws.proofs.Truth.{either}
 
 -- ---- what holds of each byte
 
@@ -132,7 +133,7 @@ valid_lines wss h =
 
 longest_front : (bs : List ℕ) (m : ℕ) → IsUtf8 (take (valid_len_up_to bs m) bs)
 longest_front bs zero = ([], (refl, refl))
-longest_front bs (suc m) = by_test (λ n. IsUtf8 (take n bs)) (is_utf8 (take (suc m) bs)) (suc m) (valid_len_up_to bs m) (λ yes. IsUtf8-from_is_utf8 _ yes) (λ no. longest_front bs m)
+longest_front bs (suc m) = either (λ n. IsUtf8 (take n bs)) (is_utf8 (take (suc m) bs)) (suc m) (valid_len_up_to bs m) (λ yes. IsUtf8-from_is_utf8 _ yes) (λ no. longest_front bs m)
 
 whole_front : (bs : List ℕ) → (utf8_valid_len bs == length bs) ≡ true → IsUtf8 bs
 unfolding utf8_valid_len
@@ -155,7 +156,7 @@ last_byte c h = ⊎_elim (λ a. omega arith) (λ a. let high = a.1 in omega arit
 
 encode_bytes : (c : ℕ) → scalar c ≡ true → list_all is_byte (encode c) ≡ true
 unfolding encode
-encode_bytes c h = grind (arith, nat_tests, is_byte, by_test, nat_lt, ltb-true, and_from, byte, two, three, last_byte)
+encode_bytes c h = grind (arith, nat_tests, is_byte, either, nat_lt, ltb-true, and_from, byte, two, three, last_byte)
 
 encodes_bytes : (cs : List ℕ) → scalars cs ≡ true → list_all is_byte (encodes cs) ≡ true
 encodes_bytes [] h = refl

@@ -1,6 +1,7 @@
 -- A call that is printed is read as the same call.
 use Rattle.script_text.proofs.Words.{ℤ, ◌∙◌, nat_lt, and_parts, Text, Bits, are_expressible_values, is_expressible_call, HasNoRegion, of_behind, made_behind, ◌≡◌, ℕ, ◌^◌, List, [], ◌∷◌, ◌++◌, Bool, true, None, refl, sym, subst, arith, decimal, list_all, and_from, ltb-true, Values, Numbers, PostKind, Iput, Iget, Bput, Call, Word, Plain, is_name, Family, Requests, Size, Name, Record, Nothing, Behind, CallRow, is_sized, IsRow, is_expressible_behind, all_joined, Option, Some, SpellsBehind, SpellsCall, SpellsInRow, SpellsPlain, SpellsPosted, ap, are_values, in_row, is_given, is_id, is_lawful_call, is_nothing, is_post_of, length, list_all-append, most_elements, nat_le, of_row, ◌&&◌}
-use Rattle.script_spelling.proofs.Steps.{all_more, empty_list}
+use Rattle.script_spelling.proofs.Steps.{all_more}
+use Rattle.serial_spec.proofs.MemberLaws.{empty_list}
 use Rattle.script_laws.proofs.Sequences.{is_fit_pattern, is_fit_number}
 use Rattle.script_text.proofs.Lexing.{is_good}
 use Rattle.script_text.proofs.Numerals.{name_plain, size_plain, size_again}

@@ -6,7 +6,7 @@ use Rattle.script_spelling.specs.Described.{IsVarOf, calls_in, ToDataset, ranks_
 use Rattle.script_spelling.specs.Spelling.{Sections, Spells, SpellsHead, lines_of, version_of_lines}
 use Rattle.script_spelling.proofs.CallLinesRead.{words_of}
 use Rattle.script_spelling.proofs.Spelled.{read_spelled}
-use Rattle.script_spelling.proofs.Told.{spelled_read}
+use Rattle.script_spelling.proofs.Told.{no_fill, not_filled, spelled_read}
 use Rattle.script_text.proofs.Lines.{is_line, body, lines_again, significant_lines, valid_lines, valid_bytes}
 use Rattle.script_text.proofs.Numerals.{size_again, size_plain}
 use Rattle.script_text.proofs.PrintedValues.{is_read}
@@ -111,20 +111,6 @@ opened_content s empty none ok =
       fills = ap (λ (t : Added). t.2) told;
       dataset = record { header = refl; extra = sym (ap (λ (t : Added). t.3) told) };
     }))
-
--- such a dataset is not filled
-no_fill : (ss : List Statement) (dims : List Dim) (names : List (List ℕ)) (titles : List Title) → Stand true dims names titles ss → fills_in ss ≡ 0
-no_fill [] dims names titles h = refl
-no_fill (RanksAre n ∷ ss) dims names titles h = no_fill ss dims names titles h
-no_fill (HintIs i v ∷ ss) dims names titles h = no_fill ss dims names titles h
-no_fill (IsFilled ∷ ss) dims names titles h = let no : true ≡ false = h.0 in absurd (cc)
-no_fill (DimIs d ∷ ss) dims names titles h = no_fill ss _ names titles h.1
-no_fill (VarIs l ∷ ss) dims names titles h = no_fill ss dims _ titles h.1
-no_fill (AttIs o a ∷ ss) dims names titles h = no_fill ss dims names _ h.2
-
-not_filled : (filled : Bool) (n : ℕ) → n ≡ cond filled 1 0 → n ≡ 0 → filled ≡ false
-not_filled true n h none = absurd (omega (arith, h, none))
-not_filled false n h none = refl
 
 -- ---- the head
 
