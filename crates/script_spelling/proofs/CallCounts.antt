@@ -1,24 +1,23 @@
 -- The calls of ranks: how many values they have, and ids that differ; a text by its lines.
-use Rattle.script_spelling.proofs.Words.{◌≡◌, ◌∙◌, ℕ, zero, suc, ◌+◌, ◌≤◌, ◌<◌, List, [], ◌∷◌, ◌++◌, map, length, replicate, Bool, true, false, not, nat_lt, slice_set, Result, Ok, Err, refl, ap, arith, and_parts, ScriptKind, ScriptErr, Call, values_in_call, Line, Called, calls_of, at_line, data_part, nat_tests, sum, ◌==◌, ◌||◌, None, sym, list_any, or_parts, or_from, not-true, filter_map-append, list_any-append, sum_by-cons, are_different, posted_ids, posted, is_posted, Option, Some, utf8_valid_len, Script, text_lines, significant, script_of_lines, most_bytes, most_lines, Reads, le-ltb, ltb-false}
+use Rattle.script_spelling.proofs.Words.{◌≡◌, ◌∙◌, ℕ, zero, suc, ◌+◌, ◌≤◌, ◌<◌, List, [], ◌∷◌, ◌++◌, map, length, replicate, Bool, true, false, not, nat_lt, slice_set, Result, Ok, Err, refl, ap, arith, and_parts, ScriptKind, ScriptErr, Call, values_in_call, Line, Called, calls_of, at_line, data_part, nat_tests, sum, ◌==◌, ◌||◌, None, sym, list_any, or_parts, or_from, not-true, filter_map-append, list_any-append, sum_by-cons, are_different, posted_ids, posted, is_posted, Option, Some, utf8_valid_len, Script, text_lines, significant, script_of_lines, most_bytes, most_lines, Reads, le-ltb, ltb-false, sum_cons, sum_more}
 use Rattle.script_spelling.proofs.Steps.{same_ok}
 use Rattle.nc_base.specs.declared.request.Call.TheVariants as call
 
+pub sum_later : {A : Type 0} (f : A → ℕ) (xs more : List A) → sum (map f xs) ≤ sum (map f (xs ++ more))
+sum_later f [] more = omega arith
+sum_later f (x ∷ xs) more = omega (arith, sum_later f xs more, sum_cons f x xs, sum_cons f x (xs ++ more))
+
 abbrev pub count : List Call → ℕ
-count [] = 0
-count (c ∷ cs) = values_in_call c + count cs
+count cs = sum (map values_in_call cs)
 
 abbrev pub count_all : List (List Call) → ℕ
-count_all [] = 0
-count_all (own ∷ more) = count own + count_all more
-
-count-call : (cs : List Call) (c : Call) → count (cs ++ c ∷ []) ≡ count cs + values_in_call c
-count-call [] c = omega arith
-count-call (x ∷ cs) c = omega (arith, count-call cs c)
+count_all calls = sum (map (λ own. sum (map values_in_call own)) calls)
 
 pub count_set : (calls : List (List Call)) (r : ℕ) (c : Call) → r < length calls → count_all (slice_set calls r (calls_of r calls ++ c ∷ [])) ≡ count_all calls + values_in_call c
 count_set [] r c low = absurd (omega arith)
-count_set (own ∷ more) zero c low = omega (arith, count-call own c)
-count_set (own ∷ more) (suc r) c low = omega (arith, count_set more r c (omega arith))
+count_set (own ∷ more) zero c low = omega (arith, sum_more values_in_call own c, sum_cons count own more, sum_cons count (own ++ c ∷ []) more)
+count_set (own ∷ more) (suc r) c low =
+    omega (arith, count_set more r c (omega arith), sum_cons count own more, sum_cons count own (slice_set more r (calls_of r more ++ c ∷ [])))
 
 pub line_ok : {A : Type 0} (n : ℕ) (r : Result A ScriptKind) (x : A) → at_line n r ≡ Ok x → r ≡ Ok x
 line_ok n (Ok y) x h = ap (λ z. Ok z) (same_ok y x h)
@@ -43,19 +42,9 @@ apart (n ∷ ids) more id h =
 pub new_id : (own cs : List Call) (c : Call) → are_different (posted_ids (own ++ c ∷ cs)) ≡ true → NewId own c
 new_id own cs c h = grind (arith, nat_tests, apart, filter_map-append)
 
-pub counted : (cs : List Call) → count cs ≡ sum (map values_in_call cs)
-counted [] = refl
-counted (c ∷ cs) = let first = sum_by-cons (λ n. n) (values_in_call c) (map values_in_call cs) in omega (arith, first, counted cs)
-
-pub all_counted : (calls : List (List Call)) → count_all calls ≡ sum (map (λ own. sum (map values_in_call own)) calls)
-all_counted [] = refl
-all_counted (own ∷ more) =
-    let first = sum_by-cons (λ n. n) (sum (map values_in_call own)) (map (λ cs. sum (map values_in_call cs)) more) in
-    omega (arith, first, counted own, all_counted more)
-
 pub count_empty : (n : ℕ) → count_all (replicate n []) ≡ 0
 count_empty zero = refl
-count_empty (suc n) = omega (arith, count_empty n)
+count_empty (suc n) = omega (arith, count_empty n, sum_cons count [] (replicate n []))
 
 abbrev pub finish_by : ℕ → Option ScriptKind → Result (Unit {0}) ScriptErr
 finish_by n o = elim o [ None ↦ Ok tt | Some e ↦ Err (record { line = n; kind = e }) ]

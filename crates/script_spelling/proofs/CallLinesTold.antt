@@ -1,8 +1,8 @@
 -- Lines that spell the calls of a lawful script are read as its calls.
-use Rattle.script_spelling.proofs.Words.{◌≡◌, ◌∙◌, ℕ, zero, suc, ◌+◌, ◌<◌, ◌≤◌, List, [], ◌∷◌, ◌++◌, map, drop, length, Bool, true, false, nat_lt, Some, slice_get, Result, Ok, Err, refl, sym, ap, subst, length-set, arith, bytes_eq, codes, AllZip, list_all, enumerate_from, and_parts, cond-true, lt-ltb, ltb-true, list_all-append, passes_at, first_same, entry_numbered, ScriptKind, Call, most_values, is_lawful_call, values_in_call, posted_ids, are_different, call_word, Word, Plain, Line, begins_rank, digits_value, Called, calls_of, rank_of_text, with_call, call_line, call_of, called_after, at_line, call_step, data_part, SpellsCall, SpellsCallLine, calls_in, nat_tests, inr}
+use Rattle.script_spelling.proofs.Words.{◌≡◌, ◌∙◌, ℕ, zero, suc, ◌+◌, ◌<◌, ◌≤◌, List, [], ◌∷◌, ◌++◌, map, drop, length, Bool, true, false, nat_lt, Some, slice_get, Result, Ok, Err, refl, sym, ap, subst, length-set, arith, bytes_eq, codes, AllZip, list_all, enumerate_from, and_parts, cond-true, lt-ltb, ltb-true, list_all-append, passes_at, first_same, entry_numbered, ScriptKind, Call, most_values, is_lawful_call, values_in_call, posted_ids, are_different, call_word, Word, Plain, Line, begins_rank, digits_value, Called, calls_of, rank_of_text, with_call, call_line, call_of, called_after, at_line, call_step, data_part, SpellsCall, SpellsCallLine, calls_in, nat_tests, inr, sum_cons}
 use Rattle.script_spelling.proofs.Steps.{go_on, by_false}
 use Rattle.script_spelling.proofs.Places.{bytes_same}
-use Rattle.script_spelling.proofs.CallCounts.{count, count_all, count_set, data_by, NewId, new_id}
+use Rattle.script_spelling.proofs.CallCounts.{count, count_all, count_set, data_by, NewId, new_id, sum_later}
 use Rattle.std.proofs.Common.{inl}
 use Rattle.list_laws.proofs.Truth.{holds_or_not}
 use Rattle.script_spelling.proofs.CallLinesRead.{with_calls, no_more, here, one_first, words_of}
@@ -11,13 +11,10 @@ use Rattle.nc_base.specs.declared.errors.ScriptKind.TheVariants as kind
 
 -- ---- how many values there are
 
-count_more : (cs more : List Call) → count cs ≤ count (cs ++ more)
-count_more [] more = omega arith
-count_more (c ∷ cs) more = let rest = count_more cs more in omega arith
-
 count_with : (more : ℕ → List Call) (a : ℕ) (calls : List (List Call)) → count_all calls ≤ count_all (with_calls more a calls)
 count_with more a [] = omega arith
-count_with more a (own ∷ calls) = grind (arith, nat_tests, count_with more (a + 1) calls, count_more)
+count_with more a (own ∷ calls) =
+    omega (arith, count_with more (a + 1) calls, sum_later values_in_call own (more a), sum_cons count own calls, sum_cons count (own ++ more a) (with_calls more (a + 1) calls))
 
 -- ---- what holds of the calls of all ranks, and of those that have been read
 

@@ -1,9 +1,10 @@
 -- A line that says a statement leads on to where the later statements lead to the same.
-use Rattle.script_spelling.proofs.Words.{◌≡◌, ◌∙◌, ℕ, suc, ◌+◌, ◌<◌, ◌≤◌, List, [], ◌∷◌, ◌++◌, length, Bool, true, false, cond, ◌==◌, Option, Some, None, is_some, slice_set, Ok, refl, sym, ap, subst, length-set, append_assoc, arith, bytes_eq, codes, eqb-true, equal_itself, position_below, count_of, Dim, Attr, Var, Values, Extra, most_values, values_in_extra, Word, Plain, ◌>>=◌, refuse_if, reads_as, hint_table, hint_form, hint_in, dim_line, var_names, var_line, owner_of_text, owner_place, attribute, Defined, with_dim, with_var, with_attr_of_owner, with_attr_at, with_title, att_line, definition, Added, addition, Known, VarLine, Statement, RanksAre, HintIs, IsFilled, DimIs, VarIs, AttIs, owner_word, Says, Stand, title_of, at_most_one, hint_values, fills_in, dims_in, vars_in, own_attrs, attrs_of, extras_in, nat_tests}
+use Rattle.script_spelling.proofs.Words.{◌≡◌, ◌∙◌, ℕ, suc, ◌+◌, ◌<◌, ◌≤◌, List, [], ◌∷◌, ◌++◌, length, Bool, true, false, cond, ◌==◌, Option, Some, None, is_some, slice_set, Ok, refl, sym, ap, subst, length-set, append_assoc, arith, bytes_eq, codes, eqb-true, equal_itself, position_below, count_of, Dim, Attr, Var, Values, Extra, most_values, values_in_extra, Word, Plain, ◌>>=◌, refuse_if, reads_as, hint_table, hint_form, hint_in, dim_line, var_names, var_line, owner_of_text, owner_place, attribute, Defined, with_dim, with_var, with_attr_of_owner, with_attr_at, with_title, att_line, definition, Added, addition, Known, VarLine, Statement, RanksAre, HintIs, IsFilled, DimIs, VarIs, AttIs, owner_word, Says, Stand, title_of, at_most_one, hint_values, fills_in, dims_in, vars_in, own_attrs, attrs_of, extras_in, nat_tests, map, sum, sum_cons, sum_more, attr_values, extra_values}
 use Rattle.script_spelling.proofs.Steps.{go_on, word_read}
 use Rattle.script_spelling.proofs.Rooms.{HasRoom}
 use Rattle.script_spelling.proofs.Leading.{Leads, leads_by, hint_leads}
-use Rattle.script_spelling.proofs.PushedAttrs.{pushes, found_name, count_attrs, count_own, count-attr, count-var, count-pushed}
+use Rattle.script_spelling.proofs.CallCounts.{sum_later}
+use Rattle.script_spelling.proofs.PushedAttrs.{pushes, found_name, count-pushed, own_values}
 use Rattle.script_spelling.proofs.GrownVars.{are_apart, apart_pushed, names_pushed, names_kept, later_names, grown_vars, var_of, var_step, attr_step}
 use Rattle.script_spelling.proofs.TakenLines.{flag, Part, Grown, Fine, hint_here, hint_elsewhere, differ, grown_with}
 use Rattle.script_spelling.proofs.NewDefinitions.{defined_next}
@@ -16,32 +17,19 @@ use Rattle.nc_base.specs.declared.script.Extra.TheVariants as extra
 
 -- ---- how many values there are
 
-abbrev pub count_extras : List Extra → ℕ
-count_extras [] = 0
-count_extras (e ∷ es) = values_in_extra e + count_extras es
-
 abbrev pub total : Known → ℕ
-total k = count_attrs k.defined.attrs + count_own k.defined.vars + count_extras k.added.extras
+total k = attr_values k.defined.attrs + own_values k.defined.vars + extra_values k.added.extras
 
-extras_later : (es more : List Extra) → count_extras es ≤ count_extras (es ++ more)
-extras_later [] more = omega arith
-extras_later (e ∷ es) more = let rest = extras_later es more in omega arith
-
-extras_pushed : (es : List Extra) (e : Extra) → count_extras (es ++ e ∷ []) ≡ count_extras es + values_in_extra e
-extras_pushed [] e = omega arith
-extras_pushed (x ∷ es) e = omega (arith, extras_pushed es e)
-
-count_later : (list more : List Attr) → count_attrs list ≤ count_attrs (list ++ more)
-count_later [] more = omega arith
-count_later (a ∷ list) more = omega (arith, count_later list more)
-
-count_grown : (dims : List Dim) (more : List ℕ → List Attr) (vars : List Var) (lines : List VarLine) → count_own vars ≤ count_own (grown_vars dims more vars lines)
+count_grown : (dims : List Dim) (more : List ℕ → List Attr) (vars : List Var) (lines : List VarLine) → own_values vars ≤ own_values (grown_vars dims more vars lines)
 count_grown dims more [] lines = omega arith
-count_grown dims more (v ∷ vars) lines = omega (arith, count_grown dims more vars lines, count_later v.attrs (more v.name))
+count_grown dims more (v ∷ vars) lines =
+    let own = λ (x : Var). attr_values x.attrs in
+    let later = sum_cons own (record v { attrs = v.attrs ++ more v.name }) (grown_vars dims more vars lines) in
+    omega (arith, count_grown dims more vars lines, sum_later (λ (x : Attr). x.count) v.attrs (more v.name), sum_cons own v vars, later)
 
 pub total_grown : (opened : Bool) (k : Known) (ss : List Statement) (last : Known) → Part opened k ss last → total k ≤ total last
-total_grown true k ss last p = grind (arith, nat_tests, extras_later)
-total_grown false k ss last p = grind (arith, nat_tests, count_later, count_grown last.defined.dims (λ n. attrs_of n ss) k.defined.vars (vars_in ss))
+total_grown true k ss last p = grind (arith, nat_tests, sum_later values_in_extra k.added.extras (extras_in ss))
+total_grown false k ss last p = grind (arith, nat_tests, sum_later (λ (x : Attr). x.count) k.defined.attrs (own_attrs ss), count_grown last.defined.dims (λ n. attrs_of n ss) k.defined.vars (vars_in ss))
 
 -- ---- where a line leads
 
@@ -129,7 +117,7 @@ module _ (version : ℕ) (k : Known) (words : List Word) (ss : List Statement) (
       let stand = subst (λ (ns : List (List ℕ)). Stand false d.dims ns d.titles ss) (sym names) g.part.4.1 in
       defined_led (codes "var") ws r new refl refl refl are
       (go_on (var_line version d.dims d.vars ws) (λ x. Ok (0, with_var x d)) v r (var_told version d.dims d.vars line said stands) refl)
-      (record { fine = record { long = sound.fine.long; apart = apart }; counted = omega (arith, sound.counted, count-var d.vars v refl) })
+      (record { fine = record { long = sound.fine.long; apart = apart }; counted = omega (arith, sound.counted, sum_more (λ (x : Var). attr_values x.attrs) d.vars v) })
       (grown_with g.ranks g.hints g.filled (g.part.0, g.part.1, g.part.2, vars, stand))
 
   -- the values of an attribute have room
@@ -144,7 +132,7 @@ module _ (version : ℕ) (k : Known) (words : List Word) (ss : List Statement) (
       let r : ℕ × Defined = (a.count, with_title colon a.name (with_attr_of_owner None a d)) in
       let next : Known = defined_next k r in
       let after : Grown false next ss last = grown_with g.ranks g.hints g.filled (g.part.0, g.part.1, g.part.2 ∙ sym (append_assoc d.attrs (a ∷ []) (own_attrs ss)), g.part.3, g.part.4.2) in
-      let more : total next ≡ total k + a.count = omega (arith, count-attr d.attrs a) in
+      let more : total next ≡ total k + a.count = omega (arith, sum_more (λ (x : Attr). x.count) d.attrs a) in
       let room = attr_room false next a vs sound.counted more after.part few (ap (λ (x : Attr). x.count) same) in
       let read : att_line version k.values d (Plain colon ∷ rest) ≡ Ok r =
       go_on (attribute version d.titles k.values colon rest) (λ x. Ok (x.count, with_title colon x.name (with_attr_of_owner None x d))) a r
@@ -167,7 +155,7 @@ module _ (version : ℕ) (k : Known) (words : List Word) (ss : List Statement) (
       let step = attr_step last.defined.dims more_attrs owner a p.0 d.vars (vars_in ss) p.1 sound.fine.apart later ∙ ap (λ (xs : List Var). grown_vars last.defined.dims more_attrs xs (vars_in ss)) (sym vars) in
       let stand = subst (λ (ns : List (List ℕ)). Stand false d.dims ns (d.titles ++ (owner, a.name) ∷ []) ss) (sym names) g.part.4.2 in
       let after : Grown false next ss last = grown_with g.ranks g.hints g.filled (g.part.0, g.part.1, g.part.2, g.part.3 ∙ step, stand) in
-      let pushed = ap count_own vars ∙ count-pushed p.0 owner a d.vars (found_name owner d.vars p.0 p.1) in
+      let pushed = ap own_values vars ∙ count-pushed p.0 owner a d.vars (found_name owner d.vars p.0 p.1) in
       let more : total next ≡ total k + a.count = omega (arith, pushed) in
       let room = attr_room false next a vs sound.counted more after.part few (ap (λ (x : Attr). x.count) same) in
       let read : att_line version k.values d (Plain owner ∷ rest) ≡ Ok r =
@@ -199,7 +187,7 @@ module _ (version : ℕ) (k : Known) (words : List Word) (ss : List Statement) (
       let r : ℕ × Added = (0, record d { dims = d.dims ++ x ∷ []; extras = d.extras ++ extra.Dim x ∷ [] }) in
       let ws = Plain x.name ∷ Plain w ∷ [] in
       added_led (codes "dim") ws r old refl refl refl are (go_on (dim_line 5 d.dims ws) _ x r (dim_told 5 d.dims x w named told g.part.2.0) refl)
-      (record { fine = record { long = sound.fine.long; apart = sound.fine.apart }; counted = omega (arith, sound.counted, extras_pushed d.extras (extra.Dim x)) })
+      (record { fine = record { long = sound.fine.long; apart = sound.fine.apart }; counted = omega (arith, sound.counted, sum_more values_in_extra d.extras (extra.Dim x)) })
       (record { ranks = g.ranks; hints = g.hints; filled = g.filled; part = (g.part.0, g.part.1 ∙ sym (append_assoc d.extras (extra.Dim x ∷ []) (extras_in ss)), g.part.2.1) })
 
   added_var_led : (line : VarLine) → (version == 0) ≡ true → Sound k → Says 5 words (VarIs line) → Grown true k (VarIs line ∷ ss) last → Led true version k words ss last
@@ -210,7 +198,7 @@ module _ (version : ℕ) (k : Known) (words : List Word) (ss : List Statement) (
       let r : ℕ × Added = (0, with_line line d) in
       let ws = Plain w ∷ Plain line.name ∷ Plain brackets ∷ [] in
       added_led (codes "var") ws r old refl refl refl are (added_told d line said g.part.2.0)
-      (record { fine = record { long = sound.fine.long; apart = sound.fine.apart }; counted = omega (arith, sound.counted, extras_pushed d.extras one) })
+      (record { fine = record { long = sound.fine.long; apart = sound.fine.apart }; counted = omega (arith, sound.counted, sum_more values_in_extra d.extras one) })
       (record { ranks = g.ranks; hints = g.hints; filled = g.filled; part = (g.part.0, g.part.1 ∙ sym (append_assoc d.extras (one ∷ []) (extras_in ss)), g.part.2.1) })
 
   added_att_led : (owner : Option (List ℕ)) (a : Attr) → (version == 0) ≡ true → total last ≤ most_values → Sound k → Says 5 words (AttIs owner a) → Grown true k (AttIs owner a ∷ ss) last → Led true version k words ss last
@@ -222,7 +210,7 @@ module _ (version : ℕ) (k : Known) (words : List Word) (ss : List Statement) (
       let r : ℕ × Added = (a.count, record d { titles = d.titles ++ (word, a.name) ∷ []; extras = d.extras ++ extra.Att owner a ∷ [] }) in
       let next : Known = added_next k r in
       let after : Grown true next ss last = grown_with g.ranks g.hints g.filled (g.part.0, g.part.1 ∙ sym (append_assoc d.extras (extra.Att owner a ∷ []) (extras_in ss)), g.part.2.2) in
-      let more : total next ≡ total k + a.count = omega (arith, extras_pushed d.extras (extra.Att owner a)) in
+      let more : total next ≡ total k + a.count = omega (arith, sum_more values_in_extra d.extras (extra.Att owner a)) in
       let room = attr_room true next a vs sound.counted more after.part few (ap (λ (x : Attr). x.count) same) in
       added_led (codes "att") (Plain word ∷ rest) r old refl refl refl are
       (go_on (reads_as owner_of_text kind.BadName (Plain word ∷ rest)) _ (word, rest) r (word_read owner_of_text kind.BadName word word rest of_owner.0)

@@ -1,5 +1,5 @@
 -- One attribute more of a variable, and how many values attributes have.
-use Rattle.script_spelling.proofs.Words.{◌≡◌, ℕ, zero, suc, ◌+◌, List, [], ◌∷◌, ◌++◌, position, true, false, Some, slice_get, slice_set, refl, sym, ap, subst, ⊎_elim, arith, bytes_eq, Attr, Var, var_names, with_attr_at, nat_tests}
+use Rattle.script_spelling.proofs.Words.{◌≡◌, ℕ, zero, suc, ◌+◌, List, [], ◌∷◌, ◌++◌, position, true, false, Some, slice_get, slice_set, refl, sym, ap, subst, ⊎_elim, arith, bytes_eq, Attr, Var, var_names, with_attr_at, nat_tests, map, sum, sum_cons, sum_more, attr_values}
 use Rattle.script_spelling.proofs.Places.{bytes_same, Later, place_cases}
 
 -- one attribute more of the variable at this place
@@ -28,23 +28,12 @@ found_name n (v ∷ vs) k h = ⊎_elim
     (λ (b : (bytes_eq n v.name ≡ false) × Later (bytes_eq n) (var_names vs) k). subst (λ j. NameAt (v ∷ vs) j n) (sym b.1.next) (found_name n vs b.1.before b.1.found))
     (place_cases (bytes_eq n) v.name (var_names vs) k h)
 
-abbrev pub count_attrs : List Attr → ℕ
-count_attrs [] = 0
-count_attrs (a ∷ list) = a.count + count_attrs list
+abbrev pub own_values : List Var → ℕ
+own_values vars = sum (map (λ (v : Var). attr_values v.attrs) vars)
 
-abbrev pub count_own : List Var → ℕ
-count_own [] = 0
-count_own (v ∷ vs) = count_attrs v.attrs + count_own vs
-
-pub count-attr : (list : List Attr) (a : Attr) → count_attrs (list ++ a ∷ []) ≡ count_attrs list + a.count
-count-attr [] a = omega arith
-count-attr (x ∷ list) a = omega (arith, count-attr list a)
-
-pub count-var : (vs : List Var) (v : Var) → v.attrs ≡ [] → count_own (vs ++ v ∷ []) ≡ count_own vs
-count-var [] v none = omega (arith, ap count_attrs none)
-count-var (x ∷ vs) v none = omega (arith, count-var vs v none)
-
-pub count-pushed : (k : ℕ) (n : List ℕ) (a : Attr) (vs : List Var) → NameAt vs k n → count_own (push_attr k a vs) ≡ count_own vs + a.count
+pub count-pushed : (k : ℕ) (n : List ℕ) (a : Attr) (vs : List Var) → NameAt vs k n → own_values (push_attr k a vs) ≡ own_values vs + a.count
 count-pushed k n a [] at = absurd at
-count-pushed zero n a (v ∷ vs) at = omega (arith, count-attr v.attrs a)
-count-pushed (suc k) n a (v ∷ vs) at = omega (arith, count-pushed k n a vs at)
+count-pushed zero n a (v ∷ vs) at =
+    omega (arith, sum_more (λ (x : Attr). x.count) v.attrs a, sum_cons (λ (x : Var). attr_values x.attrs) v vs, sum_cons (λ (x : Var). attr_values x.attrs) (with_own a v) vs)
+count-pushed (suc k) n a (v ∷ vs) at =
+    omega (arith, count-pushed k n a vs at, sum_cons (λ (x : Var). attr_values x.attrs) v vs, sum_cons (λ (x : Var). attr_values x.attrs) v (push_attr k a vs))

@@ -1,8 +1,7 @@
 -- A text that spells a script is read as this script.
 use Rattle.script_spelling.proofs.Words.{◌≡◌, ◌∙◌, ℕ, ◌+◌, ◌≤◌, List, [], ◌∷◌, ◌++◌, map, sum, drop, length, Bool, true, false, not, cond, ◌==◌, Option, Some, None, Result, Ok, Err, refl, sym, ap, subst, append_assoc, arith, codes, AllZip, utf8_valid_len, eq-eqb, length-replicate, some_not_none, first_same, ScriptErr, ScriptKind, Attr, Dim, Header, Var, Call, Extra, Hints, Script, most_values, attr_values, extra_values, values_in_extra, values_in_script, lawful_parts, Word, Plain, Line, text_lines, significant, hints_of, no_definition, Defined, Known, nothing_known, head, definitions, data_part, finish, header_of, script_of, no_calls, script_of_lines, script_of_text, fault_of, script_fault, Reads, sum_cons, Statement, RanksAre, HintIs, IsFilled, DimIs, VarIs, AttIs, Says, Stand, attrs_of, vars_in, calls_in, fills_in, ToDataset, Describes, SpellsHead, Sections, lines_of, Spells, nat_tests}
 use Rattle.script_spelling.proofs.Steps.{go_on, same_ok, word_read}
-use Rattle.script_spelling.proofs.CallCounts.{count_all, all_counted, finish_by, count_empty, text_again}
-use Rattle.script_spelling.proofs.PushedAttrs.{count_attrs, count_own}
+use Rattle.script_spelling.proofs.CallCounts.{count_all, finish_by, count_empty, text_again}
 use Rattle.script_spelling.proofs.Agreement.{agreement}
 use Rattle.script_spelling.proofs.Spelled.{no_zero, none_given, no_not, read_spelled}
 use Rattle.script_spelling.proofs.CallLinesRead.{words_of, from_none}
@@ -10,7 +9,7 @@ use Rattle.script_spelling.proofs.GrownVars.{vars_of_lines}
 use Rattle.script_spelling.proofs.TakenLines.{Part, Grown}
 use Rattle.script_spelling.proofs.KnownRead.{lines_version}
 use Rattle.script_spelling.proofs.CallLinesTold.{LawfulCalls, Going, data_told}
-use Rattle.script_spelling.proofs.DefinitionsTold.{count_extras, total, Sound, total_grown}
+use Rattle.script_spelling.proofs.DefinitionsTold.{total, Sound, total_grown}
 use Rattle.script_spelling.proofs.KnownTold.{definitions_told, same_parts, same_hints}
 use Rattle.nc_base.specs.declared.errors.ScriptKind.TheVariants as kind
 
@@ -65,20 +64,8 @@ grown_told s ss called d stand = grind (arith, nat_tests, none_given, part_told)
 
 -- ---- how many values it has
 
-attrs_counted : (list : List Attr) → count_attrs list ≡ attr_values list
-attrs_counted [] = refl
-attrs_counted (a ∷ list) = omega (arith, attrs_counted list, sum_cons (λ (x : Attr). x.count) a list)
-
-own_counted : (vars : List Var) → count_own vars ≡ sum (map (λ (v : Var). attr_values v.attrs) vars)
-own_counted [] = refl
-own_counted (v ∷ vars) = omega (arith, own_counted vars, attrs_counted v.attrs, sum_cons (λ (x : Var). attr_values x.attrs) v vars)
-
-extras_counted : (es : List Extra) → count_extras es ≡ extra_values es
-extras_counted [] = refl
-extras_counted (e ∷ es) = omega (arith, extras_counted es, sum_cons values_in_extra e es)
-
 values_told : (s : Script) (hints : List (Option ℕ)) → total (known_of s hints) + count_all s.calls ≡ values_in_script s
-values_told s hints = omega (arith, attrs_counted s.header.attrs, own_counted s.header.vars, extras_counted s.extra, all_counted s.calls)
+values_told s hints = refl
 
 -- ---- the script by its parts
 
