@@ -1,5 +1,5 @@
 -- Ranks that agree don't differ.
-use Rattle.script_spelling.proofs.Words.{◌≡◌, ◌∙◌, ℕ, zero, suc, ◌+◌, List, [], ◌∷◌, find, map, length, Bool, true, false, not, ◌==◌, Option, Some, None, is_some, option_map, refl, ap, bytes_eq, list_all, range_with_len, and_parts, and_from, cond-false, eq-eqb, bytes_eq-Decides, ScriptKind, Call, MeetKind, kinds, kind_number, agree, kind_numbers, kind_at, differs_at, is_difference, mismatch}
+use Rattle.script_spelling.proofs.Words.{◌≡◌, ◌∙◌, ℕ, zero, suc, ◌+◌, List, [], ◌∷◌, find, map, length, Bool, true, false, not, ◌==◌, Option, Some, None, is_some, option_map, refl, ap, bytes_eq, list_all, range_with_len, and_parts, and_from, cond-false, eq-eqb, bytes_eq-Decides, ScriptKind, Call, MeetKind, kinds, kind_number, agree, kind_numbers, kind_at, differs_at, is_difference, mismatch, arith, nat_tests}
 use Rattle.script_spelling.proofs.Places.{position_cons}
 use Rattle.nc_base.specs.declared.errors.ScriptKind.TheVariants as kind
 
@@ -19,11 +19,7 @@ have_kinds calls ns = list_all (λ own. bytes_eq (kind_numbers own) ns) calls
 pub none_differs : (calls : List (List Call)) (first : List MeetKind) (k : ℕ) → have_kinds calls (numbers first) ≡ true → differs_at (map (λ own. kinds own) calls) first k ≡ None
 none_differs [] first k h = refl
 none_differs (own ∷ calls) first k h =
-    let both = and_parts (bytes_eq (kind_numbers own) (numbers first)) (have_kinds calls (numbers first)) h in
-    let same = same_at (kinds own) first k ((bytes_eq-Decides (kind_numbers own) (numbers first)).0 both.0) in
-    let test = λ (ks : List MeetKind). not (kind_at k ks == kind_at k first) in
-    position_cons test (kinds own) (map (λ cs. kinds cs) calls)
-    ∙ (cond-false _ _ _ (ap not (eq-eqb (kind_at k (kinds own)) (kind_at k first) same)) ∙ ap (option_map suc) (none_differs calls first k both.1))
+    grind (arith, nat_tests, none_differs calls first k, and_parts, same_at (kinds own) first k, bytes_eq-Decides (kind_numbers own) (numbers first), position_cons, option_map, not)
 
 pub nothing_found : (p : ℕ → Bool) (from n : ℕ) → ((k : ℕ) → p k ≡ false) → find p (range_with_len from n) ≡ None
 nothing_found p from zero h = refl

@@ -33,11 +33,7 @@ NewId own _ = Unit {0}
 
 pub apart : (ids more : List ℕ) (id : ℕ) → are_different (ids ++ id ∷ more) ≡ true → is_posted id ids ≡ false
 apart [] more id h = refl
-apart (n ∷ ids) more id h =
-    let both = and_parts (not (list_any (λ m. m == n) (ids ++ id ∷ more))) (are_different (ids ++ id ∷ more)) h in
-    let none = sym (list_any-append (λ m. m == n) ids (id ∷ more)) ∙ not-true _ both.0 in
-    let behind = (or_parts (list_any (λ m. m == n) ids) ((id == n) || list_any (λ m. m == n) more) none).1 in
-    or_from _ _ (or_parts (id == n) (list_any (λ m. m == n) more) behind).0 (apart ids more id both.1)
+apart (n ∷ ids) more id h = grind (arith, nat_tests, apart ids more id, and_parts, list_any-append, not-true, or_parts, or_from)
 
 pub new_id : (own cs : List Call) (c : Call) → are_different (posted_ids (own ++ c ∷ cs)) ≡ true → NewId own c
 new_id own cs c h = grind (arith, nat_tests, apart, filter_map-append)

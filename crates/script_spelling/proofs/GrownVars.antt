@@ -1,5 +1,5 @@
 -- The variables of a new dataset, and what later lines give them.
-use Rattle.script_spelling.proofs.Words.{◌≡◌, ◌∙◌, ℕ, zero, suc, List, [], ◌∷◌, ◌++◌, map, position, Bool, true, false, not, cond, ◌&&◌, Option, Some, unwrap_or, refl, sym, ap, subst, ⊎_elim, append_assoc, append-nil, bytes_eq, AllZip, and_parts, and_from, or_parts, or_from, or_left, not-true, not_from_false, cond-true, cond-false, map-append, list_any-append, Dim, Attr, Var, dim_ids, is_among, var_names, Title, VarLine, Statement, RanksAre, HintIs, IsFilled, DimIs, VarIs, AttIs, Stand, dims_in, vars_in, IsVarOf, inr}
+use Rattle.script_spelling.proofs.Words.{◌≡◌, ◌∙◌, ℕ, zero, suc, List, [], ◌∷◌, ◌++◌, map, position, Bool, true, false, not, cond, ◌&&◌, Option, Some, unwrap_or, refl, sym, ap, subst, ⊎_elim, append_assoc, append-nil, bytes_eq, AllZip, and_parts, and_from, or_parts, or_from, or_left, not-true, not_from_false, cond-true, cond-false, map-append, list_any-append, Dim, Attr, Var, dim_ids, is_among, var_names, Title, VarLine, Statement, RanksAre, HintIs, IsFilled, DimIs, VarIs, AttIs, Stand, dims_in, vars_in, IsVarOf, inr, arith, nat_tests}
 use Rattle.script_spelling.proofs.Places.{bytes_same, bytes_own, Later, more_ids, place_cases}
 use Rattle.script_spelling.proofs.PushedAttrs.{with_own, push_attr}
 use Rattle.std.proofs.Common.{inl}
@@ -9,11 +9,7 @@ use Rattle.list_laws.proofs.Truth.{holds_or_not}
 
 -- a test that fails for a name fails for each that is the same
 not_same : (a b : List ℕ) (names : List (List ℕ)) → is_among a names ≡ true → is_among b names ≡ false → bytes_eq a b ≡ false
-not_same a b names there none =
-    elim (holds_or_not (bytes_eq a b)) [
-      | inl e ↦ let same : is_among a names ≡ false = subst (λ (x : List ℕ). is_among x names ≡ false) (sym (bytes_same a b e)) none in absurd (cc)
-      | inr e ↦ e
-    ]
+not_same a b names there none = grind (arith, nat_tests, bytes_same a b)
 
 abbrev pub are_apart : List (List ℕ) → Bool
 are_apart [] = true
@@ -22,10 +18,7 @@ are_apart (n ∷ names) = not (is_among n names) && are_apart names
 pub apart_pushed : (names : List (List ℕ)) (n : List ℕ) → are_apart names ≡ true → is_among n names ≡ false → are_apart (names ++ n ∷ []) ≡ true
 apart_pushed [] n all new = refl
 apart_pushed (m ∷ names) n all new =
-    let both = and_parts (not (is_among m names)) (are_apart names) all in
-    let not_n = not_same m n (m ∷ names) (or_left _ _ (bytes_own m)) new in
-    let fresh : is_among m (names ++ n ∷ []) ≡ false = list_any-append (bytes_eq m) names (n ∷ []) ∙ or_from _ _ (not-true (is_among m names) both.0) (or_from _ _ not_n refl) in
-    and_from _ _ (not_from_false _ fresh) (apart_pushed names n both.1 (or_parts (bytes_eq n m) (is_among n names) new).1)
+    grind (arith, nat_tests, apart_pushed names n, and_parts, and_from, or_parts, or_from, not-true, not_from_false, list_any-append, bytes_same m n)
 
 pub names_pushed : (vars : List Var) (v : Var) → var_names (vars ++ v ∷ []) ≡ var_names vars ++ v.name ∷ []
 names_pushed vars v = map-append (λ (x : Var). x.name) vars (v ∷ [])
@@ -98,9 +91,7 @@ grow_same owner a more v e = ap (λ (list : List Attr). record v { attrs = v.att
 
 all_same : (owner : List ℕ) (a : Attr) (more : List ℕ → List Attr) (vars : List Var) → is_among owner (var_names vars) ≡ false → map (grow (first_of owner a more)) vars ≡ map (grow more) vars
 all_same owner a more [] none = refl
-all_same owner a more (v ∷ vars) none =
-    let both = or_parts (bytes_eq owner v.name) (is_among owner (var_names vars)) none in
-    ap (λ (w : Var). w ∷ map (grow (first_of owner a more)) vars) (grow_same owner a more v both.0) ∙ ap (λ (vs : List Var). grow more v ∷ vs) (all_same owner a more vars both.1)
+all_same owner a more (v ∷ vars) none = grind (arith, nat_tests, all_same owner a more vars, grow_same owner a more v, or_parts)
 
 one_first : (owner : List ℕ) (a : Attr) (more : List ℕ → List Attr) (k : ℕ) (vars : List Var) → position (bytes_eq owner) (var_names vars) ≡ Some k → are_apart (var_names vars) ≡ true
     → map (grow (first_of owner a more)) vars ≡ map (grow more) (push_attr k a vars)
@@ -125,10 +116,7 @@ names_of_lines dims (line ∷ lines) = ap (λ (names : List (List ℕ)). line.na
 -- the line of an attribute
 pub attr_step : (dims : List Dim) (more : List ℕ → List Attr) (owner : List ℕ) (a : Attr) (k : ℕ) (vars : List Var) (lines : List VarLine) → position (bytes_eq owner) (var_names vars) ≡ Some k → are_apart (var_names vars) ≡ true
     → is_among owner (line_names lines) ≡ false → grown_vars dims (first_of owner a more) vars lines ≡ grown_vars dims more (push_attr k a vars) lines
-attr_step dims more owner a k vars lines at all later =
-    let new = map (bare_var dims) lines in
-    let none = subst (λ (names : List (List ℕ)). is_among owner names ≡ false) (sym (names_of_lines dims lines)) later in
-    ap (λ (vs : List Var). vs ++ map (grow (first_of owner a more)) new) (one_first owner a more k vars at all) ∙ ap (λ (vs : List Var). map (grow more) (push_attr k a vars) ++ vs) (all_same owner a more new none)
+attr_step dims more owner a k vars lines at all later = grind (arith, nat_tests, names_of_lines, one_first, all_same)
 
 -- ---- variables of lines alone
 

@@ -59,14 +59,7 @@ abbrev pub with_line : VarLine → Added → Added
 with_line line d = record d { vars = d.vars ++ line.name ∷ []; extras = d.extras ++ extra.Var line.kind line.name line.dims ∷ [] }
 
 pub added_told : (d : Added) (line : VarLine) (w : VarWords 5 line) → VarStands true d.dims d.vars line → var_addition d (Plain w.kind_word ∷ Plain line.name ∷ Plain w.shape_word ∷ []) ≡ Ok (0, with_line line d)
-added_told d line w stands =
-    let rest = Plain w.shape_word ∷ [] in
-    let shape : added_shape d.dims rest ≡ Ok (line.dims, []) =
-    go_on (name_list rest) _ (line.dims, []) (line.dims, []) (names_told 5 line w)
-    (go_on (refuse_if (nat_lt most_dims_of_var (length line.dims)) (kind.Limit limit.VarDims)) _ tt (line.dims, []) (passed _ _ (le-ltb most_dims_of_var (length line.dims) stands.2))
-    (go_on (refuse_if (list_any (is_added_record d.dims) (drop 1 line.dims)) kind.BadShape) _ tt (line.dims, []) (passed _ _ stands.3) refl)) in
-    go_on (var_head 5 d.vars (Plain w.kind_word ∷ Plain line.name ∷ rest)) _ ((line.kind, line.name), rest) (0, with_line line d) (head_told 5 d.vars line w rest stands.0 stands.1)
-    (go_on (added_shape d.dims rest) _ (line.dims, []) (0, with_line line d) shape refl)
+added_told d line w stands = grind (arith, nat_tests, go_on, head_told, names_told, nat_lt, passed, le-ltb)
 
 -- ---- attributes
 

@@ -52,10 +52,7 @@ defined_with owner place a d = (a.count, with_title owner a.name (with_attr_of_o
 
 pub is_there : (n : List ℕ) (names : List (List ℕ)) (k : ℕ) → position (bytes_eq n) names ≡ Some k → is_among n names ≡ true
 is_there n [] k h = absurd (cc)
-is_there n (x ∷ names) k h = ⊎_elim
-    (λ (a : (bytes_eq n x ≡ true) × (k ≡ 0)). or_left _ _ a.0)
-    (λ (b : (bytes_eq n x ≡ false) × Later (bytes_eq n) names k). or_right _ _ (is_there n names b.1.before b.1.found))
-    (place_cases (bytes_eq n) x names k h)
+is_there n (x ∷ names) k h = grind (arith, nat_tests, place_cases (bytes_eq n) x names k h, is_there n names, or_left, or_right)
 
 -- an attribute of a variable
 new_attr : (version : ℕ) (k : Known) (words : List Word) (owner : List ℕ) (place : ℕ) (a : Attr) → Fine k → position (bytes_eq owner) (var_names k.defined.vars) ≡ Some place → Says version words (AttIs (Some owner) a)

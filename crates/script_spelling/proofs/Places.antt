@@ -25,10 +25,7 @@ place_later p x xs k h e = position_cons p x xs ∙ (cond-false _ _ _ h ∙ ap (
 
 pub place_more : {A : Type 0} (p : A → Bool) (xs ys : List A) (k : ℕ) → position p xs ≡ Some k → position p (xs ++ ys) ≡ Some k
 place_more p [] ys k h = absurd (cc)
-place_more p (x ∷ xs) ys k h = ⊎_elim
-    (λ (a : (p x ≡ true) × (k ≡ 0)). place_here p x (xs ++ ys) a.0 ∙ ap (λ (j : ℕ). Some j) (sym a.1))
-    (λ (b : (p x ≡ false) × Later p xs k). place_later p x (xs ++ ys) b.1.before b.0 (place_more p xs ys b.1.before b.1.found) ∙ ap (λ (j : ℕ). Some j) (sym b.1.next))
-    (place_cases p x xs k h)
+place_more p (x ∷ xs) ys k h = grind (arith, nat_tests, position_cons p x xs, position_cons p x (xs ++ ys), option_map, place_more p xs ys)
 
 pub bytes_same : (a b : List ℕ) → bytes_eq a b ≡ true → a ≡ b
 bytes_same a b h = (bytes_eq-Decides a b).0 h

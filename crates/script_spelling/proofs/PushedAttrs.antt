@@ -23,10 +23,7 @@ NameAt (v ∷ vs) (suc k) n = NameAt vs k n
 
 pub found_name : (n : List ℕ) (vs : List Var) (k : ℕ) → position (bytes_eq n) (var_names vs) ≡ Some k → NameAt vs k n
 found_name n [] k h = absurd (cc)
-found_name n (v ∷ vs) k h = ⊎_elim
-    (λ (a : (bytes_eq n v.name ≡ true) × (k ≡ 0)). subst (λ j. NameAt (v ∷ vs) j n) (sym a.1) (bytes_same n v.name a.0))
-    (λ (b : (bytes_eq n v.name ≡ false) × Later (bytes_eq n) (var_names vs) k). subst (λ j. NameAt (v ∷ vs) j n) (sym b.1.next) (found_name n vs b.1.before b.1.found))
-    (place_cases (bytes_eq n) v.name (var_names vs) k h)
+found_name n (v ∷ vs) k h = grind (arith, nat_tests, place_cases (bytes_eq n) v.name (var_names vs) k h, found_name n vs, bytes_same)
 
 abbrev pub own_values : List Var → ℕ
 own_values vars = sum (map (λ (v : Var). attr_values v.attrs) vars)
