@@ -221,18 +221,10 @@ module _ (i : ℕ) (n : List ℕ) where
       dims_parts h.dims _ ∙ ap (dims_on h.dims) (vars_parts h.dims h.vars _ ∙ ap (vars_on (map (line_for h.dims) h.vars)) (own_parts h.attrs _ ∙ ap (own_on h.attrs) (all_attrs_parts h.vars)))
 
 other_name : (a b : List ℕ) (names : List (List ℕ)) → is_among a names ≡ true → is_among b names ≡ false → bytes_eq b a ≡ false
-other_name a b names there none =
-    elim (holds_or_not (bytes_eq b a)) [
-      | inl e ↦ let same : is_among b names ≡ true = ap (λ (x : List ℕ). is_among x names) (bytes_same b a e) ∙ there in absurd (cc)
-      | inr e ↦ e
-    ]
+other_name a b names there none = grind (arith, nat_tests, bytes_same b a)
 
 bytes_other : (a b : List ℕ) → bytes_eq a b ≡ false → bytes_eq b a ≡ false
-bytes_other a b h =
-    elim (holds_or_not (bytes_eq b a)) [
-      | inl e ↦ let same : bytes_eq a b ≡ true = ap (bytes_eq a) (bytes_same b a e) ∙ bytes_own a in absurd (cc)
-      | inr e ↦ e
-    ]
+bytes_other a b h = grind (arith, nat_tests, bytes_same b a, bytes_own a)
 
 -- variables behind one of this name have none
 none_of : (version : ℕ) (dims : List Dim) (names : List (List ℕ)) (n : List ℕ) (vs : List Var) → VarChain version dims names vs → is_among n names ≡ true → own_of n vs ≡ []

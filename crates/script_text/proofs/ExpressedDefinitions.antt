@@ -60,9 +60,7 @@ dim_named before (d ∷ ds) (suc k) h low = dim_named (before ++ d ∷ []) ds k 
 
 dims_named : (dims : List Dim) (ids : List ℕ) → are_expressible_dims [] dims ≡ true → list_all (λ id. nat_lt id (length dims)) ids ≡ true → list_all is_name (map (name_at dims) ids) ≡ true
 dims_named dims [] h low = refl
-dims_named dims (id ∷ ids) h low =
-    let both = and_parts (nat_lt id (length dims)) (list_all (λ i. nat_lt i (length dims)) ids) low in
-    and_from _ _ (dim_named [] dims id h (ltb-true id (length dims) both.0)) (dims_named dims ids h both.1)
+dims_named dims (id ∷ ids) h low = grind (arith, nat_tests, dims_named dims ids h, and_parts, dim_named [] dims id h, ltb-true, and_from)
 
 -- ---- variables
 

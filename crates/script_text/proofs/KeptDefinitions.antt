@@ -1,5 +1,5 @@
 -- The definitions of a script that is read, in their canonical order: each is said again, and may stand behind those before it.
-use Rattle.script_text.proofs.Words.{◌≡◌, ◌∙◌, ℕ, List, [], ◌∷◌, ◌++◌, map, Bool, true, false, ◌&&◌, Some, None, refl, sym, ap, subst, append_assoc, bytes_eq, codes, list_any, and_from, or_parts, or_from, list_any-append, AllZip, NcType, Attr, Dim, Var, Script, Extra, is_among, dim_ids, Title, same_title}
+use Rattle.script_text.proofs.Words.{◌≡◌, ◌∙◌, ℕ, List, [], ◌∷◌, ◌++◌, map, Bool, true, false, ◌&&◌, Some, None, refl, sym, ap, subst, append_assoc, bytes_eq, codes, list_any, and_from, or_parts, or_from, list_any-append, AllZip, NcType, Attr, Dim, Var, Script, Extra, is_among, dim_ids, Title, same_title, arith, nat_tests}
 use Rattle.script_spelling.specs.Statements.{Statement, RanksAre, HintIs, IsFilled, DimIs, VarIs, AttIs, VarLine, VarStands, ShapeStands, Stand}
 use Rattle.script_spelling.specs.Described.{Defines, IsVarOf, dims_in, vars_in, own_attrs, attrs_of, extras_in}
 use Rattle.script_spelling.proofs.Places.{name_at, names_shown, more_ids, more_records, bytes_same, bytes_own}
@@ -50,10 +50,7 @@ titled_more : (titles : List Title) (t : Title) (owner : List ℕ) (names : List
 titled_more titles t owner names h n none = h n (or_parts (list_any (same_title (owner, n)) titles) _ (sym (list_any-append (same_title (owner, n)) titles (t ∷ [])) ∙ none)).0
 
 titled_pushed : (titles : List Title) (owner : List ℕ) (names : List (List ℕ)) (m : List ℕ) → Titled titles owner names → Titled (titles ++ (owner, m) ∷ []) owner (names ++ m ∷ [])
-titled_pushed titles owner names m h n none =
-    let p = or_parts (list_any (same_title (owner, n)) titles) _ (sym (list_any-append (same_title (owner, n)) titles ((owner, m) ∷ [])) ∙ none) in
-    let other : bytes_eq n m ≡ false = sym (ap (λ (b : Bool). b && bytes_eq n m) (bytes_own owner)) ∙ (or_parts (same_title (owner, n) (owner, m)) false p.1).0 in
-    list_any-append (bytes_eq n) names (m ∷ []) ∙ or_from _ _ (h n p.0) (or_from _ _ other refl)
+titled_pushed titles owner names m h n none = grind (arith, nat_tests, or_parts, list_any-append, or_from, bytes_own owner)
 
 -- the dimensions, the attributes of the dataset, and those of each variable
 abbrev Kept : ℕ → List Dim → List Title → List Statement → Type 0

@@ -191,17 +191,11 @@ digits_item (d ∷ ds) some h = all_more is_digit is_item_byte digit_item (d ∷
 
 sizes_items : (ns : List ℕ) → list_all is_size ns ≡ true → list_all is_item (map decimal ns) ≡ true
 sizes_items [] h = refl
-sizes_items (n ∷ ns) h =
-    let both = and_parts _ _ h in
-    let low = size_low n both.0 in
-    let d = decimal_numeral n (omega arith) in
-    and_from _ _ (digits_item (decimal n) d.some d.digits) (sizes_items ns both.1)
+sizes_items (n ∷ ns) h = grind (arith, nat_tests, sizes_items ns, and_parts, size_low n, decimal_numeral n, digits_item, and_from)
 
 sizes_again : (ns : List ℕ) → list_all is_size ns ≡ true → all_some (map size_of_text (map decimal ns)) ≡ Some ns
 sizes_again [] h = refl
-sizes_again (n ∷ ns) h =
-    let both = and_parts _ _ h in
-    ap (λ (o : Option ℕ). all_some (o ∷ map size_of_text (map decimal ns))) (size_again n (size_low n both.0)) ∙ ap (option_map (λ xs. n ∷ xs)) (sizes_again ns both.1)
+sizes_again (n ∷ ns) h = grind (arith, nat_tests, sizes_again ns, and_parts, size_low n, size_again n, option_map)
 
 pub list_again : (ns : List ℕ) → list_all is_size ns ≡ true → list_of_text (size_list ns) ≡ Some ns
 list_again ns h = grind (arith, nat_tests, option_and_then, brackets_again, decimal, parts_again, sizes_items, sizes_again)
