@@ -1,5 +1,5 @@
 -- Ranks that agree don't differ.
-use Rattle.script_spelling.proofs.Words.{◌≡◌, ◌∙◌, ℕ, zero, suc, ◌+◌, List, [], ◌∷◌, find, map, length, Bool, true, false, not, ◌==◌, Option, Some, None, is_some, option_map, refl, ap, bytes_eq, list_all, range_with_len, and_parts, and_from, cond-false, eq-eqb, bytes_eq-Decides, ScriptKind, Call, MeetKind, kinds, kind_number, agree, kind_numbers, kind_at, differs_at, is_difference, mismatch, arith, nat_tests}
+use Rattle.script_spelling.proofs.Words.{◌≡◌, ◌∙◌, ℕ, zero, suc, ◌+◌, List, [], ◌∷◌, find, map, length, Bool, true, false, not, Option, Some, None, is_some, option_map, refl, ap, bytes_eq, list_all, range_with_len, and_parts, and_from, cond-false, bytes_eq-Decides, ScriptKind, Call, MeetKind, kinds, kind_number, agree, kind_numbers, kind_at, differs_at, is_difference, mismatch, arith, nat_tests}
 use Rattle.script_spelling.proofs.Places.{position_cons}
 use Rattle.nc_base.specs.declared.errors.ScriptKind.TheVariants as kind
 

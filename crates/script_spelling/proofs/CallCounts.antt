@@ -1,5 +1,5 @@
 -- The calls of ranks: how many values they have, and ids that differ; a text by its lines.
-use Rattle.script_spelling.proofs.Words.{◌≡◌, ◌∙◌, ℕ, zero, suc, ◌+◌, ◌≤◌, ◌<◌, List, [], ◌∷◌, ◌++◌, map, length, replicate, Bool, true, false, not, nat_lt, slice_set, Result, Ok, Err, refl, ap, arith, and_parts, ScriptKind, ScriptErr, Call, values_in_call, Line, Called, calls_of, at_line, data_part, nat_tests, sum, ◌==◌, ◌||◌, None, sym, list_any, or_parts, or_from, not-true, filter_map-append, list_any-append, sum_by-cons, are_different, posted_ids, posted, is_posted, Option, Some, utf8_valid_len, Script, text_lines, significant, script_of_lines, most_bytes, most_lines, Reads, le-ltb, ltb-false, sum_cons, sum_more}
+use Rattle.script_spelling.proofs.Words.{◌≡◌, ℕ, zero, suc, ◌+◌, ◌≤◌, ◌<◌, List, [], ◌∷◌, ◌++◌, map, length, replicate, Bool, true, false, nat_lt, slice_set, Result, Ok, Err, refl, ap, arith, and_parts, ScriptKind, ScriptErr, Call, values_in_call, Line, Called, calls_of, at_line, data_part, nat_tests, sum, ◌==◌, None, or_parts, or_from, not-true, filter_map-append, list_any-append, are_different, posted_ids, posted, is_posted, Option, Some, utf8_valid_len, Script, text_lines, significant, script_of_lines, most_bytes, most_lines, Reads, le-ltb, ltb-false, sum_cons, sum_more}
 use Rattle.script_spelling.proofs.Steps.{same_ok}
 use Rattle.nc_base.specs.declared.request.Call.TheVariants as call
 

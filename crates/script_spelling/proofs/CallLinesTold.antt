@@ -1,10 +1,8 @@
 -- Lines that spell the calls of a lawful script are read as its calls.
-use Rattle.script_spelling.proofs.Words.{◌≡◌, ◌∙◌, ℕ, zero, suc, ◌+◌, ◌<◌, ◌≤◌, List, [], ◌∷◌, ◌++◌, map, drop, length, Bool, true, false, nat_lt, Some, slice_get, Result, Ok, Err, refl, sym, ap, subst, length-set, arith, bytes_eq, codes, AllZip, list_all, enumerate_from, and_parts, cond-true, lt-ltb, ltb-true, list_all-append, passes_at, first_same, entry_numbered, ScriptKind, Call, most_values, is_lawful_call, values_in_call, posted_ids, are_different, call_word, Word, Plain, Line, begins_rank, digits_value, Called, calls_of, rank_of_text, with_call, call_line, call_of, called_after, at_line, call_step, data_part, SpellsCall, SpellsCallLine, calls_in, nat_tests, inr, sum_cons}
+use Rattle.script_spelling.proofs.Words.{◌≡◌, ◌∙◌, ℕ, zero, suc, ◌+◌, ◌<◌, ◌≤◌, List, [], ◌∷◌, ◌++◌, map, drop, length, Bool, true, false, nat_lt, Some, slice_get, Result, Ok, Err, refl, sym, ap, subst, length-set, arith, bytes_eq, codes, AllZip, list_all, enumerate_from, and_parts, cond-true, lt-ltb, ltb-true, list_all-append, passes_at, first_same, entry_numbered, ScriptKind, Call, most_values, is_lawful_call, values_in_call, posted_ids, are_different, call_word, Word, Plain, Line, begins_rank, digits_value, Called, calls_of, rank_of_text, with_call, call_line, call_of, called_after, at_line, call_step, data_part, SpellsCall, SpellsCallLine, calls_in, nat_tests, sum_cons}
 use Rattle.script_spelling.proofs.Steps.{go_on, by_false}
 use Rattle.script_spelling.proofs.Places.{bytes_same}
 use Rattle.script_spelling.proofs.CallCounts.{count, count_all, count_set, data_by, NewId, new_id, sum_later}
-use Rattle.std.proofs.Common.{inl}
-use Rattle.list_laws.proofs.Truth.{holds_or_not}
 use Rattle.script_spelling.proofs.CallLinesRead.{with_calls, no_more, here, one_first, words_of}
 use Rattle.script_spelling.proofs.CallsTold.{call_told}
 use Rattle.nc_base.specs.declared.errors.ScriptKind.TheVariants as kind
@@ -53,11 +51,7 @@ next_of ranks base r all own behind c lawful at =
 -- ---- a line
 
 no_end : (w : List ℕ) → begins_rank w ≡ true → bytes_eq w (codes "end") ≡ false
-no_end w h =
-    elim (holds_or_not (bytes_eq w (codes "end"))) [
-      | inl e ↦ let digits : begins_rank (codes "end") ≡ true = subst (λ (x : List ℕ). begins_rank x ≡ true) (bytes_same w (codes "end") e) h in absurd (cc)
-      | inr e ↦ e
-    ]
+no_end w h = grind (arith, nat_tests, bytes_same w (codes "end"))
 
 rank_told : (ranks r : ℕ) (w : List ℕ) → begins_rank w ≡ true → digits_value w ≡ r → r < ranks → rank_of_text ranks w ≡ Ok r
 rank_told ranks r w digits same low = grind (arith, nat_tests, cond-true, nat_lt, lt-ltb)

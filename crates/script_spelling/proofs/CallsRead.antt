@@ -10,29 +10,16 @@ use Rattle.nc_base.specs.declared.request.Call.TheVariants as call
 -- ---- the words of calls
 
 prefixed : (prefix w rest : List ℕ) → after_prefix prefix w ≡ Some rest → w ≡ prefix ++ rest
-prefixed prefix w rest h =
-    let n = length prefix in
-    let k = cond_some (bytes_eq (take n w) prefix) (drop n w) rest h in
-    sym (take-append-drop n w) ∙ (ap (λ (front : List ℕ). front ++ drop n w) (bytes_same (take n w) prefix k.0) ∙ ap (λ (back : List ℕ). prefix ++ back) k.1)
+prefixed prefix w rest h = grind (arith, nat_tests, cond_some, take-append-drop (length prefix) w, bytes_same (take (length prefix) w) prefix)
 
 suffixed : (suffix w front : List ℕ) → before_suffix suffix w ≡ Some front → w ≡ front ++ suffix
-suffixed suffix w front h =
-    let n = length w - length suffix in
-    let k = cond_some (bytes_eq (drop n w) suffix) (take n w) front h in
-    sym (take-append-drop n w) ∙ (ap (λ (back : List ℕ). take n w ++ back) (bytes_same (drop n w) suffix k.0) ∙ ap (λ (x : List ℕ). x ++ suffix) k.1)
+suffixed suffix w front h = grind (arith, nat_tests, cond_some, take-append-drop (length w - length suffix) w, bytes_same (drop (length w - length suffix) w) suffix)
 
 form_is : (w : List ℕ) (f : Form) → form_of_text w ≡ Some f → w ≡ form_word f
 form_is w f h = bytes_same w (form_word f) (found_passes (λ (g : Form). bytes_eq w (form_word g)) forms f h)
 
 with_form : (w : List ℕ) (r : Form × Bool) → form_and_all w ≡ Some r → w ≡ with_all r.1 (form_word r.0)
-with_form w r h =
-    looked (before_suffix (codes "_all") w) _ _ _ h
-    (λ e k.
-    let m = some_of_map (λ x. (x, false)) (form_of_text w) r k in
-    subst (λ (x : Form × Bool). w ≡ with_all x.1 (form_word x.0)) m.2 (form_is w m.0 m.1))
-    (λ f e k.
-    let m = some_of_map (λ x. (x, true)) (form_of_text f) r k in
-    subst (λ (x : Form × Bool). w ≡ with_all x.1 (form_word x.0)) m.2 (suffixed (codes "_all") w f e ∙ ap (λ (x : List ℕ). x ++ codes "_all") (form_is f m.0 m.1)))
+with_form w r h = grind (arith, nat_tests, codes, some_of_map, form_is, suffixed)
 
 put_word : (all : Bool) (f : Form) → codes "put_" ++ with_all all (form_word f) ≡ with_all all (codes "put_" ++ form_word f)
 put_word true f = refl

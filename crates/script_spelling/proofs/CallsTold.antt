@@ -1,5 +1,5 @@
 -- Words that spell a lawful call are read as this call.
-use Rattle.script_spelling.proofs.Words.{◌≡◌, ◌∙◌, ℕ, ◌+◌, ◌≤◌, List, [], ◌∷◌, ◌++◌, Bool, true, false, Option, Some, None, Ok, refl, sym, ap, subst, append_assoc, append-nil, codes, and_parts, leb-true, count_of, Values, PostKind, Iput, Iget, Bput, Choice, Every, Listed, Given, Call, most_elements, most_values, is_given, are_values, is_post_of, is_lawful_call, values_in_call, call_word, Word, Plain, size_of_text, size, name, whole, values, region, id_of_text, ids, choice, posted, is_posted, put_call, get_call, post_values, post_call, behind, call_of, Family, Requests, Size, Name, Record, Nothing, Behind, CallRow, HasNoRegion, IsRow, made_word, of_row, Form, form_word, kind_word, with_all, Each, SpellsPosted, SpellsChoice, SpellsPlace, SpellsBehind, SpellsInRow, SpellsPlain, SpellsCall, arith, nat_tests}
+use Rattle.script_spelling.proofs.Words.{◌≡◌, ◌∙◌, ℕ, ◌+◌, ◌≤◌, List, [], ◌∷◌, ◌++◌, Bool, true, false, Option, Some, None, Ok, refl, sym, ap, subst, append_assoc, append-nil, codes, and_parts, leb-true, count_of, Values, PostKind, Iput, Iget, Bput, Choice, Every, Listed, Given, Call, most_elements, most_values, is_given, are_values, is_post_of, is_lawful_call, values_in_call, call_word, Word, Plain, size_of_text, size, name, whole, id_of_text, ids, choice, posted, is_posted, put_call, get_call, post_values, post_call, behind, call_of, Family, Requests, Size, Name, Record, Nothing, Behind, CallRow, HasNoRegion, IsRow, made_word, of_row, Form, form_word, kind_word, with_all, Each, SpellsPosted, SpellsChoice, SpellsPlace, SpellsBehind, SpellsInRow, SpellsPlain, SpellsCall, arith, nat_tests}
 use Rattle.script_spelling.proofs.Steps.{go_on, faultless, word_read, carry_on, by_false}
 use Rattle.script_spelling.proofs.Rooms.{HasRoom}
 use Rattle.script_spelling.proofs.WordsRead.{name_again}
@@ -39,12 +39,7 @@ posted_told Bput before ws vs h lawful few = values_told None before ws vs h (ro
 put_told : (all : Bool) (n : List ℕ) (g : Given) (before : ℕ) (vs : Values) (ws : List Word) → SpellsCall ws (call.Put all n g vs) → is_given g ≡ true → are_values vs ≡ true → before + count_of vs ≤ most_values
     → put_call all g.form before ws ≡ Ok (call.Put all n g vs)
 put_told all n g before vs ws (place, last, are, (own, is, named, spelled), told) given lawful few =
-    let c = call.Put all n g vs in
-    let rest = own ++ last in
-    ap (put_call all g.form before) (are ∙ ap (λ (xs : List Word). xs ++ last) is)
-    ∙ go_on (name (Plain n ∷ rest)) _ (n, rest) c (name_again n rest named)
-    (go_on (region g.form rest) _ (g, last) c (region_told g own last spelled given)
-    (go_on (values None before last) _ vs c (values_told None before last vs told (room_of before vs lawful few)) refl))
+    grind (arith, nat_tests, name_again n (own ++ last) named, region_told g own last spelled given, values_told None before last vs told (room_of before vs lawful few), go_on)
 
 get_told : (all : Bool) (n : List ℕ) (g : Given) (ws : List Word) → SpellsPlace ws n g → is_given g ≡ true → get_call all g.form ws ≡ Ok (call.Get all n g)
 get_told all n g ws (own, is, named, spelled) given =

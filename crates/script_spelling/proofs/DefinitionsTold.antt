@@ -1,5 +1,5 @@
 -- A line that says a statement leads on to where the later statements lead to the same.
-use Rattle.script_spelling.proofs.Words.{◌≡◌, ◌∙◌, ℕ, suc, ◌+◌, ◌<◌, ◌≤◌, List, [], ◌∷◌, ◌++◌, length, Bool, true, false, cond, ◌==◌, Option, Some, None, is_some, slice_set, Ok, refl, sym, ap, subst, length-set, append_assoc, arith, bytes_eq, codes, eqb-true, equal_itself, position_below, count_of, Dim, Attr, Var, Values, Extra, most_values, values_in_extra, Word, Plain, ◌>>=◌, refuse_if, reads_as, hint_table, hint_form, hint_in, dim_line, var_names, var_line, owner_of_text, owner_place, attribute, Defined, with_dim, with_var, with_attr_of_owner, with_attr_at, with_title, att_line, definition, Added, addition, Known, VarLine, Statement, RanksAre, HintIs, IsFilled, DimIs, VarIs, AttIs, owner_word, Says, Stand, title_of, at_most_one, hint_values, fills_in, dims_in, vars_in, own_attrs, attrs_of, extras_in, nat_tests, map, sum, sum_cons, sum_more, attr_values, extra_values}
+use Rattle.script_spelling.proofs.Words.{◌≡◌, ◌∙◌, ℕ, suc, ◌+◌, ◌<◌, ◌≤◌, List, [], ◌∷◌, ◌++◌, length, Bool, true, false, cond, ◌==◌, Option, Some, None, is_some, slice_set, Ok, refl, sym, ap, subst, length-set, append_assoc, arith, bytes_eq, codes, eqb-true, equal_itself, position_below, count_of, Dim, Attr, Var, Values, most_values, values_in_extra, Word, Plain, ◌>>=◌, refuse_if, reads_as, hint_table, hint_form, hint_in, dim_line, var_names, var_line, owner_of_text, owner_place, attribute, Defined, with_dim, with_var, with_attr_of_owner, with_attr_at, with_title, att_line, definition, Added, addition, Known, VarLine, Statement, RanksAre, HintIs, IsFilled, DimIs, VarIs, AttIs, owner_word, Says, Stand, title_of, at_most_one, hint_values, fills_in, dims_in, vars_in, own_attrs, attrs_of, extras_in, nat_tests, sum_cons, sum_more, attr_values, extra_values}
 use Rattle.script_spelling.proofs.Steps.{go_on, word_read}
 use Rattle.script_spelling.proofs.Rooms.{HasRoom}
 use Rattle.script_spelling.proofs.Leading.{Leads, leads_by, hint_leads}

@@ -1,9 +1,7 @@
 -- The variables of a new dataset, and what later lines give them.
-use Rattle.script_spelling.proofs.Words.{◌≡◌, ◌∙◌, ℕ, zero, suc, List, [], ◌∷◌, ◌++◌, map, position, Bool, true, false, not, cond, ◌&&◌, Option, Some, unwrap_or, refl, sym, ap, subst, ⊎_elim, append_assoc, append-nil, bytes_eq, AllZip, and_parts, and_from, or_parts, or_from, or_left, not-true, not_from_false, cond-true, cond-false, map-append, list_any-append, Dim, Attr, Var, dim_ids, is_among, var_names, Title, VarLine, Statement, RanksAre, HintIs, IsFilled, DimIs, VarIs, AttIs, Stand, dims_in, vars_in, IsVarOf, inr, arith, nat_tests}
-use Rattle.script_spelling.proofs.Places.{bytes_same, bytes_own, Later, more_ids, place_cases}
+use Rattle.script_spelling.proofs.Words.{◌≡◌, ◌∙◌, ℕ, zero, suc, List, [], ◌∷◌, ◌++◌, map, position, Bool, true, false, not, cond, ◌&&◌, Option, Some, unwrap_or, refl, sym, ap, subst, ⊎_elim, append_assoc, append-nil, bytes_eq, AllZip, and_parts, and_from, or_parts, or_from, or_left, not-true, not_from_false, cond-true, cond-false, map-append, list_any-append, Dim, Attr, Var, dim_ids, is_among, var_names, Title, VarLine, Statement, RanksAre, HintIs, IsFilled, DimIs, VarIs, AttIs, Stand, dims_in, vars_in, IsVarOf, arith, nat_tests}
+use Rattle.script_spelling.proofs.Places.{bytes_same, Later, more_ids, place_cases}
 use Rattle.script_spelling.proofs.PushedAttrs.{with_own, push_attr}
-use Rattle.std.proofs.Common.{inl}
-use Rattle.list_laws.proofs.Truth.{holds_or_not}
 
 -- ---- names
 

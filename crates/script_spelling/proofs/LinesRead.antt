@@ -1,5 +1,5 @@
 -- What the words of a line between the head and `data` say, where they are read, and that it may stand there.
-use Rattle.script_spelling.proofs.Words.{cond-true, ◌≡◌, ◌∙◌, ℕ, zero, suc, ◌<◌, ◌≤◌, List, [], ◌∷◌, position, length, true, false, Option, Some, None, is_some, is_none, slice_get, unwrap_or, Ok, refl, sym, ap, subst, arith, bytes_eq, codes, list_any, list_all, and_parts, length-map, cond_some, none_of_test, not_some, some_of_map, faultless_some, NcType, Dim, Attr, Var, most_dims, most_dims_of_var, most_vars, Word, Plain, is_name, between_brackets, parts, all_some, or_fault, reads_as, values, HintForm, Within, Either, HintRow, hint_table, hint_form, hint_of_text, no_row, hint_in, hint_value, hint_line, ranks_line, number_within, one_of_two, type_of, length_of_text, is_among, dim_ids, dim_line, var_head, name_list, shape, added_shape, var_names, var_line, owner_of_text, owner_name, Title, same_title, attr_of, attribute_name, attribute, VarLine, RanksAre, HintIs, DimIs, VarIs, AttIs, hint_value_of, owner_word, IsOwner, Says, DimStands, VarStands, nat_tests, ◌>>=◌, Result, ScriptKind, cond-false, and_left, ne_eqb, not-false, leb-false, ltb-false}
+use Rattle.script_spelling.proofs.Words.{cond-true, ◌≡◌, ◌∙◌, ℕ, zero, suc, ◌<◌, ◌≤◌, List, [], ◌∷◌, position, length, true, false, Option, Some, None, is_some, is_none, slice_get, unwrap_or, Ok, refl, sym, ap, subst, arith, bytes_eq, codes, list_any, list_all, and_parts, length-map, cond_some, none_of_test, not_some, some_of_map, faultless_some, NcType, Dim, Attr, Var, most_dims, most_dims_of_var, most_vars, Word, Plain, is_name, between_brackets, parts, all_some, or_fault, reads_as, values, HintForm, Within, Either, HintRow, hint_table, hint_form, hint_of_text, no_row, hint_in, hint_value, hint_line, ranks_line, number_within, one_of_two, type_of, length_of_text, is_among, dim_ids, dim_line, var_head, name_list, shape, added_shape, var_names, var_line, owner_of_text, owner_name, Title, same_title, attr_of, attribute_name, attribute, VarLine, RanksAre, HintIs, DimIs, VarIs, AttIs, hint_value_of, owner_word, IsOwner, Says, DimStands, VarStands, nat_tests, ◌>>=◌, Result, ScriptKind, cond-false, and_left, ne_eqb, not-false, leb-false, ltb-false, option_map}
 use Rattle.script_spelling.proofs.Steps.{same_ok, step_then, free_then, end_then, decided}
 use Rattle.script_spelling.proofs.Places.{bytes_same}
 use Rattle.script_spelling.proofs.WordsRead.{WordRead, word_is, NameRead, read_then, named_then}
@@ -89,9 +89,7 @@ var_says version names ws v ns head shape_said end = grind (arith, nat_tests, co
 pub all_found : {A : Type 0} (os : List (Option A)) (xs : List A) → all_some os ≡ Some xs → length xs ≡ length os
 all_found [] xs h = let same : [] ≡ xs = cc in ap length (sym same)
 all_found (None ∷ os) xs h = absurd (cc)
-all_found (Some x ∷ os) xs h =
-    let rest = some_of_map (λ ys. x ∷ ys) (all_some os) xs h in
-    ap length (sym rest.2) ∙ ap suc (all_found os rest.0 rest.1)
+all_found (Some x ∷ os) xs h = grind (arith, nat_tests, all_found os, option_map, some_of_map)
 
 few_dims : (dims : List Dim) (names : List (List ℕ)) (ids : List ℕ) → dim_ids dims names ≡ Some ids → length ids ≤ most_dims_of_var → length names ≤ most_dims_of_var
 few_dims dims names ids e few = grind (arith, nat_tests, position, bytes_eq, all_found, length-map)

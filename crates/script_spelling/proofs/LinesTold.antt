@@ -1,5 +1,5 @@
 -- Words that say a statement are read as what they say, where it may stand.
-use Rattle.script_spelling.proofs.Words.{◌≡◌, ℕ, suc, ◌<◌, ◌≤◌, List, [], ◌∷◌, position, drop, length, Bool, true, false, not, nat_lt, ◌||◌, Some, None, Ok, refl, sym, ap, inr, arith, bytes_eq, codes, list_any, list_all, le-ltb, length-map, count_of, Dim, Attr, Var, Values, most_dims_of_var, most_vars, Word, Plain, is_name, between_brackets, parts, refuse_if, reads_as, name, values, HintForm, Within, Either, hint_value, ranks_line, number_within, one_of_two, type_of, length_of_text, is_among, dim_ids, is_added_record, dim_line, var_head, name_list, added_shape, var_names, var_line, owner_place, Title, same_title, attr_of, attribute_name, attribute, SpellsValues, VarLine, hint_value_of, DimStands, VarStands, nat_tests, ◌∙◌, Added, var_addition, ◌++◌}
+use Rattle.script_spelling.proofs.Words.{◌≡◌, ℕ, suc, ◌<◌, ◌≤◌, List, [], ◌∷◌, position, length, Bool, true, false, not, nat_lt, ◌||◌, Some, None, Ok, refl, sym, ap, inr, arith, bytes_eq, codes, list_any, list_all, le-ltb, length-map, count_of, Dim, Attr, Var, Values, most_dims_of_var, most_vars, Word, Plain, is_name, between_brackets, parts, reads_as, name, HintForm, Within, Either, hint_value, ranks_line, number_within, one_of_two, type_of, length_of_text, is_among, dim_ids, dim_line, var_head, name_list, var_names, var_line, owner_place, Title, same_title, attr_of, attribute, SpellsValues, VarLine, hint_value_of, DimStands, VarStands, nat_tests, ◌∙◌, Added, var_addition, ◌++◌}
 use Rattle.script_spelling.proofs.Steps.{go_on, passed, faultless, word_read, by_false}
 use Rattle.script_spelling.proofs.Places.{place_here, place_later}
 use Rattle.script_spelling.proofs.Rooms.{HasRoom}
@@ -66,12 +66,7 @@ added_told d line w stands = grind (arith, nat_tests, go_on, head_told, names_to
 pub attr_told : (version : ℕ) (titles : List Title) (before : ℕ) (word : List ℕ) (a : Attr) (w : List ℕ) (given : List Word) (vs : Values) → is_name a.name ≡ true → type_of version w ≡ Some a.kind → SpellsValues (Some a.kind) given vs
     → a ≡ attr_of a.name a.kind vs → list_any (same_title (word, a.name)) titles ≡ false → HasRoom (Some a.kind) before (count_of vs) → attribute version titles before word (Plain a.name ∷ Plain w ∷ given) ≡ Ok a
 attr_told version titles before word a w given vs named told spells same fresh room =
-    let rest = Plain w ∷ given in
-    go_on (attribute_name titles word (Plain a.name ∷ rest)) _ (a.name, rest) a
-    (go_on (name (Plain a.name ∷ rest)) _ (a.name, rest) (a.name, rest) (name_again a.name rest named)
-    (go_on (refuse_if (list_any (same_title (word, a.name)) titles) kind.TwiceNamed) _ tt (a.name, rest) (passed _ _ fresh) refl))
-    (go_on (reads_as (type_of version) kind.UnknownWord rest) _ (a.kind, given) a (word_read (type_of version) kind.UnknownWord w a.kind given told)
-    (go_on (values (Some a.kind) before given) _ vs a (values_told (Some a.kind) before given vs spells room) (ap (λ (x : Attr). Ok x) (sym same))))
+    grind (arith, nat_tests, go_on, name_again a.name (Plain w ∷ given) named, passed, word_read (type_of version) kind.UnknownWord w a.kind given told, values_told (Some a.kind) before given vs spells room)
 
 -- a name that is among these has a place
 pub place_told : (n : List ℕ) (names : List (List ℕ)) → is_among n names ≡ true → (k : ℕ) × (position (bytes_eq n) names ≡ Some k)

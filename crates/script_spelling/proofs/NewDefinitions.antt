@@ -1,7 +1,7 @@
 -- The lines that define a new dataset, each with its statement.
-use Rattle.script_spelling.proofs.Words.{◌≡◌, ◌∙◌, ℕ, ◌+◌, List, [], ◌∷◌, ◌++◌, position, Bool, true, false, Option, Some, None, Ok, sym, ap, subst, ⊎_elim, append_assoc, arith, bytes_eq, codes, list_any, or_left, or_right, faultless_some, Attr, Var, Word, Plain, or_fault, is_among, dim_line, var_line, var_names, owner_place, same_title, attribute, Defined, with_dim, with_var, with_title, with_attr_of_owner, with_attr_at, att_line, dim_definition, var_definition, fill_line, definition, Known, DimIs, VarIs, AttIs, owner_word, IsOwner, Says, title_of, Stand, dims_in, vars_in, own_attrs, attrs_of, nat_tests}
+use Rattle.script_spelling.proofs.Words.{◌≡◌, ◌∙◌, ℕ, ◌+◌, List, [], ◌∷◌, ◌++◌, position, Bool, true, false, Option, Some, None, Ok, sym, ap, subst, append_assoc, arith, bytes_eq, codes, list_any, or_left, or_right, faultless_some, Attr, Var, Word, Plain, or_fault, is_among, dim_line, var_line, var_names, owner_place, same_title, attribute, Defined, with_dim, with_var, with_title, with_attr_of_owner, with_attr_at, att_line, dim_definition, var_definition, fill_line, definition, Known, DimIs, VarIs, AttIs, owner_word, IsOwner, Says, title_of, Stand, dims_in, vars_in, own_attrs, attrs_of, nat_tests}
 use Rattle.script_spelling.proofs.Steps.{went, same_ok, tested, by_false, step_then}
-use Rattle.script_spelling.proofs.Places.{Later, bytes_same, place_cases}
+use Rattle.script_spelling.proofs.Places.{bytes_same, place_cases}
 use Rattle.script_spelling.proofs.PushedAttrs.{pushes}
 use Rattle.script_spelling.proofs.LinesRead.{no_colon, dim_said, var_said, owner_then, attr_said}
 use Rattle.script_spelling.proofs.GrownVars.{are_apart, apart_pushed, names_pushed, names_kept, later_names, grown_vars, var_step, attr_step}

@@ -1,6 +1,6 @@
 -- One attribute more of a variable, and how many values attributes have.
-use Rattle.script_spelling.proofs.Words.{◌≡◌, ℕ, zero, suc, ◌+◌, List, [], ◌∷◌, ◌++◌, position, true, false, Some, slice_get, slice_set, refl, sym, ap, subst, ⊎_elim, arith, bytes_eq, Attr, Var, var_names, with_attr_at, nat_tests, map, sum, sum_cons, sum_more, attr_values}
-use Rattle.script_spelling.proofs.Places.{bytes_same, Later, place_cases}
+use Rattle.script_spelling.proofs.Words.{◌≡◌, ℕ, zero, suc, ◌+◌, List, [], ◌∷◌, ◌++◌, position, Some, slice_get, slice_set, refl, arith, bytes_eq, Attr, Var, var_names, with_attr_at, nat_tests, map, sum, sum_cons, sum_more, attr_values}
+use Rattle.script_spelling.proofs.Places.{bytes_same, place_cases}
 
 -- one attribute more of the variable at this place
 abbrev pub with_own : Attr → Var → Var

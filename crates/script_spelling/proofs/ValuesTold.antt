@@ -1,5 +1,5 @@
 -- Words that spell values are read as these values.
-use Rattle.script_spelling.proofs.Words.{◌≡◌, ◌∙◌, ℕ, ◌+◌, ◌<◌, List, [], ◌∷◌, ◌++◌, length, Bool, true, false, not, cond, Option, Some, None, Ok, ℤ, refl, sym, ap, subst, append_assoc, append-nil, length-append, arith, bytes_eq, codes, some_not_none, count_of, NcType, Values, Numbers, Text, Bits, Class, class_of, size_of, fits_in, Word, Plain, size_of_text, number_of_text, refuse_if, reads_as, size, are_numbers, are_text, may_be, number_for, pattern_for, one_value, each_value, sequence_count, sequence, last_number, is_term, term, numbers_between, seq_values, pattern_values, text_values, number_values, bits_values, begins_x, listed_kind, listed_values, values, SpellsOne, Each, SpellsSequence, SpellsBitSequence, SpellsValues, OfNothing, OfText, OfNumbers, OfBits, OfSequence, OfBitSequence, nat_tests, ◌>>=◌, ◌*◌, pos, ◌+ℤ◌, ◌*ℤ◌, length-map-range_with_len, pattern_sequence}
+use Rattle.script_spelling.proofs.Words.{◌≡◌, ◌∙◌, ℕ, ◌+◌, ◌<◌, List, [], ◌∷◌, ◌++◌, length, Bool, true, false, not, cond, Option, Some, None, Ok, ℤ, refl, sym, ap, subst, append_assoc, append-nil, length-append, arith, bytes_eq, codes, some_not_none, count_of, NcType, Values, Numbers, Text, Bits, Class, class_of, size_of, fits_in, Word, Plain, size_of_text, size, are_text, may_be, number_for, pattern_for, one_value, each_value, sequence_count, sequence, pattern_values, text_values, number_values, bits_values, begins_x, listed_kind, listed_values, values, SpellsOne, Each, SpellsSequence, SpellsBitSequence, SpellsValues, OfNothing, OfText, OfNumbers, OfBits, OfSequence, OfBitSequence, nat_tests, ◌>>=◌, ◌*◌, pos, ◌+ℤ◌, ◌*ℤ◌, length-map-range_with_len, pattern_sequence}
 use Rattle.script_spelling.proofs.Steps.{go_on, passed, faultless, word_read, carry_on, by_false}
 use Rattle.script_spelling.proofs.Places.{bytes_same}
 use Rattle.script_spelling.proofs.Rooms.{HasRoom, room_again, less_room, number_may, pattern_may}
@@ -93,22 +93,8 @@ count_told : (suits : Bool) (t : Option NcType) (before : ℕ) (count : List ℕ
     → sequence_count suits t before (Plain count ∷ more) ≡ Ok (n, more)
 count_told suits t before count n more h fits room = grind (arith, nat_tests)
 
-term_told : (t : Option NcType) (n : ℕ) (w : List ℕ) (a : ℤ) (more : List Word) → number_of_text w ≡ Some a → is_term t n a ≡ true → term t n (Plain w ∷ more) ≡ Ok (a, more)
-term_told t n w a more h fits = grind (arith, nat_tests, go_on, word_read, not, passed)
-
 seq_told : (t : Option NcType) (before : ℕ) (ws : List Word) (vs : Values) → SpellsSequence t ws vs → HasRoom t before (count_of vs) → values t before ws ≡ Ok vs
-seq_told t before ws vs (count, first, step, n, a, b, are, told, low, by, suits, least, most, same) room =
-    let last = Plain step ∷ [] in
-    let zs = sequence a b n in
-    let fits = subst (λ (m : ℕ). HasRoom t before m) (ap count_of same ∙ length-sequence a b n) room in
-    let terms : numbers_between t n (Plain first ∷ last) ≡ Ok zs =
-    go_on (term t n (Plain first ∷ last)) _ (a, last) zs (term_told t n first a last low least)
-    (go_on (reads_as number_of_text kind.BadNumber last) _ (b, []) zs (word_read number_of_text kind.BadNumber step b [] by)
-    (go_on (refuse_if (not (is_term t n (last_number a b n))) kind.BadNumber) _ tt zs (passed _ _ (ap not most)) refl)) in
-    let read : seq_values t before (Plain count ∷ Plain first ∷ last) ≡ Ok (Numbers zs) =
-    go_on (sequence_count (may_be are_numbers t) t before (Plain count ∷ Plain first ∷ last)) _ (n, Plain first ∷ last) (Numbers zs) (count_told (may_be are_numbers t) t before count n (Plain first ∷ last) told suits fits)
-    (go_on (numbers_between t n (Plain first ∷ last)) _ zs (Numbers zs) terms refl) in
-    ap (values t before) are ∙ (read ∙ ap (λ (x : Values). Ok x) (sym same))
+seq_told t before ws vs xs room = grind (arith, nat_tests, length-sequence, go_on, word_read, not, passed, count_told)
 
 count_of_patterns : (ns : List ℕ) → count_of (pattern_values ns) ≡ length ns
 count_of_patterns [] = refl

@@ -3,8 +3,6 @@ use Rattle.script_text.proofs.Words.{◌≡◌, ◌∙◌, ℕ, List, [], ◌∷
 use Rattle.script_spelling.specs.Statements.{Statement, DimIs, VarIs, AttIs, VarLine, owner_word, IsOwner, DimStands, VarStands, OwnerStands, Stand}
 use Rattle.script_spelling.specs.Described.{IsVarOf, ranks_in, hint_values, fills_in, dims_in, vars_in, own_attrs, attrs_of}
 use Rattle.script_spelling.proofs.Places.{name_at, bytes_same, bytes_own}
-use Rattle.std.proofs.Common.{inl, inr}
-use Rattle.list_laws.proofs.Truth.{holds_or_not}
 use Rattle.script_spelling.proofs.LinesRead.{no_colon}
 use Rattle.script_text.proofs.PrintedAttributes.{AttrAgain}
 use Rattle.script_text.proofs.StatementLines.{line_of_dim, line_of_var, line_of_att, Shown, Shows, shows_joined, att_shown}

@@ -1,5 +1,5 @@
 -- The definitions of a script that is read, in their canonical order: each is said again, and may stand behind those before it.
-use Rattle.script_text.proofs.Words.{◌≡◌, ◌∙◌, ℕ, List, [], ◌∷◌, ◌++◌, map, Bool, true, false, ◌&&◌, Some, None, refl, sym, ap, subst, append_assoc, bytes_eq, codes, list_any, and_from, or_parts, or_from, list_any-append, AllZip, NcType, Attr, Dim, Var, Script, Extra, is_among, dim_ids, Title, same_title, arith, nat_tests}
+use Rattle.script_text.proofs.Words.{◌≡◌, ◌∙◌, ℕ, List, [], ◌∷◌, ◌++◌, map, true, false, Some, None, refl, sym, ap, subst, append_assoc, bytes_eq, codes, list_any, and_from, or_parts, or_from, list_any-append, AllZip, NcType, Attr, Dim, Var, Script, Extra, is_among, dim_ids, Title, same_title, arith, nat_tests}
 use Rattle.script_spelling.specs.Statements.{Statement, RanksAre, HintIs, IsFilled, DimIs, VarIs, AttIs, VarLine, VarStands, ShapeStands, Stand}
 use Rattle.script_spelling.specs.Described.{Defines, IsVarOf, dims_in, vars_in, own_attrs, attrs_of, extras_in}
 use Rattle.script_spelling.proofs.Places.{name_at, names_shown, more_ids, more_records, bytes_same, bytes_own}

@@ -1,7 +1,7 @@
 -- A whole script: what is printed of it spells it, and is so read as it.
-use Rattle.script_text.proofs.Words.{◌≡◌, ◌∙◌, ℕ, zero, suc, ◌^◌, ◌≤◌, ◌<◌, List, [], ◌∷◌, ◌++◌, map, length, Bool, true, false, not, cond, ◌==◌, Option, Some, None, refl, sym, ap, subst, append_assoc, append-nil, arith, nat_tests, codes, decimal, list_all, list_all-append, list_all-map, AllZip, and_parts, and_from, or_cases, cond-true, cond-false, ne_eqb, eq-eqb, eqb-true, all_joined, length-map, range_with_len, Title, Dim, Header, Extra, Script, is_version, is_lawful, shown, Word, Plain, text_lines, significant, no_definition, header_of, most_bytes, most_lines, Reads}
+use Rattle.script_text.proofs.Words.{◌≡◌, ◌∙◌, ℕ, zero, suc, ◌^◌, ◌≤◌, ◌<◌, List, [], ◌∷◌, ◌++◌, map, length, Bool, true, false, not, cond, ◌==◌, Option, Some, None, refl, sym, ap, subst, append_assoc, append-nil, arith, nat_tests, codes, decimal, list_all, list_all-append, list_all-map, AllZip, and_parts, and_from, or_cases, cond-true, cond-false, ne_eqb, eq-eqb, eqb-true, all_joined, length-map, range_with_len, Dim, Header, Extra, Script, is_version, is_lawful, shown, Word, Plain, text_lines, significant, no_definition, header_of, most_bytes, most_lines, Reads}
 use Rattle.serial_spec.proofs.Common.{lawful_parts}
-use Rattle.script_spelling.specs.Statements.{Statement, RanksAre, HintIs, IsFilled, DimIs, VarIs, AttIs, VarLine, Stand}
+use Rattle.script_spelling.specs.Statements.{Statement, RanksAre, IsFilled, VarLine, Stand}
 use Rattle.script_spelling.specs.Described.{IsVarOf, calls_in, ToDataset, ranks_in, hint_values, fills_in, extras_in, attrs_of}
 use Rattle.script_spelling.specs.Spelling.{Sections, Spells, SpellsHead, lines_of, version_of_lines}
 use Rattle.script_spelling.proofs.CallLinesRead.{words_of}
