@@ -29,10 +29,7 @@ all_said (ws ∷ wss) ((r, c) ∷ called) ((w, more, are, digits, same, spells),
 
 in_rank_said : (r : ℕ) (called : List (ℕ × Call)) → list_all (λ (c : ℕ × Call). is_expressible_call c.1) called ≡ true → list_all is_expressible_call (calls_in r called) ≡ true
 in_rank_said r [] h = refl
-in_rank_said r (c ∷ called) h =
-    let both = and_parts (is_expressible_call c.1) _ h in
-    let more = in_rank_said r called both.1 in
-    either (λ (o : Option Call). list_all is_expressible_call (cons_option o (calls_in r called)) ≡ true) (c.0 == r) (Some c.1) None (λ e. and_from _ _ both.0 more) (λ e. more)
+in_rank_said r (c ∷ called) h = grind (arith, nat_tests, in_rank_said r called, and_parts, and_from, cons_option)
 
 ranks_said : (a n : ℕ) (called : List (ℕ × Call)) → list_all (λ (c : ℕ × Call). is_expressible_call c.1) called ≡ true → are_named (map (λ r. calls_in r called) (range_with_len a n)) ≡ true
 ranks_said a zero called h = refl

@@ -228,8 +228,7 @@ bytes_other a b h = grind (arith, nat_tests, bytes_same b a, bytes_own a)
 none_of : (version : ℕ) (dims : List Dim) (names : List (List ℕ)) (n : List ℕ) (vs : List Var) → VarChain version dims names vs → is_among n names ≡ true → own_of n vs ≡ []
 none_of version dims names n [] h there = refl
 none_of version dims names n (v ∷ vs) h there =
-    ap (λ (b : Bool). cond b v.attrs [] ++ own_of n vs) (other_name n v.name names there h.0.stands.0)
-    ∙ none_of version dims (names ++ v.name ∷ []) n vs h.1 (list_any-append (bytes_eq n) names (v.name ∷ []) ∙ or_left _ _ there)
+    grind (arith, nat_tests, other_name n v.name names there h.0.stands.0, none_of version dims (names ++ v.name ∷ []) n vs h.1, list_any-append, or_left)
 
 pub vars_told : (version : ℕ) (dims : List Dim) (f : List ℕ → List Attr) (names : List (List ℕ)) (vs : List Var) → VarChain version dims names vs → ((n : List ℕ) → is_among n names ≡ false → f n ≡ own_of n vs)
     → AllZip (λ (line : VarLine) v. IsVarOf dims (f line.name) line v) (map (line_for dims) vs) vs

@@ -42,18 +42,14 @@ printed_char c small =
 
 printed_text : (text : List ℕ) → list_all is_byte text ≡ true → list_all is_printable (flat_map text_char text) ≡ true
 printed_text [] h = refl
-printed_text (c ∷ text) h =
-    let both = and_parts _ _ h in
-    all_joined is_printable (text_char c) (flat_map text_char text) (printed_char c (byte_bound c both.0)) (printed_text text both.1)
+printed_text (c ∷ text) h = grind (arith, nat_tests, flat_map, and_parts, all_joined, printed_char c, byte_bound c, printed_text text)
 
 printed_word : (w : Word) → is_good w ≡ true → list_all is_printable (spelling w) ≡ true
 printed_word w h = grind (arith, nat_tests, all_more, and_parts, all_joined, flat_map, printed_text)
 
 printed_tail : (ws : List Word) → list_all is_good ws ≡ true → list_all is_printable (tail_of ws) ≡ true
 printed_tail [] h = refl
-printed_tail (w ∷ ws) h =
-    let both = and_parts _ _ h in
-    all_joined is_printable (spelling w) (tail_of ws) (printed_word w both.0) (printed_tail ws both.1)
+printed_tail (w ∷ ws) h = grind (arith, nat_tests, and_parts, all_joined is_printable (spelling w) (tail_of ws), printed_word w, printed_tail ws)
 
 -- ---- lines
 
@@ -119,9 +115,7 @@ printable_ascii c h = let b = printable_bounds c h in lt-ltb c 128 (omega arith)
 ascii_lines : (wss : List (List Word)) → list_all is_line wss ≡ true → list_all is_ascii (flat_map spelled wss) ≡ true
 ascii_lines [] h = refl
 ascii_lines (ws ∷ wss) h =
-    let both = and_parts _ _ h in
-    let own = all_more is_printable is_ascii printable_ascii (body ws) (printed_body ws both.0) in
-    all_joined is_ascii (spelled ws) (flat_map spelled wss) (all_joined is_ascii (body ws) (10 ∷ []) own refl) (ascii_lines wss both.1)
+    grind (arith, nat_tests, flat_map, and_parts, all_joined, all_more is_printable is_ascii printable_ascii (body ws), printed_body ws, ascii_lines wss)
 
 pub valid_lines : (wss : List (List Word)) → list_all is_line wss ≡ true → (utf8_valid_len (flat_map spelled wss) == length (flat_map spelled wss)) ≡ true
 valid_lines wss h =
@@ -160,9 +154,7 @@ encode_bytes c h = grind (arith, nat_tests, is_byte, either, nat_lt, ltb-true, a
 
 encodes_bytes : (cs : List ℕ) → scalars cs ≡ true → list_all is_byte (encodes cs) ≡ true
 encodes_bytes [] h = refl
-encodes_bytes (c ∷ cs) h =
-    let both = and_parts _ _ h in
-    all_joined is_byte (encode c) (encodes cs) (encode_bytes c both.0) (encodes_bytes cs both.1)
+encodes_bytes (c ∷ cs) h = grind (arith, nat_tests, and_parts, all_joined is_byte (encode c) (encodes cs), encode_bytes c, encodes_bytes cs)
 
 pub valid_bytes : (bs : List ℕ) → (utf8_valid_len bs == length bs) ≡ true → list_all is_byte bs ≡ true
 valid_bytes bs h = grind (arith, nat_tests, whole_front, is_byte, encodes_bytes)

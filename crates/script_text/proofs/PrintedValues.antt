@@ -78,9 +78,7 @@ pattern_word_again : (n k : ℕ) → k ≡ 16 → n < 2 ^ 64 → bits_of_text (1
 pattern_word_again n k e h = bits_again k n (omega arith) (omega arith) (subst (λ j. n < sixteens j) (sym e) h)
 
 pattern_for_again : (t : Option NcType) (n : ℕ) → is_fit_pattern t n ≡ true → pattern_for t (120 ∷ hex 16 n) ≡ Some n
-pattern_for_again t n h =
-    let both = and_parts _ _ h in
-    ap (pattern_by t) (pattern_word_again n 16 refl (ltb-true _ _ both.0)) ∙ cond-true _ _ _ both.1
+pattern_for_again t n h = grind (arith, nat_tests, and_parts, pattern_word_again n 16 refl, ltb-true, cond-true)
 
 pub each_spells : {A : Type 0} (f : List ℕ → Option A) (test : A → Bool) (p : A → List ℕ) → ((x : A) → test x ≡ true → f (p x) ≡ Some x) → (xs : List A) → list_all test xs ≡ true → Each f (map (λ x. Plain (p x)) xs) xs
 each_spells f test p again [] h = tt
@@ -95,9 +93,7 @@ values_spell t (Bits ns) h = OfBits ns h.1 (each_spells (pattern_for t) (is_fit_
 
 numbers_good : (t : Option NcType) (zs : List ℤ) → list_all (is_fit_number t) zs ≡ true → list_all is_good (map (λ z. Plain (signed_decimal z)) zs) ≡ true
 numbers_good t [] h = refl
-numbers_good t (z ∷ zs) h =
-    let both = and_parts (is_fit_number t z) _ h in
-    and_from _ _ (number_word z (ltb-true (unsigned_abs z) (10 ^ 20) (and_parts _ _ both.0).0)).plain (numbers_good t zs both.1)
+numbers_good t (z ∷ zs) h = grind (arith, nat_tests, and_parts, and_from, number_word z, ltb-true, numbers_good t zs)
 
 bits_good : (ns : List ℕ) → list_all is_good (map (λ n. Plain (120 ∷ hex 16 n)) ns) ≡ true
 bits_good [] = refl
