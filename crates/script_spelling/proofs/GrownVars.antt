@@ -37,8 +37,7 @@ later_names opened dims names titles (HintIs h v ∷ ss) n stand there = later_n
 later_names opened dims names titles (IsFilled ∷ ss) n stand there = later_names opened dims names titles ss n stand.1 there
 later_names opened dims names titles (DimIs d ∷ ss) n stand there = later_names opened (dims ++ d ∷ []) names titles ss n stand.1 there
 later_names opened dims names titles (VarIs line ∷ ss) n stand there =
-    or_from _ _ (not_same n line.name names there stand.0.0)
-    (later_names opened dims (names ++ line.name ∷ []) titles ss n stand.1 (list_any-append (bytes_eq n) names (line.name ∷ []) ∙ or_left _ _ there))
+    grind (arith, nat_tests, not_same n line.name names, later_names opened dims (names ++ line.name ∷ []) titles ss n stand.1, list_any-append, or_left, or_from)
 later_names opened dims names titles (AttIs owner a ∷ ss) n stand there = later_names opened dims names _ ss n stand.2 there
 
 -- ---- variables, and the lines of others behind them
@@ -69,11 +68,7 @@ still_found dims later all line ids e found = subst (λ (ds : List Dim). dim_ids
 -- the line of a variable
 pub var_step : (dims later all : List Dim) (more : List ℕ → List Attr) (vars : List Var) (line : VarLine) (lines : List VarLine) (v : Var) → all ≡ dims ++ later → dim_ids dims line.dims ≡ Some v.dims → v ≡ var_of line v.dims
     → grown_vars all more (vars ++ v ∷ []) lines ≡ grown_vars all more vars (line ∷ lines)
-var_step dims later all more vars line lines v e found same =
-    let rest = map (grow more) (map (bare_var all) lines) in
-    let bare : v ≡ bare_var all line = same ∙ ap (λ (o : Option (List ℕ)). var_of line (unwrap_or o [])) (sym (still_found dims later all line v.dims e found)) in
-    ap (λ (vs : List Var). vs ++ rest) (map-append (grow more) vars (v ∷ []))
-    ∙ (append_assoc (map (grow more) vars) (grow more v ∷ []) rest ∙ ap (λ (w : Var). map (grow more) vars ++ grow more w ∷ rest) bare)
+var_step dims later all more vars line lines v e found same = grind (arith, nat_tests, still_found dims later all line v.dims e found, map-append, append_assoc, unwrap_or)
 
 -- ---- an attribute of one of them
 

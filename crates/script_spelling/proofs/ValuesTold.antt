@@ -22,11 +22,7 @@ each_told {A} f t before found [] [] h room = ap (λ (ys : List A). Ok ys) (sym 
 each_told {A} f t before found [] (x ∷ xs) h room = absurd h
 each_told {A} f t before found (w ∷ ws) [] h room = absurd h
 each_told {A} f t before found (w ∷ ws) (x ∷ xs) h room =
-    let same = append_assoc found (x ∷ []) xs in
-    let long = length-append found (x ∷ xs) in
-    let one = one_told f t before (length found) w x h.0 (less_room t before (length found + 1) (length (found ++ x ∷ xs)) (omega (arith, long)) room) in
-    carry_on (one_value f t before (length found) w) (λ y. each_value f t before (found ++ y ∷ []) ws) x (found ++ x ∷ xs) one
-    (each_told f t before (found ++ x ∷ []) ws xs h.1 (subst (λ (ys : List A). HasRoom t before (length ys)) (sym same) room) ∙ ap (λ (ys : List A). Ok ys) same)
+    grind (arith, nat_tests, each_told f t before (found ++ x ∷ []) ws xs h.1, append_assoc, length-append, one_told f t before (length found) w x h.0, less_room, carry_on)
 
 -- ---- numbers
 
@@ -51,11 +47,7 @@ written_told : {A : Type 0} (f : List ℕ → Option A) (made : List A → Value
     → ((v : List ℕ) (more : List Word) → f v ≡ Some x → listed_values (listed_kind t v) t before more ≡ (each_value f t before [] more >>= λ ys. Ok (made ys))) → Each f (w ∷ ws) (x ∷ xs) → HasRoom t before (length (x ∷ xs))
     → values t before (w ∷ ws) ≡ Ok (made (x ∷ xs))
 written_told f made t before w ws x xs none none_x listed h room =
-    let v = h.0.0 in
-    let all = each_told f t before [] (w ∷ ws) (x ∷ xs) h room in
-    ap (λ (u : Word). values t before (u ∷ ws)) h.0.1
-    ∙ (listed_told t before v ws (other_word f v (codes "seq") x none h.0.2) (other_word f v (codes "seqx") x none_x h.0.2)
-    ∙ (listed v (Plain v ∷ ws) h.0.2 ∙ go_on (each_value f t before [] (Plain v ∷ ws)) (λ ys. Ok (made ys)) (x ∷ xs) (made (x ∷ xs)) (ap (λ (u : Word). each_value f t before [] (u ∷ ws)) (sym h.0.1) ∙ all) refl))
+    grind (arith, nat_tests, each_told f t before [] (w ∷ ws) (x ∷ xs) h room, listed_told, other_word, listed, go_on)
 
 numbers_told : (t : Option NcType) (before : ℕ) (ws : List Word) (zs : List ℤ) → Each (number_for t) ws zs → HasRoom t before (length zs) → values t before ws ≡ Ok (Numbers zs)
 numbers_told t before [] [] h room = refl

@@ -192,11 +192,7 @@ abbrev all_read : List (List Word) → Bool
 all_read wss = list_all (list_all is_read) wss
 
 sections_read : (s : Sections) → all_read (lines_of s) ≡ true → (all_read s.before_data ≡ true) × (all_read s.after_data ≡ true)
-sections_read s h =
-    let from : List (List Word) = (Plain (codes "data") ∷ []) ∷ s.after_data in
-    let one = and_parts _ _ (sym (list_all-append (list_all is_read) ((s.head ∷ s.before_data) ++ from) ((Plain (codes "end") ∷ []) ∷ [])) ∙ h) in
-    let two = and_parts _ _ (sym (list_all-append (list_all is_read) (s.head ∷ s.before_data) from) ∙ one.0) in
-    ((and_parts (list_all is_read s.head) _ two.0).1, two.1)
+sections_read s h = grind (arith, nat_tests, list_all-append, and_parts)
 
 pub shown_again : (text : List ℕ) (script : Script) → Reads text script → length (shown script) ≤ most_bytes → length (text_lines (shown script)) ≤ most_lines → Reads (shown script) script
 shown_again text s reads short few =
