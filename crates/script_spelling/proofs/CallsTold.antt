@@ -93,11 +93,7 @@ plain_told ranks r own before ws c apart lawful h =
 
 pub call_told : (ranks r : ℕ) (own : List Call) (before : ℕ) (c : Call) (ws : List Word) → SpellsCall ws c → is_lawful_call ranks r c ≡ true → NewId own c → before + values_in_call c ≤ most_values
     → call_of ranks r own before (call_word c) ws ≡ Ok c
-call_told ranks r own before (call.Put all n g vs) ws h lawful new few =
-    let both = and_parts (is_given g) (are_values vs) lawful in
-    put_word ranks r own before ws all g.form ∙ put_told all n g before vs ws h both.0 both.1 few
+call_told ranks r own before (call.Put all n g vs) ws h lawful new few = grind (arith, nat_tests, and_parts, put_word ranks r own before ws all g.form, put_told all n g before vs ws h)
 call_told ranks r own before (call.Get all n g) ws h lawful new few = get_word ranks r own before ws all g.form ∙ get_told all n g ws h lawful
-call_told ranks r own before (call.Post id k n g vs) ws h lawful new few =
-    let both = and_parts (is_given g) (is_post_of k vs) lawful in
-    post_word ranks r own before ws k g.form ∙ post_told k (posted own) id n g before vs ws h new both.0 both.1 few
+call_told ranks r own before (call.Post id k n g vs) ws h lawful new few = grind (arith, nat_tests, and_parts, post_word ranks r own before ws k g.form, post_told k (posted own) id n g before vs ws h new)
 call_told ranks r own before c ws h lawful new few = plain_told ranks r own before ws c tt lawful h

@@ -1,5 +1,5 @@
 -- A text that spells a script is read as this script.
-use Rattle.script_spelling.proofs.Words.{◌≡◌, ◌∙◌, ℕ, ◌+◌, ◌≤◌, List, [], ◌∷◌, ◌++◌, map, drop, length, Bool, true, false, not, cond, ◌==◌, Option, Some, None, Result, Ok, Err, refl, sym, ap, subst, append_assoc, arith, codes, AllZip, utf8_valid_len, eq-eqb, length-replicate, some_not_none, first_same, ScriptErr, ScriptKind, Attr, Dim, Header, Var, Call, Extra, Hints, Script, most_values, values_in_script, lawful_parts, Word, Plain, Line, text_lines, significant, hints_of, no_definition, Defined, Known, nothing_known, head, definitions, data_part, finish, header_of, script_of, no_calls, script_of_lines, script_of_text, fault_of, script_fault, Reads, Statement, RanksAre, HintIs, IsFilled, DimIs, VarIs, AttIs, Says, Stand, attrs_of, vars_in, calls_in, fills_in, ToDataset, Describes, SpellsHead, Sections, lines_of, Spells, nat_tests}
+use Rattle.script_spelling.proofs.Words.{◌≡◌, ◌∙◌, ℕ, ◌+◌, ◌≤◌, List, [], ◌∷◌, ◌++◌, map, drop, length, Bool, true, false, not, cond, ◌==◌, Option, Some, None, Result, Ok, Err, refl, sym, ap, subst, append_assoc, arith, codes, AllZip, utf8_valid_len, eq-eqb, length-replicate, some_not_none, first_same, ScriptErr, ScriptKind, Dim, Header, Call, Script, most_values, values_in_script, lawful_parts, Word, Plain, Line, text_lines, significant, no_definition, Defined, Known, nothing_known, head, definitions, data_part, finish, header_of, script_of, no_calls, script_of_lines, script_of_text, fault_of, script_fault, Reads, Statement, RanksAre, HintIs, IsFilled, DimIs, VarIs, AttIs, Says, Stand, attrs_of, vars_in, calls_in, fills_in, ToDataset, Describes, SpellsHead, Sections, lines_of, Spells, nat_tests}
 use Rattle.script_spelling.proofs.Steps.{go_on, same_ok, word_read}
 use Rattle.script_spelling.proofs.CallCounts.{count_all, finish_by, count_empty, text_again}
 use Rattle.script_spelling.proofs.Agreement.{agreement}
@@ -69,19 +69,6 @@ values_told s hints = refl
 
 -- ---- the script by its parts
 
-abbrev header_with : ℕ → ℕ → List Dim → List Attr → List Var → Header
-header_with version records dims attrs vars = record { version = version; records = records; dims = dims; attrs = attrs; vars = vars }
-
-same_header : (version r r2 : ℕ) (ds ds2 : List Dim) (own own2 : List Attr) (vs vs2 : List Var) → r ≡ r2 → ds ≡ ds2 → own ≡ own2 → vs ≡ vs2 → header_with version r ds own vs ≡ header_with version r2 ds2 own2 vs2
-same_header version r r2 ds ds2 own own2 vs vs2 e1 e2 e3 e4 = cc
-
-abbrev script_with : Bool → Header → ℕ → Hints → Bool → List Extra → List (List Call) → Script
-script_with fresh header ranks hints filled extras calls = record { fresh = fresh; header = header; ranks = ranks; hints = hints; filled = filled; extra = extras; calls = calls }
-
-same_script : (ranks : ℕ) (calls : List (List Call)) (b b2 : Bool) (h h2 : Header) (hs hs2 : Hints) (f f2 : Bool) (es es2 : List Extra) → b ≡ b2 → h ≡ h2 → hs ≡ hs2 → f ≡ f2 → es ≡ es2
-    → script_with b h ranks hs f es calls ≡ script_with b2 h2 ranks hs2 f2 es2 calls
-same_script ranks calls b b2 h h2 hs hs2 f f2 es es2 e1 e2 e3 e4 e5 = cc
-
 no_records : (fresh : Bool) (ss : List Statement) (s : Script) → ToDataset fresh ss s → 0 ≡ s.header.records
 no_records true ss s d = sym d.records
 no_records false ss s d = sym (ap (λ (h : Header). h.records) d.header)
@@ -89,12 +76,7 @@ no_records false ss s d = sym (ap (λ (h : Header). h.records) d.header)
 script_told : (s : Script) (ss : List Statement) (called : List (ℕ × Call)) (d : Describes ss called s) (known : Known) → (s.header.version == 0) ≡ not s.fresh → Grown (not s.fresh) known [] (known_of s d.hint_table)
     → script_of s.header.version s.ranks known s.calls ≡ s
 script_told s ss called d known mode g =
-    let last = known_of s d.hint_table in
-    let same = same_parts (not s.fresh) known last g in
-    same_script s.ranks s.calls (not (s.header.version == 0)) s.fresh (header_of s.header.version known.defined) s.header (hints_of s.ranks known.hints) s.hints known.defined.filled s.filled known.added.extras s.extra
-    (ap not mode ∙ no_not s.fresh)
-    (same_header s.header.version 0 s.header.records known.defined.dims s.header.dims known.defined.attrs s.header.attrs known.defined.vars s.header.vars (no_records s.fresh ss s d.dataset) same.dims same.attrs same.vars)
-    (same_hints (not s.fresh) s.ranks known last g ∙ sym d.hints) same.filled same.extras
+    grind (arith, nat_tests, no_not s.fresh, no_records s.fresh ss s d.dataset, same_parts (not s.fresh) known (known_of s d.hint_table) g, same_hints (not s.fresh) s.ranks known (known_of s d.hint_table) g, d.hints)
 
 -- ---- all lines
 

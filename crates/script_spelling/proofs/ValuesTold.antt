@@ -1,5 +1,5 @@
 -- Words that spell values are read as these values.
-use Rattle.script_spelling.proofs.Words.{◌≡◌, ◌∙◌, ℕ, ◌+◌, ◌<◌, List, [], ◌∷◌, ◌++◌, length, Bool, true, false, not, cond, Option, Some, None, Ok, ℤ, refl, sym, ap, subst, append_assoc, append-nil, length-append, arith, bytes_eq, codes, some_not_none, count_of, NcType, Values, Numbers, Text, Bits, Class, class_of, size_of, fits_in, Word, Plain, size_of_text, size, are_text, may_be, number_for, pattern_for, one_value, each_value, sequence_count, sequence, pattern_values, text_values, number_values, bits_values, begins_x, listed_kind, listed_values, values, SpellsOne, Each, SpellsSequence, SpellsBitSequence, SpellsValues, OfNothing, OfText, OfNumbers, OfBits, OfSequence, OfBitSequence, nat_tests, ◌>>=◌, ◌*◌, pos, ◌+ℤ◌, ◌*ℤ◌, length-map-range_with_len, pattern_sequence}
+use Rattle.script_spelling.proofs.Words.{◌≡◌, ◌∙◌, ℕ, ◌+◌, ◌<◌, List, [], ◌∷◌, ◌++◌, length, Bool, true, false, not, cond, Option, Some, None, Ok, ℤ, refl, sym, ap, append_assoc, append-nil, length-append, arith, bytes_eq, codes, some_not_none, count_of, NcType, Values, Numbers, Text, Bits, Class, class_of, size_of, fits_in, Word, Plain, size_of_text, size, are_text, may_be, number_for, pattern_for, one_value, each_value, sequence_count, sequence, pattern_values, text_values, number_values, bits_values, begins_x, listed_kind, listed_values, values, SpellsOne, Each, SpellsSequence, SpellsBitSequence, SpellsValues, OfNothing, OfText, OfNumbers, OfBits, OfSequence, OfBitSequence, nat_tests, ◌>>=◌, ◌*◌, pos, ◌+ℤ◌, ◌*ℤ◌, length-map-range_with_len, pattern_sequence}
 use Rattle.script_spelling.proofs.Steps.{go_on, passed, faultless, word_read, carry_on, by_false}
 use Rattle.script_spelling.proofs.Places.{bytes_same}
 use Rattle.script_spelling.proofs.Rooms.{HasRoom, room_again, less_room, number_may, pattern_may}

@@ -1,5 +1,5 @@
 -- The calls of all ranks, printed rank by rank, are read as the same calls.
-use Rattle.script_text.proofs.Words.{Option, filter_map-append, all_joined, is_expressible_call, ◌≡◌, ◌∙◌, ℕ, zero, suc, ◌+◌, ◌≤◌, ◌<◌, List, [], ◌∷◌, ◌++◌, map, length, Bool, true, false, not, nat_lt, refl, ap, subst, append-nil, arith, decimal, list_all, enumerate_from, and_parts, and_from, ne_eqb, Call, call_word, shown_call, Word, Plain, Line, is_comment, is_digit, flat_map-append, nat_tests, AllZip, None, Some, SpellsCall, SpellsCallLine, calls_in, cond, cons_option, eq-eqb, is_lawful_call, range_with_len, sym, ◌==◌, lt-ltb}
+use Rattle.script_text.proofs.Words.{filter_map-append, all_joined, is_expressible_call, ◌≡◌, ◌∙◌, ℕ, zero, suc, ◌+◌, ◌≤◌, ◌<◌, List, [], ◌∷◌, ◌++◌, map, length, Bool, true, false, not, nat_lt, refl, ap, subst, append-nil, arith, decimal, list_all, enumerate_from, and_parts, and_from, ne_eqb, Call, call_word, shown_call, Word, Plain, Line, is_comment, is_digit, flat_map-append, nat_tests, AllZip, None, Some, SpellsCall, SpellsCallLine, calls_in, cond, cons_option, eq-eqb, is_lawful_call, range_with_len, sym, ◌==◌, lt-ltb}
 use Rattle.std.proofs.Common.{flat_map}
 use Rattle.script_text.proofs.Lines.{is_line, spelled, numbered}
 use Rattle.script_text.proofs.Numerals.{decimal_numeral, decimal_plain}

@@ -1,5 +1,5 @@
 -- Values that are printed are read as the same values.
-use Rattle.script_text.proofs.Words.{◌≡◌, ◌∙◌, ℕ, ◌^◌, ◌<◌, List, [], ◌∷◌, map, length, Bool, true, false, cond, nat_lt, Option, Some, None, ℤ, unsigned_abs, refl, sym, ap, subst, arith, bytes_eq, signed_decimal, list_all, and_parts, and_from, and_left, cond-true, ne_eqb, sixteens, NcType, Values, Numbers, Text, Bits, hex, shown_values, Word, Plain, Quoted, number_of_text, bits_of_text, are_text, may_be, may_have, number_for, pattern_for, pattern_sequence, pattern_values, nat_tests, Each, OfBitSequence, OfBits, OfNothing, OfNumbers, OfSequence, OfText, SpellsValues, ltb-true, lt-ltb}
+use Rattle.script_text.proofs.Words.{◌≡◌, ℕ, ◌^◌, ◌<◌, List, [], ◌∷◌, map, length, Bool, true, false, cond, nat_lt, Option, Some, None, ℤ, unsigned_abs, refl, sym, ap, subst, arith, bytes_eq, signed_decimal, list_all, and_parts, and_from, and_left, cond-true, ne_eqb, sixteens, NcType, Values, Numbers, Text, Bits, hex, shown_values, Word, Plain, Quoted, number_of_text, bits_of_text, are_text, may_be, may_have, number_for, pattern_for, pattern_sequence, pattern_values, nat_tests, Each, OfBitSequence, OfBits, OfNothing, OfNumbers, OfSequence, OfText, SpellsValues, ltb-true, lt-ltb}
 use Rattle.script_text.proofs.Lexing.{spelling, is_byte, is_good}
 use Rattle.script_text.proofs.Numerals.{IsNumberWord, number_word, number_again, bits_again, bits_bound, hex_graphic}
 use Rattle.script_laws.proofs.ValueLaws.{number_small}
