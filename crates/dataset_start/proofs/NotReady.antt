@@ -7,11 +7,7 @@ use Rattle.dataset_start.proofs.ReadyLaws.{at_front, created-faultless, fault-no
 
 -- ---- a dataset that is created
 
--- nothing was done
-pub not_started : (header whole : List ℕ) (held : Option (List ℕ)) → BothTold (λ old left. IsTornCreation header whole old left) held held
-not_started header whole held = grind (arith, nat_tests)
-
--- the start was refused, which may have emptied the file
+-- the start was refused, which may have emptied the file, or nothing was done
 pub start_refused : (header whole : List ℕ) (held now : Option (List ℕ)) → (now ≡ held) ⊎ (now ≡ after (λ _. []) held)
     → BothTold (λ old left. IsTornCreation header whole old left) held now
 start_refused header whole held now xs = grind (arith, nat_tests)
@@ -114,26 +110,24 @@ heads_of script old header file f o same changed = record {
   made = elim (holds_or_not (length script.extra == 0)) [ inl e ↦ same e ∙ sym (header-kept script old e) | inr e ↦ header-changed script old header e (changed e) ];
 }
 
+-- what is so of the file that is told, and of its first header, says what was opened in part
+opened_part : {R : List ℕ → List ℕ → Type 0} (script : script_type.Script) {old : head.Header} (held now : Option (List ℕ)) → script.fresh ≡ false → IsOpened held old
+    → BothTold R held now → ((file left : List ℕ) → IsOpened (Some file) old → R file left → IsPartlyOpened script file left) → BothTold (IsNotReady script) held now
+opened_part script None now f o b opens = b
+opened_part script (Some file) now f o b opens = (b.0, b.1, as_opened script file b.0 f (opens file b.0 o b.2))
+
 pub lengthen_refused : (script : script_type.Script) (header : head.Header) (held mid now : Option (List ℕ)) → script.fresh ≡ false → (length script.extra == 0) ≡ true
     → IsOpened held header → IfSome held (λ file. (e : HeaderErr) → HasFault (front file) e → ⊥) → mid ≡ held
     → BothTold (IsLengthened (dataset_end header)) mid now → IsUnready script held now
 lengthen_refused script header held mid now f x o n e b = inr (record {
   faultless = opened-faultless script header held f o (fault-none script header x) n;
-  left = by_held held o (subst (λ (m : Option (List ℕ)). BothTold (IsLengthened (dataset_end header)) m now) e b);
+  left = opened_part script held now f o (subst (λ (m : Option (List ℕ)). BothTold (IsLengthened (dataset_end header)) m now) e b) (λ file left p l. inr (
+    header,
+    header,
+    heads_of script header header file f p (λ _. refl) (λ s. absurd (both_ways (length script.extra == 0) s x)),
+    record { kept = λ _. l; moved = λ s. absurd (both_ways (length script.extra == 0) s x) },
+  ));
 })
-  where
-    by_held : (t : Option (List ℕ)) → IsOpened t header → BothTold (IsLengthened (dataset_end header)) t now → BothTold (IsNotReady script) t now
-    by_held None p c = c
-    by_held (Some file) p c = (
-      c.0,
-      c.1,
-      as_opened script file c.0 f (inr (
-        header,
-        header,
-        heads_of script header header file f p (λ _. refl) (λ s. absurd (both_ways (length script.extra == 0) s x)),
-        record { kept = λ _. c.2; moved = λ s. absurd (both_ways (length script.extra == 0) s x) },
-      )),
-    )
 
 pub redefine_refused : (script : script_type.Script) (old : head.Header) (held mid now : Option (List ℕ)) → script.fresh ≡ false → (length script.extra == 0) ≡ false
     → IsOpened held old → IfSome held (λ file. (e : HeaderErr) → HasFault (front file) e → ⊥) → mid ≡ held

@@ -161,24 +161,6 @@ redefined-start : (script : script_type.Script) (old new : head.Header) (file : 
 redefined-start script old new file f x a =
     grind (arith, nat_tests, start-opened script new (brought script old new file) f, same_end old new script.extra a.made, long_enough old new file, longer-enough)
 
-ready-redefined : (script : script_type.Script) (old new : head.Header) (before mid now : Option (List ℕ)) (calls_before calls_mid calls_now : Option (List DiskCall))
-    → script.fresh ≡ false → AddsNothing script false → IsOpened before old
-    → IfSome before (λ file. (e : HeaderErr) → HasFault (front file) e → ⊥) → mid ≡ before → IsApplied old script.extra new
-    → now ≡ after (λ file. redefined file old new) mid
-    → IfSome before (λ file. calls_mid ≡ after (λ _. head_load file) calls_before)
-    → IfSome mid (λ file. calls_now ≡ with_end calls_mid (relocation_calls script.hints.wr_buffer old new file))
-    → IsReady script new before now calls_before calls_now
-ready-redefined script old new before mid now calls_before calls_mid calls_now f x o n h a e m k = record {
-  old = old;
-  file = o.file;
-  held = o.told;
-  heads = record { created = λ c. absurd (both_ways script.fresh f c); opened = λ _. (o.count, o.begins); made = header-changed script old new x a };
-  sound = redefined_sound old new script.extra a;
-  faultless = opened-faultless script old before f o (fault-some script old x ∙ a.faultless) n;
-  bytes = grind (arith, nat_tests, after-same, redefined-start);
-  calls = grind (arith, nat_tests, calls-redefined);
-}
-
 pub redefined-ready : (script : script_type.Script) (old : head.Header) (before mid now : Option (List ℕ)) (calls_before calls_mid calls_now : Option (List DiskCall))
     (result : Result head.Header Stop) → script.fresh ≡ false → AddsNothing script false → IsOpened before old
     → IfSome before (λ file. (e : HeaderErr) → HasFault (front file) e → ⊥) → mid ≡ before → IfOk result (λ new. IsApplied old script.extra new)
@@ -186,9 +168,19 @@ pub redefined-ready : (script : script_type.Script) (old : head.Header) (before 
     → IfSome before (λ file. calls_mid ≡ after (λ _. head_load file) calls_before)
     → IfOk result (λ new. IfSome mid (λ file. calls_now ≡ with_end calls_mid (relocation_calls script.hints.wr_buffer old new file)))
     → IfOk result (λ new. IsReady script new before now calls_before calls_now)
-redefined-ready script old before mid now calls_before calls_mid calls_now (Ok new) f x o n h a e m k =
-    ready-redefined script old new before mid now calls_before calls_mid calls_now f x o n h a e m k
 redefined-ready script old before mid now calls_before calls_mid calls_now (Err stop) f x o n h a e m k = tt
+redefined-ready script old before mid now calls_before calls_mid calls_now (Ok new) f x o n h a e m k = record {
+  old = old;
+  file = o.file;
+  held = o.told;
+  heads = record { created = λ c. absurd (both_ways script.fresh f c); opened = λ _. (o.count, o.begins); made = header-changed script old new x a };
+  sound = redefined_sound old new script.extra a;
+  faultless = opened-faultless script old before f o (fault-some script old x ∙ a.faultless) n;
+  bytes = subst (λ (m : Option (List ℕ)). now ≡ after (λ file. redefined file old new) m) h e
+      ∙ after-same (λ file. redefined file old new) (λ file. start script new (brought script old new file)) before (λ file. sym (redefined-start script old new file f x a));
+  calls = calls-redefined script old new before calls_before calls_mid calls_now x m
+      (subst (λ (t : Option (List ℕ)). IfSome t (λ file. calls_now ≡ with_end calls_mid (relocation_calls script.hints.wr_buffer old new file))) h k);
+}
 
 pub redefined_long : (old : head.Header) (len : ℕ) (extras : List Extra) (result : Result head.Header Stop)
     → IfOk result (λ new. IsApplied old extras new) → IfOk result (λ new. new_end old new ≤ len)
@@ -219,19 +211,14 @@ redefinition-told : (script : script_type.Script) (old : head.Header) (held : Op
 redefinition-told script old None e x o r = tt
 redefinition-told script old (Some file) e x o r = grind (arith, nat_tests, at_front, fault-some)
 
-bad-redefinition-stop : (script : script_type.Script) (old : head.Header) (held : Option (List ℕ)) (stop : Stop) → script.fresh ≡ false → AddsNothing script false
-    → IsOpened held old → ((e : RedefErr) → stop ≡ stops.Redefinition e → redefined_fault old script.extra ≡ Some e) → IsOfRedefinition stop
-    → status_of stop ≡ 4 → IfSome (line_of stop) (TellsDataset script held)
-bad-redefinition-stop script old held (stops.Redefinition e) f x p h o s =
-    record { created = λ c. absurd (both_ways script.fresh f c); opened = λ _. inr (e, (redefinition-told script old held e x p (h e refl), refl)) }
-bad-redefinition-stop script old held stop f x p h o s = absurd (grind (arith, nat_tests))
-
 pub bad-redefinition : (script : script_type.Script) (old : head.Header) (held : Option (List ℕ)) (result : Result head.Header Stop) → script.fresh ≡ false
     → AddsNothing script false → IsOpened held old
     → ((e : RedefErr) → result ≡ Err (stops.Redefinition e) → redefined_fault old script.extra ≡ Some e) → IfErr result IsOfRedefinition
     → IfErr result (λ stop. status_of stop ≡ 4 → IfSome (line_of stop) (TellsDataset script held))
 bad-redefinition script old held (Ok header) f x p h o = tt
-bad-redefinition script old held (Err stop) f x p h o = bad-redefinition-stop script old held stop f x p (λ e s. h e (ap (λ (y : Stop). Err y) s)) o
+bad-redefinition script old held (Err (stops.Redefinition e)) f x p h o = λ s.
+    record { created = λ c. absurd (both_ways script.fresh f c); opened = λ _. inr (e, (redefinition-told script old held e x p (h e refl), refl)) }
+bad-redefinition script old held (Err stop) f x p h o = λ s. absurd (grind (arith, nat_tests))
 
 -- ---- one text has one script
 

@@ -7,14 +7,8 @@ pub disk-untold : (err : StepErr) → status_of (stop_of_disk err) ≡ 4 → ⊥
 disk-untold err s = grind (arith, nat_tests)
 
 -- it ends a redefinition, an opening, and the making of a dataset
-pub of_redefinition : (err : StepErr) → IsOfRedefinition (stop_of_disk err)
-of_redefinition err = grind (arith, nat_tests)
-
-pub of_opening : (err : StepErr) → IsOfOpening (stop_of_disk err)
-of_opening err = grind (arith, nat_tests)
-
-pub of_dataset : (err : StepErr) → IsOfDataset (stop_of_disk err)
-of_dataset err = grind (arith, nat_tests)
+pub of_disk : (err : StepErr) → IsOfRedefinition (stop_of_disk err) × IsOfOpening (stop_of_disk err) × IsOfDataset (stop_of_disk err)
+of_disk err = (grind (arith, nat_tests), grind (arith, nat_tests), grind (arith, nat_tests))
 
 -- what a refused redefinition leaves is left where the dataset is at fault
 pub redefinition-leaves : {T Q : Type 0} (result : Result T Stop) → ((e : RedefErr) → result ≡ Err (stops.Redefinition e) → Q) → IfErr result IsOfRedefinition

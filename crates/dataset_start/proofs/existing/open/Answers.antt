@@ -1,7 +1,7 @@
 use Rattle.dataset_start.proofs.Words.{ap, inl, subst, sym, ◌∙◌, IsOfOpening, status_of, on_err, on_err_weaker, both_ways}
 use Rattle.dataset_start.proofs.NotReady.{lengthen_refused, redefine_refused}
 use Rattle.dataset_start.proofs.ReadyLaws.{bad-header, bad-redefinition, no_extras, ready-kept, redefined-ready, redefined_long, some_extras}
-use Rattle.dataset_start.proofs.Untold.{disk-untold, of_opening, redefinition-leaves}
+use Rattle.dataset_start.proofs.Untold.{disk-untold, of_disk, redefinition-leaves}
 use Rattle.dataset_start.proofs.existing.open.Goals as goal
 
 pub returns-in_err-old-clause-bad : goal.returns-in_err-old-clause-bad
@@ -38,7 +38,7 @@ pub returns-in-Err-clause-unchanged : goal.returns-in-Err-clause-unchanged
 returns-in-Err-clause-unchanged g c = λ s. absurd (disk-untold c.in-Err.fault (ap status_of (sym c.from.ensures) ∙ s))
 
 pub returns-in-Err-clause-only : goal.returns-in-Err-clause-only
-returns-in-Err-clause-only g c = subst IsOfOpening (sym c.from.ensures) (of_opening c.in-Err.fault)
+returns-in-Err-clause-only g c = subst IsOfOpening (sym c.from.ensures) (of_disk c.in-Err.fault).1
 
 pub returns-else-is_empty-clause-unchanged : goal.returns-else-is_empty-clause-unchanged
 returns-else-is_empty-clause-unchanged g c =

@@ -1,6 +1,6 @@
-use Rattle.dataset_start.proofs.Words.{◌≡◌, ◌≤◌, ◌-◌, ℕ, List, refl, arith, ◌∙◌, ap, writable_is_sound, after, longer, written, end_of, Header, canon, header_len, sound_end, on_err}
+use Rattle.dataset_start.proofs.Words.{◌≡◌, ◌≤◌, ◌-◌, ℕ, List, inl, refl, arith, ◌∙◌, ap, writable_is_sound, after, longer, written, end_of, Header, canon, header_len, sound_end, on_err}
 use Rattle.dataset_start.proofs.Created.{created, front_fits}
-use Rattle.dataset_start.proofs.NotReady.{grow_refused, head_refused, not_started, start_refused}
+use Rattle.dataset_start.proofs.NotReady.{grow_refused, head_refused, start_refused}
 use Rattle.dataset_start.proofs.fresh.create.Goals as goal
 
 pub end_of-end-requires-clause-sound : goal.end_of-end-requires-clause-sound
@@ -28,7 +28,7 @@ returns-clause-bytes g c =
 pub returns-in_err-bytes-clause-refused : goal.returns-in_err-bytes-clause-refused
 returns-in_err-bytes-clause-refused g c =
     let h : Header = c.args.header.now in
-    on_err c.from_residual.result (not_started (canon h) (longer (canon h) (end_of h (header_len h) 0)) (g.D.Disk.held c.args.disk.now))
+    on_err c.from_residual.result (start_refused (canon h) (longer (canon h) (end_of h (header_len h) 0)) (g.D.Disk.held c.args.disk.now) (g.D.Disk.held c.args.disk.now) (inl refl))
 
 pub returns-in_err-start-clause-refused : goal.returns-in_err-start-clause-refused
 returns-in_err-start-clause-refused g c =

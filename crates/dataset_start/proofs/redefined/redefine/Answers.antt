@@ -1,6 +1,6 @@
 use Rattle.dataset_start.proofs.Keeping.{kept_extras, kept_whole_extras, kept_wr_buffer}
 use Rattle.dataset_start.proofs.NotReady.{not_redefined, relocate_refused}
-use Rattle.dataset_start.proofs.Untold.{of_redefinition}
+use Rattle.dataset_start.proofs.Untold.{of_disk}
 use Rattle.dataset_start.proofs.redefined.redefine.Goals as goal
 use Rattle.dataset_start.proofs.Words.{subst, sym, IsOfRedefinition, on_err}
 
@@ -22,4 +22,4 @@ returns-in-Err-clause-torn g c =
     c.in-Err.ensures.refused c.in-Err.ensures.stays
 
 pub returns-in-Err-clause-only : goal.returns-in-Err-clause-only
-returns-in-Err-clause-only g c = subst IsOfRedefinition (sym c.from.ensures) (of_redefinition c.in-Err.fault)
+returns-in-Err-clause-only g c = subst IsOfRedefinition (sym c.from.ensures) (of_disk c.in-Err.fault).0

@@ -1,6 +1,6 @@
 use Rattle.dataset_start.proofs.Words.{ap, inl, refl, subst, sym, ◌∙◌, IsOfDataset, status_of, on_err, both_ways}
 use Rattle.dataset_start.proofs.ReadyLaws.{laid-mislaid}
-use Rattle.dataset_start.proofs.Untold.{disk-untold, of_dataset}
+use Rattle.dataset_start.proofs.Untold.{disk-untold, of_disk}
 use Rattle.dataset_start.proofs.start.make_ready.Goals as goal
 
 -- ---- where it was not made ready
@@ -15,7 +15,7 @@ pub returns-in-Err-clause-unchanged : goal.returns-in-Err-clause-unchanged
 returns-in-Err-clause-unchanged g c = λ s. absurd (disk-untold c.in-Err.fault (ap status_of (sym c.from.ensures) ∙ s))
 
 pub returns-in-Err-clause-only : goal.returns-in-Err-clause-only
-returns-in-Err-clause-only g c = subst IsOfDataset (sym c.from.ensures) (of_dataset c.in-Err.fault)
+returns-in-Err-clause-only g c = subst IsOfDataset (sym c.from.ensures) (of_disk c.in-Err.fault).2
 
 -- ---- a layout that is not refused
 
