@@ -1,4 +1,4 @@
-use Rattle.dataset_start.proofs.Words.{◌≡◌, ℕ, List, ◌++◌, take, Option, Some, None, sym, ap, subst, ◌∙◌, append_assoc, arith, length-take, with_front, length-append}
+use Rattle.dataset_start.proofs.Words.{◌≡◌, ℕ, List, ◌++◌, take, Option, Some, None, sym, ap, subst, ◌∙◌, append_assoc, arith, length-take, nat_tests, rules, with_front, length-append}
 use Rattle.dataset_start.proofs.streams.take_all.Goals as goal
 
 -- what was taken, and one piece more
@@ -6,6 +6,23 @@ one_more : (left mid now : Option (List ℕ)) (text piece : List ℕ) → left �
 one_more left mid None text piece e f = e ∙ ap (λ (t : Option (List ℕ)). with_front text t) f
 one_more left mid (Some rest) text piece e f =
     e ∙ ap (λ (t : Option (List ℕ)). with_front text t) f ∙ ap (λ (t : List ℕ). Some t) (sym (append_assoc text piece rest))
+
+-- where no byte was taken, as much is left as before
+none_more : (mid now : Option (List ℕ)) (piece : List ℕ) (n : ℕ) → n ≡ 0 → mid ≡ with_front (take n piece) now → mid ≡ now
+none_more mid None piece n z e = e
+none_more mid (Some rest) piece n z e = e ∙ ap (λ (k : ℕ). Some (take k piece ++ rest)) z
+
+pub returns-then-count-eq0 : goal.returns-then-count-eq0
+returns-then-count-eq0 g c =
+    let same = none_more (g.S.Source.left c.loop-turn.source) (g.S.Source.left c.take.new.self) c.take.new.into c.in_ok-count.count c.if-count-eq0.true c.in_ok-count.ensures.bytes in
+    let taken = c.loop-turn.invariant.taken ∙ ap (λ (t : Option (List ℕ)). with_front c.loop-turn.text.items t) same in
+    record {
+      taken = taken;
+      few = record { front = c.loop-turn.text.items; few = omega (arith, c.loop-turn.invariant.short); taken = taken };
+      ended = grind (arith, nat_tests, same, c.in_ok-count.ensures.end);
+      fault = search rules;
+      later = omega (arith, c.loop-turn.invariant.later, c.take.ensures.cause.later);
+    }
 
 pub returns-in_err-extend_from_slice-clause-few : goal.returns-in_err-extend_from_slice-clause-few
 returns-in_err-extend_from_slice-clause-few g c =
