@@ -1,5 +1,5 @@
 -- A dataset that is ready for the ranks.
-use Rattle.dataset_start.proofs.Words.{◌≡◌, ℕ, ◌≤◌, ◌==◌, ◌++◌, Bool, true, false, List, [], ◌∷◌, length, Option, Some, None, inl, inr, refl, sym, ap, subst, append_assoc, eqb-true, ◌∙◌, arith, IfErr, IfOk, IfSome, IsSomeAnd, Result, Ok, Err, IsErrAnd, HeaderErr, RedefErr, Extra, DiskCall, Grow, Store, after, with_end, after-after, after-same, grow_to, head_load, opening_calls, redefining_calls, longer, filled, header_len, HasFault, is_sound, brought, redefined, redefined_fault, redefined_header, start, longer-enough, BeginsWith, IsApplied, new_end, relocation_calls, Reads, created_header, creation_fault, front, header_of_run, redefinition_fault, Asks, AsksForBadLayout, HasRedefinitionFault, IsBadDataset, IsLaid, IsMislaid, IsSoundFile, TellsDataset, blank_file, dataset_end, empty_end, fill_calls_if, filled_if, first_calls, IsFaultless, IsOpened, IsReady, line_of, status_of, IsOfHeader, IsOfRedefinition, Stop, both_ways, some_not_none, nat_tests, common_steps}
+use Rattle.dataset_start.proofs.Words.{◌≡◌, ℕ, ◌≤◌, ◌==◌, ◌++◌, Bool, true, false, List, [], ◌∷◌, length, Option, Some, None, inl, inr, refl, sym, ap, subst, append_assoc, eqb-true, ◌∙◌, arith, IfErr, IfOk, IfSome, IsSomeAnd, Result, Ok, Err, IsErrAnd, HeaderErr, RedefErr, Extra, DiskCall, Grow, Store, after, with_end, after-after, after-same, grow_to, head_load, opening_calls, redefining_calls, longer, header_len, HasFault, is_sound, brought, redefined, redefined_fault, redefined_header, start, longer-enough, BeginsWith, IsApplied, new_end, relocation_calls, Reads, created_header, creation_fault, front, header_of_run, redefinition_fault, Asks, AsksForBadLayout, HasRedefinitionFault, IsBadDataset, IsLaid, IsMislaid, IsSoundFile, TellsDataset, blank_file, dataset_end, empty_end, fill_calls_if, filled_if, first_calls, IsFaultless, IsOpened, IsReady, line_of, status_of, IsOfHeader, IsOfRedefinition, Stop, both_ways, some_not_none, nat_tests, common_steps}
 use Rattle.nc_base.specs.declared.header.Header as head
 use Rattle.nc_base.specs.declared.script.Script as script_type
 use Rattle.dataset_start.specs.declared.stop.Stop.TheVariants as stops
