@@ -1,7 +1,8 @@
 -- The record count of a run: the greater of the old one and the greatest that a completed put needed.
-use Rattle.whole_run_laws.proofs.Words.{◌≡◌, ℕ, zero, suc, ◌≤◌, refl, sym, ◌∙◌, ap, subst, inl, inr, List, [], ◌∷◌, ◌++◌, map, set, max, true, Option, Some, arith, map-append, same_Some, eqb_tells, fold, slice_get, list_all, entry_set, entry_set_other, and_first, and_second, Pair, Header, Call, Script, Mark, Meet, Solo, MeetKind, Offer, Counted, meeting, needs, Setting, solo, told, is_of_rank_below, IsLegal, is_lawful, greatest, needed_by, advance, after_mark, after_meeting, closed, first_going, first_state, Going, hears, offers_of, rank_offer, serial_from, setting_of, Puts, go_went, hear_known, Went, meeting_within, completed, completed_from, completed_puts, puts_asked, puts_at, puts_met, unless_told, set_cases, same_le, greatest_joined, raised_records, nat_tests, ltb-true}
+use Rattle.serial_spec.proofs.RoomLaws.{greatest_holds}
+use Rattle.whole_run_laws.proofs.Words.{entry_map, ◌≡◌, ℕ, suc, ◌≤◌, refl, sym, ◌∙◌, ap, subst, inl, inr, List, [], ◌∷◌, ◌++◌, map, set, max, true, Option, Some, arith, map-append, same_Some, eqb_tells, fold, slice_get, entry_set, entry_set_other, Pair, Header, Call, Script, Mark, Meet, Solo, MeetKind, Offer, Counted, meeting, needs, Setting, solo, told, IsLegal, is_lawful, greatest, needed_by, advance, after_mark, after_meeting, closed, first_going, first_state, Going, hears, offers_of, rank_offer, serial_from, setting_of, Puts, go_went, hear_known, Went, meeting_within, completed, completed_from, completed_puts, puts_asked, puts_at, puts_met, unless_told, set_cases, same_le, greatest_joined, raised_records, nat_tests}
 use Rattle.join_laws.proofs.WholeLaws.{get_map as mapped_from}
-use Rattle.whole_run_laws.proofs.Courses.{AreAlong, AreOn, first_along, Heard, heard_by, hears_then, mark_along, meets, offered, offered_alone, Stepped, steps}
+use Rattle.whole_run_laws.proofs.Courses.{AreAlong, first_along, Heard, heard_by, hears_then, mark_along, meets, offered, offered_alone, Stepped, steps}
 
 -- ---- counts
 
@@ -9,9 +10,7 @@ abbrev known_of : List Going → List ℕ
 known_of goings = map (λ g. g.rank.known) goings
 
 known_at : (goings : List Going) (q : ℕ) (g : Going) → slice_get goings q ≡ Some g → g.rank.known ≤ greatest (known_of goings)
-known_at [] q g e = cc
-known_at (x ∷ goings) zero g e = let k : x.rank.known ≡ g.rank.known = ap (λ (z : Going). z.rank.known) (same_Some x g e) in omega arith
-known_at (x ∷ goings) (suc q) g e = let h = known_at goings q g e in omega arith
+known_at goings q g e = greatest_holds (known_of goings) q g.rank.known (entry_map (λ g. g.rank.known) goings q g e)
 
 known_below : (goings : List Going) (m : ℕ) → ((q : ℕ) (g : Going) → slice_get goings q ≡ Some g → g.rank.known ≤ m) → greatest (known_of goings) ≤ m
 known_below [] m f = omega arith
@@ -32,8 +31,7 @@ pub record Counts (n : ℕ) (c : Counted) (goings : List Going) : Type 0 where
 
 -- ---- a meeting
 
-module _ (s : Setting) (ranks k j n : ℕ) (ks : List MeetKind) (rest : List Mark) (c : Counted) (goings : List Going) (on : AreOn ranks k ks (Meet j ∷ rest) goings)
-    (counts : Counts n c goings) where
+module _ {script : Script} {j n : ℕ} {rest : List Mark} (s : Setting) (c : Counted) (goings : List Going) (on : AreAlong script (Meet j ∷ rest) goings) (counts : Counts n c goings) where
   abbrev offers : List Offer
   offers = offers_of (map (advance s.header) goings)
 
@@ -66,8 +64,7 @@ module _ (s : Setting) (ranks k j n : ℕ) (ks : List MeetKind) (rest : List Mar
 
 -- ---- a step of one rank
 
-module _ (s : Setting) (ranks k r n : ℕ) (ks : List MeetKind) (rest : List Mark) (c : Counted) (goings : List Going) (counts : Counts n c goings)
-    (st : Stepped s r c goings k ks rest) where
+module _ {k r n : ℕ} {ks : List MeetKind} {rest : List Mark} (s : Setting) (c : Counted) (goings : List Going) (counts : Counts n c goings) (st : Stepped s r c goings k ks rest) where
   abbrev own : Offer
   own = st.at.asks.offer
 
@@ -101,19 +98,17 @@ module _ (s : Setting) (ranks k r n : ℕ) (ks : List MeetKind) (rest : List Mar
 
 -- ---- a run
 
-mark_counts : (s : Setting) (ranks n : ℕ) (m : Mark) (rest : List Mark) (c : Counted) (goings : List Going) → is_of_rank_below ranks m ≡ true
-    → AreAlong ranks (m ∷ rest) goings → Counts n c goings
+mark_counts : (script : Script) (s : Setting) (n : ℕ) (m : Mark) (rest : List Mark) (c : Counted) (goings : List Going) → AreAlong script (m ∷ rest) goings → Counts n c goings
     → Counts (max n (needed_by s.header (completed s (puts_at s (c, goings) m)))) (after_mark s (c, goings) m).0 (after_mark s (c, goings) m).1
-mark_counts s ranks n (Meet j) rest c goings known a counts =
-    grind (arith, nat_tests, met_counts s ranks a.met j n a.kinds_left rest c goings a.on counts, completed_needs)
-mark_counts s ranks n (Solo r i) rest c goings known a counts =
-    let st = steps s c (ltb-true r ranks known) a.on in
+mark_counts script s n (Meet j) rest c goings a counts = grind (arith, nat_tests, met_counts s c goings a counts, completed_needs)
+mark_counts script s n (Solo r i) rest c goings a counts =
+    let st = steps s c a in
     let puts = puts_asked r (Some st.at.asks.offer) in
     let asked : needed_by s.header (completed s (puts_asked r (rank_offer s goings r))) ≡ needs s puts (told s puts) =
     ap (λ (ps : Puts). needed_by s.header (completed s ps)) (offered_alone st) ∙ completed_needs s puts (told s puts) in
     subst (λ (z : Counted × List Going). Counts (max n (needed_by s.header (completed s (puts_asked r (rank_offer s goings r))))) z.0 z.1) (sym st.state)
     (subst (λ (z : ℕ). Counts (max n z) (solo s r st.at.asks.offer c).0 (set goings r (hears s.header (advance s.header st.before).0 (solo s r st.at.asks.offer c).1))) (sym asked)
-    (solo_counts s ranks a.met r n a.kinds_left rest c goings counts st))
+    (solo_counts s c goings counts st))
 
 went_known : (q k n : ℕ) (ks : List MeetKind) (ms : List Mark) (p : Going × Option Offer) → Went q k n ks ms p → p.0.rank.known ≡ n
 went_known q k n ks ms p w = grind (arith, nat_tests)
@@ -125,16 +120,13 @@ ends_known header (g ∷ goings) = grind (arith, nat_tests, ends_known header go
 closed_count : (s : Setting) (n : ℕ) (c : Counted) (goings : List Going) → Counts n c goings → (closed s (c, goings)).records ≡ n
 closed_count s n c goings counts = grind (arith, nat_tests, ends_known s.header goings, known_below goings n counts.known, raised_records)
 
-order_count : (s : Setting) (ranks n : ℕ) (order : List Mark) (state : Counted × List Going) → list_all (is_of_rank_below ranks) order ≡ true
-    → AreAlong ranks order state.1 → Counts n state.0 state.1
+order_count : (script : Script) (s : Setting) (n : ℕ) (order : List Mark) (state : Counted × List Going) → AreAlong script order state.1 → Counts n state.0 state.1
     → (closed s (fold (after_mark s) state order)).records ≡ max n (needed_by s.header (completed_from s state order))
-order_count s ranks n [] state known a counts = grind (arith, nat_tests, closed_count s n state.0 state.1 counts)
-order_count s ranks n (m ∷ order) state known a counts =
+order_count script s n [] state a counts = grind (arith, nat_tests, closed_count s n state.0 state.1 counts)
+order_count script s n (m ∷ order) state a counts =
     let now = completed s (puts_at s state m) in
     let later = completed_from s (after_mark s state m) order in
-    let here = and_first (is_of_rank_below ranks m) _ known in
-    order_count s ranks (max n (needed_by s.header now)) order (after_mark s state m) (and_second (is_of_rank_below ranks m) _ known)
-    (mark_along s ranks m order state here a) (mark_counts s ranks n m order state.0 state.1 here a counts)
+    order_count script s (max n (needed_by s.header now)) order (after_mark s state m) (mark_along script s m order state a) (mark_counts script s n m order state.0 state.1 a counts)
     ∙ both n (needed_by s.header now) (needed_by s.header later)
     ∙ ap (λ (z : ℕ). max n z) (sym (needed_both s.header now later))
   where
@@ -151,5 +143,5 @@ first_counts header file calls = record {
 pub end_count : (script : Script) (header : Header) (file : List ℕ) (order : List Mark) → is_lawful script ≡ true → IsLegal script order
     → (serial_from script header file order).records ≡ max header.records (needed_by header (completed_puts script header file order))
 end_count script header file order lawful legal =
-    order_count (setting_of script header) script.ranks header.records order (first_state header file script.calls) legal.known_ranks
+    order_count script (setting_of script header) header.records order (first_state header file script.calls)
     (first_along script header order lawful legal) (first_counts header file script.calls)

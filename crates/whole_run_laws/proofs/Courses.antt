@@ -1,7 +1,8 @@
 -- The ranks along a legal order: at each mark they stand at the offers of its step.
-use Rattle.whole_run_laws.proofs.Words.{◌≡◌, ℕ, zero, suc, ◌<◌, refl, sym, ◌∙◌, ap, subst, inl, inr, ◌⊎◌, List, [], ◌∷◌, ◌++◌, length, map, set, drop, Bool, true, false, cond, Option, Some, None, arith, length-map, length-set, same_Some, slice_get_within, fold, slice_get, filter, ◌==◌, list_all, entry_below, and_first, and_second, equal_itself, Header, Call, Script, Mark, Meet, Solo, MeetKind, Offer, Reply, Open, concerns, is_of_rank_below, IsLegal, kinds, marks_from, is_lawful, Counted, Setting, meeting, solo, Going, advance, after_mark, after_meeting, after_solo, first_going, hears, offers_of, puts_asked, rank_offer, puts_of, set_cases, kinds_of, own_lawful, ranks_lawful, solo_goes, Went, at_meeting, at_solo, go_went, hear_mode, hear_length, going_after, goings_long, replied, solo_of_is, entry_map, cons_rest, nil_cons, nat_tests, ltb-true}
+use Rattle.whole_run_laws.proofs.Words.{◌≡◌, ℕ, zero, suc, refl, sym, ◌∙◌, ap, subst, inl, inr, ◌⊎◌, List, [], ◌∷◌, ◌++◌, length, map, set, drop, Bool, true, false, cond, Option, Some, None, arith, length-map, length-set, same_Some, slice_get_within, fold, slice_get, filter, ◌==◌, list_all, entry_below, and_first, and_second, equal_itself, Header, Call, Script, Mark, Meet, Solo, MeetKind, Offer, Reply, Open, concerns, is_of_rank_below, IsLegal, kinds, marks_from, is_lawful, Counted, Setting, meeting, solo, Going, advance, after_mark, after_meeting, after_solo, first_going, hears, offers_of, puts_asked, rank_offer, puts_of, set_cases, kinds_of, own_lawful, ranks_lawful, solo_goes, first_state, setting_of, state_after, ◌+◌, meeting_call, Went, at_meeting, at_solo, go_went, hear_mode, hear_length, going_after, goings_long, replied, solo_of_is, entry_map, cons_rest, nil_cons, nat_tests, ltb-true}
 use Rattle.nc_base.specs.declared.step.OfferKind.TheVariants as offer
 use Rattle.join_laws.proofs.WholeLaws.{get_map as mapped_from}
+use Rattle.whole_run_laws.proofs.CallNumbers.{IsNumbered, heard_more, number_alone, number_met}
 
 -- ---- one rank
 
@@ -65,30 +66,35 @@ other_on q k r c ks rest g e on = grind (arith, nat_tests)
 
 -- ---- all ranks
 
-pub record AreOn (ranks k : ℕ) (ks : List MeetKind) (rest : List Mark) (goings : List Going) : Type 0 where
-  pub long : length goings ≡ ranks
-  pub each : (q : ℕ) (g : Going) → slice_get goings q ≡ Some g → OnCourse q k ks rest g
+-- these marks are left to them, after some meetings
+pub record AreAlong (script : Script) (rest : List Mark) (goings : List Going) : Type 0 where
+  pub met : ℕ
+  pub left : List MeetKind
+  pub long : length goings ≡ script.ranks
+  pub known : list_all (is_of_rank_below script.ranks) rest ≡ true
+  pub each : (q : ℕ) (g : Going) → slice_get goings q ≡ Some g → OnCourse q met left rest g
+  pub numbered : (q : ℕ) (g : Going) (own : List Call) → slice_get goings q ≡ Some g → slice_get script.calls q ≡ Some own → IsNumbered met own (length g.answers) g.calls
 
-module _ {ranks k j : ℕ} {ks : List MeetKind} {rest : List Mark} {goings : List Going} (header : Header) (on : AreOn ranks k ks (Meet j ∷ rest) goings) where
-  pub meets : (q : ℕ) (g : Going) → slice_get goings q ≡ Some g → AtMeeting q k g.rank.known ks rest (advance header g)
+module _ {script : Script} {j : ℕ} {rest : List Mark} {goings : List Going} (header : Header) (on : AreAlong script (Meet j ∷ rest) goings) where
+  pub meets : (q : ℕ) (g : Going) → slice_get goings q ≡ Some g → AtMeeting q on.met g.rank.known on.left rest (advance header g)
   meets q g e =
       let own = on.each q g e in
-      to_meeting q k g.rank.known j (kinds g.calls) ks (marks_from q (length g.answers) k g.rank.independent g.calls) rest (advance header g)
-      (go_went header q k g.rank g.answers g.calls) own.kinds own.marks
+      to_meeting q on.met g.rank.known j (kinds g.calls) on.left (marks_from q (length g.answers) on.met g.rank.independent g.calls) rest (advance header g)
+      (go_went header q on.met g.rank g.answers g.calls) own.kinds own.marks
 
-  pub meets_number : (q : ℕ) (g : Going) → slice_get goings q ≡ Some g → k ≡ j
-  meets_number q g e = grind (arith, nat_tests, on.each q g e, go_went header q k g.rank g.answers g.calls, nil_cons, not_solo)
+  pub meets_number : (q : ℕ) (g : Going) → slice_get goings q ≡ Some g → on.met ≡ j
+  meets_number q g e = grind (arith, nat_tests, on.each q g e, go_went header q on.met g.rank g.answers g.calls, nil_cons, not_solo)
 
-module _ {ranks k r c : ℕ} {ks : List MeetKind} {rest : List Mark} {goings : List Going} (header : Header) (on : AreOn ranks k ks (Solo r c ∷ rest) goings) where
-  pub goes_alone : (g : Going) → slice_get goings r ≡ Some g → AtSolo r k g.rank.known ks rest (advance header g)
+module _ {script : Script} {r c : ℕ} {rest : List Mark} {goings : List Going} (header : Header) (on : AreAlong script (Solo r c ∷ rest) goings) where
+  pub goes_alone : (g : Going) → slice_get goings r ≡ Some g → AtSolo r on.met g.rank.known on.left rest (advance header g)
   goes_alone g e =
       let own = on.each r g e in
-      to_solo r k g.rank.known c (kinds g.calls) ks (marks_from r (length g.answers) k g.rank.independent g.calls) rest (advance header g)
-      (go_went header r k g.rank g.answers g.calls) own.kinds
+      to_solo r on.met g.rank.known c (kinds g.calls) on.left (marks_from r (length g.answers) on.met g.rank.independent g.calls) rest (advance header g)
+      (go_went header r on.met g.rank g.answers g.calls) own.kinds
       (own.marks ∙ ap (λ (b : Bool). cond b (Solo r c ∷ filter (concerns r) rest) (filter (concerns r) rest)) (equal_itself r))
 
   pub goes_number : (g : Going) → slice_get goings r ≡ Some g → length (advance header g).0.answers ≡ c
-  goes_number g e = grind (arith, nat_tests, on.each r g e, go_went header r k g.rank g.answers g.calls, equal_itself r, nil_cons, not_solo)
+  goes_number g e = grind (arith, nat_tests, on.each r g e, go_went header r on.met g.rank g.answers g.calls, equal_itself r, nil_cons, not_solo)
 
 -- ---- the offers of a meeting
 
@@ -121,7 +127,7 @@ pub record IsOffered (header : Header) (goings : List Going) (ks : List MeetKind
   pub of_kind : o.kind ≡ offer.Meet kind
   pub kinds : ks ≡ kind ∷ others
 
-module _ {ranks k j : ℕ} {ks : List MeetKind} {rest : List Mark} {goings : List Going} (header : Header) (on : AreOn ranks k ks (Meet j ∷ rest) goings) where
+module _ {script : Script} {j : ℕ} {rest : List Mark} {goings : List Going} (header : Header) (on : AreAlong script (Meet j ∷ rest) goings) where
   all_ask : AllAsk (map (advance header) goings)
   all_ask q p e =
       let g = mapped_from (advance header) goings q p e in
@@ -134,7 +140,7 @@ module _ {ranks k j : ℕ} {ks : List MeetKind} {rest : List Mark} {goings : Lis
   pub offers_met_long : length (offers_of (map (advance header) goings)) ≡ length goings
   offers_met_long = offers_long (map (advance header) goings) all_ask ∙ length-map goings (advance header)
 
-  pub offered : (q : ℕ) (o : Offer) → slice_get (offers_of (map (advance header) goings)) q ≡ Some o → IsOffered header goings ks q o
+  pub offered : (q : ℕ) (o : Offer) → slice_get (offers_of (map (advance header) goings)) q ≡ Some o → IsOffered header goings on.left q o
   offered q o e =
       let long = offers_met_long in
       let below = slice_get_within (offers_of (map (advance header) goings)) q o e in
@@ -163,7 +169,7 @@ pub record Heard (s : Setting) (c : Counted) (goings : List Going) (q : ℕ) (g 
   pub records : reply.records ≡ (meeting s (offers_of (map (advance s.header) goings)) c).0.records
   pub is : g ≡ hears s.header (advance s.header before).0 reply
 
-module _ {ranks k j : ℕ} {ks : List MeetKind} {rest : List Mark} {goings : List Going} (s : Setting) (c : Counted) (on : AreOn ranks k ks (Meet j ∷ rest) goings) where
+module _ {script : Script} {j : ℕ} {rest : List Mark} {goings : List Going} (s : Setting) (c : Counted) (on : AreAlong script (Meet j ∷ rest) goings) where
   -- a rank before it is one after it
   pub hears_then : (q : ℕ) (b : Going) → slice_get goings q ≡ Some b → (g : Going) × ((slice_get (after_meeting s (c, goings)).1 q ≡ Some g) × Heard s c goings q g)
   hears_then q b e =
@@ -184,15 +190,26 @@ module _ {ranks k j : ℕ} {ks : List MeetKind} {rest : List Mark} {goings : Lis
       let h = hears_then q b.0 b.1 in
       subst (λ (z : Going). Heard s c goings q z) (same_Some h.0 g (sym h.1.0 ∙ e)) h.1.1
 
-  pub met_on : AreOn ranks (suc k) (drop 1 ks) rest (after_meeting s (c, goings)).1
-  met_on = record {
+  pub met_along : AreAlong script rest (after_meeting s (c, goings)).1
+  met_along = record {
+    met = suc on.met;
+    left = drop 1 on.left;
     long = met_long ∙ on.long;
+    known = and_second (is_of_rank_below script.ranks (Meet j)) _ on.known;
     each = λ q g e.
         let h = heard_by q g e in
         let at = meets s.header on q h.before h.was in
-        subst (λ (z : Going). OnCourse q (suc k) (drop 1 ks) rest z) (sym h.is)
-        (heard_on s.header q (suc k) h.before.rank.known (drop 1 ks) rest (advance s.header h.before) h.reply at.asks
+        subst (OnCourse q (suc on.met) (drop 1 on.left) rest) (sym h.is)
+        (heard_on s.header q (suc on.met) h.before.rank.known (drop 1 on.left) rest (advance s.header h.before) h.reply at.asks
         (sym (ap (λ (xs : List MeetKind). drop 1 xs) at.kinds)));
+    numbered = λ q g own e f i.
+        let h = heard_by q g e in
+        let at = meets s.header on q h.before h.was in
+        let next : suc on.met + i ≡ on.met + suc i = omega arith in
+        ap (λ (k : ℕ). meeting_call k own) next
+        ∙ heard_more _ _ _ _ _ _ (on.numbered q h.before own h.was f (suc i)) ((number_met s.header h.before at.kind at.asks.offer at.asks.is_offer at.of_kind).1 i)
+        (hear_length s.header (advance s.header h.before).0 h.reply)
+        ∙ ap (λ (z : Going). length z.answers + meeting_call i z.calls) (sym h.is);
   }
 
 -- ---- after a step of one rank
@@ -208,11 +225,11 @@ pub offered_alone : {s : Setting} {r k : ℕ} {c : Counted} {goings : List Going
     → puts_asked r (rank_offer s goings r) ≡ puts_of (r, st.at.asks.offer)
 offered_alone st = grind (arith, nat_tests)
 
-module _ {ranks k r n : ℕ} {ks : List MeetKind} {rest : List Mark} {goings : List Going} (s : Setting) (c : Counted) (l : r < ranks)
-    (on : AreOn ranks k ks (Solo r n ∷ rest) goings) where
-  pub steps : Stepped s r c goings k ks rest
+module _ {script : Script} {r n : ℕ} {rest : List Mark} {goings : List Going} (s : Setting) (c : Counted) (on : AreAlong script (Solo r n ∷ rest) goings) where
+  pub steps : Stepped s r c goings on.met on.left rest
   steps =
       let long = on.long in
+      let low = ltb-true r script.ranks (and_first (is_of_rank_below script.ranks (Solo r n)) _ on.known) in
       let b = entry_below goings r (omega arith) in
       let at = goes_alone s.header on b.0 b.1 in
       record {
@@ -222,33 +239,39 @@ module _ {ranks k r n : ℕ} {ks : List MeetKind} {rest : List Mark} {goings : L
         state = grind (arith, nat_tests, solo_goes s r c goings b.0 b.1, solo_of_is s r c (advance s.header b.0) at.asks.offer at.asks.is_offer, set);
       }
 
-  pub solo_on : AreOn ranks k ks rest (after_solo s r c goings).1
-  solo_on =
+  pub solo_along : AreAlong script rest (after_solo s r c goings).1
+  solo_along =
       let st = steps in
+      let b = st.before in
+      let p = advance s.header b in
       let y = (solo s r st.at.asks.offer c).1 in
-      let next = hears s.header (advance s.header st.before).0 y in
-      let own : OnCourse r k ks rest next = heard_on s.header r k st.before.rank.known ks rest (advance s.header st.before) y st.at.asks (sym st.at.kinds) in
-      subst (λ (z : List Going). AreOn ranks k ks rest z) (sym (ap (λ (z : Counted × List Going). z.1) st.state))
+      let next = hears s.header p.0 y in
+      let own : OnCourse r on.met on.left rest next = heard_on s.header r on.met b.rank.known on.left rest p y st.at.asks (sym st.at.kinds) in
+      subst (AreAlong script rest) (sym (ap (λ (z : Counted × List Going). z.1) st.state))
       (record {
+        met = on.met;
+        left = on.left;
         long = length-set goings r next ∙ on.long;
+        known = and_second (is_of_rank_below script.ranks (Solo r n)) _ on.known;
         each = λ q g e. elim (set_cases goings r q next g e) [
           | inl p ↦ grind (arith, nat_tests)
-          | inr p ↦ other_on q k r n ks rest g p.0 (on.each q g p.1)
+          | inr p ↦ other_on q on.met r n on.left rest g p.0 (on.each q g p.1)
+        ];
+        numbered = λ q g own e f i. elim (set_cases goings r q next g e) [
+          | inl same ↦
+              heard_more _ _ _ _ _ _ (on.numbered r b own st.was (ap (slice_get script.calls) (sym same.0) ∙ f) i) (number_alone s.header b st.at.asks.offer st.at.asks.is_offer st.at.of_kind i)
+              (hear_length s.header p.0 y)
+              ∙ ap (λ (z : Going). length z.answers + meeting_call i z.calls) (sym same.1)
+          | inr other ↦ on.numbered q g own other.1 f i
         ];
       })
 
 -- ---- along an order
 
-pub record AreAlong (ranks : ℕ) (rest : List Mark) (goings : List Going) : Type 0 where
-  pub met : ℕ
-  pub kinds_left : List MeetKind
-  pub on : AreOn ranks met kinds_left rest goings
-
-pub mark_along : (s : Setting) (ranks : ℕ) (m : Mark) (rest : List Mark) (state : Counted × List Going) → is_of_rank_below ranks m ≡ true → AreAlong ranks (m ∷ rest) state.1
-    → AreAlong ranks rest (after_mark s state m).1
-mark_along s ranks (Meet j) rest (c, goings) known a = grind (arith, nat_tests, met_on s c a.on)
-mark_along s ranks (Solo r n) rest (c, goings) known a =
-    record { met = a.met; kinds_left = a.kinds_left; on = solo_on s c (ltb-true r ranks known) a.on }
+pub mark_along : (script : Script) (s : Setting) (m : Mark) (rest : List Mark) (state : Counted × List Going) → AreAlong script (m ∷ rest) state.1
+    → AreAlong script rest (after_mark s state m).1
+mark_along script s (Meet j) rest (c, goings) a = met_along s c a
+mark_along script s (Solo r n) rest (c, goings) a = solo_along s c a
 
 -- a rank after a step is as it was, or it heard a reply to its offer
 pub record Moved (s : Setting) (goings : List Going) (q : ℕ) (g : Going) : Type 0 where
@@ -256,40 +279,50 @@ pub record Moved (s : Setting) (goings : List Going) (q : ℕ) (g : Going) : Typ
   pub was : slice_get goings q ≡ Some before
   pub is : (g ≡ before) ⊎ ((o : Offer) × (y : Reply) × ((advance s.header before).1 ≡ Some o) × (g ≡ hears s.header (advance s.header before).0 y))
 
-pub moved : (s : Setting) (ranks q : ℕ) (m : Mark) (rest : List Mark) (c : Counted) (goings : List Going) (g : Going) → is_of_rank_below ranks m ≡ true
-    → AreAlong ranks (m ∷ rest) goings → slice_get (after_mark s (c, goings) m).1 q ≡ Some g → Moved s goings q g
-moved s ranks q (Meet j) rest c goings g known a e =
-    let h = heard_by s c a.on q g e in
-    let asks = (meets s.header a.on q h.before h.was).asks in
+pub moved : (script : Script) (s : Setting) (q : ℕ) (m : Mark) (rest : List Mark) (c : Counted) (goings : List Going) (g : Going) → AreAlong script (m ∷ rest) goings
+    → slice_get (after_mark s (c, goings) m).1 q ≡ Some g → Moved s goings q g
+moved script s q (Meet j) rest c goings g a e =
+    let h = heard_by s c a q g e in
+    let asks = (meets s.header a q h.before h.was).asks in
     record { before = h.before; was = h.was; is = inr (asks.offer, h.reply, asks.is_offer, h.is) }
-moved s ranks q (Solo r n) rest c goings g known a e =
-    let st = steps s c (ltb-true r ranks known) a.on in
+moved script s q (Solo r n) rest c goings g a e =
+    let st = steps s c a in
     let asks = st.at.asks in
     elim (set_cases goings r q _ g (sym (ap (λ (z : Counted × List Going). slice_get z.1 q) st.state) ∙ e)) [
-      | inl p ↦ record { before = st.before; was = ap (λ (z : ℕ). slice_get goings z) p.0 ∙ st.was; is = inr (asks.offer, (solo s r asks.offer c).1, asks.is_offer, p.1) }
+      | inl p ↦ record { before = st.before; was = ap (slice_get goings) p.0 ∙ st.was; is = inr (asks.offer, (solo s r asks.offer c).1, asks.is_offer, p.1) }
       | inr p ↦ record { before = g; was = p.1; is = inl refl }
     ]
 
-pub marks_along : (s : Setting) (ranks : ℕ) (order rest : List Mark) (state : Counted × List Going) → list_all (is_of_rank_below ranks) (order ++ rest) ≡ true
-    → AreAlong ranks (order ++ rest) state.1 → AreAlong ranks rest (fold (after_mark s) state order).1
-marks_along s ranks [] rest state known a = a
-marks_along s ranks (m ∷ order) rest state known a =
-    marks_along s ranks order rest (after_mark s state m) (and_second (is_of_rank_below ranks m) _ known)
-    (mark_along s ranks m (order ++ rest) state (and_first (is_of_rank_below ranks m) _ known) a)
+pub marks_along : (script : Script) (s : Setting) (order rest : List Mark) (state : Counted × List Going) → AreAlong script (order ++ rest) state.1
+    → AreAlong script rest (fold (after_mark s) state order).1
+marks_along script s [] rest state a = a
+marks_along script s (m ∷ order) rest state a = marks_along script s order rest (after_mark s state m) (mark_along script s m (order ++ rest) state a)
 
-pub first_on : (script : Script) (header : Header) (order : List Mark) → is_lawful script ≡ true → IsLegal script order
-    → AreOn script.ranks 0 (kinds_of script) order (map (first_going header) script.calls)
-first_on script header order lawful legal = record {
+pub first_along : (script : Script) (header : Header) (order : List Mark) → is_lawful script ≡ true → IsLegal script order
+    → AreAlong script order (map (first_going header) script.calls)
+first_along script header order lawful legal = record {
+  met = 0;
+  left = kinds_of script;
   long = length-map script.calls (first_going header) ∙ (ranks_lawful script lawful).one_each;
+  known = legal.known_ranks;
   each = λ q g e.
       let own = mapped_from (first_going header) script.calls q g e in
-      subst (λ (z : Going). OnCourse q 0 (kinds_of script) order z) (sym own.1.1) (begins q own.0 own.1.0);
+      subst (OnCourse q 0 (kinds_of script) order) (sym own.1.1) (begins q own.0 own.1.0);
+  numbered = λ q g own e f j.
+      let from = mapped_from (first_going header) script.calls q g e in
+      let same : from.0 ≡ own = same_Some from.0 own (sym from.1.0 ∙ f) in
+      none own j ∙ ap (λ (z : Going). length z.answers + meeting_call j z.calls) (sym (from.1.1 ∙ ap (first_going header) same));
 }
   where
+    none : (own : List Call) (j : ℕ) → meeting_call (0 + j) own ≡ 0 + meeting_call j own
+    none own j = let z : 0 + j ≡ j = omega arith in grind (arith, z)
+
     begins : (q : ℕ) (own : List Call) → slice_get script.calls q ≡ Some own → OnCourse q 0 (kinds_of script) order (first_going header own)
     begins q own e =
         grind (arith, nat_tests, legal.each_rank q, own_lawful script q own lawful e, ranks_lawful script lawful, slice_get_within script.calls q own e)
 
-pub first_along : (script : Script) (header : Header) (order : List Mark) → is_lawful script ≡ true → IsLegal script order
-    → AreAlong script.ranks order (map (first_going header) script.calls)
-first_along script header order lawful legal = record { met = 0; kinds_left = kinds_of script; on = first_on script header order lawful legal }
+-- what is left at a place of a run
+pub along_at : (script : Script) (header : Header) (file : List ℕ) (before later : List Mark) → is_lawful script ≡ true → IsLegal script (before ++ later)
+    → AreAlong script later (state_after script header file before).1
+along_at script header file before later lawful legal =
+    marks_along script (setting_of script header) before later (first_state header file script.calls) (first_along script header (before ++ later) lawful legal)

@@ -1,8 +1,8 @@
 -- The header's field has the record count wherever that grew, and is as it was where it didn't.
-use Rattle.whole_run_laws.proofs.Words.{holds_or_not, either, inl, inr, read_same, ◌≡◌, ℕ, ◌+◌, ◌<◌, ◌≤◌, refl, sym, subst, List, [], ◌∷◌, length, map, max, true, Option, arith, fold, nat_lt, list_all, byte_len, and_first, and_second, any_in, Pair, Header, Script, Mark, Meet, Solo, read, written, after_puts, Counted, known_by, needs, puts_of, raised, Setting, told, count, count_width, is_sound, is_of_rank_below, IsLegal, is_lawful, greatest, with_records, advance, after_mark, first_state, Going, offers_of, serial_from, setting_of, covered, Puts, after_keeps, count_long, at-written_inside, canon_len, is_held, puts_at, puts_met, nat_tests, ltb-true}
-use Rattle.whole_run_laws.proofs.Courses.{AreAlong, first_along, mark_along, offered_alone, steps}
+use Rattle.whole_run_laws.proofs.Words.{holds_or_not, either, inl, inr, read_same, ◌≡◌, ℕ, ◌+◌, ◌<◌, ◌≤◌, refl, sym, subst, List, [], ◌∷◌, length, map, max, true, Option, arith, fold, nat_lt, byte_len, any_in, Pair, Header, Script, Mark, Meet, Solo, read, written, after_puts, Counted, known_by, needs, puts_of, raised, Setting, told, count, count_width, is_sound, IsLegal, is_lawful, greatest, with_records, advance, after_mark, first_state, Going, offers_of, serial_from, setting_of, covered, Puts, after_keeps, count_long, at-written_inside, canon_len, is_held, puts_met, nat_tests, ltb-true}
+use Rattle.whole_run_laws.proofs.Courses.{offered_alone, steps}
 use Rattle.whole_run_laws.proofs.FilledFile.{read_all}
-use Rattle.whole_run_laws.proofs.PastLaws.{AllFit, AllPast, first_fits, mark_fit, mark_past}
+use Rattle.whole_run_laws.proofs.PastLaws.{AllPast, AreRight, first_right, mark_past, mark_right}
 
 -- the field of a file that was opened with the header's count
 record FieldIs (header : Header) (file : List ℕ) (c : Counted) : Type 0 where
@@ -38,28 +38,25 @@ raised_field s file c n f =
     })
     (λ e. f)
 
-mark_field : (s : Setting) (ranks : ℕ) (m : Mark) (rest : List Mark) (file : List ℕ) (c : Counted) (goings : List Going) → is_of_rank_below ranks m ≡ true
-    → AreAlong ranks (m ∷ rest) goings → AllPast s.header (puts_at s (c, goings) m) → FieldIs s.header file c → FieldIs s.header file (after_mark s (c, goings) m).0
-mark_field s ranks (Meet j) rest file c goings known a past f =
+mark_field : (script : Script) (s : Setting) (m : Mark) (rest : List Mark) (file : List ℕ) (c : Counted) (goings : List Going) → AreRight script s.header (m ∷ rest) goings
+    → FieldIs s.header file c → FieldIs s.header file (after_mark s (c, goings) m).0
+mark_field script s (Meet j) rest file c goings a f =
     let offers = offers_of (map (advance s.header) goings) in
     let puts = puts_met offers in
     let pair = told s puts in
     raised_field s file (record { file = after_puts s puts pair c.file; records = c.records }) (max (needs s puts pair) (greatest (map (λ o. known_by o.kind o.known) offers)))
-    (with_puts s puts pair file c past f)
-mark_field s ranks (Solo r n) rest file c goings known a past f =
-    let st = steps s c (ltb-true r ranks known) a.on in
+    (with_puts s puts pair file c (mark_past script s (Meet j) rest c goings a) f)
+mark_field script s (Solo r n) rest file c goings a f =
+    let st = steps s c a.along in
     let o = st.at.asks.offer in
-    let own : AllPast s.header (puts_of (r, o)) = subst (λ (ps : Puts). AllPast s.header ps) (offered_alone st) past in
+    let own : AllPast s.header (puts_of (r, o)) = subst (λ (ps : Puts). AllPast s.header ps) (offered_alone st) (mark_past script s (Solo r n) rest c goings a) in
     subst (λ (z : Counted × List Going). FieldIs s.header file z.0) (sym st.state) (with_puts s (puts_of (r, o)) (told s (puts_of (r, o))) file c own f)
 
-order_field : (s : Setting) (ranks : ℕ) (order : List Mark) (file : List ℕ) (state : Counted × List Going) → is_sound s.header ≡ true → list_all (is_of_rank_below ranks) order ≡ true
-    → AreAlong ranks order state.1 → AllFit s.header ranks state.1 → FieldIs s.header file state.0 → FieldIs s.header file (fold (after_mark s) state order).0
-order_field s ranks [] file state sound known a fit f = f
-order_field s ranks (m ∷ order) file state sound known a fit f =
-    let here = and_first (is_of_rank_below ranks m) _ known in
-    order_field s ranks order file (after_mark s state m) sound (and_second (is_of_rank_below ranks m) _ known) (mark_along s ranks m order state here a)
-    (mark_fit s ranks m order state.0 state.1 sound here a fit)
-    (mark_field s ranks m order file state.0 state.1 here a (mark_past s ranks m order state.0 state.1 sound here a fit) f)
+order_field : (script : Script) (s : Setting) (order : List Mark) (file : List ℕ) (state : Counted × List Going) → AreRight script s.header order state.1
+    → FieldIs s.header file state.0 → FieldIs s.header file (fold (after_mark s) state order).0
+order_field script s [] file state a f = f
+order_field script s (m ∷ order) file state a f =
+    order_field script s order file (after_mark s state m) (mark_right script s m order state a) (mark_field script s m order file state.0 state.1 a f)
 
 end_field : (script : Script) (header : Header) (file : List ℕ) (order : List Mark) → is_sound header ≡ true → is_lawful script ≡ true → IsLegal script order
     → FieldIs header file (record { file = (serial_from script header file order).bytes; records = (serial_from script header file order).records })
@@ -67,8 +64,8 @@ end_field script header file order sound lawful legal =
     let s = setting_of script header in
     let last = fold (after_mark s) (first_state header file script.calls) order in
     raised_field s file last.0 (greatest (map (λ g. g.rank.known) (map (λ g. (advance header g).0) last.1)))
-    (order_field s script.ranks order file (first_state header file script.calls) sound legal.known_ranks (first_along script header order lawful legal)
-    (first_fits script header lawful) (record { least = omega arith; same = λ e. refl; tells = λ l. absurd (omega arith) }))
+    (order_field script s order file (first_state header file script.calls) (first_right script header order sound lawful legal)
+    (record { least = omega arith; same = λ e. refl; tells = λ l. absurd (omega arith) }))
 
 pub field_tells : (script : Script) (header : Header) (file : List ℕ) (order : List Mark) → is_sound header ≡ true → is_lawful script ≡ true → IsLegal script order
     → header.records < (serial_from script header file order).records

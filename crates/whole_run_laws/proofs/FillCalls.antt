@@ -2,9 +2,8 @@
 use Rattle.whole_run_laws.proofs.Words.{◌≡◌, ℕ, ◌≤◌, sym, ◌∙◌, ap, List, [], ◌∷◌, ◌++◌, length, map, true, Some, None, arith, same_Some, slice_get, entry_below, Header, Var, Script, Mark, Meet, Offer, size_of, read, Counted, Setting, told, fill_bytes, is_sound, IsLegal, is_lawful, inner_lengths, is_record, IsIndex, place, find_var, look_fill, look_record, code_of_look, posts_of, advance, after_meeting, Going, offers_of, setting_of, state_after, state_more, comes_to_meeting, puts_at, puts_met, AllFill, filling, Fills, some_rank, nat_tests}
 use Rattle.nc_base.specs.declared.answer.Code.TheVariants as code
 use Rattle.serial_spec.specs.Looks as looks
-use Rattle.whole_run_laws.proofs.Courses.{AreAlong, offered, offers_met_long}
+use Rattle.whole_run_laws.proofs.Courses.{AreAlong, along_at, offered, offers_met_long}
 use Rattle.whole_run_laws.proofs.FilledRecord.{record_puts, record_reads}
-use Rattle.whole_run_laws.proofs.ToldLaws.{along_at}
 
 -- a filling by name is that of the variable
 look_is : (header : Header) (name : List ℕ) (k number r ranks : ℕ) (v : Var) → find_var header name ≡ Some k → slice_get header.vars k ≡ Some v
@@ -19,35 +18,35 @@ fill_offer header name number ranks r g o f e = grind (arith, nat_tests, comes_t
 of_records : (header : Header) (k number r ranks : ℕ) (v : Var) → code_of_look (look_record header k number r ranks v) ≡ code.Ok → is_record header v ≡ true
 of_records header k number r ranks v e = grind (arith, nat_tests)
 
-module _ (s : Setting) (ranks j k number : ℕ) (name : List ℕ) (v : Var) (rest : List Mark) (c : Counted) (goings : List Going) (some : 1 ≤ ranks)
-    (found : find_var s.header name ≡ Some k) (there : slice_get s.header.vars k ≡ Some v) (along : AreAlong ranks (Meet j ∷ rest) goings)
-    (fill : (r : ℕ) (g : Going) → slice_get goings r ≡ Some g → Fills s.header name number ranks r g) where
+module _ {script : Script} (s : Setting) (j k number : ℕ) (name : List ℕ) (v : Var) (rest : List Mark) (c : Counted) (goings : List Going) (some : 1 ≤ script.ranks)
+    (found : find_var s.header name ≡ Some k) (there : slice_get s.header.vars k ≡ Some v) (along : AreAlong script (Meet j ∷ rest) goings)
+    (fill : (r : ℕ) (g : Going) → slice_get goings r ≡ Some g → Fills s.header name number script.ranks r g) where
   abbrev all_offers : List Offer
   all_offers = offers_of (map (advance s.header) goings)
 
-  offers_each : length (offers_of (map (advance s.header) goings)) ≡ ranks
-  offers_each = offers_met_long s.header along.on ∙ along.on.long
+  offers_each : length (offers_of (map (advance s.header) goings)) ≡ script.ranks
+  offers_each = offers_met_long s.header along ∙ along.long
 
-  accepted : (r : ℕ) (g : Going) → slice_get goings r ≡ Some g → code_of_look (look_record s.header k number r ranks v) ≡ code.Ok
+  accepted : (r : ℕ) (g : Going) → slice_get goings r ≡ Some g → code_of_look (look_record s.header k number r script.ranks v) ≡ code.Ok
   accepted r g e =
-      sym (ap (λ (l : looks.Look). code_of_look l) (look_is s.header name k number r ranks v found there)) ∙ (fill r g e).accepted
+      sym (ap (λ (l : looks.Look). code_of_look l) (look_is s.header name k number r script.ranks v found there)) ∙ (fill r g e).accepted
 
   shares_put : AllFill s.header k v number (offers_of (map (advance s.header) goings))
   shares_put r o e =
       let each = offers_each in
-      let w = offered s.header along.on r o e in
-      fill_offer s.header name number ranks r w.going o (fill r w.going w.was) w.is
-      ∙ ap (λ (l : looks.Look). posts_of l) (look_is s.header name k number r ranks v found there)
-      ∙ record_puts s.header k number r ranks v (accepted r w.going w.was)
+      let w = offered s.header along r o e in
+      fill_offer s.header name number script.ranks r w.going o (fill r w.going w.was) w.is
+      ∙ ap (λ (l : looks.Look). posts_of l) (look_is s.header name k number r script.ranks v found there)
+      ∙ record_puts s.header k number r script.ranks v (accepted r w.going w.was)
       ∙ ap (λ (n : ℕ). filling s.header k v number n r) (sym each)
 
   record_filled : (index : List ℕ) → is_sound s.header ≡ true → told s (puts_met (offers_of (map (advance s.header) goings))) ≡ None → IsIndex (inner_lengths s.header v) index
       → read (after_meeting s (c, goings)).0.file (place s.header v (number ∷ index)) (size_of v.kind) ≡ fill_bytes v
   record_filled index sound none h =
       let each = offers_each in
-      let long = along.on.long in
+      let long = along.long in
       let g = entry_below goings 0 (omega arith) in
-      record_reads s all_offers c k number v index sound there (of_records s.header k number 0 ranks v (accepted 0 g.0 g.1)) shares_put (omega arith) none h
+      record_reads s all_offers c k number v index sound there (of_records s.header k number 0 script.ranks v (accepted 0 g.0 g.1)) shares_put (omega arith) none h
 
 pub calls_filled : (script : Script) (header : Header) (file : List ℕ) (before later : List Mark) (j k number : ℕ) (name : List ℕ) (v : Var) (index : List ℕ)
     → is_sound header ≡ true → is_lawful script ≡ true → IsLegal script (before ++ Meet j ∷ later)
@@ -59,5 +58,5 @@ pub calls_filled : (script : Script) (header : Header) (file : List ℕ) (before
 calls_filled script header file before later j k number name v index sound lawful legal found there fill none h =
     let state = state_after script header file before in
     ap (λ (z : Counted × List Going). read z.0.file (place header v (number ∷ index)) (size_of v.kind)) (state_more script header file before (Meet j))
-    ∙ record_filled (setting_of script header) script.ranks j k number name v later state.0 state.1 (some_rank script lawful) found there
+    ∙ record_filled (setting_of script header) j k number name v later state.0 state.1 (some_rank script lawful) found there
     (along_at script header file before (Meet j ∷ later) lawful legal) fill index sound none h

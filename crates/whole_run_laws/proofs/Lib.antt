@@ -2,10 +2,10 @@ mod Words
 mod KeptLaws
 mod OneOrder
 mod HullLengths
+mod CallNumbers
 mod Courses
 mod CountLaws
 mod ToldLaws
-mod AnswersStay
 mod FilledFile
 mod FilledRecord
 mod FillCalls

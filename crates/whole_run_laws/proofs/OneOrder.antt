@@ -1,5 +1,6 @@
 -- A script whose ranks have no steps of their own has one order: all its meetings in turn.
-use Rattle.whole_run_laws.proofs.Words.{◌≡◌, ℕ, zero, suc, ◌+◌, ◌<◌, refl, sym, ◌∙◌, ap, subst, List, [], ◌∷◌, length, map, Bool, true, false, not, ◌&&◌, Option, Some, None, arith, and-false, or_from, slice_get, filter, list_all, list_any, range_with_len, fails_each, fails_at, entry_below, and_first, equal_itself, no_false, or_first_false, or_second_false, in_range, each_in, Header, Call, Script, Mark, Meet, Solo, MeetKind, concerns, is_collective, is_data, is_of_rank_below, IsLegal, kind_of_call, kinds, marks, marks_from, is_meeting, is_lawful, serial_from, kinds_of, own_lawful, ranks_lawful, kinds_skip, kinds_take, marks_alone, marks_meet, marks_solo, all_meetings, has_independent, has_solo, is_independent, collective_kind, some_rank, nat_tests, ltb-true}
+use Rattle.list_laws.proofs.Each.{none_any}
+use Rattle.whole_run_laws.proofs.Words.{◌≡◌, ℕ, zero, suc, ◌+◌, ◌<◌, refl, sym, ◌∙◌, ap, subst, List, [], ◌∷◌, length, map, Bool, true, false, not, ◌&&◌, Option, Some, None, arith, and-false, slice_get, filter, list_all, list_any, range_with_len, fails_each, fails_at, entry_below, and_first, equal_itself, no_false, or_first_false, or_second_false, in_range, each_in, Header, Call, Script, Mark, Meet, Solo, MeetKind, concerns, is_collective, is_data, is_of_rank_below, IsLegal, kind_of_call, kinds, marks, marks_from, is_meeting, is_lawful, serial_from, kinds_of, own_lawful, ranks_lawful, kinds_skip, kinds_take, marks_alone, marks_meet, marks_solo, all_meetings, has_independent, has_solo, is_independent, collective_kind, some_rank, nat_tests, ltb-true}
 
 abbrev is_solo : Mark → Bool
 is_solo m = not (is_meeting m)
@@ -50,12 +51,8 @@ marks_of_own r m = elim m [ None ↦ [] | Some own ↦ marks_from r 0 0 false ow
 rank_not_alone : (script : Script) (r : ℕ) → has_independent script ≡ false → list_any is_solo (marks script.calls r) ≡ false
 rank_not_alone script r h = grind (arith, nat_tests, none_alone, fails_at)
 
-none_any : (p : ℕ → Bool) (xs : List ℕ) → ((x : ℕ) → p x ≡ false) → list_any p xs ≡ false
-none_any p [] f = refl
-none_any p (x ∷ xs) f = or_from (p x) (list_any p xs) (f x) (none_any p xs f)
-
 pub no_step_alone : (script : Script) → is_lawful script ≡ true → has_independent script ≡ false → has_solo script ≡ false
-no_step_alone script lawful h = none_any (λ r. list_any is_solo (marks script.calls r)) (range_with_len 0 script.ranks) (λ r. rank_not_alone script r h)
+no_step_alone script lawful h = none_any (λ r. list_any is_solo (marks script.calls r)) (range_with_len 0 script.ranks) (λ q r e. rank_not_alone script r h)
 
 -- ---- the marks of all ranks
 

@@ -1,5 +1,5 @@
 -- The posts of a call of form varn are those of calls on its parts, each with its share of the values.
-use Rattle.whole_run_laws.proofs.Words.{◌≡◌, ℕ, zero, suc, ◌+◌, ◌<◌, ◌≤◌, refl, ◌∙◌, ap, inl, inr, List, [], ◌∷◌, ◌++◌, length, map, take, drop, Bool, true, false, not, cond, ltb, ◌||◌, Option, Some, None, option_map, arith, ℤ, filter, flat_map, slice_get, list_any, range_with_len, lt-ltb, ltb-false, sum_by-cons, any_map, entry_below, or_first_false, or_second_false, count_of, Code, Header, NcType, Var, Post, Direction, Get, Put, Varn, Given, Part, Region, Values, Numbers, Text, Bits, Class, class_of, product, In, data_code, find_var, kind_code, look, look_at, look_parts, look_region, part_posts, parts_code, some_fits, values_bytes, code_of_look, posts_of, check_parts, check_var, elements_of_all, has_element, is_ok_code, part_region, part_regions, ext_of, packed_bytes, value_at, parts_pass, outcome, on_part, own_values, values_from, nat_tests, common_steps, is_none}
+use Rattle.whole_run_laws.proofs.Words.{each_in, fails_each, in_range, ◌≡◌, ℕ, zero, suc, ◌+◌, ◌<◌, ◌≤◌, refl, ◌∙◌, ap, inl, inr, List, [], ◌∷◌, ◌++◌, length, map, take, drop, Bool, true, false, not, cond, ltb, Option, Some, None, option_map, arith, ℤ, filter, flat_map, slice_get, list_any, range_with_len, lt-ltb, ltb-false, sum_by-cons, any_map, entry_below, count_of, Code, Header, NcType, Var, Post, Direction, Get, Put, Varn, Given, Part, Region, Values, Numbers, Text, Bits, Class, class_of, product, In, data_code, find_var, kind_code, look, look_at, look_parts, look_region, part_posts, parts_code, some_fits, values_bytes, code_of_look, posts_of, check_parts, check_var, elements_of_all, has_element, is_ok_code, part_region, part_regions, ext_of, packed_bytes, value_at, parts_pass, outcome, on_part, own_values, values_from, nat_tests, common_steps, is_none}
 use Rattle.nc_base.specs.declared.answer.Code.TheVariants as code
 use Rattle.nc_base.specs.declared.request.Value.TheVariants as value
 use Rattle.serial_spec.specs.Looks as looks
@@ -61,12 +61,6 @@ of_values kinds lacking unfit = cond (not (is_ok_code kinds)) kinds (cond lackin
 all_right : (kinds : Code) (lacking unfit : Bool) → of_values kinds lacking unfit ≡ code.Ok → (kinds ≡ code.Ok) × (lacking ≡ false) × (unfit ≡ false)
 all_right kinds lacking unfit h = grind (arith, nat_tests)
 
-none_of_range : (test : ℕ → Bool) (a n : ℕ) → list_any test (range_with_len a n) ≡ false → (i : ℕ) → i < n → test (a + i) ≡ false
-none_of_range test a zero h i l = absurd (omega arith)
-none_of_range test a (suc n) h zero l = grind (arith, nat_tests, or_first_false)
-none_of_range test a (suc n) h (suc i) l =
-    grind (arith, nat_tests, none_of_range test (a + 1) n (or_second_false (test a) (list_any test (range_with_len (a + 1) n)) h) i (omega arith), or_second_false)
-
 right_values : (kind : NcType) (values : Values) (all : ℕ) → parts_code kind all (Some values) ≡ code.Ok → AreRight kind values all
 right_values kind values all h =
     let test = λ (m : ℕ). not (some_fits kind (value_at values m)) in
@@ -74,7 +68,7 @@ right_values kind values all h =
     record {
       kinds = r.0;
       enough = ltb-false (count_of values) all r.1;
-      fit = λ i l. let here : i ≡ 0 + i = omega arith in ap test here ∙ none_of_range test 0 all r.2 i l;
+      fit = λ i l. each_in (λ m. test m ≡ false) (range_with_len 0 all) i (fails_each test (range_with_len 0 all) r.2) (in_range 0 all i (omega arith) (omega arith));
     }
 
 value_there : (values : Values) (i : ℕ) → i < count_of values → is_none (value_at values i) ≡ false

@@ -1,5 +1,5 @@
 -- The puts of a step one after another, and an independent put of many regions region by region.
-use Rattle.whole_run_laws.proofs.Words.{◌≡◌, ℕ, zero, suc, ◌+◌, ◌≤◌, max, refl, sym, ◌∙◌, ap, inl, inr, List, [], ◌∷◌, ◌++◌, length, map, Bool, true, false, cond, ltb, Option, Some, None, arith, cases_lt, or_cases, nat_tests, common_steps, fold-append, map-append, AllByRecursion, filter, flat_map, fold, slice_get, some_or_none, and_first, no_both, Code, Header, NcType, Var, Post, Call, Put, Varn, Given, Part, Region, Values, Offer, Want, at, longer, written, Counted, Setting, after_puts, end_for, put_post, put_some, told, product, data_bytes, data_code, direction_of, find_var, is_varn, look, look_at, look_parts, look_region, part_posts, parts_code, Rank, answer, answers, batch_of, code_of_look, offers_look, posts_of, needed, needed_by, bound, check_parts, check_var, elements_of_all, has_element, part_regions, widen, Cell, write_cells, Going, go, solo_of, Holding, Holds, Key, Puts, first_end, holdings, key_below, second_end, at-longer, longer-enough, longer_long, after_grows, key_equal, end_grows, cells_said, same_file, outcome, outcome_posts, makes, on_part, own_values, put_parts}
+use Rattle.whole_run_laws.proofs.Words.{◌≡◌, ℕ, zero, suc, ◌+◌, ◌≤◌, max, refl, sym, ◌∙◌, ap, inl, inr, List, [], ◌∷◌, ◌++◌, length, map, Bool, true, false, cond, ltb, Option, Some, None, arith, cases_lt, or_cases, nat_tests, fold-append, map-append, AllByRecursion, filter, flat_map, fold, slice_get, some_or_none, and_first, no_both, Code, Header, NcType, Var, Post, Call, Put, Varn, Given, Part, Region, Values, Offer, Want, at, longer, written, Counted, Setting, after_puts, end_for, put_post, put_some, told, product, find_var, is_varn, look, look_at, look_parts, look_region, part_posts, Rank, answer, answers, batch_of, code_of_look, offers_look, posts_of, needed, needed_by, bound, has_element, part_regions, widen, Cell, write_cells, Going, go, solo_of, Holding, Holds, Key, Puts, first_end, holdings, key_below, second_end, at-longer, longer-enough, longer_long, after_grows, key_equal, end_grows, cells_said, same_file, outcome, outcome_posts, makes, on_part, own_values, put_parts}
 use Rattle.nc_base.specs.declared.answer.Code.TheVariants as code
 use Rattle.nc_base.specs.declared.request.Call.TheVariants as call
 use Rattle.nc_base.specs.declared.step.OfferKind.TheVariants as offer
@@ -109,15 +109,8 @@ look_ids header known id name given values = by (find_var header name)
       | true ↦ look_parts header known id k given values var
       | false ↦ look_region header known id k given values var
     ]))
-    by_form k var true =
-        let parts = part_regions var given in
-        let asked = filter has_element parts in
-        outcome_ids id (check_parts header var parts known (direction_of values)) (ltb 0 (length asked)) (part_posts id k var.kind values 0 asked)
-        (parts_code var.kind (elements_of_all asked) values) (part_ids id k var.kind values 0 asked)
-    by_form k var false =
-        let g = widen header var given known in
-        let post : Post = record { id = id; var = k; region = g; bytes = data_bytes var.kind g values } in
-        outcome_ids id (check_var header var g known (direction_of values)) (has_element g) (post ∷ []) (data_code var.kind g values) (refl, tt)
+    by_form k var true = outcome_ids id _ (ltb 0 (length (filter has_element (part_regions var given)))) _ _ (part_ids id k var.kind values 0 (filter has_element (part_regions var given)))
+    by_form k var false = outcome_ids id _ (has_element (widen header var given known)) _ _ (refl, tt)
 
     by_var : (k : ℕ) (v : Option Var) → HaveId id (posts_of (look_at header known id k given values v))
     by_var k None = tt

@@ -1,5 +1,5 @@
 -- No completed put holds a byte of the header, so its bytes stay but for the record count.
-use Rattle.whole_run_laws.proofs.Words.{holds_or_not, some_or_none, ◌≡◌, ℕ, ◌<◌, ◌≤◌, sym, ◌∙◌, ap, subst, inl, inr, List, [], ◌∷◌, map, true, false, ◌||◌, Option, Some, arith, flat_map-append, slice_get, list_all, range_with_len, fails_each, and_first, and_second, or_first_false, any_in, flat_in, in_either, range_low, each_in, map_in, numbered_in, Header, Var, Post, Script, Mark, Meet, Solo, Offer, Reply, refused, wrong_length, size_of, at, Counted, puts_of, Setting, header_len, is_sound, is_of_rank_below, IsLegal, is_lawful, In, IsElementBelow, place, records_of, check_some, elements, places, advance, after_mark, first_going, first_state, Going, hears, offers_of, serial_from, setting_of, bytes_of, bytes_of_some, covered, Puts, accepted_elements, elements_past_header, Fit, good_first, heard_fits, most_posts_held, offer_fits, completed, completed_from, completed_puts, IsBesideCount, is_held, puts_at, puts_met, nat_tests, ltb-true}
+use Rattle.whole_run_laws.proofs.Words.{holds_or_not, some_or_none, ◌≡◌, ℕ, ◌<◌, ◌≤◌, sym, ◌∙◌, ap, subst, inl, inr, List, [], ◌∷◌, map, true, false, ◌||◌, Option, Some, arith, flat_map-append, slice_get, range_with_len, fails_each, or_first_false, any_in, flat_in, in_either, range_low, each_in, map_in, numbered_in, Header, Var, Post, Script, Mark, Meet, Solo, Offer, Reply, refused, wrong_length, size_of, at, Counted, puts_of, Setting, header_len, is_sound, IsLegal, is_lawful, In, IsElementBelow, place, records_of, check_some, elements, places, advance, after_mark, first_going, first_state, Going, hears, offers_of, serial_from, setting_of, bytes_of, bytes_of_some, covered, Puts, accepted_elements, elements_past_header, Fit, good_first, heard_fits, most_posts_held, offer_fits, completed, completed_from, completed_puts, IsBesideCount, is_held, puts_at, puts_met, nat_tests}
 use Rattle.nc_base.specs.declared.request.Direction.TheVariants as way
 use Rattle.join_laws.proofs.CountLaws.{passes_accepted as accepted}
 use Rattle.join_laws.proofs.WholeLaws.{get_map as mapped_from}
@@ -30,9 +30,6 @@ pub record IsFit (header : Header) (ranks : ℕ) (g : Going) : Type 0 where
   pub low : number < ranks
   pub fit : Fit header ranks number most_posts_held g.rank g.calls
 
-abbrev pub AllFit : Header → ℕ → List Going → Type 0
-AllFit header ranks goings = (q : ℕ) (g : Going) → slice_get goings q ≡ Some g → IsFit header ranks g
-
 offer_past : (header : Header) (ranks : ℕ) (g : Going) (o : Offer) → is_sound header ≡ true → IsFit header ranks g → (advance header g).1 ≡ Some o
     → (p : Post) → In o.batch.puts p → Past header p
 offer_past header ranks g o sound f e p m =
@@ -56,56 +53,70 @@ met_past header offers f x m = grind (arith, nat_tests, flat_in, map_in, numbere
 done_past : (s : Setting) (puts : Puts) → AllPast s.header puts → AllPast s.header (completed s puts)
 done_past s puts f = grind (arith, nat_tests)
 
-pub mark_past : (s : Setting) (ranks : ℕ) (m : Mark) (rest : List Mark) (c : Counted) (goings : List Going) → is_sound s.header ≡ true → is_of_rank_below ranks m ≡ true
-    → AreAlong ranks (m ∷ rest) goings → AllFit s.header ranks goings → AllPast s.header (puts_at s (c, goings) m)
-mark_past s ranks (Meet j) rest c goings sound known a fit =
+-- the ranks at a place of an order
+pub record AreRight (script : Script) (header : Header) (rest : List Mark) (goings : List Going) : Type 0 where
+  pub sound : is_sound header ≡ true
+  pub along : AreAlong script rest goings
+  pub fit : (q : ℕ) (g : Going) → slice_get goings q ≡ Some g → IsFit header script.ranks g
+
+pub mark_past : (script : Script) (s : Setting) (m : Mark) (rest : List Mark) (c : Counted) (goings : List Going) → AreRight script s.header (m ∷ rest) goings
+    → AllPast s.header (puts_at s (c, goings) m)
+mark_past script s (Meet j) rest c goings a =
     met_past s.header (offers_of (map (advance s.header) goings)) (λ q o e.
-    let w = offered s.header a.on q o e in
-    offer_past s.header ranks w.going o sound (fit q w.going w.was) w.is)
-mark_past s ranks (Solo r n) rest c goings sound known a fit =
-    let st = steps s c (ltb-true r ranks known) a.on in
-    subst (AllPast s.header) (sym (offered_alone st)) (own_past s.header r st.at.asks.offer (offer_past s.header ranks st.before st.at.asks.offer sound (fit r st.before st.was) st.at.asks.is_offer))
+    let w = offered s.header a.along q o e in
+    offer_past s.header script.ranks w.going o a.sound (a.fit q w.going w.was) w.is)
+mark_past script s (Solo r n) rest c goings a =
+    let st = steps s c a.along in
+    subst (AllPast s.header) (sym (offered_alone st))
+    (own_past s.header r st.at.asks.offer (offer_past s.header script.ranks st.before st.at.asks.offer a.sound (a.fit r st.before st.was) st.at.asks.is_offer))
 
 heard_fit : (header : Header) (ranks : ℕ) (g next : Going) (o : Offer) (y : Reply) → is_sound header ≡ true → IsFit header ranks g → (advance header g).1 ≡ Some o
     → next ≡ hears header (advance header g).0 y → IsFit header ranks next
 heard_fit header ranks g next o y sound f e h = grind (arith, nat_tests, heard_fits header sound ranks f.number most_posts_held f.low g o y f.fit e)
 
-pub mark_fit : (s : Setting) (ranks : ℕ) (m : Mark) (rest : List Mark) (c : Counted) (goings : List Going) → is_sound s.header ≡ true → is_of_rank_below ranks m ≡ true
-    → AreAlong ranks (m ∷ rest) goings → AllFit s.header ranks goings → AllFit s.header ranks (after_mark s (c, goings) m).1
-mark_fit s ranks m rest c goings sound known a fit q g e =
-    let w = moved s ranks q m rest c goings g known a e in
-    elim w.is [
-      | inl f ↦ subst (IsFit s.header ranks) (sym f) (fit q w.before w.was)
-      | inr h ↦ heard_fit s.header ranks w.before g h.0 h.1 sound (fit q w.before w.was) h.2 h.3
-    ]
+pub mark_right : (script : Script) (s : Setting) (m : Mark) (rest : List Mark) (state : Counted × List Going) → AreRight script s.header (m ∷ rest) state.1
+    → AreRight script s.header rest (after_mark s state m).1
+mark_right script s m rest (c, goings) a = record {
+  sound = a.sound;
+  along = mark_along script s m rest (c, goings) a.along;
+  fit = λ q g e.
+      let w = moved script s q m rest c goings g a.along e in
+      elim w.is [
+        | inl f ↦ subst (IsFit s.header script.ranks) (sym f) (a.fit q w.before w.was)
+        | inr h ↦ heard_fit s.header script.ranks w.before g h.0 h.1 a.sound (a.fit q w.before w.was) h.2 h.3
+      ];
+}
 
 -- ---- a run
 
-order_past : (s : Setting) (ranks : ℕ) (order : List Mark) (state : Counted × List Going) → is_sound s.header ≡ true → list_all (is_of_rank_below ranks) order ≡ true
-    → AreAlong ranks order state.1 → AllFit s.header ranks state.1 → AllPast s.header (completed_from s state order)
-order_past s ranks [] state sound known a fit x m = absurd m
-order_past s ranks (k ∷ order) state sound known a fit x m =
-    let here = and_first (is_of_rank_below ranks k) _ known in
+order_past : (script : Script) (s : Setting) (order : List Mark) (state : Counted × List Going) → AreRight script s.header order state.1
+    → AllPast s.header (completed_from s state order)
+order_past script s [] state a x m = absurd m
+order_past script s (k ∷ order) state a x m =
     let now = completed s (puts_at s state k) in
     let later = completed_from s (after_mark s state k) order in
     let both = subst (λ (xs : List ℕ). In xs x) (flat_map-append (λ (p : ℕ × Post). bytes_of s.header p.1) now later) m in
     elim (in_either (covered s.header now) (covered s.header later) x both) [
-      | inl h ↦ done_past s (puts_at s state k) (mark_past s ranks k order state.0 state.1 sound here a fit) x h
-      | inr h ↦ order_past s ranks order (after_mark s state k) sound (and_second (is_of_rank_below ranks k) _ known) (mark_along s ranks k order state here a)
-          (mark_fit s ranks k order state.0 state.1 sound here a fit) x h
+      | inl h ↦ done_past s (puts_at s state k) (mark_past script s k order state.0 state.1 a) x h
+      | inr h ↦ order_past script s order (after_mark s state k) (mark_right script s k order state a) x h
     ]
 
-pub first_fits : (script : Script) (header : Header) → is_lawful script ≡ true → AllFit header script.ranks (map (first_going header) script.calls)
-first_fits script header lawful q g e =
-    let own = mapped_from (first_going header) script.calls q g e in
-    let good = good_first script header q own.0 lawful own.1.0 in
-    subst (IsFit header script.ranks) (sym own.1.1) (record { number = good.number; low = good.low; fit = good.fit })
+pub first_right : (script : Script) (header : Header) (order : List Mark) → is_sound header ≡ true → is_lawful script ≡ true → IsLegal script order
+    → AreRight script header order (map (first_going header) script.calls)
+first_right script header order sound lawful legal = record {
+  sound = sound;
+  along = first_along script header order lawful legal;
+  fit = λ q g e.
+      let own = mapped_from (first_going header) script.calls q g e in
+      let good = good_first script header q own.0 lawful own.1.0 in
+      subst (IsFit header script.ranks) (sym own.1.1) (record { number = good.number; low = good.low; fit = good.fit });
+}
 
 pub all_past : (script : Script) (header : Header) (file : List ℕ) (order : List Mark) (x : ℕ) → is_sound header ≡ true → is_lawful script ≡ true → IsLegal script order
     → is_held header (completed_puts script header file order) x ≡ true → header_len header ≤ x
 all_past script header file order x sound lawful legal held =
-    order_past (setting_of script header) script.ranks order (first_state header file script.calls) sound legal.known_ranks (first_along script header order lawful legal)
-    (first_fits script header lawful) x (any_in (covered header (completed_puts script header file order)) x held)
+    order_past script (setting_of script header) order (first_state header file script.calls) (first_right script header order sound lawful legal) x
+    (any_in (covered header (completed_puts script header file order)) x held)
 
 pub header_stays : (script : Script) (header : Header) (file : List ℕ) (order : List Mark) (x : ℕ) → is_sound header ≡ true → is_lawful script ≡ true → IsLegal script order
     → IsBesideCount header x → x < header_len header → at (serial_from script header file order).bytes x ≡ at file x

@@ -1,5 +1,5 @@
 -- What the elements of old and added variables read in a redefined file.
-use Rattle.whole_run_laws.proofs.Words.{◌≡◌, ℕ, ◌+◌, ◌<◌, ◌≤◌, refl, sym, ◌∙◌, ap, subst, inl, inr, List, [], ◌∷◌, length, map, take, replicate, Some, arith, slice_get, get_or-replicate, length-replicate, same_Some, slice_get_within, Header, Var, Extra, size_of, val, read, canon, header_len, lengths, AreApart, IsElementBelow, IsIndex, place, added, redefined, with_extra, IsRedefined, KeepsVars, Moves, redefined_keeps, elements_apart, elements_past_header, redefined_is, element_inside, index_is_element, known_of, element_value, IsCounted, IsRedefinition, nat_tests}
+use Rattle.whole_run_laws.proofs.Words.{◌≡◌, ℕ, ◌+◌, ◌<◌, ◌≤◌, refl, sym, ◌∙◌, ap, subst, inl, inr, List, length, map, take, replicate, Some, arith, slice_get, get_or-replicate, length-replicate, same_Some, slice_get_within, Header, Var, Extra, size_of, val, read, canon, header_len, lengths, AreApart, IsElementBelow, IsIndex, place, redefined, IsRedefined, KeepsVars, Moves, redefined_keeps, elements_apart, elements_past_header, redefined_is, element_inside, index_is_element, known_of, element_value, IsCounted, IsRedefinition, nat_tests}
 use Rattle.whole_run_laws.proofs.FilledFile.{read_all}
 use Rattle.serial_spec.proofs.AddedLaws.{records_stay}
 

@@ -1,19 +1,8 @@
 -- What a step tells its ranks, and that a step with a pair changes nothing.
-use Rattle.whole_run_laws.proofs.Words.{◌≡◌, ℕ, suc, ◌+◌, refl, sym, ◌∙◌, ap, List, [], ◌∷◌, ◌++◌, map, Bool, true, false, Option, Some, None, arith, same_Some, nat_tests, flat_map, slice_get, enumerate_from, list_all, and_first, and_second, in_at, Answer, Pair, Header, Post, Call, OverlapRule, Refuse, Script, Mark, Meet, Solo, MeetKind, Offer, OfferKind, Reply, Counted, get_post, known_by, meeting, puts_of, raises, Setting, told, told_under, is_of_rank_below, IsLegal, is_lawful, greatest, In, Open, Rank, advance, after_mark, first_state, go, Going, hears, offers_of, setting_of, state_after, holdings, IsSharedPair, IsUnshared, Puts, shared_pair, pair_found, pair_none, state_more, puts_at, puts_met, quiet_step, nil_cons, ltb-true}
+use Rattle.whole_run_laws.proofs.Words.{◌≡◌, ℕ, suc, ◌+◌, refl, sym, ◌∙◌, ap, List, [], ◌∷◌, ◌++◌, map, Bool, true, false, Option, Some, None, arith, same_Some, nat_tests, flat_map, slice_get, enumerate_from, in_at, Answer, Pair, Header, Post, Call, OverlapRule, Refuse, Script, Mark, Meet, Solo, MeetKind, Offer, OfferKind, Reply, Counted, get_post, known_by, meeting, puts_of, raises, Setting, told, told_under, IsLegal, is_lawful, greatest, In, Rank, advance, after_mark, go, Going, offers_of, setting_of, state_after, holdings, IsSharedPair, IsUnshared, Puts, shared_pair, pair_found, pair_none, state_more, puts_at, puts_met, quiet_step, nil_cons}
 use Rattle.nc_base.specs.declared.step.OfferKind.TheVariants as offer
-use Rattle.whole_run_laws.proofs.Courses.{AreAlong, AreOn, first_along, marks_along, offered, offered_alone, steps}
+use Rattle.whole_run_laws.proofs.Courses.{AreAlong, along_at, offered, offered_alone, steps}
 use Rattle.join_laws.proofs.WholeLaws.{get_map as mapped_from}
-
--- what rank r has answered when these marks are done
-abbrev pub answers_of : Option Going → List Answer
-answers_of None = []
-answers_of (Some g) = g.answers
-
-abbrev pub answers_after : Script → Header → List ℕ → List Mark → ℕ → List Answer
-answers_after script header file order r = answers_of (slice_get (state_after script header file order).1 r)
-
-abbrev pub IsLastTold : List Answer → Option Pair → Type 0
-IsLastTold answers pair = (earlier : List Answer) × (last : Answer) × (answers ≡ earlier ++ last ∷ []) × (last.pair ≡ pair)
 
 -- ---- one step
 
@@ -76,19 +65,19 @@ kind_left k ks xs j ys e f = grind (arith, nat_tests)
 
 -- ---- in a run
 
-module _ (s : Setting) (ranks k j : ℕ) (ks : List MeetKind) (rest : List Mark) (c : Counted) (goings : List Going) (on : AreOn ranks k ks (Meet j ∷ rest) goings) where
+module _ {script : Script} {j : ℕ} {rest : List Mark} {goings : List Going} (s : Setting) (c : Counted) (on : AreAlong script (Meet j ∷ rest) goings) where
   abbrev offers : List Offer
   offers = offers_of (map (advance s.header) goings)
 
   meeting_alike : (p : Pair) → told s (puts_met offers) ≡ Some p → (meeting s offers c).0 ≡ c
-  meeting_alike p e = by_first ks refl
+  meeting_alike p e = by_first on.left refl
     where
-      same_raises : (kind : MeetKind) (others : List MeetKind) → ks ≡ kind ∷ others → (q : ℕ) (o : Offer) → slice_get offers q ≡ Some o → raises o.kind ≡ raises (offer.Meet kind)
+      same_raises : (kind : MeetKind) (others : List MeetKind) → on.left ≡ kind ∷ others → (q : ℕ) (o : Offer) → slice_get offers q ≡ Some o → raises o.kind ≡ raises (offer.Meet kind)
       same_raises kind others f q o h =
           let w = offered s.header on q o h in
-          ap (λ (z : OfferKind). raises z) w.of_kind ∙ ap (λ (z : MeetKind). raises (offer.Meet z)) (kind_left w.kind ks w.others kind others w.kinds f)
+          ap (λ (z : OfferKind). raises z) w.of_kind ∙ ap (λ (z : MeetKind). raises (offer.Meet z)) (kind_left w.kind on.left w.others kind others w.kinds f)
 
-      by_kind : (kind : MeetKind) (others : List MeetKind) → ks ≡ kind ∷ others → (t : Bool) → raises (offer.Meet kind) ≡ t → (meeting s offers c).0 ≡ c
+      by_kind : (kind : MeetKind) (others : List MeetKind) → on.left ≡ kind ∷ others → (t : Bool) → raises (offer.Meet kind) ≡ t → (meeting s offers c).0 ≡ c
       by_kind kind others f true g =
           no_pair s p (sym (ap (λ (ps : Puts). told s ps) (none_asked offers 0 (λ q o h.
           let w = offered s.header on q o h in
@@ -96,27 +85,14 @@ module _ (s : Setting) (ranks k j : ℕ) (ks : List MeetKind) (rest : List Mark)
       by_kind kind others f false g = meeting_nothing s offers c p e (none_known offers (λ q o h. same_raises kind others f q o h ∙ g))
 
       -- where no kind is left there is no rank, and no put
-      by_first : (xs : List MeetKind) → ks ≡ xs → (meeting s offers c).0 ≡ c
+      by_first : (xs : List MeetKind) → on.left ≡ xs → (meeting s offers c).0 ≡ c
       by_first [] f = meeting_nothing s offers c p e (none_known offers (λ q o h. nil_cons (offered s.header on q o h).kind _ (sym f ∙ (offered s.header on q o h).kinds)))
       by_first (kind ∷ others) f = by_kind kind others f (raises (offer.Meet kind)) refl
 
--- the pair of the answer to a reply
-pub heard_pair : (header : Header) (g : Going) (y : Reply) (o : Open) → g.rank.«open» ≡ Some o → IsLastTold (hears header g y).answers y.pair
-heard_pair header g y o e = grind (arith, nat_tests)
-
-pub along_at : (script : Script) (header : Header) (file : List ℕ) (before later : List Mark) → is_lawful script ≡ true → IsLegal script (before ++ later)
-    → AreAlong script.ranks later (state_after script header file before).1
-along_at script header file before later lawful legal =
-    marks_along (setting_of script header) script.ranks before later (first_state header file script.calls) legal.known_ranks (first_along script header (before ++ later) lawful legal)
-
-pub known_mark : (ranks : ℕ) (before later : List Mark) (m : Mark) → list_all (is_of_rank_below ranks) (before ++ m ∷ later) ≡ true → is_of_rank_below ranks m ≡ true
-known_mark ranks [] later m h = and_first (is_of_rank_below ranks m) _ h
-known_mark ranks (x ∷ before) later m h = known_mark ranks before later m (and_second (is_of_rank_below ranks x) _ h)
-
-step_nothing : (s : Setting) (ranks : ℕ) (m : Mark) (rest : List Mark) (c : Counted) (goings : List Going) (p : Pair) → is_of_rank_below ranks m ≡ true
-    → AreAlong ranks (m ∷ rest) goings → told s (puts_at s (c, goings) m) ≡ Some p → (after_mark s (c, goings) m).0 ≡ c
-step_nothing s ranks (Meet j) rest c goings p known a e = meeting_alike s ranks a.met j a.kinds_left rest c goings a.on p e
-step_nothing s ranks (Solo r n) rest c goings p known a e = grind (arith, nat_tests, steps s c (ltb-true r ranks known) a.on, offered_alone (steps s c (ltb-true r ranks known) a.on))
+step_nothing : (script : Script) (s : Setting) (m : Mark) (rest : List Mark) (c : Counted) (goings : List Going) (p : Pair) → AreAlong script (m ∷ rest) goings
+    → told s (puts_at s (c, goings) m) ≡ Some p → (after_mark s (c, goings) m).0 ≡ c
+step_nothing script s (Meet j) rest c goings p a e = meeting_alike s c a p e
+step_nothing script s (Solo r n) rest c goings p a e = grind (arith, nat_tests, steps s c a, offered_alone (steps s c a))
 
 pub mark_nothing : (script : Script) (header : Header) (file : List ℕ) (before later : List Mark) (m : Mark) (p : Pair)
     → is_lawful script ≡ true → IsLegal script (before ++ m ∷ later)
@@ -125,5 +101,4 @@ pub mark_nothing : (script : Script) (header : Header) (file : List ℕ) (before
 mark_nothing script header file before later m p lawful legal e =
     let state = state_after script header file before in
     ap (λ (z : Counted × List Going). z.0) (state_more script header file before m)
-    ∙ step_nothing (setting_of script header) script.ranks m later state.0 state.1 p (known_mark script.ranks before later m legal.known_ranks)
-    (along_at script header file before (m ∷ later) lawful legal) e
+    ∙ step_nothing script (setting_of script header) m later state.0 state.1 p (along_at script header file before (m ∷ later) lawful legal) e
