@@ -1,5 +1,5 @@
 -- Lists that are gathered one entry after another.
-use Rattle.reference.proofs.Words.{◌≡◌, ℕ, suc, ◌+◌, ◌-◌, ◌<◌, ◌≤◌, refl, sym, ap, ◌∙◌, List, [], ◌∷◌, ◌++◌, length, drop, get_or, map, max, greatest, drop_more, append-nil, append_assoc, add-one, length-append, Some, arith, flat_map, slice_get, range_with_len, drop_all, map-range_with_len_more, at, longer, read, drop_at, nat_tests}
+use Rattle.reference.proofs.Words.{In, inl, inr, ◌≡◌, ℕ, suc, ◌+◌, ◌-◌, ◌<◌, ◌≤◌, refl, sym, ap, ◌∙◌, List, [], ◌∷◌, ◌++◌, length, drop, get_or, map, max, greatest, drop_more, append-nil, append_assoc, add-one, length-append, Some, arith, flat_map, slice_get, range_with_len, drop_all, map-range_with_len_more, at, longer, read, drop_at, nat_tests}
 use Rattle.list_laws.proofs.Appends.{then_append}
 use Rattle.list_laws.proofs.Ranges.{range_push}
 
@@ -45,3 +45,8 @@ greatest_step {A} f xs i x n m k w h e g l so_far =
 
 pub greatest_end : {A : Type 0} (f : A → ℕ) (xs : List A) (i n w : ℕ) → length xs ≤ i → max n (greatest (map f (drop i xs))) ≡ w → n ≡ w
 greatest_end {A} f xs i n w l h = let none = ap (λ (ys : List A). greatest (map f ys)) (drop_all i xs l) in omega (arith, none, h)
+
+-- what zero has and two numbers hand on, the greatest has
+pub greatest_has : {A : Type 0} (P : ℕ → Type 0) (f : A → ℕ) (xs : List A) → P 0 → ((a b : ℕ) → P a → P b → P (max a b)) → ((x : A) → In xs x → P (f x)) → P (greatest (map f xs))
+greatest_has P f [] none both all = none
+greatest_has P f (x ∷ xs) none both all = both (f x) (greatest (map f xs)) (all x (inl refl)) (greatest_has P f xs none both (λ y m. all y (inr m)))

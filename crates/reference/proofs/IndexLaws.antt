@@ -1,5 +1,5 @@
 -- The index of an element, one dimension after another, and how great its entries are.
-use Rattle.reference.proofs.Words.{◌≡◌, ℕ, ◌+◌, ◌-◌, ◌*◌, ◌/◌, ◌%◌, ◌^◌, ◌<◌, ◌≤◌, refl, sym, ap, ◌∙◌, subst, List, [], ◌∷◌, ◌++◌, length, get_or, min, true, Some, arith, slice_get, AllByRecursion, mul-le, same_Some, each_weaker, Header, Var, Region, size_of, product, inner_lengths, is_record, recsize, row, place, record_of, within_record, HasRecord, IsIndex, IsElement, index_at, index_fixed, index_record, product_pos, place_fixed, place_record, places, length-places, place_at, row_below_bytes, is_sound, IsAccepted, coordinates_of, index_of, accepted_place, small_of, wide_records, AreBelow, split, rest, nat_tests}
+use Rattle.reference.proofs.Words.{append-nil, ◌⊎◌, ◌≡◌, ℕ, ◌+◌, ◌-◌, ◌*◌, ◌/◌, ◌%◌, ◌^◌, ◌<◌, ◌≤◌, refl, sym, ap, ◌∙◌, subst, List, [], ◌∷◌, ◌++◌, length, get_or, min, true, Some, arith, slice_get, AllByRecursion, mul-le, same_Some, each_weaker, Header, Var, Region, size_of, product, inner_lengths, is_record, recsize, row, place, record_of, within_record, HasRecord, IsIndex, IsElement, index_at, index_fixed, index_record, product_pos, place_fixed, place_record, places, length-places, place_at, row_below_bytes, is_sound, IsAccepted, coordinates_of, index_of, accepted_place, small_of, wide_records, AreBelow, split, rest, nat_tests}
 
 -- ---- one dimension more
 
@@ -46,20 +46,12 @@ all_numbered header k v g counts n i there accepted same e past =
 
 -- ---- none left
 
-pub no_starts : (starts counts strides : List ℕ) (number : ℕ) → length starts < 1 → index_at starts strides (coordinates_of counts number) ≡ []
-no_starts [] counts strides number h = refl
-no_starts (s ∷ starts) counts strides number h = absurd (omega arith)
-
-pub no_strides : (starts counts strides : List ℕ) (number : ℕ) → length strides < 1 → index_at starts strides (coordinates_of counts number) ≡ []
-no_strides [] counts strides number h = refl
-no_strides (s ∷ starts) counts [] number h = refl
-no_strides (s ∷ starts) counts (t ∷ strides) number h = absurd (omega arith)
-
-pub no_counts : (starts counts strides : List ℕ) (number : ℕ) → length counts < 1 → index_at starts strides (coordinates_of counts number) ≡ []
-no_counts [] counts strides number h = refl
-no_counts (s ∷ starts) [] [] number h = refl
-no_counts (s ∷ starts) [] (t ∷ strides) number h = refl
-no_counts (s ∷ starts) (n ∷ counts) strides number h = absurd (omega arith)
+pub none_indexed : (old starts counts strides : List ℕ) (number : ℕ) → (length starts < 1) ⊎ ((length strides < 1) ⊎ (length counts < 1))
+    → old ≡ old ++ index_at starts strides (coordinates_of counts number)
+none_indexed old [] counts strides number h = sym (append-nil old)
+none_indexed old (s ∷ starts) counts [] number h = sym (append-nil old)
+none_indexed old (s ∷ starts) [] (t ∷ strides) number h = sym (append-nil old)
+none_indexed old (s ∷ starts) (n ∷ counts) (t ∷ strides) number h = absurd (omega arith)
 
 -- ---- the entries
 

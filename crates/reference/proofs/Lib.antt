@@ -4,8 +4,6 @@ mod IndexLaws
 pub mod MeetSteps
 mod PairSteps
 mod PutSteps
-mod StepSteps
-mod WriteSteps
 mod RunnerLaws
 mod FirstLaws
 mod NextLaws

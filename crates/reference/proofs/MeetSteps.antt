@@ -1,17 +1,14 @@
 -- The offers of a meeting, one after another.
-use Rattle.reference.proofs.Words.{◌≡◌, ℕ, ◌+◌, ◌<◌, inl, inr, refl, ap, ◌∙◌, List, [], ◌∷◌, ◌++◌, length, drop, get_or, map, max, cond, Option, Some, None, append_assoc, arith, flat_map, nat_lt, slice_get, enumerate_from, Pair, Header, Var, Post, Offer, Reply, In, map_in, after_puts, get_post, known_by, meeting, needs, puts_of, told, Setting, greatest, record_limit, needed, needed_by, records_of_some, with_records, check_some, Puts, IsAccepted, passed, records_below, reply_to, IsPut, IsRight, some_limit, known_less, in_either, nat_tests}
+use Rattle.reference.proofs.Words.{less_max, ◌≡◌, ℕ, ◌+◌, ◌<◌, inl, inr, refl, ap, ◌∙◌, List, [], ◌∷◌, ◌++◌, length, drop, get_or, map, max, cond, Option, Some, None, append_assoc, arith, flat_map, nat_lt, slice_get, enumerate_from, Pair, Header, Var, Post, Offer, Reply, In, map_in, after_puts, get_post, known_by, meeting, needs, puts_of, told, Setting, greatest, record_limit, needed, needed_by, records_of_some, with_records, check_some, Puts, IsAccepted, passed, records_below, reply_to, IsPut, IsRight, some_limit, known_less, in_either, nat_tests}
 use Rattle.nc_base.specs.declared.answer.Code.TheVariants as code
-use Rattle.reference.proofs.GatherLaws.{next_left}
+use Rattle.reference.proofs.GatherLaws.{greatest_has, next_left}
 
 -- ---- the count that ranks know
 
 pub known_low : (offers : List Offer) (n : ℕ) → 0 < n → ((o : Offer) → In offers o → o.known < n) → greatest (map (λ o. known_by o.kind o.known) offers) < n
-known_low [] n some all = omega (arith, some)
-known_low (o ∷ offers) n some all =
-    let rest = known_low offers n some (λ p m. all p (inr m)) in
-    let own = known_less o.kind o.known in
-    let low = all o (inl refl) in
-    omega (arith, rest, own, low)
+known_low offers n some all =
+    greatest_has (λ m. m < n) (λ o. known_by o.kind o.known) offers some (λ a b. less_max a b n)
+    (λ o m. let own = known_less o.kind o.known in let low = all o m in omega (arith, own, low))
 
 one_low : (header : Header) (post : Post) → IsAccepted header post.var post.region → needed header post < record_limit header.version
 one_low header post a = by_var (slice_get header.vars post.var) refl a.2
@@ -21,11 +18,9 @@ one_low header post a = by_var (slice_get header.vars post.var) refl a.2
     by_var (Some v) e h = records_below header v post.region (passed header v post.region a.0 a.1 h).large
 
 puts_low : (header : Header) (puts : Puts) → ((p : ℕ × Post) → In puts p → IsPut header p.1) → needed_by header puts < record_limit header.version
-puts_low header [] all = some_limit header.version
-puts_low header (p ∷ puts) all =
-    let own = one_low header p.1 (all p (inl refl)).accepted in
-    let rest = puts_low header puts (λ q m. all q (inr m)) in
-    omega (arith, own, rest)
+puts_low header puts all =
+    greatest_has (λ n. n < record_limit header.version) (λ p. needed header p.1) puts (some_limit header.version) (λ a b. less_max a b (record_limit header.version))
+    (λ p m. one_low header p.1 (all p m).accepted)
 
 pub needs_low : (s : Setting) (puts : Puts) (pair : Option Pair) → ((p : ℕ × Post) → In puts p → IsPut s.header p.1) → needs s puts pair < record_limit s.header.version
 needs_low s puts pair all = grind (arith, nat_tests, some_limit, puts_low)
@@ -52,22 +47,17 @@ pub record Done (s : Setting) (offers : List Offer) (old mid : List ℕ) (n k : 
   pub needs : n ≡ needs s puts pair
   pub known : k ≡ greatest (map (λ o. known_by o.kind o.known) offers)
 
-pub meeting_file : (s : Setting) (offers : List Offer) (old mid now : List ℕ) (r n k m : ℕ) (puts : Puts) (pair : Option Pair) → Done s offers old mid n k puts pair → m ≡ max n k
-    → now ≡ cond (nat_lt r m) (with_records s.header.version mid m) mid → now ≡ (meeting s offers (record { file = old; records = r })).0.file
-meeting_file s offers old mid now r n k m puts pair d top e = grind (arith, nat_tests)
-
-pub meeting_records : (s : Setting) (offers : List Offer) (old mid : List ℕ) (r now n k m : ℕ) (puts : Puts) (pair : Option Pair) → Done s offers old mid n k puts pair → m ≡ max n k
-    → now ≡ max r m → now ≡ (meeting s offers (record { file = old; records = r })).0.records
-meeting_records s offers old mid r now n k m puts pair d top e = grind (arith, nat_tests)
-
-pub meeting_replies : (s : Setting) (offers : List Offer) (old mid file : List ℕ) (r records n k : ℕ) (puts : Puts) (pair : Option Pair) (all : List Reply) → Done s offers old mid n k puts pair
-    → file ≡ (meeting s offers (record { file = old; records = r })).0.file → records ≡ (meeting s offers (record { file = old; records = r })).0.records
-    → all ≡ map (reply_to s pair records file) offers → all ≡ (meeting s offers (record { file = old; records = r })).1
-meeting_replies s offers old mid file r records n k puts pair all d f g e =
-    e
-    ∙ ap (λ (o : Option Pair). map (reply_to s o records file) offers) (d.pair_is ∙ ap (λ (ps : Puts). told s ps) d.puts_are)
-    ∙ ap (λ (x : ℕ). map (reply_to s (told s (flat_map puts_of (enumerate_from 0 offers))) x file) offers) g
-    ∙ ap (λ (x : List ℕ). map (reply_to s (told s (flat_map puts_of (enumerate_from 0 offers))) (meeting s offers (record { file = old; records = r })).0.records x) offers) f
+pub meeting_is : (s : Setting) (offers : List Offer) (old mid file : List ℕ) (r records n k m : ℕ) (puts : Puts) (pair : Option Pair) (all : List Reply)
+    → Done s offers old mid n k puts pair → m ≡ max n k → file ≡ cond (nat_lt r m) (with_records s.header.version mid m) mid → records ≡ max r m
+    → all ≡ map (reply_to s pair records file) offers
+    → (file ≡ (meeting s offers (record { file = old; records = r })).0.file) × (records ≡ (meeting s offers (record { file = old; records = r })).0.records)
+    × (all ≡ (meeting s offers (record { file = old; records = r })).1)
+meeting_is s offers old mid file r records n k m puts pair all d top e g h =
+    let next = meeting s offers (record { file = old; records = r }) in
+    let f : file ≡ next.0.file = grind (arith, nat_tests) in
+    let c : records ≡ next.0.records = grind (arith, nat_tests) in
+    let p : pair ≡ told s (flat_map puts_of (enumerate_from 0 offers)) = d.pair_is ∙ ap (λ (ps : Puts). told s ps) d.puts_are in
+    (f, c, h ∙ (λ i. map (reply_to s (p i) (c i) (f i)) offers))
 
 -- ---- the replies
 

@@ -1,6 +1,6 @@
--- The puts of a step, one after another.
-use Rattle.reference.proofs.Words.{◌≡◌, ℕ, ◌+◌, ◌^◌, ◌<◌, ◌≤◌, inl, inr, refl, sym, ap, ◌∙◌, List, [], ◌∷◌, length, drop, get_or, fold, max, Option, Some, None, true, arith, slice_get, IfSome, drop_all, Header, Var, Post, In, longer, after_puts, put_post, Setting, header_len, is_sound, end_of, needed, needed_by, records_of, records_of_some, put, Puts, sound_end, IsAccepted, small_of, nat_tests}
-use Rattle.reference.proofs.GatherLaws.{next_left}
+-- The puts and the gets of a step, one after another.
+use Rattle.reference.proofs.Words.{get, get_post, map, append_assoc, ◌++◌, ◌*◌, take, add-one, drop-drop, written, cells, write_cells, drop_at, ◌≡◌, ℕ, ◌+◌, ◌^◌, ◌<◌, ◌≤◌, inl, inr, refl, sym, ap, ◌∙◌, List, [], ◌∷◌, length, drop, get_or, fold, max, Option, Some, None, true, arith, slice_get, IfSome, drop_all, Header, Var, Post, In, longer, after_puts, put_post, Setting, header_len, is_sound, end_of, needed, needed_by, records_of, records_of_some, put, Puts, sound_end, IsAccepted, small_of, nat_tests}
+use Rattle.reference.proofs.GatherLaws.{greatest_has, next_left}
 
 -- ---- the count
 
@@ -20,9 +20,9 @@ either header a b h k = grind (arith, nat_tests)
 
 pub ends_low : (header : Header) (puts : Puts) → is_sound header ≡ true → ((p : ℕ × Post) → In puts p → IsAccepted header p.1.var p.1.region)
     → end_of header (header_len header) (needed_by header puts) < 2 ^ 62
-ends_low header [] sound all = sound_end header 0 sound (omega arith)
-ends_low header (p ∷ puts) sound all =
-    either header (needed header p.1) (needed_by header puts) (one_end header p.1 sound (all p (inl refl))) (ends_low header puts sound (λ q h. all q (inr h)))
+ends_low header puts sound all =
+    greatest_has (λ n. end_of header (header_len header) n < 2 ^ 62) (λ p. needed header p.1) puts (sound_end header 0 sound (omega arith)) (either header)
+    (λ p m. one_end header p.1 sound (all p m))
 
 -- ---- the file
 
@@ -32,11 +32,6 @@ pub write_step : (header : Header) (puts : Puts) (i : ℕ) (p : ℕ × Post) (fi
     → (s : Setting) → s.header ≡ header → fold (put_post s) now (drop (i + 1) puts) ≡ fold (put_post s) old puts
 write_step header puts i p file now old h e a some so_far s same = grind (arith, nat_tests, next_left puts i p p h e, fold)
 
-pub write_end : (header : Header) (puts : Puts) (i : ℕ) (file old : List ℕ) → length puts ≤ i
-    → ((s : Setting) → s.header ≡ header → fold (put_post s) file (drop i puts) ≡ fold (put_post s) old puts)
-    → (s : Setting) → s.header ≡ header → file ≡ fold (put_post s) old puts
-write_end header puts i file old l h s same = sym (ap (λ (ps : Puts). fold (put_post s) file ps) (drop_all i puts l)) ∙ h s same
-
 pub after_all : (header : Header) (puts : Puts) (old mid now : List ℕ) (size n : ℕ) → n ≡ needed_by header puts → size ≡ end_of header (header_len header) n → mid ≡ longer old size
     → ((s : Setting) → s.header ≡ header → now ≡ fold (put_post s) mid puts) → (s : Setting) → s.header ≡ header → now ≡ after_puts s puts None old
 after_all header puts old mid now size n count end grown all s same =
@@ -45,3 +40,19 @@ after_all header puts old mid now size n count end grown all s same =
     (grown
     ∙ ap (λ (m : ℕ). longer old m) (end ∙ ap (λ (m : ℕ). end_of header (header_len header) m) count)
     ∙ ap (λ (h : Header). longer old (end_of h (header_len h) (needed_by h puts))) (sym same))
+
+-- ---- the gets
+
+pub got_step : (header : Header) (posts : List Post) (i : ℕ) (post : Post) (file blob : List ℕ) (got got' : List (List ℕ)) → i < length posts → post ≡ get_or posts i post
+    → IsAccepted header post.var post.region → IfSome (slice_get header.vars post.var) (λ v. blob ≡ get header v post.region file) → got' ≡ got ++ blob ∷ []
+    → ((s : Setting) → s.header ≡ header → got ++ map (get_post s file) (drop i posts) ≡ map (get_post s file) posts)
+    → (s : Setting) → s.header ≡ header → got' ++ map (get_post s file) (drop (i + 1) posts) ≡ map (get_post s file) posts
+got_step header posts i post file blob got got' h e a some f so_far s same =
+    grind (arith, nat_tests, append_assoc got (blob ∷ []) (map (get_post s file) (drop (i + 1) posts)), next_left posts i post post h e)
+
+-- ---- the elements of a put
+
+pub put_step : (size : ℕ) (ps bytes file file' whole part : List ℕ) (k x : ℕ) → slice_get ps k ≡ Some x → part ≡ take size (drop (k * size) bytes)
+    → file' ≡ written file x part → write_cells file (cells size (drop k ps) (drop (k * size) bytes)) ≡ whole
+    → write_cells file' (cells size (drop (k + 1) ps) (drop ((k + 1) * size) bytes)) ≡ whole
+put_step size ps bytes file file' whole part k x there p e h = grind (arith, nat_tests, add-one k, drop-drop size (k * size) bytes, drop_at ps k x there)

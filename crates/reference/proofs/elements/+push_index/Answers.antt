@@ -1,22 +1,16 @@
 -- An index, one dimension after another.
-use Rattle.reference.proofs.Words.{arith, ◌++◌, ◌∙◌, ◌^◌, ◌%◌, ℕ, List, ap, sym, subst, append-nil, append_assoc, rules, on_ok_weaker, index_at, coordinates_of, AreBelow, rest}
-use Rattle.reference.proofs.IndexLaws.{first_low, index_step, no_counts, no_starts, no_strides}
+use Rattle.reference.proofs.Words.{inl, inr, arith, ◌++◌, ◌∙◌, ◌^◌, ◌%◌, ℕ, List, ap, sym, subst, append-nil, append_assoc, rules, on_ok_weaker, index_at, coordinates_of, AreBelow, rest}
+use Rattle.reference.proofs.IndexLaws.{first_low, index_step, none_indexed}
 use Rattle.reference.proofs.elements.+push_index.Goals as goal
 
 pub returns-in_default-counts : goal.returns-in_default-counts
-returns-in_default-counts t c =
-    sym (ap (λ (l : List ℕ). c.args.index.now.items ++ l) (no_counts c.args.starts.now c.args.counts.now c.args.strides.now c.args.number c.in_default-counts.len_below)
-    ∙ append-nil c.args.index.now.items)
+returns-in_default-counts t c = none_indexed c.args.index.now.items c.args.starts.now c.args.counts.now c.args.strides.now c.args.number (inr (inr c.in_default-counts.len_below))
 
 pub returns-in_default : goal.returns-in_default
-returns-in_default t c =
-    sym (ap (λ (l : List ℕ). c.args.index.now.items ++ l) (no_starts c.args.starts.now c.args.counts.now c.args.strides.now c.args.number c.in_default.len_below)
-    ∙ append-nil c.args.index.now.items)
+returns-in_default t c = none_indexed c.args.index.now.items c.args.starts.now c.args.counts.now c.args.strides.now c.args.number (inl c.in_default.len_below)
 
 pub returns-in_default-strides : goal.returns-in_default-strides
-returns-in_default-strides t c =
-    sym (ap (λ (l : List ℕ). c.args.index.now.items ++ l) (no_strides c.args.starts.now c.args.counts.now c.args.strides.now c.args.number c.in_default-strides.len_below)
-    ∙ append-nil c.args.index.now.items)
+returns-in_default-strides t c = none_indexed c.args.index.now.items c.args.starts.now c.args.counts.now c.args.strides.now c.args.number (inr (inl c.in_default-strides.len_below))
 
 pub overflow_add-start : goal.overflow_add-start
 overflow_add-start t c =

@@ -1,7 +1,7 @@
 -- One element more.
-use Rattle.reference.proofs.Words.{◌≡◌, ◌+◌, ◌-◌, ◌*◌, ◌^◌, ◌<◌, ◌≤◌, ◌∙◌, ℕ, List, ap, arith, length, min, mul-le, product, take, drop, size_of, places}
+use Rattle.reference.proofs.Words.{sym, drop_all, cells, write_cells, ◌≡◌, ◌+◌, ◌-◌, ◌*◌, ◌^◌, ◌<◌, ◌≤◌, ◌∙◌, ℕ, List, ap, arith, length, min, mul-le, product, take, drop, size_of, places}
 use Rattle.reference.proofs.IndexLaws.{all_numbered, numbered_place}
-use Rattle.reference.proofs.WriteSteps.{put_end, put_step}
+use Rattle.reference.proofs.PutSteps.{put_step}
 use Rattle.reference.proofs.elements.put_elements.Goals as goal
 
 -- the bytes of an element are within those of all
@@ -27,7 +27,8 @@ loop-number-preserved c =
 
 pub returns : goal.returns
 returns c =
-    put_end (size_of c.args.of.now.kind) (places c.args.header.now c.args.of.now c.args.post.now.region) _ c.loop-number.file.items _ c.loop-number.number
+    sym (ap (λ (ps : List ℕ). write_cells c.loop-number.file.items (cells (size_of c.args.of.now.kind) ps (drop (c.loop-number.number * size_of c.args.of.now.kind) c.args.post.now.bytes)))
+    (drop_all c.loop-number.number (places c.args.header.now c.args.of.now c.args.post.now.region)
     (all_numbered c.args.header.now c.args.post.now.var c.args.of.now c.args.post.now.region c.as_slice.result.now c.element_count-number-end.result
-    c.loop-number.number c.requires.there c.requires.accepted c.as_slice.ensures c.element_count-number-end.ensures c.loop-number-test.false)
-    c.loop-number.invariant
+    c.loop-number.number c.requires.there c.requires.accepted c.as_slice.ensures c.element_count-number-end.ensures c.loop-number-test.false)))
+    ∙ c.loop-number.invariant

@@ -1,6 +1,6 @@
 -- The puts are those of all ranks, and the step is that of the definition.
 use Rattle.reference.proofs.Words.{ℕ, List, ◌∙◌, refl, ap, subst, map, arith, In, after_puts, needs, told, Puts, reply_to, setting, some_limit}
-use Rattle.reference.proofs.MeetSteps.{known_low, meeting_file, meeting_records, meeting_replies, needs_low, puts_right, Done}
+use Rattle.reference.proofs.MeetSteps.{known_low, meeting_is, needs_low, puts_right, Done}
 use Rattle.reference.proofs.meetings.meeting.Goals as goal
 
 pub told-requires-clause-accepted : goal.told-requires-clause-accepted
@@ -30,11 +30,6 @@ returns c =
       needs = c.in_ok-needed.ensures.needs s refl ∙ ap (λ (ps : Puts). needs s ps c.in_ok-pair.pair) c.as_slice-2.ensures.value;
       known = c.known_of.ensures;
     } in
-    let file = meeting_file _ _ _ _ _ c.args.records.now _ _ _ _ _ done c.max.ensures c.in_ok-raise.ensures.file in
-    let records = meeting_records _ _ _ _ c.args.records.now _ _ _ _ _ _ done c.max.ensures c.in_ok-raise.ensures.records in
-    record {
-      file = file;
-      records = records;
-      replies = meeting_replies _ _ _ _ c.raise.new.file.items c.args.records.now c.raise.new.records _ _ _ _ _ done file records
-          (c.in_ok-all.ensures s refl ∙ ap (λ (f : List ℕ). map (reply_to s c.in_ok-pair.pair c.raise.new.records f) c.args.offers.now) c.as_slice-3.ensures.value);
-    }
+    let is = meeting_is _ _ _ _ c.raise.new.file.items c.args.records.now c.raise.new.records _ _ _ _ _ _ done c.max.ensures c.in_ok-raise.ensures.file c.in_ok-raise.ensures.records
+    (c.in_ok-all.ensures s refl ∙ ap (λ (f : List ℕ). map (reply_to s c.in_ok-pair.pair c.raise.new.records f) c.args.offers.now) c.as_slice-3.ensures.value) in
+    record { file = is.0; records = is.1; replies = is.2 }

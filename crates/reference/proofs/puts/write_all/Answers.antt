@@ -1,6 +1,6 @@
 -- One put more.
-use Rattle.reference.proofs.Words.{read_in}
-use Rattle.reference.proofs.PutSteps.{write_end, write_step}
+use Rattle.reference.proofs.Words.{read_in, sym, ap, ◌∙◌, fold, put_post, drop_all, Puts}
+use Rattle.reference.proofs.PutSteps.{write_step}
 use Rattle.reference.proofs.puts.write_all.Goals as goal
 
 pub put-requires-clause-right : goal.put-requires-clause-right
@@ -14,5 +14,5 @@ loop-one-preserved c =
     c.in_ok-put.ensures c.loop-one.invariant
 
 pub returns : goal.returns
-returns c =
-    write_end c.args.header.now c.args.puts.now c.loop-one.one-index c.loop-one.file.items c.args.file.now.items c.loop-one-test.false c.loop-one.invariant
+returns c = λ s same.
+    sym (ap (λ (ps : Puts). fold (put_post s) c.loop-one.file.items ps) (drop_all c.loop-one.one-index c.args.puts.now c.loop-one-test.false)) ∙ c.loop-one.invariant s same

@@ -1,6 +1,6 @@
 -- One get more.
 use Rattle.reference.proofs.Words.{read_in}
-use Rattle.reference.proofs.StepSteps.{got_step}
+use Rattle.reference.proofs.PutSteps.{got_step}
 use Rattle.reference.proofs.steps.get_all.Goals as goal
 
 pub get-requires-clause-accepted : goal.get-requires-clause-accepted
