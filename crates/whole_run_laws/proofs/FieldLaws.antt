@@ -5,10 +5,10 @@ use Rattle.whole_run_laws.proofs.FilledFile.{read_all}
 use Rattle.whole_run_laws.proofs.PastLaws.{AllPast, AreRight, first_right, mark_past, mark_right}
 
 -- the field of a file that was opened with the header's count
-record FieldIs (header : Header) (file : List ℕ) (c : Counted) : Type 0 where
-  least : header.records ≤ c.records
-  same : c.records ≡ header.records → read c.file 4 (byte_len (count_width header.version)) ≡ read file 4 (byte_len (count_width header.version))
-  tells : header.records < c.records → read c.file 4 (byte_len (count_width header.version)) ≡ count header.version c.records
+pub record FieldIs (header : Header) (file : List ℕ) (c : Counted) : Type 0 where
+  pub least : header.records ≤ c.records
+  pub same : c.records ≡ header.records → read c.file 4 (byte_len (count_width header.version)) ≡ read file 4 (byte_len (count_width header.version))
+  pub tells : header.records < c.records → read c.file 4 (byte_len (count_width header.version)) ≡ count header.version c.records
 
 read_written : (file b : List ℕ) (x n : ℕ) → n ≡ length b → read (written file x b) x n ≡ b
 read_written file b x n e = grind (arith, nat_tests, read_all, at-written_inside)
@@ -58,7 +58,7 @@ order_field script s [] file state a f = f
 order_field script s (m ∷ order) file state a f =
     order_field script s order file (after_mark s state m) (mark_right script s m order state a) (mark_field script s m order file state.0 state.1 a f)
 
-end_field : (script : Script) (header : Header) (file : List ℕ) (order : List Mark) → is_sound header ≡ true → is_lawful script ≡ true → IsLegal script order
+pub end_field : (script : Script) (header : Header) (file : List ℕ) (order : List Mark) → is_sound header ≡ true → is_lawful script ≡ true → IsLegal script order
     → FieldIs header file (record { file = (serial_from script header file order).bytes; records = (serial_from script header file order).records })
 end_field script header file order sound lawful legal =
     let s = setting_of script header in
@@ -66,13 +66,3 @@ end_field script header file order sound lawful legal =
     raised_field s file last.0 (greatest (map (λ g. g.rank.known) (map (λ g. (advance header g).0) last.1)))
     (order_field script s order file (first_state header file script.calls) (first_right script header order sound lawful legal)
     (record { least = omega arith; same = λ e. refl; tells = λ l. absurd (omega arith) }))
-
-pub field_tells : (script : Script) (header : Header) (file : List ℕ) (order : List Mark) → is_sound header ≡ true → is_lawful script ≡ true → IsLegal script order
-    → header.records < (serial_from script header file order).records
-    → read (serial_from script header file order).bytes 4 (byte_len (count_width header.version)) ≡ count header.version (serial_from script header file order).records
-field_tells script header file order sound lawful legal = (end_field script header file order sound lawful legal).tells
-
-pub field_same : (script : Script) (header : Header) (file : List ℕ) (order : List Mark) → is_sound header ≡ true → is_lawful script ≡ true → IsLegal script order
-    → (serial_from script header file order).records ≡ header.records
-    → read (serial_from script header file order).bytes 4 (byte_len (count_width header.version)) ≡ read file 4 (byte_len (count_width header.version))
-field_same script header file order sound lawful legal = (end_field script header file order sound lawful legal).same

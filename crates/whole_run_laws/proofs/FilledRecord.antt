@@ -69,7 +69,11 @@ module _ (header : Header) (k number : ℕ) (v : Var) (there : slice_get header.
       let post = box_post k v number p in
       let at = λ (i : List ℕ). place header v i in
       let paired = λ (x : ℕ). let cell : Cell = (x, fill_bytes v) in cell in
-      let long : product p.count ≡ length (map at (elements (box_region number p))) = places_long in
+      let one : product (1 ∷ p.count) ≡ product p.count = omega arith in
+      let long : product p.count ≡ length (map at (elements (box_region number p))) =
+      sym (length-map (elements (box_region number p)) at
+      ∙ length-map (coordinates (1 ∷ p.count)) (λ (c : List ℕ). index_at (number ∷ p.start) (replicate (length p.count + 1) 1) c)
+      ∙ length-coordinates (1 ∷ p.count) ∙ one) in
       ap (λ (o : Option Var). zip (bytes_of_some header o post) post.bytes) there
       ∙ sym (post_says header (Some v) post)
       ∙ ap (λ (cs : List Cell). said_by cs)
@@ -77,13 +81,6 @@ module _ (header : Header) (k number : ℕ) (v : Var) (there : slice_get header.
       ∙ map_map paired at (elements (box_region number p))
       ∙ ap (λ (es : List (List ℕ)). map (λ (i : List ℕ). paired (at i)) es) (box_elements number p)
       ∙ map_map (λ (i : List ℕ). paired (at i)) (λ (c : List ℕ). number ∷ c) (box_indices p))
-    where
-      places_long : product p.count ≡ length (map (λ (i : List ℕ). place header v i) (elements (box_region number p)))
-      places_long =
-          let one : product (1 ∷ p.count) ≡ product p.count = omega arith in
-          sym (length-map (elements (box_region number p)) (λ (i : List ℕ). place header v i)
-          ∙ length-map (coordinates (1 ∷ p.count)) (λ (c : List ℕ). index_at (number ∷ p.start) (replicate (length p.count + 1) 1) c)
-          ∙ length-coordinates (1 ∷ p.count) ∙ one)
 
   said_joined : (a b : List (List ℕ)) → said_by (map cell_at a) ++ said_by (map cell_at b) ≡ said_by (map cell_at (a ++ b))
   said_joined a b = grind (arith, nat_tests, flat_map-append, map-append)

@@ -1,5 +1,5 @@
 -- What a run leaves of each byte: what the last completed put that holds it says, else the old one.
-use Rattle.whole_run_laws.proofs.Words.{◌≡◌, ℕ, ◌+◌, ◌<◌, ◌≤◌, refl, ◌∙◌, ◌⊎◌, List, [], ◌∷◌, length, map, set, false, max, Option, arith, flat_map-append, get_or_past, fold, Header, Pair, Script, Mark, Offer, at, count, greatest, said_at, byte_or, Puts, said_by_puts, Setting, Counted, after_puts, known_by, meeting, needs, told, Going, advance, after_mark, closed, first_state, serial, serial_from, start, setting_of, solo_of, count_long, puts_keep, raised_keeps, at-longer, byte_or_later, puts_said, said_append, completed, completed_from, completed_puts, IsBesideCount, is_held, puts_asked, puts_at, puts_met, unless_told, raised_grows, mark_grows, nat_tests}
+use Rattle.whole_run_laws.proofs.Words.{Var, written, fill_bytes, fill_var, filled, end_for, fixed_variables, inner_lengths, place, coordinates, state_after, longer_long, written_grows, end_grows, ◌≡◌, ℕ, ◌+◌, ◌<◌, ◌≤◌, refl, ◌∙◌, ◌⊎◌, List, [], ◌∷◌, length, map, set, false, max, Option, arith, flat_map-append, get_or_past, fold, Header, Pair, Script, Mark, Offer, at, count, greatest, said_at, byte_or, Puts, said_by_puts, Setting, Counted, after_puts, known_by, meeting, needs, told, Going, advance, after_mark, closed, first_state, serial, serial_from, start, setting_of, solo_of, count_long, puts_keep, raised_keeps, at-longer, byte_or_later, puts_said, said_append, completed, completed_from, completed_puts, IsBesideCount, is_held, puts_asked, puts_at, puts_met, unless_told, raised_grows, mark_grows, nat_tests}
 
 -- ---- a step
 
@@ -67,7 +67,7 @@ opened_kept script header file order x opened h k = grind (arith, nat_tests, end
 
 -- ---- lengths
 
-pub fold_grows : {A B : Type 0} (size : B → ℕ) (f : B → A → B) → ((b : B) (x : A) → size b ≤ size (f b x)) → (b : B) (xs : List A) → size b ≤ size (fold f b xs)
+fold_grows : {A B : Type 0} (size : B → ℕ) (f : B → A → B) → ((b : B) (x : A) → size b ≤ size (f b x)) → (b : B) (xs : List A) → size b ≤ size (fold f b xs)
 fold_grows size f h b [] = omega arith
 fold_grows size f h b (x ∷ xs) = grind (arith, nat_tests, fold_grows size f h (f b x) xs)
 
@@ -78,4 +78,24 @@ end_long script header file order =
     let last = fold (after_mark s) state order in
     let a = fold_grows (λ (z : Counted × List Going). length z.0.file) (after_mark s) (mark_grows s) state order in
     let b = raised_grows s last.0 (greatest (map (λ g. g.rank.known) (map (λ g. (advance s.header g).0) last.1))) in
+    omega arith
+
+-- the file of a run goes at least to the end for no records
+var_grows : (header : Header) (file : List ℕ) (v : Var) → length file ≤ length (fill_var header file v)
+var_grows header file v =
+    fold_grows (λ (f : List ℕ). length f) (λ (f : List ℕ) (index : List ℕ). written f (place header v index) (fill_bytes v))
+    (λ f index. written_grows f (place header v index) (fill_bytes v)) file (coordinates (inner_lengths header v))
+
+filled_grows : (header : Header) (file : List ℕ) → length file ≤ length (filled header file)
+filled_grows header file = fold_grows (λ (f : List ℕ). length f) (fill_var header) (var_grows header) file (fixed_variables header header.vars)
+
+start_long : (script : Script) (header : Header) (file : List ℕ) → end_for (setting_of script header) 0 ≤ length (start script header file)
+start_long script header file = grind (arith, nat_tests, longer_long, end_grows, filled_grows)
+
+pub run_long : (script : Script) (header : Header) (file : List ℕ) (order : List Mark)
+    → end_for (setting_of script header) 0 ≤ length (state_after script header (start script header file) order).0.file
+run_long script header file order =
+    let begins = start_long script header file in
+    let grows = fold_grows (λ (state : Counted × List Going). length state.0.file) (after_mark (setting_of script header)) (mark_grows (setting_of script header))
+    (first_state header (start script header file) script.calls) order in
     omega arith

@@ -16,4 +16,3 @@ mod RedefinedElements
 mod PartPosts
 mod PartSteps
 mod PartValues
-mod WholeFiles

@@ -3,8 +3,6 @@ use Rattle.whole_run_laws.proofs.Words.{◌≡◌, ℕ, ◌+◌, ◌<◌, ◌≤
 use Rattle.whole_run_laws.proofs.FilledFile.{read_all}
 use Rattle.serial_spec.proofs.AddedLaws.{records_stay}
 
--- ---- the record count stays
-
 -- ---- an accepted redefinition
 
 module _ (old new : Header) (extras : List Extra) (a : IsRedefinition old extras new) where

@@ -1,5 +1,5 @@
 -- What a step tells its ranks, and that a step with a pair changes nothing.
-use Rattle.whole_run_laws.proofs.Words.{◌≡◌, ℕ, suc, ◌+◌, refl, sym, ◌∙◌, ap, List, [], ◌∷◌, ◌++◌, map, Bool, true, false, Option, Some, None, arith, same_Some, nat_tests, flat_map, slice_get, enumerate_from, in_at, Answer, Pair, Header, Post, Call, OverlapRule, Refuse, Script, Mark, Meet, Solo, MeetKind, Offer, OfferKind, Reply, Counted, get_post, known_by, meeting, puts_of, raises, Setting, told, told_under, IsLegal, is_lawful, greatest, In, Rank, advance, after_mark, go, Going, offers_of, setting_of, state_after, holdings, IsSharedPair, IsUnshared, Puts, shared_pair, pair_found, pair_none, state_more, puts_at, puts_met, quiet_step, nil_cons}
+use Rattle.whole_run_laws.proofs.Words.{holds_or_not, inl, inr, ◌≡◌, ℕ, suc, ◌+◌, refl, sym, ◌∙◌, ap, List, [], ◌∷◌, ◌++◌, map, Bool, true, false, Option, Some, None, arith, same_Some, nat_tests, flat_map, slice_get, enumerate_from, in_at, Answer, Pair, Header, Post, Call, OverlapRule, Refuse, Script, Mark, Meet, Solo, MeetKind, Offer, OfferKind, Reply, Counted, get_post, known_by, meeting, puts_of, raises, Setting, told, told_under, IsLegal, is_lawful, greatest, In, Rank, advance, after_mark, go, Going, offers_of, setting_of, state_after, holdings, IsSharedPair, IsUnshared, Puts, shared_pair, pair_found, pair_none, state_more, puts_at, puts_met, quiet_step}
 use Rattle.nc_base.specs.declared.step.OfferKind.TheVariants as offer
 use Rattle.whole_run_laws.proofs.Courses.{AreAlong, along_at, offered, offered_alone, steps}
 use Rattle.join_laws.proofs.WholeLaws.{get_map as mapped_from}
@@ -59,9 +59,10 @@ meeting_nothing : (s : Setting) (offers : List Offer) (c : Counted) (p : Pair) �
     → greatest (map (λ o. known_by o.kind o.known) offers) ≡ 0 → (meeting s offers c).0 ≡ c
 meeting_nothing s offers c p e f = grind (arith, nat_tests)
 
--- the kind of a meeting is the first of the kinds that are left
-kind_left : (k : MeetKind) (ks xs : List MeetKind) (j : MeetKind) (ys : List MeetKind) → ks ≡ k ∷ xs → ks ≡ j ∷ ys → k ≡ j
-kind_left k ks xs j ys e f = grind (arith, nat_tests)
+-- whether the first of these meetings raises the count by its kind
+abbrev first_raises : List MeetKind → Bool
+first_raises [] = false
+first_raises (kind ∷ kinds) = raises (offer.Meet kind)
 
 -- ---- in a run
 
@@ -70,24 +71,16 @@ module _ {script : Script} {j : ℕ} {rest : List Mark} {goings : List Going} (s
   offers = offers_of (map (advance s.header) goings)
 
   meeting_alike : (p : Pair) → told s (puts_met offers) ≡ Some p → (meeting s offers c).0 ≡ c
-  meeting_alike p e = by_first on.left refl
+  meeting_alike p e = elim (holds_or_not (first_raises on.left)) [
+    | inl g ↦
+        no_pair s p (sym (ap (λ (ps : Puts). told s ps) (none_asked offers 0 (λ q o h.
+        let w = offered s.header on q o h in
+        quiet_go s.header o w.going.calls w.going.rank w.going.answers w.is (same_raises q o h ∙ g)))) ∙ e)
+    | inr g ↦ meeting_nothing s offers c p e (none_known offers (λ q o h. same_raises q o h ∙ g))
+  ]
     where
-      same_raises : (kind : MeetKind) (others : List MeetKind) → on.left ≡ kind ∷ others → (q : ℕ) (o : Offer) → slice_get offers q ≡ Some o → raises o.kind ≡ raises (offer.Meet kind)
-      same_raises kind others f q o h =
-          let w = offered s.header on q o h in
-          ap (λ (z : OfferKind). raises z) w.of_kind ∙ ap (λ (z : MeetKind). raises (offer.Meet z)) (kind_left w.kind on.left w.others kind others w.kinds f)
-
-      by_kind : (kind : MeetKind) (others : List MeetKind) → on.left ≡ kind ∷ others → (t : Bool) → raises (offer.Meet kind) ≡ t → (meeting s offers c).0 ≡ c
-      by_kind kind others f true g =
-          no_pair s p (sym (ap (λ (ps : Puts). told s ps) (none_asked offers 0 (λ q o h.
-          let w = offered s.header on q o h in
-          quiet_go s.header o w.going.calls w.going.rank w.going.answers w.is (same_raises kind others f q o h ∙ g)))) ∙ e)
-      by_kind kind others f false g = meeting_nothing s offers c p e (none_known offers (λ q o h. same_raises kind others f q o h ∙ g))
-
-      -- where no kind is left there is no rank, and no put
-      by_first : (xs : List MeetKind) → on.left ≡ xs → (meeting s offers c).0 ≡ c
-      by_first [] f = meeting_nothing s offers c p e (none_known offers (λ q o h. nil_cons (offered s.header on q o h).kind _ (sym f ∙ (offered s.header on q o h).kinds)))
-      by_first (kind ∷ others) f = by_kind kind others f (raises (offer.Meet kind)) refl
+      same_raises : (q : ℕ) (o : Offer) → slice_get offers q ≡ Some o → raises o.kind ≡ first_raises on.left
+      same_raises q o h = let w = offered s.header on q o h in ap (λ (z : OfferKind). raises z) w.of_kind ∙ sym (ap first_raises w.kinds)
 
 step_nothing : (script : Script) (s : Setting) (m : Mark) (rest : List Mark) (c : Counted) (goings : List Going) (p : Pair) → AreAlong script (m ∷ rest) goings
     → told s (puts_at s (c, goings) m) ≡ Some p → (after_mark s (c, goings) m).0 ≡ c

@@ -1,5 +1,5 @@
 use Rattle.whole_run_laws.proofs.PartSteps.{in_turn}
-use Rattle.whole_run_laws.proofs.WholeFiles.{run_long}
+use Rattle.whole_run_laws.proofs.KeptLaws.{run_long}
 use Rattle.whole_run_laws.proofs.parts.in_turn_law.Goals as goal
 
 pub returns : goal.returns
