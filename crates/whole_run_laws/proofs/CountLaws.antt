@@ -126,12 +126,10 @@ order_count script s n [] state a counts = grind (arith, nat_tests, closed_count
 order_count script s n (m ∷ order) state a counts =
     let now = completed s (puts_at s state m) in
     let later = completed_from s (after_mark s state m) order in
+    let both : max (max n (needed_by s.header now)) (needed_by s.header later) ≡ max n (max (needed_by s.header now) (needed_by s.header later)) = omega arith in
     order_count script s (max n (needed_by s.header now)) order (after_mark s state m) (mark_along script s m order state a) (mark_counts script s n m order state.0 state.1 a counts)
-    ∙ both n (needed_by s.header now) (needed_by s.header later)
+    ∙ both
     ∙ ap (λ (z : ℕ). max n z) (sym (needed_both s.header now later))
-  where
-    both : (a b d : ℕ) → max (max a b) d ≡ max a (max b d)
-    both a b d = omega arith
 
 first_counts : (header : Header) (file : List ℕ) (calls : List (List Call)) → Counts header.records (record { file = file; records = header.records }) (map (first_going header) calls)
 first_counts header file calls = record {

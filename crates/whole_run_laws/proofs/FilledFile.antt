@@ -1,5 +1,5 @@
 -- A filled file reads its fill values: elements that were written, no two of which share a byte.
-use Rattle.whole_run_laws.proofs.Words.{◌-◌, AllByRecursion, said_of, same_index, read_same, ◌≡◌, ℕ, zero, suc, ◌+◌, ◌<◌, ◌≤◌, refl, sym, ◌∙◌, ap, subst, inl, inr, ◌⊎◌, List, [], ◌∷◌, length, map, get_or, Bool, true, false, not, Option, Some, arith, eqb_tells, fold-append, fold-map, same_Some, flat_map, fold, slice_get, flat_in, in_flat, at_in, in_at, in_filter, filter_in, each_in, in_map, map_in, Header, Var, Script, Mark, size_of, at, longer, read, end_for, fill_bytes, fill_var, filled, canon, header_len, is_sound, fixed_variables, inner_lengths, is_record, In, IsElement, IsIndex, place, row, fills, cells, coordinates, byte_or, Cell, said_at, said_by, write_cells, serial, setting_of, start, coordinates_all, elements_apart, elements_past_header, coordinates_at, cells_said, canon_len, completed_puts, IsBesideCount, is_held, found_long, resized, IsOrApart, nat_tests}
+use Rattle.whole_run_laws.proofs.Words.{◌-◌, AllByRecursion, said_of, same_index, read_same, ◌≡◌, ℕ, zero, suc, ◌+◌, ◌<◌, ◌≤◌, refl, sym, ◌∙◌, ap, subst, inl, inr, ◌⊎◌, List, [], ◌∷◌, length, map, get_or, true, false, not, Option, Some, arith, eqb_tells, fold-append, fold-map, same_Some, flat_map, fold, slice_get, flat_in, in_flat, at_in, in_at, in_filter, filter_in, each_in, in_map, map_in, Header, Var, Script, Mark, size_of, at, longer, read, end_for, fill_bytes, fill_var, filled, canon, header_len, is_sound, fixed_variables, inner_lengths, is_record, In, IsElement, IsIndex, place, row, fills, cells, coordinates, byte_or, Cell, said_at, said_by, write_cells, serial, setting_of, start, coordinates_all, elements_apart, elements_past_header, coordinates_at, cells_said, canon_len, completed_puts, IsBesideCount, is_held, found_long, resized, IsOrApart, nat_tests}
 use Rattle.whole_run_laws.proofs.KeptLaws.{end_kept}
 
 -- ---- cells of which each is another one's or apart from it
@@ -73,13 +73,11 @@ filled_apart header k v index sound e fixed h d m =
     let number = in_at header.vars w.0 kept.0 in
     let j = map_in (cell_of header w.0) (coordinates (inner_lengths header w.0)) d w.2 in
     let other = in_index (inner_lengths header w.0) j.0 j.1 in
+    let so : is_record header w.0 ≡ false = grind (arith, nat_tests, kept.1) in
     subst (λ (z : Cell). IsOrApart (cell_of header v index) z) j.2
     (cells_apart header k number.0 v w.0 index j.0 sound e number.1 (fixed_element header v index fixed h)
-    (fixed_element header w.0 j.0 (not_so (is_record header w.0) kept.1) other)
+    (fixed_element header w.0 j.0 so other)
     (same_or_not k number.0 index j.0))
-  where
-    not_so : (t : Bool) → not t ≡ true → t ≡ false
-    not_so t g = grind (arith, nat_tests)
 
 pub filled_reads : (header : Header) (file : List ℕ) (k : ℕ) (v : Var) (index : List ℕ) → is_sound header ≡ true → slice_get header.vars k ≡ Some v
     → is_record header v ≡ false → IsIndex (inner_lengths header v) index → read (filled header file) (place header v index) (size_of v.kind) ≡ fill_bytes v

@@ -38,17 +38,11 @@ first_then s p puts file =
     let all = longer file (end_for s (max (needed s.header p.1) (needed_by s.header puts))) in
     let own = longer file (end_for s (max (needed s.header p.1) 0)) in
     let rest = end_for s (needed_by s.header puts) in
+    let long : length all ≡ max (length own) rest = grind (arith, nat_tests, longer_long, end_most) in
     ap (λ (f : List ℕ). fold (put_post s) f puts)
     (same_file (put_some s v p.1 all) (longer (put_some s v p.1 own) rest)
     (put_longer s v p.1 all own rest long ∙ sym (longer_long (put_some s v p.1 own) rest))
-    (λ x. put_same s v p.1 all own same x ∙ sym (at-longer (put_some s v p.1 own) rest x)))
-  where
-    long : length (longer file (end_for s (max (needed s.header p.1) (needed_by s.header puts))))
-        ≡ max (length (longer file (end_for s (max (needed s.header p.1) 0)))) (end_for s (needed_by s.header puts))
-    long = grind (arith, nat_tests, longer_long, end_most)
-
-    same : (x : ℕ) → at (longer file (end_for s (max (needed s.header p.1) (needed_by s.header puts)))) x ≡ at (longer file (end_for s (max (needed s.header p.1) 0))) x
-    same x = at-longer file (end_for s (max (needed s.header p.1) (needed_by s.header puts))) x ∙ sym (at-longer file (end_for s (max (needed s.header p.1) 0)) x)
+    (λ x. put_same s v p.1 all own (λ y. at-longer file _ y ∙ sym (at-longer file _ y)) x ∙ sym (at-longer (put_some s v p.1 own) rest x)))
 
 pub in_turn : (s : Setting) (puts : Puts) (file : List ℕ) → end_for s 0 ≤ length file
     → after_puts s puts None file ≡ fold (λ left put. after_puts s (put ∷ []) None left) file puts

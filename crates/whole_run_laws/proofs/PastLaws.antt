@@ -1,5 +1,5 @@
 -- No completed put holds a byte of the header, so its bytes stay but for the record count.
-use Rattle.whole_run_laws.proofs.Words.{holds_or_not, some_or_none, ◌≡◌, ℕ, ◌<◌, ◌≤◌, sym, ◌∙◌, ap, subst, inl, inr, List, [], ◌∷◌, map, true, false, ◌||◌, Option, Some, arith, flat_map-append, slice_get, range_with_len, fails_each, or_first_false, any_in, flat_in, in_either, range_low, each_in, map_in, numbered_in, Header, Var, Post, Script, Mark, Meet, Solo, Offer, Reply, refused, wrong_length, size_of, at, Counted, puts_of, Setting, header_len, is_sound, IsLegal, is_lawful, In, IsElementBelow, place, records_of, check_some, elements, places, advance, after_mark, first_going, first_state, Going, hears, offers_of, serial_from, setting_of, bytes_of, bytes_of_some, covered, Puts, accepted_elements, elements_past_header, Fit, good_first, heard_fits, most_posts_held, offer_fits, completed, completed_from, completed_puts, IsBesideCount, is_held, puts_at, puts_met, nat_tests}
+use Rattle.whole_run_laws.proofs.Words.{holds_or_not, some_or_none, ◌≡◌, ℕ, ◌<◌, ◌≤◌, sym, ◌∙◌, ap, subst, inl, inr, List, [], ◌∷◌, map, true, false, ◌||◌, Option, Some, arith, flat_map-append, slice_get, range_with_len, fails_each, or_first_false, any_in, flat_in, in_either, range_low, each_in, map_in, numbered_in, Header, Var, Post, Script, Mark, Meet, Solo, Offer, refused, wrong_length, size_of, at, Counted, puts_of, Setting, header_len, is_sound, IsLegal, is_lawful, In, IsElementBelow, place, records_of, check_some, elements, places, advance, after_mark, first_going, first_state, Going, offers_of, serial_from, setting_of, bytes_of, bytes_of_some, covered, Puts, accepted_elements, elements_past_header, Fit, good_first, heard_fits, most_posts_held, offer_fits, completed, completed_from, completed_puts, IsBesideCount, is_held, puts_at, puts_met, nat_tests}
 use Rattle.nc_base.specs.declared.request.Direction.TheVariants as way
 use Rattle.join_laws.proofs.CountLaws.{passes_accepted as accepted}
 use Rattle.join_laws.proofs.WholeLaws.{get_map as mapped_from}
@@ -70,10 +70,6 @@ mark_past script s (Solo r n) rest c goings a =
     subst (AllPast s.header) (sym (offered_alone st))
     (own_past s.header r st.at.asks.offer (offer_past s.header script.ranks st.before st.at.asks.offer a.sound (a.fit r st.before st.was) st.at.asks.is_offer))
 
-heard_fit : (header : Header) (ranks : ℕ) (g next : Going) (o : Offer) (y : Reply) → is_sound header ≡ true → IsFit header ranks g → (advance header g).1 ≡ Some o
-    → next ≡ hears header (advance header g).0 y → IsFit header ranks next
-heard_fit header ranks g next o y sound f e h = grind (arith, nat_tests, heard_fits header sound ranks f.number most_posts_held f.low g o y f.fit e)
-
 pub mark_right : (script : Script) (s : Setting) (m : Mark) (rest : List Mark) (state : Counted × List Going) → AreRight script s.header (m ∷ rest) state.1
     → AreRight script s.header rest (after_mark s state m).1
 mark_right script s m rest (c, goings) a = record {
@@ -83,7 +79,10 @@ mark_right script s m rest (c, goings) a = record {
       let w = moved script s q m rest c goings g a.along e in
       elim w.is [
         | inl f ↦ subst (IsFit s.header script.ranks) (sym f) (a.fit q w.before w.was)
-        | inr h ↦ heard_fit s.header script.ranks w.before g h.0 h.1 a.sound (a.fit q w.before w.was) h.2 h.3
+        | inr h ↦
+            let f = a.fit q w.before w.was in
+            let heard = heard_fits s.header a.sound script.ranks f.number most_posts_held f.low w.before h.0 h.1 f.fit h.2 in
+            subst (IsFit s.header script.ranks) (sym h.3) (record { number = f.number; low = f.low; fit = heard })
       ];
 }
 
