@@ -1,5 +1,5 @@
 -- The index of an element, one dimension after another, and how great its entries are.
-use Rattle.reference.proofs.Words.{append-nil, ◌⊎◌, ◌≡◌, ℕ, ◌+◌, ◌-◌, ◌*◌, ◌/◌, ◌%◌, ◌^◌, ◌<◌, ◌≤◌, refl, sym, ap, ◌∙◌, subst, List, [], ◌∷◌, ◌++◌, length, get_or, min, true, Some, arith, slice_get, AllByRecursion, mul-le, same_Some, each_weaker, Header, Var, Region, size_of, product, inner_lengths, is_record, recsize, row, place, record_of, within_record, HasRecord, IsIndex, IsElement, index_at, index_fixed, index_record, product_pos, place_fixed, place_record, places, length-places, place_at, row_below_bytes, is_sound, IsAccepted, coordinates_of, index_of, accepted_place, small_of, wide_records, AreBelow, split, rest, nat_tests}
+use Rattle.reference.proofs.Words.{append-nil, ◌⊎◌, ◌≡◌, ℕ, ◌+◌, ◌-◌, ◌*◌, ◌/◌, ◌%◌, ◌^◌, ◌<◌, ◌≤◌, sym, ap, ◌∙◌, subst, List, [], ◌∷◌, ◌++◌, length, get_or, min, true, Some, arith, slice_get, AllByRecursion, mul-le, same_Some, each_weaker, Header, Var, Region, size_of, product, inner_lengths, is_record, recsize, row, place, record_of, within_record, HasRecord, IsIndex, IsElement, index_at, index_fixed, index_record, product_pos, place_fixed, place_record, places, length-places, place_at, row_below_bytes, is_sound, IsAccepted, coordinates_of, index_of, accepted_place, small_of, wide_records, AreBelow, split, rest, nat_tests}
 
 -- ---- one dimension more
 

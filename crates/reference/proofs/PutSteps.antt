@@ -1,5 +1,5 @@
 -- The puts and the gets of a step, one after another.
-use Rattle.reference.proofs.Words.{get, get_post, map, append_assoc, ◌++◌, ◌*◌, take, add-one, drop-drop, written, cells, write_cells, drop_at, ◌≡◌, ℕ, ◌+◌, ◌^◌, ◌<◌, ◌≤◌, inl, inr, refl, sym, ap, ◌∙◌, List, [], ◌∷◌, length, drop, get_or, fold, max, Option, Some, None, true, arith, slice_get, IfSome, drop_all, Header, Var, Post, In, longer, after_puts, put_post, Setting, header_len, is_sound, end_of, needed, needed_by, records_of, records_of_some, put, Puts, sound_end, IsAccepted, small_of, nat_tests}
+use Rattle.reference.proofs.Words.{get, get_post, map, append_assoc, ◌++◌, ◌*◌, take, add-one, drop-drop, written, cells, write_cells, drop_at, ◌≡◌, ℕ, ◌+◌, ◌^◌, ◌<◌, refl, sym, ap, ◌∙◌, List, [], ◌∷◌, length, drop, get_or, fold, max, Option, Some, None, true, arith, slice_get, IfSome, Header, Var, Post, In, longer, after_puts, put_post, Setting, header_len, is_sound, end_of, needed, needed_by, records_of, records_of_some, put, Puts, sound_end, IsAccepted, small_of, nat_tests}
 use Rattle.reference.proofs.GatherLaws.{greatest_has, next_left}
 
 -- ---- the count

@@ -21,14 +21,6 @@ first_call calls c l e = grind (arith, nat_tests, take_rest, common_steps)
 pub no_call : (calls : List Call) → length calls < 1 → calls ≡ []
 no_call calls l = grind (arith, nat_tests, common_steps)
 
-pub gone_ended : (header : Header) (s t : Going) → Comes header s t → t.calls ≡ [] → HasGone header s t None
-gone_ended header s t h e = record {
-  known = h.known;
-  arrived = sym (comes_to_end header s t h.advanced e);
-  asked = tt;
-  placed = λ script order r way. (h.kept script order r way, e);
-}
-
 right_of : (header : Header) (o : Offer) → IsSoundOffer header o → IsRight header o
 right_of header o sound = grind (arith, nat_tests)
 
@@ -95,4 +87,11 @@ module _ (header same : Header) (s t : Going) (next : machine.Rank) (w : Want) (
 
 -- a rank that holds no offer has made its calls
 pub gone_over : (header : Header) (s t : Going) (held : Option Offer) → Comes header s t → length t.calls < 1 → held ≡ None → HasGone header s t held
-gone_over header s t held h l e = subst (λ (m : Option Offer). HasGone header s t m) (sym e) (gone_ended header s t h (no_call t.calls l))
+gone_over header s t held h l e =
+    let none = no_call t.calls l in
+    subst (λ (m : Option Offer). HasGone header s t m) (sym e) (record {
+      known = h.known;
+      arrived = sym (comes_to_end header s t h.advanced none);
+      asked = tt;
+      placed = λ script order r way. (h.kept script order r way, none);
+    })

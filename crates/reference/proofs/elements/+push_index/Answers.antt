@@ -1,5 +1,5 @@
 -- An index, one dimension after another.
-use Rattle.reference.proofs.Words.{inl, inr, arith, ◌++◌, ◌∙◌, ◌^◌, ◌%◌, ℕ, List, ap, sym, subst, append-nil, append_assoc, rules, on_ok_weaker, index_at, coordinates_of, AreBelow, rest}
+use Rattle.reference.proofs.Words.{inl, inr, arith, ◌++◌, ◌∙◌, ◌^◌, ◌%◌, ℕ, List, ap, sym, subst, append_assoc, rules, on_ok_weaker, index_at, coordinates_of, AreBelow, rest}
 use Rattle.reference.proofs.IndexLaws.{first_low, index_step, none_indexed}
 use Rattle.reference.proofs.elements.+push_index.Goals as goal
 
