@@ -1,11 +1,13 @@
 // Words and values.
 ghost use Rattle.std.specs.Prelude.{◌≡◌, ◌<◌, ◌≤◌, ◌+◌, ◌*◌, ◌/◌, ◌%◌, ◌++◌, ◌∷◌, IfOk, OnOk, decimal, drop, length, map, set, take};
 ghost use Rattle.std.specs.Fmt.{signed_decimal};
-ghost use Rattle.script_spec.specs.Texts.{call_word, code_word, form_word, hex, hex_digit, kind_word, quoted, text_char, text_line, type_word, value_words, with_all};
+ghost use Rattle.script_spec.specs.Texts.{call_word, code_word, form_word, hex, hex_digit, kind_word, quoted, text_char, text_line, value_words, with_all};
 ghost use Rattle.printed_text.specs.Spaced.{spaced};
 
 use itoa::Buffer;
-use nc_base::{BitList, Call, Code, Form, Memory, NcType, NumberList, PostKind, Values};
+use nc_base::{BitList, Call, Code, Form, Memory, NumberList, PostKind, Values};
+use script_words::vocabulary::form_word;
+pub use script_words::vocabulary::type_word;
 
 /// Bytes as they are.
 pub fn push_bytes(out: &mut Vec<u8>, bytes: &[u8]) -> Result<(), Memory>
@@ -167,25 +169,6 @@ fn push_text_char(out: &mut Vec<u8>, byte: u8) -> Result<(), Memory>
     }
 }
 
-/// The word of a type.
-pub fn type_word(kind: NcType) -> &'static [u8]
-    ensures { result.now ≡ type_word kind }
-{
-    match kind {
-        NcType::Byte => b"byte",
-        NcType::Char => b"char",
-        NcType::Short => b"short",
-        NcType::Int => b"int",
-        NcType::Float => b"float",
-        NcType::Double => b"double",
-        NcType::UByte => b"ubyte",
-        NcType::UShort => b"ushort",
-        NcType::UInt => b"uint",
-        NcType::Int64 => b"int64",
-        NcType::UInt64 => b"uint64",
-    }
-}
-
 /// The name of an answer's code: that of the PnetCDF library, or of this project where it has none.
 pub fn code_word(code: Code) -> &'static [u8]
     ensures { result.now ≡ code_word code }
@@ -213,20 +196,6 @@ pub fn code_word(code: Code) -> &'static [u8]
         Code::EPendingBput => b"NC_EPENDINGBPUT",
         Code::ESelf => b"ESELF",
         Code::ENotRec => b"ENOTREC",
-    }
-}
-
-/// How a call tells its region, as the end of its word.
-pub fn form_word(form: Form) -> &'static [u8]
-    ensures { result.now ≡ form_word form }
-{
-    match form {
-        Form::Var1 => b"var1",
-        Form::Var => b"var",
-        Form::Vara => b"vara",
-        Form::Vars => b"vars",
-        Form::Varm => b"varm",
-        Form::Varn => b"varn",
     }
 }
 

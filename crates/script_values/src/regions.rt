@@ -10,6 +10,7 @@ ghost use Rattle.script_words.specs.Given.{Gives};
 
 use nc_base::{Form, Given, LimitName, MAX_PARTS, Part, PartList, ScriptKind, SizeList};
 use script_words::numbers::size_of_text;
+use script_words::vocabulary::form_word;
 use script_words::word_forms::{bracketed, size};
 use script_words::{ListParts, ReadErr, Words, beside};
 use std::alloc::Global;
@@ -45,19 +46,6 @@ const FORMS: [Form; 6] = [
     Form::Varm,
     Form::Varn,
 ];
-
-fn form_word(form: Form) -> &'static [u8]
-    ensures { result.now ≡ form_word form }
-{
-    match form {
-        Form::Var1 => b"var1",
-        Form::Var => b"var",
-        Form::Vara => b"vara",
-        Form::Vars => b"vars",
-        Form::Varm => b"varm",
-        Form::Varn => b"varn",
-    }
-}
 
 /// The form that a word names.
 pub fn form_of_text(word: &[u8]) -> Option<Form>

@@ -10,6 +10,7 @@ mod names;
 pub mod numbers;
 mod parts_of_list;
 mod texts;
+pub mod vocabulary;
 pub mod word_forms;
 mod words;
 

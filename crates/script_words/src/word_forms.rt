@@ -13,6 +13,7 @@ ghost use Rattle.script_words.specs.Given.{Gives, word_of};
 
 use crate::fault::ReadErr;
 use crate::numbers::{self, is_name};
+use crate::vocabulary::type_word;
 use crate::words::{Token, Words};
 use nc_base::{NcType, ScriptKind};
 
@@ -170,24 +171,6 @@ const TYPES: [NcType; 11] = [
     NcType::Int64,
     NcType::UInt64,
 ];
-
-fn type_word(kind: NcType) -> &'static [u8]
-    ensures { result.now ≡ type_word kind }
-{
-    match kind {
-        NcType::Byte => b"byte",
-        NcType::Char => b"char",
-        NcType::Short => b"short",
-        NcType::Int => b"int",
-        NcType::Float => b"float",
-        NcType::Double => b"double",
-        NcType::UByte => b"ubyte",
-        NcType::UShort => b"ushort",
-        NcType::UInt => b"uint",
-        NcType::Int64 => b"int64",
-        NcType::UInt64 => b"uint64",
-    }
-}
 
 /// The type that a word names.
 fn named_type(word: &[u8]) -> Option<NcType>
