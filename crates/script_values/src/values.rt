@@ -3,7 +3,7 @@ ghost use Rattle.std.specs.Prelude.{◌≡◌, ◌≤◌, ◌<◌, ◌+◌, ◌^
 ghost use Rattle.nc_base.specs.Values.{count_of};
 ghost use Rattle.script_spec.specs.ScriptWords.{Plain};
 ghost use Rattle.script_spec.specs.ScriptValues.{number_for, pattern_for, one_value, text_values, number_values, bits_values, begins_x, listed_kind, listed_values, values, each_value, within_limits};
-ghost use Rattle.script_words.specs.Given.{Gives, first_for, word_of};
+ghost use Rattle.script_words.specs.Given.{Gives, first_for};
 
 use crate::fits::{may_have_bits, may_have_number};
 use crate::limits::{may_be_text, within_limits};
@@ -32,32 +32,22 @@ fn bits_for(kind: Option<NcType>, word: &[u8]) -> Option<u64>
     }
 }
 
-/// One number, after `n` values of its line.
-fn one_number(kind: Option<NcType>, before: u64, n: u64, word: Token<'_>) -> Result<i128, ReadErr>
+/// The value that a word says, if it may stand here, after `n` values of its line.
+fn one_value<A: Copy>(
+    said: Option<A>,
+    kind: Option<NcType>,
+    before: u64,
+    n: u64,
+) -> Result<A, ReadErr>
     requires { n ≤ 2 ^ 24 }
-    ensures read { Gives (λ x. x) result (one_value (number_for kind) kind before n (word_of word.entry)) }
+    ensures read { Gives (λ x. x) result (one_value (λ _. said) kind before n (Plain [])) }
     ensures bound { OnOk result (before + n < 2 ^ 24) }
 {
-    let word = bare(word)?;
-    let Some(number) = number_for(kind, word) else {
+    let Some(value) = said else {
         return Err(ReadErr::Fault(ScriptKind::BadNumber));
     };
     within_limits(kind, before, n + 1)?;
-    Ok(number)
-}
-
-/// One pattern of bits, after `n` values of its line.
-fn one_pattern(kind: Option<NcType>, before: u64, n: u64, word: Token<'_>) -> Result<u64, ReadErr>
-    requires { n ≤ 2 ^ 24 }
-    ensures read { Gives (λ x. x) result (one_value (pattern_for kind) kind before n (word_of word.entry)) }
-    ensures bound { OnOk result (before + n < 2 ^ 24) }
-{
-    let word = bare(word)?;
-    let Some(pattern) = bits_for(kind, word) else {
-        return Err(ReadErr::Fault(ScriptKind::BadNumber));
-    };
-    within_limits(kind, before, n + 1)?;
-    Ok(pattern)
+    Ok(value)
 }
 
 fn text_values(
@@ -83,7 +73,7 @@ fn room_for(words: &Words<'_>) -> usize {
 }
 
 /// The next number, after `n` values of its line, and the words behind it, where it is read in one pass and has room in 32 bits.
-/// Where it doesn't, or may not stand here, `one_number` says more.
+/// Where it doesn't, or may not stand here, `numbers_after` says more.
 #[tactic(auto, using(crate::proofs::FrontLaws::may_stand))]
 fn narrow_number<'a>(
     kind: Option<NcType>,
@@ -138,7 +128,8 @@ fn numbers_after(
     ensures bound { OnOk result (before + length found.new ≤ 2 ^ 24) }
 {
     while let Some(word) = words.take()? {
-        let number = one_number(kind, before, found.len() as u64, word)?;
+        let number = number_for(kind, bare(word)?);
+        let number = one_value(number, kind, before, found.len() as u64)?;
         found.push(number)?;
     }
     Ok(())
@@ -173,7 +164,8 @@ fn patterns_after(
     ensures bound { OnOk result (before + length found.new ≤ 2 ^ 24) }
 {
     while let Some(word) = words.take()? {
-        let pattern = one_pattern(kind, before, found.len() as u64, word)?;
+        let pattern = bits_for(kind, bare(word)?);
+        let pattern = one_value(pattern, kind, before, found.len() as u64)?;
         found.push(pattern)?;
     }
     Ok(())
