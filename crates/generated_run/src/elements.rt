@@ -2,7 +2,7 @@
 ghost use Rattle.std.specs.Prelude.{◌≡◌, ◌+◌, ◌∷◌, List, IfOk, OnOk, map, sum, zip};
 ghost use Rattle.nc_base.specs.declared.request.Call.{Call};
 ghost use Rattle.serial_spec.specs.RegionCheck.{is_ok_code};
-ghost use Rattle.script_spec.specs.Generator.{call_got, call_put, elements_given, is_done, over_calls, posted_elements};
+ghost use Rattle.script_spec.specs.Generator.{elements_given, is_done, over_calls, posted_elements};
 ghost use Rattle.generated_run.specs.Counting.{FindsGiven, call_done, item_done, items_done};
 
 use nc_base::{Answer, AnswerList, Call, CallList, Code, Direction, Given, Item, Memory};
@@ -124,19 +124,6 @@ fn items_elements(direction: Direction, posts: &Posts, items: &[Item]) -> Result
     Ok(total)
 }
 
-/// The elements that a call put into the file.
-fn put_elements(posts: &Posts, call: &Call, answer: &Answer) -> Result<u64, Memory>
-    ensures { IfOk result (λ n. n ≡ call_put posts.now (call.now, answer.now)) }
-{
-    match call {
-        Call::Put { given, .. } if is_done(answer) => elements(given),
-        Call::Wait { .. } if answer.pair.is_none() => {
-            items_elements(Direction::Put, posts, answer.items.as_slice())
-        }
-        _ => Ok(0),
-    }
-}
-
 /// Whether a put was answered ok, and shared no byte with another.
 fn is_done(answer: &Answer) -> bool
     ensures { result ≡ is_done answer.now }
@@ -144,17 +131,7 @@ fn is_done(answer: &Answer) -> bool
     is_ok(answer.code) && answer.pair.is_none()
 }
 
-/// The elements that a call got from the file.
-fn got_elements(posts: &Posts, call: &Call, answer: &Answer) -> Result<u64, Memory>
-    ensures { IfOk result (λ n. n ≡ call_got posts.now (call.now, answer.now)) }
-{
-    match call {
-        Call::Get { given, .. } if is_ok(answer.code) => elements(given),
-        Call::Wait { .. } => items_elements(Direction::Get, posts, answer.items.as_slice()),
-        _ => Ok(0),
-    }
-}
-
+/// The elements that a call put into the file, or got from it.
 fn call_elements(
     direction: Direction,
     posts: &Posts,
@@ -163,9 +140,12 @@ fn call_elements(
 ) -> Result<u64, Memory>
     ensures { IfOk result (λ n. n ≡ call_done direction posts.now (call.now, answer.now)) }
 {
-    match direction {
-        Direction::Put => put_elements(posts, call, answer),
-        Direction::Get => got_elements(posts, call, answer),
+    match (direction, call) {
+        (Direction::Put, Call::Put { given, .. }) if is_done(answer) => elements(given),
+        (Direction::Get, Call::Get { given, .. }) if is_ok(answer.code) => elements(given),
+        (Direction::Put, Call::Wait { .. }) if answer.pair.is_some() => Ok(0),
+        (_, Call::Wait { .. }) => items_elements(direction, posts, answer.items.as_slice()),
+        _ => Ok(0),
     }
 }
 
