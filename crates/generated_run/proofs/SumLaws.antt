@@ -1,7 +1,7 @@
 -- Sums and products that go on by one item.
 use Rattle.generated_run.proofs.Words.{◌≡◌, ℕ, ◌+◌, ◌*◌, ◌%◌, ◌^◌, ◌<◌, List, length, map, sum, take, get_or, fold, ap, ◌∙◌, arith, ℤ, ◌*ℤ◌, slice_get, take_all, take_more, fold-append, fold_push, sum_by-append, sum_by_push, BitRun, NumberRun, bit_steps, bits_of_run, bits_of_runs, numbers_of_run, numbers_of_runs, steps, bit_steps_more, steps_more, sum_more, take_next, nat_tests, common_steps, pos, ◌+ℤ◌, Some}
 
-pub mapped_more : {A : Type 0} (f : A → ℕ) (xs : List A) (i : ℕ) (d : A) → i < length xs → sum (map f (take (i + 1) xs)) ≡ sum (map f (take i xs)) + f (get_or xs i d)
+mapped_more : {A : Type 0} (f : A → ℕ) (xs : List A) (i : ℕ) (d : A) → i < length xs → sum (map f (take (i + 1) xs)) ≡ sum (map f (take i xs)) + f (get_or xs i d)
 mapped_more {A} f xs i d h = ap (λ (ys : List A). sum (map f ys)) (take_more xs i d h) ∙ sum_more f (take i xs) (get_or xs i d)
 
 -- ---- over a list that is read by its places

@@ -6,7 +6,7 @@ pub use Rattle.std.proofs.lemmas.List.Concat.{flat_map-append}
 pub use Rattle.std.proofs.lemmas.List.Sums.{fold-append}
 pub use Rattle.std.specs.List.{flat_map, zip}
 pub use Rattle.std.specs.Prelude.{neg_ℤ, unsigned_abs, ℤ, ◌*ℤ◌}
-pub use Rattle.generated_run.specs.Counting.{FindsGiven, call_done, item_done, posted_given}
+pub use Rattle.generated_run.specs.Counting.{FindsGiven, call_done, posted_given}
 unfoldable pub use Rattle.generated_run.specs.Made.{calls_of_rank, calls_of_record, columns_of, depths, precip_band, precip_row, region_of_band, temp_band, temp_row, temps}
 pub use Rattle.list_laws.proofs.Common.{pieces_long, take_next, then_append}
 pub use Rattle.list_laws.proofs.Types.{Answer, BitRun, Bits, Bput, Call, Every, Extra, Given, NumberRun, Numbers, bit_steps, bit_steps_more, bits_of_run, bits_of_runs, numbers_of_run, numbers_of_runs, steps, steps_more}

@@ -113,15 +113,12 @@ fn item_elements(direction: Direction, posts: &Posts, item: &Item) -> Result<u64
     }
 }
 
-#[tactic(auto, using(crate::proofs::SumLaws::mapped_more))]
 fn items_elements(direction: Direction, posts: &Posts, items: &[Item]) -> Result<u64, Memory>
     ensures { IfOk result (λ n. n ≡ items_done direction posts.now items.now) }
 {
-    let mut total = 0;
-    for item in items {
-        total = added(total, item_elements(direction, posts, item)?)?;
-    }
-    Ok(total)
+    items.iter().try_fold(0, |total, item| {
+        added(total, item_elements(direction, posts, item)?)
+    })
 }
 
 /// Whether a put was answered ok, and shared no byte with another.

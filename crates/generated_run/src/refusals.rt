@@ -23,24 +23,16 @@ fn refusals(answer: &Answer) -> Result<u64, Memory>
     )
 }
 
-#[tactic(auto, using(crate::proofs::SumLaws::mapped_more))]
 fn rank_refusals(answers: &[Answer]) -> Result<u64, Memory>
     ensures { IfOk result (λ n. n ≡ sum (map refusals answers.now)) }
 {
-    let mut total = 0;
-    for answer in answers {
-        total = added(total, refusals(answer)?)?;
-    }
-    Ok(total)
+    answers
+        .iter()
+        .try_fold(0, |total, answer| added(total, refusals(answer)?))
 }
 
-#[tactic(auto, using(crate::proofs::SumLaws::mapped_more))]
 pub(crate) fn all_refusals(answers: &[AnswerList]) -> Result<u64, Memory>
     ensures { IfOk result (λ n. n ≡ sum (map (λ own. sum (map refusals own)) answers.now)) }
 {
-    let mut total = 0;
-    for own in answers {
-        total = added(total, rank_refusals(own.as_slice())?)?;
-    }
-    Ok(total)
+    answers.iter().try_fold(0, |total, own| added(total, rank_refusals(own.as_slice())?))
 }

@@ -109,15 +109,12 @@ fn push_file(out: &mut Vec<u8>, header: &Header) -> Result<(), Memory>
 }
 
 /// The calls of all ranks.
-#[tactic(auto, using(crate::proofs::SumLaws::mapped_more))]
 fn call_count(calls: &[CallList]) -> Result<u64, Memory>
     ensures { IfOk result (λ n. n ≡ sum (map (λ own. length own) calls.now)) }
 {
-    let mut total = 0;
-    for own in calls {
-        total = added(total, own.len() as u64)?;
-    }
-    Ok(total)
+    calls
+        .iter()
+        .try_fold(0, |total, own| added(total, own.len() as u64))
 }
 
 fn meetings(order: &[Mark]) -> u64
