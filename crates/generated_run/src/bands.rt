@@ -29,6 +29,18 @@ pub(crate) fn first_row(rank: u32) -> u32
     ROWS * rank / RANKS
 }
 
+/// How far the value at a place lies above the least. There are so many: they rise by one from place to place, and behind the
+/// greatest begin again.
+fn first_of(values: u32, seed: u64, place: u64) -> u32
+    requires some { 0 < values }
+    requires place { place < 2 ^ 63 }
+    ensures value { result ≡ (seed + place) % values }
+    ensures within { result < values }
+{
+    let values = u64::from(values);
+    ((seed % values + place) % values) as u32
+}
+
 /// What a rank puts into `temp` for a record, row after row.
 pub(crate) fn temp_band(alloc: Global, seed: u64, rank: u32, time: u32) -> Result<BitList, Memory>
     requires { rank < 8 }
@@ -47,20 +59,11 @@ pub(crate) fn temp_band(alloc: Global, seed: u64, rank: u32, time: u32) -> Resul
 fn push_temp_row(out: &mut Vec<BitRun>, seed: u64, time: u32, row: u32) -> Result<(), Memory>
     ensures { OnOk result (bits_of_runs out.new.items ≡ bits_of_runs out.old.items ++ temp_row seed time row) }
 {
-    let first = first_temp(seed, time, row);
+    let place = 64800 * u64::from(time) + 360 * u64::from(row);
+    let first = first_of(PATTERNS, seed, place);
     let count = COLUMNS.min(PATTERNS - first);
     push_temps(out, first, count)?;
     push_temps(out, 0, COLUMNS - count)
-}
-
-/// How far a row's first pattern lies above the least.
-fn first_temp(seed: u64, time: u32, row: u32) -> u32
-    ensures value { result ≡ (seed + 64800 * time + 360 * row) % 2 ^ 23 }
-    ensures within { result < 2 ^ 23 }
-{
-    let patterns = u64::from(PATTERNS);
-    let place = 64800 * u64::from(time) + 360 * u64::from(row);
-    ((seed % patterns + place) % patterns) as u32
 }
 
 /// Adds so many patterns that rise by one, the first so far above the least.
@@ -102,20 +105,11 @@ pub(crate) fn precip_band(
 fn push_precip_row(out: &mut Vec<NumberRun>, seed: u64, time: u32, row: u32) -> Result<(), Memory>
     ensures { OnOk result (numbers_of_runs out.new.items ≡ numbers_of_runs out.old.items ++ precip_row seed time row) }
 {
-    let first = first_depth(seed, time, row);
+    let place = 101 * u64::from(time) + 3 * u64::from(row);
+    let first = first_of(DEPTHS, seed, place);
     let count = COLUMNS.min(DEPTHS - first);
     push_depths(out, first, count)?;
     push_depths(out, 0, COLUMNS - count)
-}
-
-/// How far a row's first depth lies above the least.
-fn first_depth(seed: u64, time: u32, row: u32) -> u32
-    ensures value { result ≡ (seed + 101 * time + 3 * row) % 20001 }
-    ensures within { result < 20001 }
-{
-    let depths = u64::from(DEPTHS);
-    let place = 101 * u64::from(time) + 3 * u64::from(row);
-    ((seed % depths + place) % depths) as u32
 }
 
 /// Adds so many depths that rise by one, the first so far above the least.
