@@ -53,6 +53,9 @@ and_failed (Err x) came both is f = inl (subst (λ (r : Result _ StepErr). IsErr
 pub slice_kept : {X : Type 0} (n : ℕ) (new old : List X) → n ≡ length old → length new ≡ length old → take n (new ++ drop (length new) old) ≡ new
 slice_kept {X} n new old e l = ap (λ (m : ℕ). take m (new ++ drop (length new) old)) e ∙ refilled old new l
 
+pub came_back : {X : Type 0} (n : ℕ) (new lent old : List X) → n ≡ length old → lent ≡ old → length new ≡ length lent → take n (new ++ drop (length new) old) ≡ new
+came_back {X} n new lent old e is l = slice_kept n new old e (l ∙ ap (λ (xs : List X). length xs) is)
+
 -- ---- workers that were lent, and came back changed
 
 pub map_new : {X Y : Type 0} (f : X → Y) (R : X → X → Type 0) (old new : List X) → length new ≡ length old

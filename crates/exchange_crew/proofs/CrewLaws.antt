@@ -1,5 +1,5 @@
 -- Helpers that were handed parts one after another, each the next part.
-use Rattle.exchange_crew.proofs.Words.{ℕ, ◌≡◌, ◌+◌, ◌∙◌, List, [], ◌∷◌, ◌++◌, length, map, take, Option, None, Some, Result, Ok, Err, refl, sym, ap, subst, arith, append-nil, append_assoc, length-append, length-map, map-append, same_Some, slice_get, zip, ForSome, IfErr, IfOk, OnOk, AllZip, middle_at, take_next, Aggregator, AreHanded, Extent, HasAdded, In, IsDomainOf, IsNext, Owned, Shares, SomeZip, domain_in, in_either, nat_tests, ◌<◌, ◌≤◌, slice_get_within, drop, result_and, vec_capacity}
+use Rattle.exchange_crew.proofs.Words.{ℕ, ◌≡◌, ◌+◌, ◌∙◌, List, [], ◌∷◌, ◌++◌, length, map, take, Option, None, Some, Result, Ok, Err, refl, sym, ap, subst, arith, append-nil, append_assoc, length-append, length-map, map-append, same_Some, slice_get, zip, ForSome, IfErr, IfOk, OnOk, AllZip, middle_at, take_next, Aggregator, AreHanded, DiskGhosts, Extent, HasAdded, HasRoom, HasRooms, HaveDomains, In, IsDomainOf, IsNext, Owned, Shares, SomeZip, domain_in, in_either, nat_tests, ◌<◌, ◌≤◌, slice_get_within, drop, result_and, vec_capacity}
 use Rattle.exchange_crew.proofs.SplitLaws.{first_parts, parts_behind}
 use Rattle.exchange_crew.proofs.BackLaws.{some_mapped, zip_mapped, AreKept, map_new}
 
@@ -60,24 +60,34 @@ pub record IsHanding {W D : Type 0} (Fresh : W → Type 0) (part : W → D) (sha
   pub rest_room : vec_capacity now.rest ≡ vec_capacity first.rest
   pub back : now.back ≡ first.back
 
+pub handing_begun : {W D : Type 0} (Fresh : W → Type 0) (part : W → D) (share : W → Extent) (domains : List Extent) (parts left : List D) (n : ℕ) (shares : Shares W D) → HasRooms n shares
+    → left ≡ parts → IsHanding Fresh part share domains parts [] left shares shares
+handing_begun Fresh part share domains parts left n shares rooms all =
+    record { all = all; handed = none_handed Fresh part share domains shares rooms.no_workers rooms.no_rest; workers_room = refl; rest_room = refl; back = refl }
+
 module _ {W D : Type 0} {Fresh : W → Type 0} {part : W → D} {share : W → Extent} {domains : List Extent} {parts yielded left more : List D} {first now : Shares W D} {own : D}
     (s : IsHanding Fresh part share domains parts yielded left first now) (e : left ≡ own ∷ more) where
   next_part : yielded ++ own ∷ more ≡ parts
   next_part = ap (λ (ds : List D). yielded ++ ds) (sym e) ∙ s.all
 
   -- the domain of the next aggregator
-  pub handing_domain : (from len : D → ℕ) (list : List Owned) (next : Option Aggregator)
-      → ((k : ℕ) (p : D) (d : Extent) → slice_get parts k ≡ Some p → slice_get domains k ≡ Some d → IsDomainOf list (from p) (len p) d) → IsNext domains now next
-      → ForSome next (λ a. IsDomainOf list (from own) (len own) a.domain)
-  handing_domain from len list next all n a h =
+  pub handing_domain : (disk : DiskGhosts D) (list : List Owned) (next : Option Aggregator) → HaveDomains disk list domains parts → IsNext domains now next
+      → ForSome next (λ a. IsDomainOf list (disk.from own) (disk.len own) a.domain)
+  handing_domain disk list next all n a h =
       let many = workers_few part now.workers.items now.rest.items yielded s.handed.of_parts in
       let none = ap (λ (ds : List D). length ds) (n.none_left a h) in
       let place : length now.workers.items ≡ length yielded = omega arith in
-      all (length yielded) own a.domain (middle_at yielded more parts own next_part) (rw place at (n.domain a h))
+      all.each (length yielded) own a.domain (middle_at yielded more parts own next_part) (rw place at (n.domain a h))
 
-  pub handing_few : length now.workers.items + length now.rest.items < length parts
+  handing_few : length now.workers.items + length now.rest.items < length parts
   handing_few =
       omega (arith, workers_few part now.workers.items now.rest.items yielded s.handed.of_parts, slice_get_within parts (length yielded) own (middle_at yielded more parts own next_part))
+
+  pub handing_room : HasRooms (length parts) first → HasRoom now
+  handing_room rooms = record {
+    for_worker = omega (arith, handing_few, rooms.for_workers, s.workers_room);
+    for_rest = omega (arith, handing_few, rooms.for_rest, s.rest_room);
+  }
 
   pub handing_next : (new : Shares W D) (next : Option Aggregator) (handed : Result W D) → IsNext domains now next → HasAdded handed now new → IfOk handed Fresh → IfOk handed (λ worker. part worker ≡ own)
       → IfOk handed (λ worker. domain_in next ≡ Some (share worker)) → IfErr handed (λ back. back ≡ own) → IsHanding Fresh part share domains parts (yielded ++ own ∷ []) more first new

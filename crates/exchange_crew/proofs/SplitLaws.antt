@@ -1,6 +1,6 @@
 -- The first parts, and those behind them: what holds of both holds of all.
-use Rattle.exchange_crew.proofs.Words.{◌≡◌, ℕ, zero, suc, ◌+◌, inl, inr, ap, ◌∙◌, List, [], ◌∷◌, ◌++◌, length, map, take, drop, Some, Result, arith, drop-append_seam, take-append_seam, length-map, slice_get, zip, IsErrOf, AllZip, result_and, Extent, Owned, StepErr, Disk, IsDomainOf, SomeZip, nat_tests, ◌-◌, length-drop, take_rest, zip_weaker}
-use Rattle.exchange_crew.proofs.BackLaws.{and_failed, and_first_ok, and_second_ok, IsLater}
+use Rattle.exchange_crew.proofs.Words.{◌≡◌, ℕ, zero, suc, ◌+◌, inl, inr, ap, ◌∙◌, List, [], ◌∷◌, ◌++◌, length, map, take, drop, Some, Result, arith, drop-append_seam, take-append_seam, length-map, slice_get, zip, IsErrOf, AllZip, result_and, Extent, Owned, StepErr, Disk, SomeZip, nat_tests, ◌-◌, ◌≤◌, length-drop, take_rest, vec_capacity, zip_weaker, AreFirst, DiskGhosts, HaveDomains, Served}
+use Rattle.exchange_crew.proofs.BackLaws.{and_failed, and_first_ok, and_second_ok, came_back, IsLater}
 
 pub zip_split : {A B : Type 0} (k : ℕ) (xs : List A) (ds : List B) → length ds ≡ length xs → zip xs ds ≡ zip (take k xs) (take k ds) ++ zip (drop k xs) (drop k ds)
 zip_split zero xs ds long = λ i. zip xs ds
@@ -50,15 +50,31 @@ pub split_at : {D : Type 0} (count n : ℕ) (parts rest : List D) (domains : Lis
     → IsSplit n parts rest domains (take (length domains - count) (drop count domains))
 split_at count n parts rest domains e long behind = record { long = long; behind = behind; later = take_rest domains count ∙ ap (λ (k : ℕ). drop k domains) e }
 
+-- those that helpers left, while they are lent
+pub left_behind : {D : Type 0} (served : Served D) (count : ℕ) (parts lent : List D) (domains : List Extent) → AreFirst parts served → count ≡ length served.back.items
+    → length domains ≡ length parts → lent ≡ served.rest.items → IsSplit (length served.back.items) parts lent domains (take (length domains - count) (drop count domains))
+left_behind served count parts lent domains first e long is = split_at count (length served.back.items) parts lent domains e long (is ∙ first.rest)
+
+pub room_behind : {D : Type 0} (served : Served D) (count : ℕ) (parts lent new : List D) → AreFirst parts served → count ≡ length served.rest.items → lent ≡ served.rest.items
+    → length new ≡ length lent → length served.back.items + length (take count (new ++ drop (length new) served.rest.items)) ≤ vec_capacity served.back
+room_behind {D} served count parts lent new first e is long =
+    omega (
+      arith,
+      first.few,
+      first.room,
+      ap (λ (ds : List D). length ds) (came_back count new lent served.rest.items e is long),
+      ap (λ (ds : List D). length ds) is,
+      ap (λ (ds : List D). length ds) first.rest,
+      length-drop (length served.back.items) parts,
+    )
+
 module _ {D : Type 0} {n : ℕ} {parts rest : List D} {domains more : List Extent} (split : IsSplit n parts rest domains more) where
-  pub split_long : length more ≡ length rest
+  split_long : length more ≡ length rest
   split_long =
       omega (arith, ap (λ (ds : List D). length ds) split.behind, ap (λ (ds : List Extent). length ds) split.later, length-drop n parts, length-drop n domains, split.long)
 
-  pub domains_behind : (from len : D → ℕ) (list : List Owned)
-      → ((k : ℕ) (part : D) (domain : Extent) → slice_get parts k ≡ Some part → slice_get domains k ≡ Some domain → IsDomainOf list (from part) (len part) domain)
-      → (k : ℕ) (part : D) (domain : Extent) → slice_get rest k ≡ Some part → slice_get more k ≡ Some domain → IsDomainOf list (from part) (len part) domain
-  domains_behind from len list each k part domain e f = grind (arith, nat_tests, behind_at, split.behind, split.later)
+  pub domains_behind : (disk : DiskGhosts D) (list : List Owned) → HaveDomains disk list domains parts → HaveDomains disk list more rest
+  domains_behind disk list h = record { one_each = split_long; each = λ k part domain e f. grind (arith, nat_tests, behind_at, split.behind, split.later, h.each (n + k) part domain) }
 
 -- ---- what was done on both, and a fault among them
 

@@ -9,18 +9,21 @@ pub use Rattle.aggregator_rounds.specs.EntryParts.{AreFilled, IsCovered}
 pub use Rattle.aggregator_rounds.specs.Left.{BeginBefore, IsPast}
 pub use Rattle.aggregator_rounds.specs.ToldWindows.{told_window}
 pub use Rattle.exchange_crew.specs.Cursor.{AreInFront, AreServed, IsAt}
-pub use Rattle.exchange_crew.specs.Handed.{AreHanded, HasAdded, IsNext, domain_in}
+pub use Rattle.exchange_crew.specs.Handed.{AreFirst, AreHanded, HasAdded, IsNext, domain_in}
 pub use Rattle.exchange_crew.specs.Hulls.{AreTurns, HaveWindows, IsTurn, LieOnPart}
 pub use Rattle.exchange_crew.specs.Parts.{SomeZip}
 pub use Rattle.exchange_crew.specs.Pieces.{ArePieces}
-pub use Rattle.exchange_crew.specs.Plan.{IsDomainOf, IsPlan}
+pub use Rattle.exchange_crew.specs.Plan.{HaveDomains, IsDomainOf, IsPlan}
+pub use Rattle.exchange_crew.specs.Rooms.{HasRoom, HasRooms}
 pub use Rattle.exchange_crew.specs.Turns.{Told, turns_ahead, turns_of}
 pub use Rattle.exchange_crew.specs.declared.plan.Aggregator.{Aggregator}
+pub use Rattle.exchange_crew.specs.declared.shares.Served.{Served}
 pub use Rattle.exchange_crew.specs.declared.shares.Shares.{Shares}
 pub use Rattle.file_domains.specs.Domains.{LiesIn}
 pub use Rattle.file_domains.specs.Rounds.{IsWalk, bytes_in, round_windows, window_told}
 pub use Rattle.file_domains.specs.declared.walk.Window.{Window}
 pub use Rattle.list_laws.proofs.Common.{each_more, entry_below, entry_set, entry_set_other, equal_true, left_more, middle_at, no_both, refilled, take_next, zip_weaker}
+pub use Rattle.nc_outside.specs.declared.disk.Disk.{Ghosts as DiskGhosts}
 pub use Rattle.list_laws.proofs.Types.{Batch, Disk, Extent, Owned, StepErr}
 pub use Rattle.overlay_laws.proofs.Common.{EndBelow, HaveSame, In, IsAscending, IsByPlace, IsCover, Source, any_in, div_grows, extents, filter_ascends, first_least, flat_in, in_any, in_either, in_extents, in_flat, in_left, in_map, in_range, in_right, joined, last_most, map_in, range_low, ranges, same_ascending, share, spans_ascend, told_of, window_short, windows_have}
 pub use Rattle.serial_spec.proofs.Common.{at_in, filter_in, first_of, hull_len, in_at, in_filter, is_empty, last_of, not_empty, spans, windows}

@@ -5,11 +5,13 @@
 --     left_over handed                   the part that was left, as a list
 --     HasAdded handed old new            the helper is behind the others now, or the part behind those that were left
 --     AreHanded Fresh part share ..      these parts, in order, are those of helpers over the first domains, and those that were left
-use Rattle.std.specs.Prelude.{◌≡◌, List, [], ◌∷◌, ◌++◌, length, map, take, slice_get, vec_capacity, Option, None, Some, Result, Ok, Err}
+--     AreFirst parts served              what came back are the first parts, and the rest are those behind them, for which there is room
+use Rattle.std.specs.Prelude.{◌≡◌, ◌≤◌, List, [], ◌∷◌, ◌++◌, drop, length, map, take, slice_get, vec_capacity, Option, None, Some, Result, Ok, Err}
 use Rattle.std.specs.Option.{ForSome}
 use Rattle.nc_base.specs.declared.plan.Extent.{Extent}
 use Rattle.overlay_laws.specs.Entries.{In}
 use Rattle.exchange_crew.specs.declared.plan.Aggregator.{Aggregator}
+use Rattle.exchange_crew.specs.declared.shares.Served.{Served}
 use Rattle.exchange_crew.specs.declared.shares.Shares.{Shares}
 
 pub record IsNext {W D : Type 0} (domains : List Extent) (shares : Shares W D) (next : Option Aggregator) : Type 0 where
@@ -39,3 +41,8 @@ pub record AreHanded {W D : Type 0} (Fresh : W → Type 0) (part : W → D) (sha
   pub of_parts : map part shares.workers.items ++ shares.rest.items ≡ parts
   pub of_domains : map share shares.workers.items ≡ take (length shares.workers.items) domains
   pub workers : (worker : W) → In shares.workers.items worker → Fresh worker
+
+pub record AreFirst {D : Type 0} (parts : List D) (served : Served D) : Type 0 where
+  pub rest : served.rest.items ≡ drop (length served.back.items) parts
+  pub few : length served.back.items ≤ length parts
+  pub room : length parts ≤ vec_capacity served.back

@@ -2,12 +2,15 @@
 --     IsPlan batches list cover size     sorted entries of the puts, which say one value of a byte, their cover, and the bytes of a window
 --     IsPlanned plan                     the same, of what an exchange is lent
 --     IsDomainOf list from len domain    a domain on a part that begins at `from`: it has all covered bytes of the part
+--     HaveDomains disk list domains parts    a domain for each part of a disk
+--     IsLineRoom n                       so many items may wait on a line
 --     planned_turns plan domain          the windows of a domain
 --     planned_pieces plan domain         their pieces
-use Rattle.std.specs.Prelude.{ℕ, ◌+◌, ◌<◌, ◌^◌, ◌≤◌, List, length, map}
+use Rattle.std.specs.Prelude.{◌≡◌, ℕ, ◌+◌, ◌<◌, ◌^◌, ◌≤◌, List, length, map, slice_get, Some}
 use Rattle.nc_base.specs.declared.plan.Batch.{Batch}
 use Rattle.nc_base.specs.declared.plan.Extent.{Extent}
 use Rattle.nc_base.specs.declared.plan.Owned.{Owned}
+use Rattle.nc_outside.specs.declared.disk.Disk.{Ghosts as DiskGhosts}
 use Rattle.overlay_laws.specs.Entries.{In, Source, cell_of, ranges, HaveSame}
 use Rattle.overlay_laws.specs.Lines.{extents, EndBelow, IsByPlace}
 use Rattle.overlay_laws.specs.Walks.{IsCover}
@@ -38,6 +41,14 @@ pub record IsDomainOf (list : List Owned) (from len : ℕ) (domain : Extent) : T
   pub low : from ≤ domain.at
   pub high : domain.at + domain.len ≤ from + len
   pub whole : (x : ℕ) → from ≤ x → x < from + len → IsCovered list x → LiesIn domain x
+
+pub record HaveDomains {D : Type 0} (disk : DiskGhosts D) (list : List Owned) (domains : List Extent) (parts : List D) : Type 0 where
+  pub one_each : length domains ≡ length parts
+  pub each : (k : ℕ) (part : D) (domain : Extent) → slice_get parts k ≡ Some part → slice_get domains k ≡ Some domain → IsDomainOf list (disk.from part) (disk.len part) domain
+
+pub record IsLineRoom (n : ℕ) : Type 0 where
+  pub low : 1 ≤ n
+  pub high : n ≤ 64
 
 abbrev pub source_in : PutPlan → Source
 source_in p = source_of p.job.now.batches

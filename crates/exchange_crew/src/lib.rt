@@ -14,11 +14,11 @@ mod spares;
 mod walk;
 
 pub use errand::{Errand, PartBack, PartEnds};
-pub use plan::{Aggregator, GetPlan, PutPlan, Tools};
+pub use plan::{Aggregator, GetPlan, PutPlan, Team, Tools};
 pub use rounds::{InRounds, first_in_turn};
 pub use shared_job::SharedJob;
 pub use shares::{
-    STACK_SIZE, Shares, add_handed, aggregator_at, give_back, make_rooms, next_aggregator,
+    STACK_SIZE, Served, Shares, add_handed, aggregator_at, make_rooms, next_aggregator,
 };
 pub use spares::{Spares, resize_by_blocks};
 pub use walk::{Turn, TurnWalk, domain_windows, longest_window, next_window, window_list};

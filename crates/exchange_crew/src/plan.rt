@@ -42,3 +42,10 @@ pub struct Tools<'a, R, G> {
     /// Each aggregator passes it before each of its windows.
     pub gate: &'a G,
 }
+
+/// Who does an exchange: its tools, and the helpers of the step, by their numbers, each by the line of its jobs.
+#[derive(Drop)]
+pub struct Team<'a, R, G, L> {
+    pub tools: &'a Tools<'a, R, G>,
+    pub helpers: &'a [L],
+}

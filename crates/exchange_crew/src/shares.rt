@@ -1,10 +1,10 @@
 // The helpers of a step, and the parts that they were handed.
 ghost use Rattle.std.specs.Prelude.{◌≡◌, ◌<◌, ◌≤◌, ◌++◌, ◌+◌, length, slice_get, vec_capacity, IfOk, Some};
 ghost use Rattle.exchange_crew.specs.Handed.{HasAdded, IsNext};
-ghost use Rattle.exchange_crew.specs.Rooms.{HasRooms};
+ghost use Rattle.exchange_crew.specs.Rooms.{HasRoom, HasRooms};
 
 use crate::plan::Aggregator;
-use nc_base::{Extent, Memory};
+use nc_base::{Extent, Memory, StepErr};
 use std::alloc::Global;
 
 /// How many bytes of stack a helper's thread has. It calls few functions deep.
@@ -17,6 +17,34 @@ pub struct Shares<W: Drop, D: Drop> {
     pub workers: Vec<W>,
     pub rest: Vec<D>,
     pub back: Vec<D>,
+}
+
+/// The parts that helpers served, as they come back, those behind them, and how it ended.
+#[derive(Drop)]
+pub struct Served<D: Drop> {
+    pub back: Vec<D>,
+    pub rest: Vec<D>,
+    pub end: Result<(), StepErr>,
+}
+
+impl<D: Drop> Served<D> {
+    ghost use Rattle.std.specs.Prelude.{◌≡◌, ◌≤◌, ◌++◌, ◌+◌, length, vec_capacity};
+    ghost use Rattle.std.specs.Result.{result_and};
+
+    /// All parts in order, and how it ended, where it came to this on those behind.
+    pub fn joined(self, other: Result<(), StepErr>) -> (Vec<D>, Result<(), StepErr>)
+        requires { length self.back.items + length self.rest.items ≤ vec_capacity self.back }
+        ensures parts { result.0.items ≡ self.back.items ++ self.rest.items }
+        ensures end { result.1 ≡ result_and self.end other }
+    {
+        let Served {
+            mut back,
+            rest,
+            end,
+        } = self;
+        give_back(rest, &mut back);
+        (back, end.and(other))
+    }
 }
 
 /// Room for so many helpers, and for their parts.
@@ -63,8 +91,7 @@ pub fn aggregator_at(first: u32, domains: &[Extent], place: usize) -> Aggregator
 
 /// Adds the helper that was handed the next part, or the part, where there is none.
 pub fn add_handed<W: Drop, D: Drop>(shares: &mut Shares<W, D>, handed: Result<W, D>)
-    requires workers { length shares.old.workers.items < vec_capacity shares.old.workers }
-    requires rest { length shares.old.rest.items < vec_capacity shares.old.rest }
+    requires { HasRoom shares.old }
     ensures { HasAdded handed shares.old shares.new }
 {
     match handed {
@@ -73,8 +100,8 @@ pub fn add_handed<W: Drop, D: Drop>(shares: &mut Shares<W, D>, handed: Result<W,
     }
 }
 
-/// Gives parts back behind the others.
-pub fn give_back<D: Drop>(rest: Vec<D>, back: &mut Vec<D>)
+// Gives parts back behind the others.
+fn give_back<D: Drop>(rest: Vec<D>, back: &mut Vec<D>)
     requires room { length back.old.items + length rest.items ≤ vec_capacity back.old }
     ensures { back.new.items ≡ back.old.items ++ rest.items }
 {

@@ -1,6 +1,6 @@
 -- A helper that reads window after window: what is left to be read gives the whole.
 use Rattle.std.proofs.lemmas.List.{drop_more}
-use Rattle.get_exchange.proofs.Words.{◌≡◌, ℕ, ◌+◌, ◌-◌, ◌≤◌, inl, inr, refl, sym, ◌∙◌, ap, subst, List, [], ◌∷◌, ◌++◌, length, drop, Option, None, Result, append_assoc, arith, append-nil, length-append, flat_map, IfSome, IsOk, OnOk, Extent, Owned, DiskCall, with_end-nil, with_end-with_end, with_end, StepErr, load_calls, In, read, Window, told_window, HasFetched, get_turns, reading_of, AreRead, HasGot, IsGetPlan, LieOnPart, IsDomainOf, PartState, domain_of, IsStartedFor, Told, turns_of, Reading, Hull, ReadWorker, GetPlan, domain_part, nat_tests, DiskGhosts, IsLater, part_state, ◌<◌, get_or, Some, map}
+use Rattle.get_exchange.proofs.Words.{◌≡◌, ℕ, ◌+◌, ◌-◌, ◌≤◌, inl, inr, refl, sym, ◌∙◌, ap, subst, List, [], ◌∷◌, ◌++◌, length, drop, Option, None, Result, append_assoc, arith, append-nil, length-append, flat_map, IfSome, OnOk, Extent, Owned, DiskCall, with_end-nil, with_end-with_end, with_end, StepErr, load_calls, In, read, Window, told_window, HasFetched, get_turns, reading_of, AreRead, HasGot, IsGetPlan, LieOnPart, IsDomainOf, PartState, domain_of, IsStartedFor, Told, turns_of, Reading, Hull, ReadWorker, GetPlan, domain_part, nat_tests, DiskGhosts, IsLater, part_state, ◌<◌, get_or, Some, map}
 use mathlib.Core.List.{IsPrefix}
 
 abbrev readings : ℕ → List ℕ → List Told → List Reading

@@ -1,5 +1,5 @@
 -- The windows of all parts, each read of its own part, are the file's bytes of all entries.
-use Rattle.get_exchange.proofs.Words.{◌≡◌, ℕ, ◌+◌, ◌-◌, ◌<◌, ◌≤◌, inl, inr, refl, sym, ◌∙◌, ap, subst, List, [], ◌∷◌, ◌++◌, length, map, Option, Some, None, Result, Ok, Err, arith, slice_get_within, append-nil, length-map, slice_get, zip, IfErr, IfSome, IsErrOf, OnOk, result_and, entry_below, Extent, StepErr, Disk, Memory, at, read, read_at, read_same, In, in_either, in_left, in_right, at_in, in_at, in_map, in_zip, map_in, zip_in, IsCovered, AreAsLong, FitTable, HasRead, HaveOnePlaces, get_turns, AreRead, IsGetPlanned, told_in, HasReadParts, HasReadTurns, HasTaken, HaveTakenTurns, IsKept, IsReadOf, Log, IsDomainOf, domain_of, part_of, turns_due, IsFresh, Told, ReadWorker, GetPlan, domain_part, domain_windows, nat_tests, take, drop, map-append, zip_split, IsSplit, AreKept, HaveServed, DiskGhosts, IsErr, slice_kept, zip_next, err_not_ok, suc}
+use Rattle.get_exchange.proofs.Words.{◌≡◌, ℕ, ◌+◌, ◌-◌, ◌<◌, ◌≤◌, inl, inr, refl, sym, ◌∙◌, ap, subst, List, [], ◌∷◌, ◌++◌, length, map, Option, Some, None, Result, Ok, Err, arith, slice_get_within, append-nil, length-map, slice_get, zip, IfErr, IfSome, IsErrOf, OnOk, result_and, entry_below, Extent, StepErr, Disk, Memory, at, read, read_at, read_same, In, in_either, in_left, in_right, at_in, in_at, in_map, in_zip, map_in, zip_in, IsCovered, AreAsLong, FitTable, HasRead, HaveOnePlaces, get_turns, AreRead, IsGetPlanned, told_in, HasReadParts, HasReadTurns, HasTaken, HaveTakenTurns, IsKept, IsReadOf, Log, IsDomainOf, domain_of, part_of, turns_due, IsFresh, Told, ReadWorker, GetPlan, domain_part, domain_windows, nat_tests, take, drop, map-append, zip_split, IsSplit, AreKept, HaveServed, DiskGhosts, IsErr, came_back, zip_next, err_not_ok, suc}
 use Rattle.get_exchange.proofs.FetchLaws.{GotBy}
 use Rattle.get_exchange.proofs.ReadLaws.{log_joined, read_law}
 use Rattle.get_exchange.proofs.TakeLaws.{items_read}
@@ -192,4 +192,4 @@ got_kept disk plan end cut p = record { from = refl; len = refl; held = refl; de
 
 -- a table that was lent, and came back filled
 pub table_back : (len : ℕ) (table lent filled : List (List (List ℕ))) → lent ≡ table → len ≡ length table → AreAsLong lent filled → take len (filled ++ drop (length filled) table) ≡ filled
-table_back len table lent filled given room long = slice_kept len filled table room (rows_long lent filled long ∙ ap (λ (t : List (List (List ℕ))). length t) given)
+table_back len table lent filled given room long = came_back len filled lent table room given (rows_long lent filled long)

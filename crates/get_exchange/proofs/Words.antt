@@ -10,12 +10,12 @@ pub use Rattle.aggregator_rounds.proofs.SplitSteps.{dropped_past, entry_ends, ex
 pub use Rattle.aggregator_rounds.specs.EntryParts.{AreFilled, IsCovered, buffer_cell, got_cells, part_in, places_of}
 pub use Rattle.aggregator_rounds.specs.Left.{IsPast, entries_left}
 pub use Rattle.aggregator_rounds.specs.ToldWindows.{told_window}
-pub use Rattle.exchange_crew.proofs.BackLaws.{AreKept, IsLater, and_first_ok, err_not_ok, joined_back, kept_all, lent_kept, middle_in, slice_kept, zip_next}
-pub use Rattle.exchange_crew.proofs.CrewLaws.{HaveServed, all_served, each_joined, IsHanding, handing_domain, handing_few, handing_next, have_served, none_handed, some_served}
+pub use Rattle.exchange_crew.proofs.BackLaws.{AreKept, IsLater, and_first_ok, came_back, err_not_ok, joined_back, kept_all, lent_kept, middle_in, zip_next}
+pub use Rattle.exchange_crew.proofs.CrewLaws.{HaveServed, all_served, each_joined, IsHanding, handing_begun, handing_domain, handing_next, handing_room, have_served, some_served}
 pub use Rattle.exchange_crew.proofs.DomainTurns.{domain_part, domain_turns, domain_windows}
 pub use Rattle.exchange_crew.proofs.OneChanged.{fewer_all, set_each}
 pub use Rattle.exchange_crew.proofs.PartsInTurn.{AreServedTo, all_kept, all_served_to, none_served, one_cut, one_failed, one_served}
-pub use Rattle.exchange_crew.proofs.SplitLaws.{IsSplit, all_joined, domains_behind, failed_joined, split_at, split_long, zip_split}
+pub use Rattle.exchange_crew.proofs.SplitLaws.{IsSplit, all_joined, domains_behind, failed_joined, left_behind, room_behind, zip_split}
 pub use Rattle.exchange_crew.proofs.TurnLaws.{IsDue, at_begin, at_next, due_now, front_carried, in_served, left_ends, left_filled, left_sorted, served_ends, served_in, served_now, turn_limit}
 pub use Rattle.exchange_crew.specs.Cursor.{AreInFront, AreServed, IsAt}
 pub use Rattle.exchange_crew.specs.Handed.{domain_in}

@@ -1,5 +1,5 @@
 // The gets of a collective step, on a disk in parts.
-ghost use Rattle.std.specs.Prelude.{◌≡◌, ◌+◌, ◌<◌, ◌≤◌, ℕ, List, drop, length, slice_get, take, vec_capacity, zip, IfOk, IsErrOf, OnOk, Some};
+ghost use Rattle.std.specs.Prelude.{◌≡◌, ◌+◌, ◌<◌, ◌≤◌, ℕ, List, length, slice_get, take, zip, IfOk, IsErrOf, OnOk, Some};
 ghost use Rattle.std.specs.List.{AllZip};
 ghost use Rattle.nc_base.specs.declared.plan.Extent.{Extent};
 ghost use Rattle.nc_outside.specs.Cause.{Rose};
@@ -11,7 +11,8 @@ ghost use Rattle.get_exchange.specs.Blobs.{AreAsLong, FitTable, HasRead, HaveOne
 ghost use Rattle.get_exchange.specs.Gets.{get_turns, HasGot, IsGetPlanned};
 ghost use Rattle.get_exchange.specs.Lenders.{AreReady};
 ghost use Rattle.get_exchange.specs.Logs.{HasReadParts};
-ghost use Rattle.exchange_crew.specs.Plan.{IsDomainOf};
+ghost use Rattle.exchange_crew.specs.Handed.{AreFirst};
+ghost use Rattle.exchange_crew.specs.Plan.{HaveDomains, IsDomainOf, IsLineRoom};
 ghost use Rattle.exchange_crew.specs.Parts.{part_state, SomeZip};
 ghost use Rattle.exchange_crew.specs.Rooms.{HasRooms};
 
@@ -22,7 +23,7 @@ use crate::helper::GetJob;
 use crate::in_turn::get_in_turn;
 use crate::results::take_back;
 use crossbeam_channel::Sender;
-use exchange_crew::{Errand, GetPlan, Shares, Spares, Tools, give_back, make_rooms};
+use exchange_crew::{Errand, GetPlan, Served, Shares, Spares, Team, Tools, make_rooms};
 use nc_base::{BlobList, Extent, GotTable, Memory, StepErr};
 use nc_outside::{Disk, Gate};
 use std::alloc::Global;
@@ -75,11 +76,9 @@ fn get_parts<R: Wait, D: Disk, G: Gate, P: Send + Drop>(
     table: &mut [BlobList],
 ) -> (Vec<D>, Result<(), StepErr>)
     requires plan { IsGetPlanned plan.now }
-    requires line_low { 1 ≤ plan.now.hints.now.line_room }
-    requires line_high { plan.now.hints.now.line_room ≤ 64 }
+    requires line { IsLineRoom plan.now.hints.now.line_room }
     requires few { length domains.now ≤ 64 }
-    requires one_each { length domains.now ≡ length parts.items }
-    requires domains { (k : ℕ) (part : D) (domain : Extent) → slice_get parts.items k ≡ Some part → slice_get domains.now k ≡ Some domain → IsDomainOf plan.now.list.now (D.from part) (D.len part) domain }
+    requires domains { HaveDomains D.Disk plan.now.list.now domains.now parts.items }
     requires fit { FitTable table.old plan.now.list.now }
     requires one_place { HaveOnePlaces plan.now.list.now }
     ensures got { AllZip (λ p new. HasGot (get_turns plan.now p.1)
@@ -90,9 +89,8 @@ fn get_parts<R: Wait, D: Disk, G: Gate, P: Send + Drop>(
 {
     if !helpers.is_empty() {
         if let Ok(fetching) = fetching_of(tools.alloc, spares, plan, domains) {
-            return get_helped(
-                tools, helpers, spares, plan, domains, parts, fetching, table,
-            );
+            let team = Team { tools, helpers };
+            return get_helped(&team, spares, plan, domains, parts, fetching, table);
         }
     }
     let mut parts = parts;
@@ -124,8 +122,7 @@ fn fetching_of<'a, D: Disk>(
 
 // The gets by helpers, and of the parts that none has in turn.
 fn get_helped<'a, R: Wait, D: Disk, G: Gate, P: Send + Drop>(
-    tools: &Tools<R, G>,
-    helpers: &[Sender<Errand<P, GetJob<D>>>],
+    team: &Team<R, G, Sender<Errand<P, GetJob<D>>>>,
     spares: &mut Spares,
     plan: &GetPlan<'a>,
     domains: &[Extent],
@@ -134,11 +131,9 @@ fn get_helped<'a, R: Wait, D: Disk, G: Gate, P: Send + Drop>(
     table: &mut [BlobList],
 ) -> (Vec<D>, Result<(), StepErr>)
     requires plan { IsGetPlanned plan.now }
-    requires line_low { 1 ≤ plan.now.hints.now.line_room }
-    requires line_high { plan.now.hints.now.line_room ≤ 64 }
+    requires line { IsLineRoom plan.now.hints.now.line_room }
     requires few { length domains.now ≤ 64 }
-    requires one_each { length domains.now ≡ length parts.items }
-    requires domains { (k : ℕ) (part : D) (domain : Extent) → slice_get parts.items k ≡ Some part → slice_get domains.now k ≡ Some domain → IsDomainOf plan.now.list.now (D.from part) (D.len part) domain }
+    requires domains { HaveDomains D.Disk plan.now.list.now domains.now parts.items }
     requires fit { FitTable table.old plan.now.list.now }
     requires one_place { HaveOnePlaces plan.now.list.now }
     requires lenders { AreReady fetching.lending.lenders.each.items }
@@ -149,39 +144,23 @@ fn get_helped<'a, R: Wait, D: Disk, G: Gate, P: Send + Drop>(
     ensures blobs { AreAsLong table.old table.new }
     ensures failed { IsErrOf result.1 fault.Disk → SomeZip (λ old new. Rose (D.faults old) (D.faults new)) parts.items result.0.items }
 {
-    let Served {
-        mut back,
-        mut rest,
-        end,
-    } = get_served(
-        tools, helpers, spares, plan, domains, parts, fetching, table,
-    );
-    let served = back.len();
+    let mut served = get_served(team, spares, plan, domains, parts, fetching, table);
+    let first = served.back.len();
     let other = get_in_turn(
-        tools,
+        team.tools,
         spares,
         plan,
-        served as u32,
-        &domains[served..],
-        &mut rest,
+        first as u32,
+        &domains[first..],
+        &mut served.rest,
         table,
     );
-    give_back(rest, &mut back);
-    (back, end.and(other))
-}
-
-// The parts that helpers served, as they come back, those behind them, and how it ended.
-#[derive(Drop)]
-struct Served<D: Drop> {
-    back: Vec<D>,
-    rest: Vec<D>,
-    end: Result<(), StepErr>,
+    served.joined(other)
 }
 
 // The gets of the parts that helpers take.
 fn get_served<'a, R: Wait, D: Disk, G: Gate, P: Send + Drop>(
-    tools: &Tools<R, G>,
-    helpers: &[Sender<Errand<P, GetJob<D>>>],
+    team: &Team<R, G, Sender<Errand<P, GetJob<D>>>>,
     spares: &mut Spares,
     plan: &GetPlan<'a>,
     domains: &[Extent],
@@ -190,18 +169,14 @@ fn get_served<'a, R: Wait, D: Disk, G: Gate, P: Send + Drop>(
     table: &mut [BlobList],
 ) -> Served<D>
     requires plan { IsGetPlanned plan.now }
-    requires line_low { 1 ≤ plan.now.hints.now.line_room }
-    requires line_high { plan.now.hints.now.line_room ≤ 64 }
+    requires line { IsLineRoom plan.now.hints.now.line_room }
     requires few { length domains.now ≤ 64 }
-    requires one_each { length domains.now ≡ length parts.items }
-    requires domains { (k : ℕ) (part : D) (domain : Extent) → slice_get parts.items k ≡ Some part → slice_get domains.now k ≡ Some domain → IsDomainOf plan.now.list.now (D.from part) (D.len part) domain }
+    requires domains { HaveDomains D.Disk plan.now.list.now domains.now parts.items }
     requires fit { FitTable table.old plan.now.list.now }
     requires one_place { HaveOnePlaces plan.now.list.now }
     requires lenders { AreReady fetching.lending.lenders.each.items }
     requires rooms { HasRooms (length parts.items) fetching.shares }
-    ensures rest { result.rest.items ≡ drop (length result.back.items) parts.items }
-    ensures served { length result.back.items ≤ length parts.items }
-    ensures room { length parts.items ≤ vec_capacity result.back }
+    ensures first { AreFirst parts.items result }
     ensures got { AllZip (λ p new. HasGot (get_turns plan.now p.1)
         (part_state D.Disk p.0) (part_state D.Disk new) result.end) (zip (take (length result.back.items) parts.items) (take (length result.back.items) domains.now)) result.back.items }
     ensures read { OnOk result.end (HasReadParts (λ part. D.from part) (λ part. D.held part) plan.now
@@ -209,6 +184,7 @@ fn get_served<'a, R: Wait, D: Disk, G: Gate, P: Send + Drop>(
     ensures blobs { AreAsLong table.old table.new }
     ensures failed { IsErrOf result.end fault.Disk → SomeZip (λ old new. Rose (D.faults old) (D.faults new)) (take (length result.back.items) parts.items) result.back.items }
 {
+    let tools = team.tools;
     let Fetching {
         mut shares,
         lending,
@@ -219,7 +195,7 @@ fn get_served<'a, R: Wait, D: Disk, G: Gate, P: Send + Drop>(
         blobs,
     } = lending;
     let supply = Supply { parts, lines };
-    hand_all(tools, helpers, plan, domains, supply, &mut shares);
+    hand_all(team, plan, domains, supply, &mut shares);
     let Shares {
         mut workers,
         rest,

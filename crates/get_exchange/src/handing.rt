@@ -1,16 +1,14 @@
 // Handing parts to helpers.
-ghost use Rattle.std.specs.Prelude.{◌≡◌, ◌≤◌, ◌++◌, [], ℕ, length, map, take, slice_get, vec_capacity, Some, IfOk, IfErr, IfSome};
+ghost use Rattle.std.specs.Prelude.{◌≡◌, ◌≤◌, [], length, map, Some, IfOk, IfErr, IfSome};
 ghost use Rattle.std.specs.Option.{ForSome};
-ghost use Rattle.nc_base.specs.declared.plan.Extent.{Extent};
-ghost use Rattle.overlay_laws.specs.Entries.{In};
 ghost use Rattle.aggregator_rounds.specs.Left.{IsPast};
 ghost use Rattle.aggregator_rounds.specs.ToldWindows.{told_window};
-ghost use Rattle.exchange_crew.specs.Handed.{domain_in};
+ghost use Rattle.exchange_crew.specs.Handed.{domain_in, AreHanded};
 ghost use Rattle.exchange_crew.specs.Hulls.{LieOnPart};
-ghost use Rattle.exchange_crew.specs.Plan.{IsDomainOf};
+ghost use Rattle.exchange_crew.specs.Plan.{HaveDomains, IsDomainOf, IsLineRoom};
+ghost use Rattle.exchange_crew.specs.Rooms.{HasRooms};
 ghost use Rattle.get_exchange.specs.Gets.{IsGetPlanned};
 ghost use Rattle.get_exchange.specs.Shelves.{domain_of, part_of, IsFresh, IsOutfit};
-ghost use Rattle.get_exchange.specs.declared.handing.ReadWorker.{ReadWorker};
 
 use crate::helper::{GetDuty, GetJob, GetLines};
 use crate::reading::Reading;
@@ -18,8 +16,8 @@ use crate::shelf::{Shelf, shelf_of};
 use crate::walk::{Ahead, Reader};
 use crossbeam_channel::Sender;
 use exchange_crew::{
-    Aggregator, Errand, GetPlan, PartBack, PartEnds, Shares, Tools, add_handed, next_aggregator,
-    window_list,
+    Aggregator, Errand, GetPlan, PartBack, PartEnds, Shares, Team, Tools, add_handed,
+    next_aggregator, window_list,
 };
 use file_domains::Window;
 use nc_base::{Blob, Extent};
@@ -61,41 +59,32 @@ pub(crate) struct Supply<D: Drop> {
 
 /// Hands each part to the helper of its number, up to the first for which there is none. That one and those behind it are the rest.
 pub(crate) fn hand_all<'a, R: Wait, D: Disk, G, P: Send + Drop>(
-    tools: &Tools<R, G>,
-    helpers: &[Sender<Errand<P, GetJob<D>>>],
+    team: &Team<R, G, Sender<Errand<P, GetJob<D>>>>,
     plan: &GetPlan<'a>,
     domains: &[Extent],
     supply: Supply<D>,
     shares: &mut Shares<ReadWorker<'a, D>, D>,
 )
     requires plan { IsGetPlanned plan.now }
-    requires line_low { 1 ≤ plan.now.hints.now.line_room }
-    requires line_high { plan.now.hints.now.line_room ≤ 64 }
+    requires line { IsLineRoom plan.now.hints.now.line_room }
     requires few { length domains.now ≤ 64 }
-    requires one_each { length domains.now ≡ length supply.parts.items }
-    requires domains { (k : ℕ) (part : D) (domain : Extent) → slice_get supply.parts.items k ≡ Some part → slice_get domains.now k ≡ Some domain → IsDomainOf plan.now.list.now (D.from part) (D.len part) domain }
-    requires workers { shares.old.workers.items ≡ [] }
-    requires rest { shares.old.rest.items ≡ [] }
-    requires workers_room { length supply.parts.items ≤ vec_capacity shares.old.workers }
-    requires rest_room { length supply.parts.items ≤ vec_capacity shares.old.rest }
-    ensures parts { map (λ worker. part_of worker) shares.new.workers.items ++ shares.new.rest.items ≡ supply.parts.items }
+    requires domains { HaveDomains D.Disk plan.now.list.now domains.now supply.parts.items }
+    requires rooms { HasRooms (length supply.parts.items) shares.old }
+    ensures handed { AreHanded (λ worker. IsFresh plan.now worker) (λ worker. part_of worker) (λ worker. domain_of worker) domains.now supply.parts.items shares.new }
     ensures back { shares.new.back ≡ shares.old.back }
-    ensures domains { map (λ worker. domain_of worker) shares.new.workers.items ≡ take (length shares.new.workers.items) domains.now }
-    ensures workers { (worker : ReadWorker D) → In shares.new.workers.items worker → IsFresh plan.now worker }
 {
     let Supply { parts, mut lines } = supply;
     let mut ahead = Ahead::new(plan);
     for part in parts {
         let next = next_aggregator(shares, domains);
-        let handed = hand_one(tools, helpers, plan, next, part, lines.pop(), &mut ahead);
+        let handed = hand_one(team, plan, next, part, lines.pop(), &mut ahead);
         add_handed(shares, handed);
     }
 }
 
 // Hands a part to the helper of its aggregator. Where there is none, or what it needs can't be had, the part comes back as it was.
 fn hand_one<'a, R: Wait, D: Disk, G, P: Send + Drop>(
-    tools: &Tools<R, G>,
-    helpers: &[Sender<Errand<P, GetJob<D>>>],
+    team: &Team<R, G, Sender<Errand<P, GetJob<D>>>>,
     plan: &GetPlan<'a>,
     aggregator: Option<Aggregator>,
     part: D,
@@ -103,8 +92,7 @@ fn hand_one<'a, R: Wait, D: Disk, G, P: Send + Drop>(
     ahead: &mut Ahead<'a>,
 ) -> Result<ReadWorker<'a, D>, D>
     requires plan { IsGetPlanned plan.now }
-    requires line_low { 1 ≤ plan.now.hints.now.line_room }
-    requires line_high { plan.now.hints.now.line_room ≤ 64 }
+    requires line { IsLineRoom plan.now.hints.now.line_room }
     requires domain { ForSome aggregator (λ a. IsDomainOf plan.now.list.now (D.from part) (D.len part) a.domain) }
     requires past { IsPast ahead.old.place plan.now.list.now ahead.old.entries.now }
     ensures past { IsPast ahead.new.place plan.now.list.now ahead.new.entries.now }
@@ -113,12 +101,13 @@ fn hand_one<'a, R: Wait, D: Disk, G, P: Send + Drop>(
     ensures part { IfOk result (λ worker. part_of worker ≡ part) }
     ensures domain { IfOk result (λ worker. domain_in aggregator ≡ Some (domain_of worker)) }
 {
+    let tools = team.tools;
     let Some(aggregator) = aggregator else {
         return Err(part);
     };
     let Aggregator { number, domain } = aggregator;
     let entries = ahead.reach(plan, domain);
-    let Some(helper) = helpers.get(number as usize) else {
+    let Some(helper) = team.helpers.get(number as usize) else {
         return Err(part);
     };
     let Some(outfit) = outfit_of(tools.alloc, plan, domain, spare) else {
@@ -148,8 +137,7 @@ fn outfit_of(
     spare: Option<LineTake<Blob>>,
 ) -> Option<Outfit>
     requires plan { IsGetPlanned plan.now }
-    requires line_low { 1 ≤ plan.now.hints.now.line_room }
-    requires line_high { plan.now.hints.now.line_room ≤ 64 }
+    requires line { IsLineRoom plan.now.hints.now.line_room }
     ensures { IfSome result (λ outfit. IsOutfit plan.now domain outfit) }
 {
     let spare = spare?;

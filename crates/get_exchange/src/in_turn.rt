@@ -1,5 +1,5 @@
 // The parts read in turn, on the calling thread, by no line.
-ghost use Rattle.std.specs.Prelude.{◌≡◌, ◌+◌, ◌≤◌, ℕ, length, min, slice_get, zip, IsErrOf, OnOk, Some};
+ghost use Rattle.std.specs.Prelude.{◌≡◌, ◌+◌, ◌≤◌, length, min, zip, IsErrOf, OnOk};
 ghost use Rattle.std.specs.List.{AllZip};
 ghost use Rattle.nc_base.specs.declared.plan.Extent.{Extent};
 ghost use Rattle.nc_outside.specs.Cause.{HasDiskCause, Rose};
@@ -13,7 +13,7 @@ ghost use Rattle.get_exchange.specs.Gets.{entries_in, get_turns, HasGot, IsGetPl
 ghost use Rattle.get_exchange.specs.Readers.{IsReader};
 ghost use Rattle.get_exchange.specs.Logs.{HasReadParts, HasReadTurn, HasReadTurns};
 ghost use Rattle.exchange_crew.specs.Hulls.{IsInReach};
-ghost use Rattle.exchange_crew.specs.Plan.{IsDomainOf};
+ghost use Rattle.exchange_crew.specs.Plan.{HaveDomains, IsDomainOf};
 ghost use Rattle.exchange_crew.specs.Parts.{part_state, SomeZip};
 
 use crate::collecting::collect_entries;
@@ -37,8 +37,7 @@ pub(crate) fn get_in_turn<R: Wait, D: Disk, G: Gate>(
 ) -> Result<(), StepErr>
     requires plan { IsGetPlanned plan.now }
     requires few { first + length domains.now ≤ 64 }
-    requires one_each { length domains.now ≡ length parts.old }
-    requires domains { (k : ℕ) (part : D) (domain : Extent) → slice_get parts.old k ≡ Some part → slice_get domains.now k ≡ Some domain → IsDomainOf plan.now.list.now (D.from part) (D.len part) domain }
+    requires domains { HaveDomains D.Disk plan.now.list.now domains.now parts.old }
     requires fit { FitTable table.old plan.now.list.now }
     requires one_place { HaveOnePlaces plan.now.list.now }
     ensures got { AllZip (λ p new. HasGot (get_turns plan.now p.1)
@@ -66,8 +65,7 @@ fn read_parts<R: Wait, D: Disk, G: Gate>(
 ) -> Result<(), StepErr>
     requires plan { IsGetPlanned plan.now }
     requires few { first + length domains.now ≤ 64 }
-    requires one_each { length domains.now ≡ length parts.old }
-    requires domains { (k : ℕ) (part : D) (domain : Extent) → slice_get parts.old k ≡ Some part → slice_get domains.now k ≡ Some domain → IsDomainOf plan.now.list.now (D.from part) (D.len part) domain }
+    requires domains { HaveDomains D.Disk plan.now.list.now domains.now parts.old }
     requires room { (domain : Extent) → In domains.now domain → min plan.now.hints.now.cb_buffer domain.len ≤ length buf.old }
     requires fit { FitTable table.old plan.now.list.now }
     requires one_place { HaveOnePlaces plan.now.list.now }

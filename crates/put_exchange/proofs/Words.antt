@@ -12,12 +12,12 @@ pub use Rattle.aggregator_rounds.proofs.SplitSteps.{entry_ends}
 pub use Rattle.aggregator_rounds.specs.EntryParts.{IsCovered}
 pub use Rattle.aggregator_rounds.specs.Left.{IsPast}
 pub use Rattle.aggregator_rounds.specs.ToldWindows.{told_window}
-pub use Rattle.exchange_crew.proofs.BackLaws.{AreKept, IsLater, err_not_ok, joined_back, kept_all, lent_kept, middle_in, slice_kept}
-pub use Rattle.exchange_crew.proofs.CrewLaws.{all_served, IsHanding, handing_domain, handing_few, handing_next, have_served, none_handed, some_served}
+pub use Rattle.exchange_crew.proofs.BackLaws.{AreKept, IsLater, came_back, err_not_ok, joined_back, kept_all, lent_kept, middle_in}
+pub use Rattle.exchange_crew.proofs.CrewLaws.{all_served, IsHanding, handing_begun, handing_domain, handing_next, handing_room, have_served, some_served}
 pub use Rattle.exchange_crew.proofs.OneChanged.{fewer_all, set_each}
 pub use Rattle.exchange_crew.proofs.PartsInTurn.{AreServedTo, all_kept, all_served_to, none_served, one_cut, one_failed, one_served}
 pub use Rattle.exchange_crew.proofs.PlanLaws.{plan_on, plan_turns, plan_windows}
-pub use Rattle.exchange_crew.proofs.SplitLaws.{all_joined, domains_behind, failed_joined, split_at, split_long}
+pub use Rattle.exchange_crew.proofs.SplitLaws.{all_joined, domains_behind, failed_joined, left_behind, room_behind}
 pub use Rattle.exchange_crew.proofs.TurnLaws.{at_begin, at_next, turn_end, turn_in, due_now, in_served, served_are, served_covered, served_ends, served_in, served_now, turn_limit}
 pub use Rattle.exchange_crew.specs.Cursor.{AreInFront, AreServed, IsAt}
 pub use Rattle.exchange_crew.specs.Handed.{domain_in}

@@ -1,14 +1,12 @@
 // Handing parts to helpers.
-ghost use Rattle.std.specs.Prelude.{◌≡◌, ◌≤◌, ◌++◌, [], ℕ, length, map, take, slice_get, vec_capacity, Some, IfOk, IfErr};
+ghost use Rattle.std.specs.Prelude.{◌≡◌, ◌≤◌, [], length, Some, IfOk, IfErr};
 ghost use Rattle.std.specs.Option.{ForSome};
-ghost use Rattle.nc_base.specs.declared.plan.Extent.{Extent};
-ghost use Rattle.overlay_laws.specs.Entries.{In};
 ghost use Rattle.aggregator_rounds.specs.Left.{IsPast};
-ghost use Rattle.exchange_crew.specs.Handed.{domain_in};
-ghost use Rattle.exchange_crew.specs.Plan.{IsDomainOf, IsPlanned};
+ghost use Rattle.exchange_crew.specs.Handed.{domain_in, AreHanded};
+ghost use Rattle.exchange_crew.specs.Plan.{HaveDomains, IsDomainOf, IsLineRoom, IsPlanned};
+ghost use Rattle.exchange_crew.specs.Rooms.{HasRooms};
 ghost use Rattle.put_exchange.specs.Dues.{turns_due, AreDue};
 ghost use Rattle.put_exchange.specs.Workers.{domain_of, part_of, IsFresh, IsOutfit};
-ghost use Rattle.put_exchange.specs.declared.handing.Worker.{Worker};
 
 use crate::helper::{PutDuty, PutJob, PutLines};
 use crate::laying::Due;
@@ -17,7 +15,7 @@ use crate::packing::{Ahead, Mail, mail_of};
 use crate::sending::Feed;
 use crossbeam_channel::Sender;
 use exchange_crew::{
-    Aggregator, Errand, PartBack, PartEnds, PutPlan, Shares, Spares, Tools, add_handed,
+    Aggregator, Errand, PartBack, PartEnds, PutPlan, Shares, Spares, Team, Tools, add_handed,
     next_aggregator,
 };
 use nc_base::{Extent, Memory};
@@ -52,8 +50,7 @@ pub(crate) struct Outfit {
 
 /// Hands each part to the helper of its number, up to the first for which there is none. That one and those behind it are the rest.
 pub(crate) fn hand_all<R: Wait, D: Disk, G, K: Send + Drop>(
-    tools: &Tools<R, G>,
-    helpers: &[Sender<Errand<PutJob<D>, K>>],
+    team: &Team<R, G, Sender<Errand<PutJob<D>, K>>>,
     spares: &mut Spares,
     plan: &PutPlan,
     domains: &[Extent],
@@ -61,33 +58,25 @@ pub(crate) fn hand_all<R: Wait, D: Disk, G, K: Send + Drop>(
     shares: &mut Shares<Worker<D>, D>,
 )
     requires plan { IsPlanned plan.now }
-    requires line_low { 1 ≤ plan.now.hints.now.line_room }
-    requires line_high { plan.now.hints.now.line_room ≤ 64 }
+    requires line { IsLineRoom plan.now.hints.now.line_room }
     requires few { length domains.now ≤ 64 }
-    requires one_each { length domains.now ≡ length parts.items }
-    requires domains { (k : ℕ) (part : D) (domain : Extent) → slice_get parts.items k ≡ Some part → slice_get domains.now k ≡ Some domain → IsDomainOf plan.now.list.now (D.from part) (D.len part) domain }
-    requires workers { shares.old.workers.items ≡ [] }
-    requires rest { shares.old.rest.items ≡ [] }
-    requires workers_room { length parts.items ≤ vec_capacity shares.old.workers }
-    requires rest_room { length parts.items ≤ vec_capacity shares.old.rest }
-    ensures parts { map (λ worker. part_of worker) shares.new.workers.items ++ shares.new.rest.items ≡ parts.items }
+    requires domains { HaveDomains D.Disk plan.now.list.now domains.now parts.items }
+    requires rooms { HasRooms (length parts.items) shares.old }
+    ensures handed { AreHanded (λ worker. IsFresh D.Disk plan.now worker) (λ worker. part_of worker) (λ worker. domain_of worker) domains.now parts.items shares.new }
     ensures back { shares.new.back ≡ shares.old.back }
-    ensures domains { map (λ worker. domain_of worker) shares.new.workers.items ≡ take (length shares.new.workers.items) domains.now }
-    ensures workers { (worker : Worker D) → In shares.new.workers.items worker → IsFresh D.Disk plan.now worker }
 {
     let entries = plan.list.as_slice();
     let mut ahead = Ahead { place: 0, entries };
     for part in parts {
         let next = next_aggregator(shares, domains);
-        let handed = hand_one(tools, helpers, spares, plan, next, part, &mut ahead);
+        let handed = hand_one(team, spares, plan, next, part, &mut ahead);
         add_handed(shares, handed);
     }
 }
 
 // Hands a part to the helper of its aggregator. Where there is none, or what it needs can't be had, the part comes back as it was.
 fn hand_one<'a, R: Wait, D: Disk, G, K: Send + Drop>(
-    tools: &Tools<R, G>,
-    helpers: &[Sender<Errand<PutJob<D>, K>>],
+    team: &Team<R, G, Sender<Errand<PutJob<D>, K>>>,
     spares: &mut Spares,
     plan: &PutPlan<'a>,
     aggregator: Option<Aggregator>,
@@ -95,8 +84,7 @@ fn hand_one<'a, R: Wait, D: Disk, G, K: Send + Drop>(
     ahead: &mut Ahead<'a>,
 ) -> Result<Worker<D>, D>
     requires plan { IsPlanned plan.now }
-    requires line_low { 1 ≤ plan.now.hints.now.line_room }
-    requires line_high { plan.now.hints.now.line_room ≤ 64 }
+    requires line { IsLineRoom plan.now.hints.now.line_room }
     requires domain { ForSome aggregator (λ a. IsDomainOf plan.now.list.now (D.from part) (D.len part) a.domain) }
     requires past { IsPast ahead.old.place plan.now.list.now ahead.old.entries.now }
     ensures past { IsPast ahead.new.place plan.now.list.now ahead.new.entries.now }
@@ -105,11 +93,12 @@ fn hand_one<'a, R: Wait, D: Disk, G, K: Send + Drop>(
     ensures part { IfOk result (λ worker. part_of worker ≡ part) }
     ensures domain { IfOk result (λ worker. domain_in aggregator ≡ Some (domain_of worker)) }
 {
+    let tools = team.tools;
     let Some(aggregator) = aggregator else {
         return Err(part);
     };
     let Aggregator { number, domain } = aggregator;
-    let Some(helper) = helpers.get(number as usize) else {
+    let Some(helper) = team.helpers.get(number as usize) else {
         return Err(part);
     };
     let Ok(outfit) = outfit_of(tools.alloc, spares, plan, domain, ahead) else {
@@ -132,8 +121,7 @@ fn outfit_of<'a>(
     ahead: &mut Ahead<'a>,
 ) -> Result<Outfit, Memory>
     requires plan { IsPlanned plan.now }
-    requires line_low { 1 ≤ plan.now.hints.now.line_room }
-    requires line_high { plan.now.hints.now.line_room ≤ 64 }
+    requires line { IsLineRoom plan.now.hints.now.line_room }
     requires past { IsPast ahead.old.place plan.now.list.now ahead.old.entries.now }
     ensures past { IsPast ahead.new.place plan.now.list.now ahead.new.entries.now }
     ensures outfit { IfOk result (λ outfit. IsOutfit plan.now domain outfit) }

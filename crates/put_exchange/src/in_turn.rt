@@ -1,5 +1,5 @@
 // The parts served in turn, on the calling thread, by no line.
-ghost use Rattle.std.specs.Prelude.{◌≡◌, ◌∷◌, [], ◌+◌, ◌^◌, ◌<◌, ◌≤◌, length, map, min, slice_get, zip, ℕ, Some, IsErrOf, OnOk};
+ghost use Rattle.std.specs.Prelude.{◌≡◌, ◌∷◌, [], ◌+◌, ◌^◌, ◌<◌, ◌≤◌, length, map, min, zip, IsErrOf, OnOk};
 ghost use Rattle.std.specs.List.{AllZip};
 ghost use Rattle.nc_base.specs.declared.plan.Extent.{Extent};
 ghost use Rattle.nc_outside.specs.Cause.{HasDiskCause, Rose};
@@ -12,7 +12,7 @@ ghost use Rattle.serial_spec.specs.Said.{write_cells, moved_down};
 ghost use Rattle.aggregator_rounds.specs.ToldWindows.{told_window};
 ghost use Rattle.exchange_crew.specs.Hulls.{IsInReach};
 ghost use Rattle.exchange_crew.specs.Pieces.{ArePieces, IsPiece};
-ghost use Rattle.exchange_crew.specs.Plan.{planned_turns, source_in, IsDomainOf, IsPlanned};
+ghost use Rattle.exchange_crew.specs.Plan.{planned_turns, source_in, HaveDomains, IsDomainOf, IsPlanned};
 ghost use Rattle.exchange_crew.specs.Parts.{part_state, SomeZip};
 ghost use Rattle.put_exchange.specs.Put.{HasPut};
 ghost use Rattle.put_exchange.specs.Sent.{cells_in};
@@ -113,8 +113,7 @@ pub(crate) fn put_in_turn<R: Wait, D: Disk, G: Gate>(
 ) -> Result<(), StepErr>
     requires plan { IsPlanned plan.now }
     requires few { first + length domains.now ≤ 64 }
-    requires one_each { length domains.now ≡ length parts.old }
-    requires domains { (k : ℕ) (part : D) (domain : Extent) → slice_get parts.old k ≡ Some part → slice_get domains.now k ≡ Some domain → IsDomainOf plan.now.list.now (D.from part) (D.len part) domain }
+    requires domains { HaveDomains D.Disk plan.now.list.now domains.now parts.old }
     ensures put { AllZip (λ p new. HasPut (source_in plan.now) plan.now.list.now (planned_turns plan.now p.1)
         (part_state D.Disk p.0) (part_state D.Disk new) result) (zip parts.old domains.now) parts.new }
     ensures failed { IsErrOf result fault.Disk → SomeZip (λ old new. Rose (D.faults old) (D.faults new)) parts.old parts.new }
@@ -137,8 +136,7 @@ fn put_parts<R: Wait, D: Disk, G: Gate>(
 ) -> Result<(), StepErr>
     requires plan { IsPlanned plan.now }
     requires few { first + length domains.now ≤ 64 }
-    requires one_each { length domains.now ≡ length parts.old }
-    requires domains { (k : ℕ) (part : D) (domain : Extent) → slice_get parts.old k ≡ Some part → slice_get domains.now k ≡ Some domain → IsDomainOf plan.now.list.now (D.from part) (D.len part) domain }
+    requires domains { HaveDomains D.Disk plan.now.list.now domains.now parts.old }
     requires room { (domain : Extent) → In domains.now domain → min plan.now.hints.now.cb_buffer domain.len ≤ length buf.old }
     ensures put { AllZip (λ p new. HasPut (source_in plan.now) plan.now.list.now (planned_turns plan.now p.1)
         (part_state D.Disk p.0) (part_state D.Disk new) result) (zip parts.old domains.now) parts.new }

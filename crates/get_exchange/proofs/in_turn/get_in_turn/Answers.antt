@@ -6,7 +6,7 @@ use Rattle.get_exchange.proofs.in_turn.get_in_turn.Goals as goal
 
 pub returns-in_err-buf-clause-got : goal.returns-in_err-buf-clause-got
 returns-in_err-buf-clause-got g c =
-    all_kept (GotBy g.D.Disk c.args.plan.now _) c.args.domains.now c.args.parts.now c.requires.one_each (got_kept g.D.Disk c.args.plan.now _ c.from_residual.ensures.0)
+    all_kept (GotBy g.D.Disk c.args.plan.now _) c.args.domains.now c.args.parts.now c.requires.domains.one_each (got_kept g.D.Disk c.args.plan.now _ c.from_residual.ensures.0)
 
 pub read_parts-end-requires-clause-room : goal.read_parts-end-requires-clause-room
 read_parts-end-requires-clause-room g c κs within = λ domain m.

@@ -15,13 +15,13 @@ loop-place-init g c = record {
 }
 
 pub aggregator_at-aggregator-requires-clause-place : goal.aggregator_at-aggregator-requires-clause-place
-aggregator_at-aggregator-requires-clause-place g c = omega (arith, c.loop-place.invariant.served.long, c.requires.one_each)
+aggregator_at-aggregator-requires-clause-place g c = omega (arith, c.loop-place.invariant.served.long, c.requires.domains.one_each)
 
 pub collect_part-requires-clause-domain : goal.collect_part-requires-clause-domain
 collect_part-requires-clause-domain g c κs within =
     let i = c.loop-place.place in
     let at = slice_get-get_or c.loop-place.parts i c.index-parts-place.result (omega arith) in
-    c.requires.domains i _ c.aggregator_at-aggregator.result.domain (sym (c.loop-place.invariant.served.left i (omega arith)) ∙ at) c.aggregator_at-aggregator.ensures
+    c.requires.domains.each i _ c.aggregator_at-aggregator.result.domain (sym (c.loop-place.invariant.served.left i (omega arith)) ∙ at) c.aggregator_at-aggregator.ensures
 
 pub collect_part-requires-clause-room : goal.collect_part-requires-clause-room
 collect_part-requires-clause-room g c κs within =
@@ -61,7 +61,7 @@ returns-in_err-collect_part g c =
     let end = c.from_residual.result in
     let cut = c.from_residual.ensures.0 in
     record {
-      got = one_cut part c.collect_part.new.part domain at is (GotBy g.D.Disk c.args.plan.now) (Ok (tt {0})) end (got_later g.D.Disk c.args.plan.now) (err_not_ok _ end cut) (got_kept g.D.Disk c.args.plan.now end cut) c.requires.one_each
+      got = one_cut part c.collect_part.new.part domain at is (GotBy g.D.Disk c.args.plan.now) (Ok (tt {0})) end (got_later g.D.Disk c.args.plan.now) (err_not_ok _ end cut) (got_kept g.D.Disk c.args.plan.now end cut) c.requires.domains.one_each
           served (got_later g.D.Disk c.args.plan.now (Err _) end _ _ (err_not_ok _ end cut) c.in_err-collect_part.ensures.got);
       read = err_not_ok _ end cut;
       blobs = c.in_err-collect_part.ensures.blobs ∙ c.loop-place.invariant.blobs;
@@ -71,7 +71,7 @@ returns-in_err-collect_part g c =
     }
 
 pub returns-clause-got : goal.returns-clause-got
-returns-clause-got g c = all_served_to (GotBy g.D.Disk c.args.plan.now (Ok (tt {0}))) c.loop-place.invariant.served c.loop-place-test.false c.requires.one_each
+returns-clause-got g c = all_served_to (GotBy g.D.Disk c.args.plan.now (Ok (tt {0}))) c.loop-place.invariant.served c.loop-place-test.false c.requires.domains.one_each
 
 pub returns-clause-read : goal.returns-clause-read
 returns-clause-read g c =

@@ -1,29 +1,20 @@
 -- One part more.
-use Rattle.put_exchange.proofs.Words.{IsPast, Owned, past_none, subst, sym, List, ◌≡◌, ◌∙◌, refl, rules, arith, common_steps, handing_domain, handing_few, handing_next, none_handed}
+use Rattle.put_exchange.proofs.Words.{IsPast, Owned, past_none, subst, sym, List, ◌≡◌, rules, arith, common_steps, handing_domain, handing_begun, handing_next, handing_room}
 use Rattle.put_exchange.proofs.handing.hand_all.Goals as goal
 
 pub loop-part-init : goal.loop-part-init
 loop-part-init g c = record {
-  handing = record {
-    all = first_of (search rules, grind (arith, common_steps));
-    handed = none_handed _ _ _ _ _ c.requires.workers c.requires.rest;
-    workers_room = refl;
-    rest_room = refl;
-    back = refl;
-  };
+  handing = handing_begun _ _ _ c.args.domains.now c.args.parts.items _ _ c.args.shares.now c.requires.rooms (first_of (search rules, grind (arith, common_steps)));
   past = subst (λ (os : List Owned). IsPast 0 c.args.plan.now.list.now os) (sym c.as_slice-entries.ensures) (past_none 0 c.args.plan.now.list.now);
 }
 
 pub hand_one-handed-requires-clause-domain : goal.hand_one-handed-requires-clause-domain
 hand_one-handed-requires-clause-domain g c κs within =
-    handing_domain c.loop-part.invariant.handing c.in-Some.ensures.steps.0 (λ d. g.D.Disk.from d) (λ d. g.D.Disk.len d) c.args.plan.now.list.now c.next_aggregator-next.result c.requires.domains
+    handing_domain c.loop-part.invariant.handing c.in-Some.ensures.steps.0 g.D.Disk c.args.plan.now.list.now c.next_aggregator-next.result c.requires.domains
     c.next_aggregator-next.ensures
 
 pub add_handed-requires : goal.add_handed-requires
-add_handed-requires g c =
-    let s = c.loop-part.invariant.handing in
-    let few = handing_few s c.in-Some.ensures.steps.0 in
-    record { workers = omega (arith, few, c.requires.workers_room, s.workers_room); rest = omega (arith, few, c.requires.rest_room, s.rest_room) }
+add_handed-requires g c = handing_room c.loop-part.invariant.handing c.in-Some.ensures.steps.0 c.requires.rooms
 
 pub loop-part-preserved : goal.loop-part-preserved
 loop-part-preserved g c =
@@ -38,4 +29,4 @@ pub returns : goal.returns
 returns g c =
     let s = c.loop-part.invariant.handing in
     let whole : c.loop-part.yielded ≡ c.args.parts.items = first_of (search (rules, s.all), grind (arith, common_steps)) in
-    record { parts = s.handed.of_parts ∙ whole; back = s.back; domains = s.handed.of_domains; workers = s.handed.workers }
+    record { handed = rw whole at s.handed; back = s.back }

@@ -7,13 +7,13 @@ pub loop-place-init : goal.loop-place-init
 loop-place-init g c = record { served = none_served (PutBy g.D.Disk c.args.plan.now (Ok (tt {0}))) c.args.domains.now c.args.parts.now; buf = refl }
 
 pub aggregator_at-aggregator-requires-clause-place : goal.aggregator_at-aggregator-requires-clause-place
-aggregator_at-aggregator-requires-clause-place g c = omega (arith, c.loop-place.invariant.served.long, c.requires.one_each)
+aggregator_at-aggregator-requires-clause-place g c = omega (arith, c.loop-place.invariant.served.long, c.requires.domains.one_each)
 
 pub lay_in_turn-requires-clause-domain : goal.lay_in_turn-requires-clause-domain
 lay_in_turn-requires-clause-domain g c κs within =
     let i = c.loop-place.place in
     let at = slice_get-get_or c.loop-place.parts i c.index-parts-place.result (omega arith) in
-    c.requires.domains i _ c.aggregator_at-aggregator.result.domain (sym (c.loop-place.invariant.served.left i (omega arith)) ∙ at) c.aggregator_at-aggregator.ensures
+    c.requires.domains.each i _ c.aggregator_at-aggregator.result.domain (sym (c.loop-place.invariant.served.left i (omega arith)) ∙ at) c.aggregator_at-aggregator.ensures
 
 pub lay_in_turn-requires-clause-room : goal.lay_in_turn-requires-clause-room
 lay_in_turn-requires-clause-room g c κs within =
@@ -42,7 +42,7 @@ returns-in_err-lay_in_turn g c =
     let end = c.from_residual.result in
     let cut = c.from_residual.ensures.0 in
     record {
-      put = one_cut part c.lay_in_turn.new.part domain at is (PutBy g.D.Disk c.args.plan.now) (Ok (tt {0})) end (put_later g.D.Disk c.args.plan.now) (err_not_ok _ end cut) (put_kept g.D.Disk c.args.plan.now end cut) c.requires.one_each
+      put = one_cut part c.lay_in_turn.new.part domain at is (PutBy g.D.Disk c.args.plan.now) (Ok (tt {0})) end (put_later g.D.Disk c.args.plan.now) (err_not_ok _ end cut) (put_kept g.D.Disk c.args.plan.now end cut) c.requires.domains.one_each
           served (put_later g.D.Disk c.args.plan.now (Err _) end _ _ (err_not_ok _ end cut) c.in_err-lay_in_turn.ensures.put);
       failed = λ f.
           let rose : Rose (g.D.Disk.faults part) (g.D.Disk.faults c.lay_in_turn.new.part) = first_of (search rules, grind (arith, common_steps)) in
@@ -50,4 +50,4 @@ returns-in_err-lay_in_turn g c =
     }
 
 pub returns-clause-put : goal.returns-clause-put
-returns-clause-put g c = all_served_to (PutBy g.D.Disk c.args.plan.now (Ok (tt {0}))) c.loop-place.invariant.served c.loop-place-test.false c.requires.one_each
+returns-clause-put g c = all_served_to (PutBy g.D.Disk c.args.plan.now (Ok (tt {0}))) c.loop-place.invariant.served c.loop-place-test.false c.requires.domains.one_each
