@@ -1,7 +1,7 @@
 -- Gets on the parts of a disk, which are joined again.
-use Rattle.collective_round.proofs.Words.{◌≡◌, ◌∙◌, ℕ, ◌+◌, ◌≤◌, inl, inr, refl, sym, ap, subst, List, [], ◌∷◌, length, map, Option, Some, Result, arith, flat_map, zip, IfSome, OnOk, AllZip, on_ok_weaker, Extent, DiskCall, with_end, load_calls, In, end_after, in_map, HasGot, PartState, Told, read, parts_of, with_parts, Adjoin, read_slice, nat_tests}
+use Rattle.collective_round.proofs.Words.{◌≡◌, ◌∙◌, ℕ, ◌+◌, ◌≤◌, inl, inr, refl, sym, ap, subst, List, [], ◌∷◌, length, map, Option, Some, Result, arith, flat_map, zip, IfSome, OnOk, AllZip, on_ok_weaker, Extent, DiskCall, with_end, load_calls, In, end_after, in_map, HasGot, PartState, Told, read, parts_of, with_parts, Adjoin, AreSplit, read_slice, nat_tests}
 use Rattle.collective_round.proofs.PartDomains.{part_bytes}
-use Rattle.collective_round.proofs.PartLaws.{IsInPlace, IsOld, AreSplit, all_calls, all_place, all_told, fine, flat_flat, kept_told, told_kept}
+use Rattle.collective_round.proofs.PartLaws.{IsInPlace, IsOld, all_calls, all_place, all_told, fine, flat_flat, kept_told, told_kept}
 use Rattle.collective_round.proofs.PartSplits.{next_begin}
 
 -- ---- the bytes of a part

@@ -1,5 +1,5 @@
 -- A disk in parts: which bytes each has, and what is said of the parts and of their states.
-use Rattle.collective_round.proofs.Words.{entries_from, in_ranges, cases_lt, ◌≡◌, ℕ, zero, suc, ◌+◌, ◌-◌, ◌<◌, ◌≤◌, inl, inr, refl, sym, ◌∙◌, ap, subst, List, [], ◌∷◌, length, take, drop, map, Some, arith, length-map, same_Some, zip, AllZip, entry_map, no_none_some, Extent, Owned, LieOn, IsFrom, cell_of, ranges, In, HaveSame, Source, end_after, first_at, IsCover, spans, flat_in, in_left, in_range, in_right, range_high, in_map, map_in, IsCovered, IsDomainOf, PartState, SomeZip, begin_or, part_between, parts_of, Adjoin, AreDomains, nat_tests, slice_get}
+use Rattle.collective_round.proofs.Words.{entries_from, in_ranges, cases_lt, ◌≡◌, ℕ, zero, suc, ◌+◌, ◌-◌, ◌<◌, ◌≤◌, inl, inr, refl, sym, ◌∙◌, ap, subst, List, [], ◌∷◌, length, take, drop, map, Some, arith, length-map, same_Some, zip, AllZip, entry_map, no_none_some, Extent, Owned, LieOn, IsFrom, cell_of, ranges, In, HaveSame, Source, end_after, first_at, IsCover, spans, flat_in, in_left, in_range, in_right, range_high, in_map, map_in, IsCovered, IsDomainOf, PartState, SomeZip, begin_or, part_between, parts_of, Adjoin, AreOn, nat_tests, slice_get}
 use Rattle.collective_round.proofs.DomainCuts.{within_reach}
 use Rattle.collective_round.proofs.PartSplits.{end_dropped, next_begin}
 
@@ -58,12 +58,6 @@ place_on disk (d ∷ rest) m x line room low high = elim (cases_lt x (begin_or d
 ]
 
 -- ---- entries that lie on a disk, their cover, and the domains
-
-pub record AreOn (list : List Owned) (cover domains : List Extent) (len : ℕ) : Type 0 where
-  pub covers : IsCover cover
-  pub bytes : HaveSame (spans cover) (ranges list)
-  pub on : LieOn 0 len list
-  pub div : AreDomains cover domains
 
 cover_last : (n : ℕ) (e : Extent) (cover : List Extent) → IsCover (e ∷ cover) → (1 ≤ end_after n (e ∷ cover)) × In (spans (e ∷ cover)) (end_after n (e ∷ cover) - 1)
 cover_last n e [] h = grind (arith, nat_tests, in_range e.at e.len (e.at + e.len - 1) (omega arith) (omega arith), in_left)

@@ -1,7 +1,7 @@
 -- Parts that are one disk again: what holds of each part holds of the whole.
-use Rattle.collective_round.proofs.Words.{cases_lt, ◌≡◌, ℕ, ◌+◌, ◌-◌, ◌^◌, ◌<◌, ◌≤◌, min, inl, inr, refl, sym, ◌∙◌, ap, subst, List, [], ◌∷◌, ◌++◌, length, take, drop, map, Option, Some, None, Result, Ok, Err, IsErrOf, append_assoc, arith, append-nil, length-append, length-take, get_or_append_left, get_or-append_right, take_all, flat_map-append, flat_map, zip, zip_weaker, IfSome, OnOk, AllZip, Extent, Owned, DiskCall, StepErr, Disk, HasDiskCause, Rose, after, joined, with_end, with_end-nil, BothTold, at, same_file, get_or_past, end_after, PartState, SomeZip, begin_or, parts_of, with_part, with_parts, Adjoin, Follow, IsFront, nat_tests}
-use Rattle.collective_round.proofs.PartSplits.{joined_at_least, next_begin, take_both}
-use Rattle.collective_round.proofs.PartDomains.{AreOn, as_many_parts, domains_room, on_states, some_states}
+use Rattle.collective_round.proofs.Words.{cases_lt, ◌≡◌, ℕ, ◌+◌, ◌-◌, ◌^◌, ◌<◌, ◌≤◌, min, inl, inr, refl, sym, ◌∙◌, ap, subst, List, [], ◌∷◌, ◌++◌, length, take, drop, map, Option, Some, None, Result, Ok, Err, IsErrOf, append_assoc, arith, append-nil, length-append, length-take, get_or_append_left, get_or-append_right, take_all, flat_map-append, flat_map, zip, zip_weaker, IfSome, OnOk, AllZip, Extent, DiskCall, StepErr, Disk, HasDiskCause, Rose, after, joined, with_end, with_end-nil, BothTold, at, same_file, get_or_past, end_after, PartState, SomeZip, begin_or, parts_of, with_part, with_parts, Adjoin, AreSplit, Follow, IsSplit, nat_tests}
+use Rattle.collective_round.proofs.PartSplits.{adjoin_dropped, end_dropped, joined_at_least, next_begin, take_both}
+use Rattle.collective_round.proofs.PartDomains.{as_many_parts, on_states, some_states}
 
 -- ---- bytes
 
@@ -137,18 +137,16 @@ module _ (disk : PartState) where
 
 -- ---- an operation on each part is one on the disk
 
--- What is known of a disk, its parts and the domains.
-pub record AreSplit {D : Type 0} (state : D → PartState) (disk front : PartState) (domains : List Extent) (parts : List D) : Type 0 where
-  pub begin : disk.from ≡ 0
-  pub line : Adjoin domains
-  pub room : end_after 0 domains ≤ disk.len
-  pub front_is : IsFront domains disk front
-  pub parts_are : map state parts ≡ parts_of disk domains
-
-pub are_split : {D : Type 0} (state : D → PartState) (disk front : PartState) (list : List Owned) (cover domains : List Extent) (parts : List D) → disk.from ≡ 0
-    → AreOn list cover domains disk.len → IsFront domains disk front → map state parts ≡ parts_of disk domains → AreSplit state disk front domains parts
-are_split state disk front list cover domains parts begin a front_is are =
-    record { begin = begin; line = a.div.line; room = domains_room list cover domains disk.len a; front_is = front_is; parts_are = are }
+-- what was split off so far, of which the domains are the last ones
+pub split_from : {D T E : Type 0} (state : D → PartState) (disk front : PartState) (domains : List Extent) (parts : List D) (states : List PartState) (end : Result T E) → disk.from ≡ 0 → Adjoin domains
+    → end_after 0 domains ≤ disk.len → (s : IsSplit domains disk front states end) → map state parts ≡ states → AreSplit state disk front (drop s.at domains) parts
+split_from state disk front domains parts states end begin line room s are = record {
+  begin = begin;
+  line = adjoin_dropped s.at domains line;
+  room = end_dropped s.at domains 0 disk.len room;
+  front_is = s.front;
+  parts_are = are ∙ s.parts_are;
+}
 
 -- the parts fail only where a count rose
 pub all_cause : {D T : Type 0} (state : D → PartState) (disk front new : PartState) (domains : List Extent) (parts news : List D) (end : Result T StepErr) → AreSplit state disk front domains parts

@@ -1,7 +1,7 @@
 -- Puts on the parts of a disk, which are joined again.
-use Rattle.collective_round.proofs.Words.{cases_lt, ◌≡◌, ℕ, ◌+◌, ◌-◌, ◌<◌, inl, inr, refl, sym, ◌∙◌, ap, subst, ◌⊎◌, List, length, map, Option, Some, None, Result, arith, get_or_past, flat_map, zip, IfSome, OnOk, AllZip, on_ok_weaker, Extent, Owned, DiskCall, AreFilled, entries_within, after, with_end, BothTold, told_as, at, byte_or, cells_said, said_at, said_by, Cell, write_cells, moved_down, IsFrom, IsWithin, store_calls, IsBetween, cell_of, Source, same_file, moved_said, none_below, clips, clips_in, cells_long, within_lowered, clips_within, clips_from, HasPut, PartState, Told, begin_or, with_parts, nat_tests}
-use Rattle.collective_round.proofs.PartDomains.{AreOn, cells_behind}
-use Rattle.collective_round.proofs.PartLaws.{IsInPlace, AreBytes, AreSplit, all_calls, all_place, all_told, fine, flat_flat}
+use Rattle.collective_round.proofs.Words.{cases_lt, ◌≡◌, ℕ, ◌+◌, ◌-◌, ◌<◌, inl, inr, refl, sym, ◌∙◌, ap, subst, ◌⊎◌, List, length, map, Option, Some, None, Result, arith, get_or_past, flat_map, zip, IfSome, OnOk, AllZip, on_ok_weaker, Extent, Owned, DiskCall, AreFilled, entries_within, after, with_end, BothTold, told_as, at, byte_or, cells_said, said_at, said_by, Cell, write_cells, moved_down, IsFrom, IsWithin, store_calls, IsBetween, cell_of, Source, same_file, moved_said, none_below, clips, clips_in, cells_long, within_lowered, clips_within, clips_from, HasPut, PartState, Told, begin_or, with_parts, nat_tests, AreOn, AreSplit}
+use Rattle.collective_round.proofs.PartDomains.{cells_behind}
+use Rattle.collective_round.proofs.PartLaws.{IsInPlace, AreBytes, all_calls, all_place, all_told, fine, flat_flat}
 
 -- ---- the bytes of a part
 

@@ -12,8 +12,9 @@ pub use Rattle.collective_round.specs.Blobs.{blobs_for}
 pub use Rattle.collective_round.specs.Gathered.{AreAccepted, entries_of, entries_of_all, entries_of_posts, entries_of_some, owned_from, posts_of}
 pub use Rattle.collective_round.specs.Laid.{AreGot, AreLaid, AreSorted, IsGotBy, source_of}
 pub use Rattle.collective_round.specs.Listed.{IsListOf}
-pub use Rattle.collective_round.specs.Parts.{Adjoin, AreDomains, Follow, IsFront, begin_or, part_between, parts_of, with_part, with_parts}
+pub use Rattle.collective_round.specs.Parts.{Adjoin, AreDomains, AreOn, AreSplit, Follow, IsDivision, IsFront, IsSplit, begin_or, part_between, parts_of, with_part, with_parts}
 pub use Rattle.collective_round.specs.Rounds.{AreGets, ArePuts, IsPut, after_round, as_setting, counted, gets_in, posts_in, puts_in, puts_of_batch, setting}
+pub use Rattle.collective_round.specs.declared.rounds.Division.{Division}
 pub use Rattle.collective_round.specs.declared.entries.PutList.{PutList}
 pub use Rattle.collective_round.specs.declared.entries.PutList.TheVariants.{Laid, Shared}
 pub use Rattle.data_sieving.specs.Sieving.{FitBlobs, HaveOnePlace, LieOn, entry_windows, of_slot, put_cells}

@@ -1,5 +1,5 @@
 // The disk of a collective step in parts, one for each domain.
-ghost use Rattle.std.specs.Prelude.{◌≡◌, ◌+◌, ◌^◌, ◌<◌, ◌≤◌, [], length, map, flat_map, reverse, true, vec_capacity, vec_len, IfOk, OnOk, OnErr};
+ghost use Rattle.std.specs.Prelude.{◌≡◌, ◌+◌, ◌^◌, ◌<◌, ◌≤◌, [], length, map, flat_map, reverse, true, vec_capacity, vec_len, IfOk, OnErr};
 ghost use Rattle.nc_outside.specs.Cause.{HasDiskCause};
 ghost use Rattle.overlay_laws.specs.Lines.{EndBelow};
 ghost use Rattle.overlay_laws.specs.Walks.{end_after, first_at, told_of, IsCover};
@@ -7,7 +7,7 @@ ghost use Rattle.serial_spec.specs.Extents.{spans};
 ghost use Rattle.serial_spec.specs.DeviceCalls.{collective_windows};
 ghost use Rattle.serial_spec.specs.Lawful.{are_lawful_hints};
 ghost use Rattle.exchange_crew.specs.Turns.{turns_of};
-ghost use Rattle.collective_round.specs.Parts.{parts_of, with_parts, Adjoin, AreDomains, Follow, IsFront, IsSplit};
+ghost use Rattle.collective_round.specs.Parts.{with_parts, Adjoin, AreDomains, AreSplit, Follow, IsSplit};
 ghost use Rattle.exchange_crew.specs.Parts.{part_state};
 
 use file_domains::cut;
@@ -70,10 +70,8 @@ pub(crate) fn split<D: Disk>(
     requires from { D.from disk.old ≡ 0 }
     requires domains { Adjoin domains.now }
     requires room { end_after 0 domains.now ≤ D.len disk.old }
-    ensures parts { IfOk result (λ parts. map (λ p. part_state D.Disk p) parts.items
-        ≡ parts_of (part_state D.Disk disk.old) domains.now) }
-    ensures front { OnOk result (IsFront domains.now (part_state D.Disk disk.old)
-        (part_state D.Disk disk.new)) }
+    ensures split { IfOk result (λ parts. AreSplit (λ p. part_state D.Disk p) (part_state D.Disk disk.old)
+        (part_state D.Disk disk.new) domains.now parts.items) }
     ensures kept { OnErr result ((D.from disk.new ≡ D.from disk.old) × (D.len disk.new ≡ D.len disk.old) × (D.held disk.new ≡ D.held disk.old) × (D.calls disk.new ≡ D.calls disk.old)) }
     ensures counted { D.faults disk.old < 2 ^ 64 }
     ensures cause { HasDiskCause (D.faults disk.old) (D.faults disk.new) result }

@@ -1,7 +1,7 @@
 -- The gets of the parts are those of the disk.
 use Rattle.collective_round.proofs.Words.{◌≡◌, ◌∙◌, ℕ, List, refl, length, rules, arith, common_steps, if_some_at, get_turns, HasGot, HasRead, PartState, part_state}
-use Rattle.collective_round.proofs.PartDomains.{AreOn, as_many_parts, domain_of_part, domains_room, on_some_part}
-use Rattle.collective_round.proofs.PartLaws.{all_cause, all_follow, are_split}
+use Rattle.collective_round.proofs.PartDomains.{as_many_parts, domain_of_part, domains_room, on_some_part}
+use Rattle.collective_round.proofs.PartLaws.{all_cause, all_follow}
 use Rattle.collective_round.proofs.GetPartLaws.{part_read, parts_got, told_read}
 use Rattle.collective_round.proofs.rounds.get_parts.Given.{Over}
 use Rattle.collective_round.proofs.rounds.get_parts.Goals as goal
@@ -12,33 +12,26 @@ state g d = part_state g.D.Disk d
 pub split-requires-clause-room : goal.split-requires-clause-room
 split-requires-clause-room g c κs within =
     let plan = c.args.plan.now in
-    domains_room plan.list.now plan.cover.now c.args.domains.now (g.D.Disk.len c.args.disk.now)
-    (record { covers = c.requires.plan.covers; bytes = c.requires.plan.cover_bytes; on = c.requires.on_disk; div = c.requires.domains })
+    domains_room plan.list.now plan.cover.now c.args.domains.now (g.D.Disk.len c.args.disk.now) c.requires.on
 
 pub exchange_get-parts-requires-clause-one_each : goal.exchange_get-parts-requires-clause-one_each
 exchange_get-parts-requires-clause-one_each g c κs within =
-    as_many_parts (state g) (state g c.args.disk.now) c.args.domains.now c.in_ok-parts.parts.items c.in_ok-parts.ensures.parts
+    as_many_parts (state g) (state g c.args.disk.now) c.args.domains.now c.in_ok-parts.parts.items c.in_ok-parts.ensures.split.parts_are
 
 pub exchange_get-parts-requires-clause-domains : goal.exchange_get-parts-requires-clause-domains
 exchange_get-parts-requires-clause-domains g c κs within =
     let plan = c.args.plan.now in
-    domain_of_part plan.list.now plan.cover.now c.args.domains.now (g.D.Disk.len c.args.disk.now)
-    (record { covers = c.requires.plan.covers; bytes = c.requires.plan.cover_bytes; on = c.requires.on_disk; div = c.requires.domains })
-    (state g) (state g c.args.disk.now) c.in_ok-parts.parts.items refl c.in_ok-parts.ensures.parts
+    domain_of_part plan.list.now plan.cover.now c.args.domains.now (g.D.Disk.len c.args.disk.now) c.requires.on (state g) (state g c.args.disk.now) c.in_ok-parts.parts.items refl c.in_ok-parts.ensures.split.parts_are
 
 pub exchange_get-parts-requires-clause-whole : goal.exchange_get-parts-requires-clause-whole
 exchange_get-parts-requires-clause-whole g c κs within =
     let plan = c.args.plan.now in
-    on_some_part plan.list.now plan.cover.now c.args.domains.now (g.D.Disk.len c.args.disk.now)
-    (record { covers = c.requires.plan.covers; bytes = c.requires.plan.cover_bytes; on = c.requires.on_disk; div = c.requires.domains })
-    (state g) (state g c.args.disk.now) c.in_ok-parts.parts.items refl c.in_ok-parts.ensures.parts
+    on_some_part plan.list.now plan.cover.now c.args.domains.now (g.D.Disk.len c.args.disk.now) c.requires.on (state g) (state g c.args.disk.now) c.in_ok-parts.parts.items refl c.in_ok-parts.ensures.split.parts_are
 
 pub append_all-requires-after_bounds : goal.append_all-requires-after_bounds
 append_all-requires-after_bounds g c κs within =
     let plan = c.args.plan.now in
-    all_follow (state g) (state g c.args.disk.now) (state g c.split.new.disk) c.args.domains.now c.in_ok-parts.parts.items
-    (are_split (state g) (state g c.args.disk.now) (state g c.split.new.disk) plan.list.now plan.cover.now c.args.domains.now c.in_ok-parts.parts.items c.requires.from
-    (record { covers = c.requires.plan.covers; bytes = c.requires.plan.cover_bytes; on = c.requires.on_disk; div = c.requires.domains }) c.in_ok-parts.ensures.front c.in_ok-parts.ensures.parts)
+    all_follow (state g) (state g c.args.disk.now) (state g c.split.new.disk) c.args.domains.now c.in_ok-parts.parts.items c.in_ok-parts.ensures.split
     (λ d p now. HasGot (get_turns plan d) p now c.exchange_get-parts.result.1) c.exchange_get-parts.result.0.items c.exchange_get-parts.ensures.got (λ d p now h. record { from = h.from; len = h.len })
 
 pub returns : goal.returns
@@ -50,9 +43,7 @@ returns g c =
     let parts = c.in_ok-parts.parts.items in
     let news = c.exchange_get-parts.result.0.items in
     let end = c.exchange_get-parts.result.1 in
-    let on : AreOn plan.list.now plan.cover.now c.args.domains.now (g.D.Disk.len c.args.disk.now) =
-    record { covers = c.requires.plan.covers; bytes = c.requires.plan.cover_bytes; on = c.requires.on_disk; div = c.requires.domains } in
-    let s = are_split (state g) old front plan.list.now plan.cover.now c.args.domains.now parts c.requires.from on c.in_ok-parts.ensures.front c.in_ok-parts.ensures.parts in
+    let s = c.in_ok-parts.ensures.split in
     let got = parts_got (state g) (λ d. get_turns plan d) old front new c.args.domains.now parts news end s (g.D.Disk.told c.args.disk.now) c.exchange_get-parts.ensures.got c.append_all.ensures in
     record {
       read =
