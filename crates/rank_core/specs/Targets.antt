@@ -3,16 +3,22 @@
 --     place_of t                        its place, if there is one
 --     look_at, look_region, look_parts  what serial_spec says of a call on it
 --     look_record                       what it says of the filling of a share of a record
+--     part_posts t values before regions    its posts for regions, to which the values behind so many go
+--     parts_code t values n             whether the values of a put fit its type, and are enough for so many elements
+--     unfit t values before n           one of n values behind so many is not in the range of its type
 --     fill_posts                        its posts for the elements from one to another
-use Rattle.std.specs.Prelude.{◌≡◌, ◌≤◌, ℕ, List, map, Option, Some, option_map}
+use Rattle.std.specs.Prelude.{◌≡◌, ◌≤◌, ℕ, Bool, List, map, Option, Some, option_map}
+use Rattle.nc_base.specs.declared.answer.Code.{Code}
 use Rattle.nc_base.specs.declared.plan.Post.{Post}
 use Rattle.nc_base.specs.declared.request.Given.{Given}
 use Rattle.nc_base.specs.declared.request.Part.{Part}
+use Rattle.nc_base.specs.declared.request.Region.{Region}
 use Rattle.nc_base.specs.declared.request.Values.{Values}
 use Rattle.serial_spec.specs.Fill.{boxes}
 use Rattle.serial_spec.specs.Layout.{inner_lengths, product}
 use Rattle.serial_spec.specs.Limits.{most_elements}
 use Rattle.serial_spec.specs.Looks as looks
+use Rattle.rank_core.specs.Looked.{some_unfit}
 use Rattle.rank_core.specs.Ranked.{Ranked}
 use Rattle.rank_core.specs.declared.look.target.Target.{Target}
 
@@ -32,6 +38,15 @@ look_region t given values = looks.look_region t.header.now t.known t.id t.place
 
 unfoldable pub look_parts : Target → Given → Option Values → looks.Look
 look_parts t given values = looks.look_parts t.header.now t.known t.id t.place given values t.var.now
+
+abbrev pub part_posts : Target → Option Values → ℕ → List Region → List Post
+part_posts t values before regions = looks.part_posts t.id t.place t.var.now.kind values before regions
+
+abbrev pub parts_code : Target → Option Values → ℕ → Code
+parts_code t values n = looks.parts_code t.var.now.kind n values
+
+abbrev pub unfit : Target → Option Values → ℕ → ℕ → Bool
+unfit t values before n = some_unfit t.var.now.kind values before n
 
 unfoldable pub look_record : Target → ℕ → ℕ → ℕ → looks.Look
 look_record t number rank ranks = looks.look_record t.header.now t.place number rank ranks t.var.now

@@ -58,9 +58,9 @@ fn asked_posts(
     regions: Vec<Region>,
 ) -> Result<PostList, CallErr>
     requires few { spec.elements_of_all regions.items ≤ most_elements }
-    ensures ok { IfOk result (λ posts. posts ≡ looks.part_posts target.now.id target.now.place target.now.var.now.kind (option_copied values.entry) 0 regions.items) }
-    ensures right { OnOk result (looks.parts_code target.now.var.now.kind (spec.elements_of_all regions.items) (option_copied values.entry) ≡ code.Ok) }
-    ensures refused { IfErr result (IsRefusal (looks.parts_code target.now.var.now.kind (spec.elements_of_all regions.items) (option_copied values.entry))) }
+    ensures ok { IfOk result (λ posts. posts ≡ targets.part_posts target.now (option_copied values.entry) 0 regions.items) }
+    ensures right { OnOk result (targets.parts_code target.now (option_copied values.entry) (spec.elements_of_all regions.items) ≡ code.Ok) }
+    ensures refused { IfErr result (IsRefusal (targets.parts_code target.now (option_copied values.entry) (spec.elements_of_all regions.items))) }
 {
     let elements = elements_of_all(regions.as_slice());
     check_values(target.var.kind, values, elements)?;
@@ -89,9 +89,9 @@ fn part_posts(
 ) -> Result<PostList, CallErr>
     requires few { spec.elements_of_all regions.items ≤ most_elements }
     requires values { HasValues target.now.var.now.kind (option_copied values) (spec.elements_of_all regions.items) }
-    ensures ok { IfOk result (λ posts. posts ≡ looks.part_posts target.now.id target.now.place target.now.var.now.kind (option_copied values.entry) 0 regions.items) }
-    ensures right { OnOk result (some_unfit target.now.var.now.kind (option_copied values.entry) 0 (spec.elements_of_all regions.items) ≡ false) }
-    ensures refused { IfErr result (IsRangeRefusal (some_unfit target.now.var.now.kind (option_copied values.entry) 0 (spec.elements_of_all regions.items))) }
+    ensures ok { IfOk result (λ posts. posts ≡ targets.part_posts target.now (option_copied values.entry) 0 regions.items) }
+    ensures right { OnOk result (targets.unfit target.now (option_copied values.entry) 0 (spec.elements_of_all regions.items) ≡ false) }
+    ensures refused { IfErr result (IsRangeRefusal (targets.unfit target.now (option_copied values.entry) 0 (spec.elements_of_all regions.items))) }
 {
     let mut posts = PostList::with_capacity(alloc, regions.len())?;
     let mut before = 0;
@@ -114,9 +114,9 @@ fn push_part(
     requires few { before + product region.count ≤ most_elements }
     requires values { HasValues target.now.var.now.kind (option_copied values) (before + product region.count) }
     ensures elements { IfOk result (λ elements. elements ≡ product region.count) }
-    ensures posts { OnOk result (posts.new ≡ posts.old ++ looks.part_posts target.now.id target.now.place target.now.var.now.kind (option_copied values.entry) before (region ∷ [])) }
-    ensures right { OnOk result (some_unfit target.now.var.now.kind (option_copied values.entry) before (product region.count) ≡ false) }
-    ensures refused { IfErr result (IsRangeRefusal (some_unfit target.now.var.now.kind (option_copied values.entry) before (product region.count))) }
+    ensures posts { OnOk result (posts.new ≡ posts.old ++ targets.part_posts target.now (option_copied values.entry) before (region ∷ [])) }
+    ensures right { OnOk result (targets.unfit target.now (option_copied values.entry) before (product region.count) ≡ false) }
+    ensures refused { IfErr result (IsRangeRefusal (targets.unfit target.now (option_copied values.entry) before (product region.count))) }
 {
     let elements = element_count(region.count.as_slice());
     let bytes = values_bytes(alloc, target.var.kind, values, before, elements)?;
