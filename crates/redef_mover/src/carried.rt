@@ -41,32 +41,45 @@ pub(crate) fn carry<D: Disk>(
     let slabs = Slabs::new(alloc, old, new)?;
     let head = encode(alloc, new)?;
     let mut buf = vec![in alloc; 0; size.min(end) as usize]?;
-    rewrite(alloc, disk, &slabs, head.as_slice(), end, size, &mut buf)
+    let layout = NewLayout {
+        slabs: &slabs,
+        head: head.as_slice(),
+        end,
+    };
+    rewrite(alloc, disk, &layout, size, &mut buf)
 }
 
-// Makes the file as long as `end`, moves the slabs, writes zeros between them, and the bytes of the head last. It takes no memory for itself.
+// What a file becomes: its slabs at their new places, the bytes of the head at its front, and an end that it reaches at least.
+#[derive(Clone, Copy, Drop)]
+struct NewLayout<'a> {
+    slabs: &'a Slabs,
+    head: &'a [u8],
+    end: u64,
+}
+
+// Makes the file as long as its new end, moves the slabs, writes zeros between them, and the bytes of the head last. It takes no memory for
+// itself.
 fn rewrite<D: Disk>(
     alloc: Global,
     disk: &mut D,
-    slabs: &Slabs,
-    head: &[u8],
-    end: u64,
+    layout: &NewLayout,
     size: u64,
     buf: &mut [u8],
 ) -> Result<(), StepErr>
     requires from { D.from disk.old ≡ 0 }
-    requires slabs { AreListed end size (length buf.old) slabs.now }
-    requires spaced { AreSpaced (length head.now) end (listed slabs.now) }
-    requires below { end < 2 ^ 62 }
+    requires slabs { AreListed layout.now.end size (length buf.old) layout.now.slabs.now }
+    requires spaced { AreSpaced (length layout.now.head.now) layout.now.end (listed layout.now.slabs.now) }
+    requires below { layout.now.end < 2 ^ 62 }
     requires some { 1 ≤ size }
-    requires room { min size end ≤ length buf.old }
-    ensures bytes { OnOk result (D.held disk.new ≡ after (rewritten (listed slabs.now) head.now end) (D.held disk.old)) }
-    ensures refused { OnErr result (BothTold (IsPartlyRewritten (listed slabs.now) head.now end) (D.held disk.old) (D.held disk.new)) }
-    ensures calls { OnOk result (IfSome (D.held disk.old) (λ file. D.calls disk.new ≡ with_end (D.calls disk.old) (rewrite_calls size (listed slabs.now) (length head.now) end file))) }
+    requires room { min size layout.now.end ≤ length buf.old }
+    ensures bytes { OnOk result (D.held disk.new ≡ after (rewritten (listed layout.now.slabs.now) layout.now.head.now layout.now.end) (D.held disk.old)) }
+    ensures refused { OnErr result (BothTold (IsPartlyRewritten (listed layout.now.slabs.now) layout.now.head.now layout.now.end) (D.held disk.old) (D.held disk.new)) }
+    ensures calls { OnOk result (IfSome (D.held disk.old) (λ file. D.calls disk.new ≡ with_end (D.calls disk.old) (rewrite_calls size (listed layout.now.slabs.now) (length layout.now.head.now) layout.now.end file))) }
     ensures from { D.from disk.new ≡ 0 }
-    ensures len { OnOk result (end ≤ D.len disk.new) }
+    ensures len { OnOk result (layout.now.end ≤ D.len disk.new) }
     ensures cause { HasDiskCause (D.faults disk.old) (D.faults disk.new) result }
 {
+    let NewLayout { slabs, head, end } = *layout;
     grow_to(alloc, disk, end)?;
     move_all(alloc, disk, slabs, size, buf)?;
     buf.fill(0);
