@@ -21,4 +21,4 @@ pub use shares::{
     STACK_SIZE, Served, Shares, add_handed, aggregator_at, make_rooms, next_aggregator,
 };
 pub use spares::{Spares, resize_by_blocks};
-pub use walk::{Turn, TurnWalk, domain_windows, longest_window, next_window, window_list};
+pub use walk::{Turn, TurnWalk, domain_windows, next_window, window_list};

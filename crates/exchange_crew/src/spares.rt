@@ -1,7 +1,10 @@
 // Buffers that outlive a step.
-ghost use Rattle.std.specs.Prelude.{◌≡◌, ◌≤◌, length, IfOk, OnOk};
+ghost use Rattle.std.specs.Prelude.{◌≡◌, ◌≤◌, length, min, IfOk, OnOk};
+ghost use Rattle.nc_base.specs.declared.plan.Extent.{Extent};
+ghost use Rattle.overlay_laws.specs.Entries.{In};
 
-use nc_base::Memory;
+use crate::walk::longest_window;
+use nc_base::{Extent, Memory};
 use std::alloc::Global;
 
 // So many zeros are copied at once.
@@ -33,6 +36,19 @@ impl Spares {
             resize_by_blocks(&mut buf, room)?;
         }
         Ok(buf)
+    }
+
+    /// A buffer that holds each window of the domains, which are `size` bytes long at most.
+    pub fn take_window(
+        &mut self,
+        alloc: Global,
+        size: u64,
+        domains: &[Extent],
+    ) -> Result<Vec<u8>, Memory>
+        ensures { IfOk result (λ buf. (domain : Extent) → In domains.now domain → min size domain.len ≤ length buf.items) }
+    {
+        let room = longest_window(size, domains) as usize;
+        self.take(alloc, room)
     }
 
     /// A buffer that is to become so many bytes long: the one that was kept last, where it has the room and is at most a quarter longer,

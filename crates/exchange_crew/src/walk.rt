@@ -106,7 +106,7 @@ pub fn window_list(
 }
 
 /// How long the buffer is that holds each window of the domains, which are so many bytes at most.
-pub fn longest_window(size: u64, domains: &[Extent]) -> u64
+pub(crate) fn longest_window(size: u64, domains: &[Extent]) -> u64
     ensures { (domain : Extent) → In domains.now domain → min size domain.len ≤ result }
 {
     let mut longest = 0;

@@ -19,7 +19,7 @@ ghost use Rattle.exchange_crew.specs.Parts.{part_state, SomeZip};
 use crate::collecting::collect_entries;
 use crate::walk::{Ahead, ReadTurn, ReadWalk, Reader};
 use aggregator_rounds::get_window;
-use exchange_crew::{GetPlan, Spares, Tools, aggregator_at, longest_window, next_window};
+use exchange_crew::{GetPlan, Spares, Tools, aggregator_at, next_window};
 use nc_base::{BlobList, Extent, StepErr};
 use nc_outside::{Disk, Gate, Point};
 use std::alloc::Global;
@@ -46,8 +46,7 @@ pub(crate) fn get_in_turn<R: Wait, D: Disk, G: Gate>(
     ensures blobs { AreAsLong table.old table.new }
     ensures failed { IsErrOf result fault.Disk → SomeZip (λ old new. Rose (D.faults old) (D.faults new)) parts.old parts.new }
 {
-    let size = longest_window(plan.hints.cb_buffer, domains) as usize;
-    let mut buf = spares.take(tools.alloc, size)?;
+    let mut buf = spares.take_window(tools.alloc, plan.hints.cb_buffer, domains)?;
     let end = read_parts(tools, plan, first, domains, parts, &mut buf, table);
     spares.keep(buf);
     end

@@ -20,9 +20,7 @@ ghost use Rattle.put_exchange.specs.Taken.{put_window, IsFilledBy};
 ghost use Rattle.exchange_crew.specs.Turns.{source_of};
 
 use aggregator_rounds::{close_window, lay_entry, open_window};
-use exchange_crew::{
-    Aggregator, PutPlan, Spares, Tools, Turn, TurnWalk, aggregator_at, longest_window,
-};
+use exchange_crew::{Aggregator, PutPlan, Spares, Tools, Turn, TurnWalk, aggregator_at};
 use nc_base::{Batch, Extent, Owned, StepErr};
 use nc_outside::{Disk, Gate, Point};
 use std::alloc::Global;
@@ -118,8 +116,7 @@ pub(crate) fn put_in_turn<R: Wait, D: Disk, G: Gate>(
         (part_state D.Disk p.0) (part_state D.Disk new) result) (zip parts.old domains.now) parts.new }
     ensures failed { IsErrOf result fault.Disk → SomeZip (λ old new. Rose (D.faults old) (D.faults new)) parts.old parts.new }
 {
-    let size = longest_window(plan.hints.cb_buffer, domains) as usize;
-    let mut buf = spares.take(tools.alloc, size)?;
+    let mut buf = spares.take_window(tools.alloc, plan.hints.cb_buffer, domains)?;
     let end = put_parts(tools, plan, first, domains, parts, &mut buf);
     spares.keep(buf);
     end

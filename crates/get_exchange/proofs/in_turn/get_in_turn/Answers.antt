@@ -1,5 +1,5 @@
 -- The buffer holds the longest hull.
-use Rattle.get_exchange.proofs.Words.{◌≤◌, List, ap, length, rules, arith, common_steps, all_kept}
+use Rattle.get_exchange.proofs.Words.{List, ap, length, arith, all_kept}
 use Rattle.get_exchange.proofs.PartReads.{got_kept}
 use Rattle.get_exchange.proofs.FetchLaws.{GotBy}
 use Rattle.get_exchange.proofs.in_turn.get_in_turn.Goals as goal
@@ -10,7 +10,5 @@ returns-in_err-buf-clause-got g c =
 
 pub read_parts-end-requires-clause-room : goal.read_parts-end-requires-clause-room
 read_parts-end-requires-clause-room g c κs within = λ domain m.
-    let most = c.longest_window-size.ensures domain m in
     let lent = ap (λ (v : List _). length v) c.deref_mut.ensures.value in
-    let made : c.longest_window-size.result ≤ length c.in_ok-buf.buf.items = first_of (search rules, grind (arith, common_steps)) in
-    omega (arith, most, lent, made)
+    omega (arith, c.in_ok-buf.ensures domain m, lent)

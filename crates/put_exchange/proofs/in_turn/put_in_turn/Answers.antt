@@ -1,5 +1,5 @@
 -- The buffer holds the longest hull.
-use Rattle.put_exchange.proofs.Words.{◌≤◌, ap, length, List, rules, arith, common_steps, all_kept}
+use Rattle.put_exchange.proofs.Words.{ap, length, List, arith, all_kept}
 use Rattle.put_exchange.proofs.PutLaws.{PutBy, put_kept}
 use Rattle.put_exchange.proofs.in_turn.put_in_turn.Goals as goal
 
@@ -9,7 +9,5 @@ returns-in_err-buf-clause-put g c =
 
 pub put_parts-end-requires-clause-room : goal.put_parts-end-requires-clause-room
 put_parts-end-requires-clause-room g c κs within = λ domain m.
-    let most = c.longest_window-size.ensures domain m in
     let lent = ap (λ (v : List _). length v) c.deref_mut.ensures.value in
-    let made : c.longest_window-size.result ≤ length c.in_ok-buf.buf.items = first_of (search rules, grind (arith, common_steps)) in
-    omega (arith, most, lent, made)
+    omega (arith, c.in_ok-buf.ensures domain m, lent)
