@@ -1,5 +1,5 @@
 -- Helpers that were handed parts one after another, each the next part.
-use Rattle.exchange_crew.proofs.Words.{ℕ, ◌≡◌, ◌+◌, ◌∙◌, List, [], ◌∷◌, ◌++◌, length, map, take, Option, None, Some, Result, Ok, Err, refl, sym, ap, subst, arith, append-nil, append_assoc, length-append, length-map, map-append, same_Some, slice_get, zip, ForSome, IfErr, IfOk, OnOk, AllZip, middle_at, take_next, Aggregator, AreHanded, DiskGhosts, Extent, HasAdded, HasRoom, HasRooms, HaveDomains, In, IsDomainOf, IsNext, Owned, Shares, SomeZip, domain_in, in_either, nat_tests, ◌<◌, ◌≤◌, slice_get_within, drop, result_and, vec_capacity}
+use Rattle.exchange_crew.proofs.Words.{ℕ, ◌≡◌, ◌+◌, ◌∙◌, List, [], ◌∷◌, ◌++◌, length, map, take, Option, None, Some, Result, Ok, Err, refl, sym, ap, subst, arith, append-nil, append_assoc, length-append, length-map, map-append, same_Some, slice_get, zip, ForSome, IfErr, IfOk, OnOk, AllZip, middle_at, take_next, Aggregator, AreHanded, DiskGhosts, Extent, HasAdded, HasRoom, HasRooms, HaveDomains, In, IsDomainOf, IsGiven, IsNext, Owned, Shares, SomeZip, in_either, nat_tests, ◌<◌, ◌≤◌, slice_get_within, drop, result_and, vec_capacity}
 use Rattle.exchange_crew.proofs.SplitLaws.{first_parts, parts_behind}
 use Rattle.exchange_crew.proofs.BackLaws.{some_mapped, zip_mapped, AreKept, map_new}
 
@@ -33,16 +33,16 @@ none_handed {W} Fresh part share domains shares no_workers no_rest = record {
 
 -- one part more was handed out, or is left
 handed_more : {W D : Type 0} (Fresh : W → Type 0) (part : W → D) (share : W → Extent) (domains : List Extent) (yielded : List D) (own : D) (old new : Shares W D) (next : Option Aggregator) (handed : Result W D)
-    → AreHanded Fresh part share domains yielded old → IsNext domains old next → HasAdded handed old new → IfOk handed Fresh → IfOk handed (λ worker. part worker ≡ own)
-    → IfOk handed (λ worker. domain_in next ≡ Some (share worker)) → IfErr handed (λ back. back ≡ own) → AreHanded Fresh part share domains (yielded ++ own ∷ []) new
-handed_more {W} {D} Fresh part share domains yielded own old new (Some a) (Ok worker) h n e fresh is of kept = record {
+    → AreHanded Fresh part share domains yielded old → IsNext domains old next → HasAdded handed old new → IfOk handed (IsGiven Fresh part share next own) → IfErr handed (λ back. back ≡ own)
+    → AreHanded Fresh part share domains (yielded ++ own ∷ []) new
+handed_more {W} {D} Fresh part share domains yielded own old new (Some a) (Ok worker) h n e given kept = record {
   of_parts = subst (λ (rest : List D). map part new.workers.items ++ rest ≡ yielded ++ own ∷ []) (sym (e.rest ∙ append-nil old.rest.items))
-      (crew_parts part old.workers.items new.workers.items worker old.rest.items yielded own e.workers (n.none_left a refl) is h.of_parts);
-  of_domains = crew_domains share old.workers.items new.workers.items worker domains a.domain e.workers (sym (same_Some _ _ of)) (n.domain a refl) h.of_domains;
-  workers = crew_each Fresh old.workers.items new.workers.items worker e.workers h.workers fresh;
+      (crew_parts part old.workers.items new.workers.items worker old.rest.items yielded own e.workers (n.none_left a refl) given.of_part h.of_parts);
+  of_domains = crew_domains share old.workers.items new.workers.items worker domains a.domain e.workers (sym (same_Some _ _ given.of_domain)) (n.domain a refl) h.of_domains;
+  workers = crew_each Fresh old.workers.items new.workers.items worker e.workers h.workers given.fresh;
 }
-handed_more Fresh part share domains yielded own old new None (Ok worker) h n e fresh is of kept = absurd cc
-handed_more {W} {D} Fresh part share domains yielded own old new next (Err back) h n e fresh is of kept =
+handed_more Fresh part share domains yielded own old new None (Ok worker) h n e given kept = let none = given.of_domain in absurd cc
+handed_more {W} {D} Fresh part share domains yielded own old new next (Err back) h n e given kept =
     let same : new.workers.items ≡ old.workers.items = e.workers ∙ append-nil old.workers.items in
     record {
       of_parts = grind (arith, append_assoc (map part old.workers.items) old.rest.items (own ∷ []));
@@ -89,11 +89,11 @@ module _ {W D : Type 0} {Fresh : W → Type 0} {part : W → D} {share : W → E
     for_rest = omega (arith, handing_few, rooms.for_rest, s.rest_room);
   }
 
-  pub handing_next : (new : Shares W D) (next : Option Aggregator) (handed : Result W D) → IsNext domains now next → HasAdded handed now new → IfOk handed Fresh → IfOk handed (λ worker. part worker ≡ own)
-      → IfOk handed (λ worker. domain_in next ≡ Some (share worker)) → IfErr handed (λ back. back ≡ own) → IsHanding Fresh part share domains parts (yielded ++ own ∷ []) more first new
-  handing_next new next handed n added fresh is of kept = record {
+  pub handing_next : (new : Shares W D) (next : Option Aggregator) (handed : Result W D) → IsNext domains now next → HasAdded handed now new → IfOk handed (IsGiven Fresh part share next own)
+      → IfErr handed (λ back. back ≡ own) → IsHanding Fresh part share domains parts (yielded ++ own ∷ []) more first new
+  handing_next new next handed n added given kept = record {
     all = append_assoc yielded (own ∷ []) more ∙ next_part;
-    handed = handed_more Fresh part share domains yielded own now new next handed s.handed n added fresh is of kept;
+    handed = handed_more Fresh part share domains yielded own now new next handed s.handed n added given kept;
     workers_room = added.workers_room ∙ s.workers_room;
     rest_room = added.rest_room ∙ s.rest_room;
     back = added.back ∙ s.back;

@@ -9,7 +9,7 @@ pub use Rattle.aggregator_rounds.specs.EntryParts.{AreFilled, IsCovered}
 pub use Rattle.aggregator_rounds.specs.Left.{BeginBefore, IsPast}
 pub use Rattle.aggregator_rounds.specs.ToldWindows.{told_window}
 pub use Rattle.exchange_crew.specs.Cursor.{AreInFront, AreServed, IsAt}
-pub use Rattle.exchange_crew.specs.Handed.{AreFirst, AreHanded, HasAdded, IsNext, domain_in}
+pub use Rattle.exchange_crew.specs.Handed.{AreFirst, AreHanded, HasAdded, IsGiven, IsNext}
 pub use Rattle.exchange_crew.specs.Hulls.{AreTurns, HaveWindows, IsTurn, LieOnPart}
 pub use Rattle.exchange_crew.specs.Parts.{SomeZip}
 pub use Rattle.exchange_crew.specs.Pieces.{ArePieces}

@@ -3,6 +3,7 @@
 --     domain_in next                     its domain
 --     helped handed                      the helper that was handed a part, as a list
 --     left_over handed                   the part that was left, as a list
+--     IsGiven Fresh part share ..        a fresh helper was handed a part, over the domain of the next aggregator
 --     HasAdded handed old new            the helper is behind the others now, or the part behind those that were left
 --     AreHanded Fresh part share ..      these parts, in order, are those of helpers over the first domains, and those that were left
 --     AreFirst parts served              what came back are the first parts, and the rest are those behind them, for which there is room
@@ -21,6 +22,11 @@ pub record IsNext {W D : Type 0} (domains : List Extent) (shares : Shares W D) (
 abbrev pub domain_in : Option Aggregator → Option Extent
 domain_in (Some a) = Some a.domain
 domain_in None = None
+
+pub record IsGiven {W D : Type 0} (Fresh : W → Type 0) (part : W → D) (share : W → Extent) (next : Option Aggregator) (own : D) (worker : W) : Type 0 where
+  pub fresh : Fresh worker
+  pub of_part : part worker ≡ own
+  pub of_domain : domain_in next ≡ Some (share worker)
 
 abbrev pub helped : {W D : Type 0} → Result W D → List W
 helped (Ok worker) = worker ∷ []

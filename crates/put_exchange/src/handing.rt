@@ -1,8 +1,8 @@
 // Handing parts to helpers.
-ghost use Rattle.std.specs.Prelude.{◌≡◌, ◌≤◌, [], length, Some, IfOk, IfErr};
+ghost use Rattle.std.specs.Prelude.{◌≡◌, ◌≤◌, [], length, IfOk, IfErr};
 ghost use Rattle.std.specs.Option.{ForSome};
 ghost use Rattle.aggregator_rounds.specs.Left.{IsPast};
-ghost use Rattle.exchange_crew.specs.Handed.{domain_in, AreHanded};
+ghost use Rattle.exchange_crew.specs.Handed.{AreHanded, IsGiven};
 ghost use Rattle.exchange_crew.specs.Plan.{HaveDomains, IsDomainOf, IsLineRoom, IsPlanned};
 ghost use Rattle.exchange_crew.specs.Rooms.{HasRooms};
 ghost use Rattle.put_exchange.specs.Dues.{turns_due, AreDue};
@@ -89,9 +89,7 @@ fn hand_one<'a, R: Wait, D: Disk, G, K: Send + Drop>(
     requires past { IsPast ahead.old.place plan.now.list.now ahead.old.entries.now }
     ensures past { IsPast ahead.new.place plan.now.list.now ahead.new.entries.now }
     ensures kept { IfErr result (λ back. back ≡ part) }
-    ensures worker { IfOk result (λ worker. IsFresh D.Disk plan.now worker) }
-    ensures part { IfOk result (λ worker. part_of worker ≡ part) }
-    ensures domain { IfOk result (λ worker. domain_in aggregator ≡ Some (domain_of worker)) }
+    ensures given { IfOk result (IsGiven (λ worker. IsFresh D.Disk plan.now worker) (λ worker. part_of worker) (λ worker. domain_of worker) aggregator part) }
 {
     let tools = team.tools;
     let Some(aggregator) = aggregator else {

@@ -21,7 +21,7 @@ loop-part-preserved g c =
     let handed = c.hand_one-handed.ensures in
     record {
       handing = handing_next c.loop-part.invariant.handing c.in-Some.ensures.steps.0 c.add_handed.new.shares c.next_aggregator-next.result c.hand_one-handed.result c.next_aggregator-next.ensures c.add_handed.ensures
-          handed.worker handed.part handed.domain handed.kept;
+          handed.given handed.kept;
       past = handed.past;
     }
 
