@@ -1,5 +1,5 @@
 -- Parts that come back one after another.
-use Rattle.exchange_crew.proofs.Words.{◌≡◌, ℕ, zero, suc, ◌+◌, ◌<◌, ◌≤◌, ◌⊎◌, min, get_or, inl, inr, refl, ◌∙◌, ap, subst, List, [], ◌∷◌, ◌++◌, length, map, take, drop, Some, Result, Ok, Err, arith, length-append, take_more, slice_get_within, all_zipped_more, slice_get, zip, OnOk, IsErr, IsErrOf, IsOk, AllZip, result_and, entry_below, refilled, Extent, StepErr, Disk, In, in_either, in_right, at_in, in_at, SomeZip, zip_weaker, nat_tests}
+use Rattle.exchange_crew.proofs.Words.{◌≡◌, ℕ, zero, suc, ◌+◌, ◌<◌, ◌≤◌, ◌⊎◌, min, get_or, inl, inr, refl, ◌∙◌, ap, subst, List, [], ◌∷◌, ◌++◌, length, map, take, drop, Some, Result, Ok, Err, arith, length-append, take_more, slice_get_within, all_zipped_more, slice_get, zip, OnOk, IsErr, IsErrOf, IsOk, AllZip, result_and, entry_below, refilled, Extent, StepErr, Disk, In, in_either, in_right, at_in, in_at, SomeZip, zip_weaker, nat_tests, rules, common_steps, Global, Vec, append_assoc, sym, vec_capacity}
 
 -- ---- two lists, place by place
 
@@ -108,7 +108,7 @@ pub record IsBack {S D T : Type 0} (Done : Result T StepErr → S → D → Type
 abbrev pub IsLater : {A D T : Type 0} → (Result T StepErr → A → D → Type 0) → Type 0
 IsLater {A} {D} {T} Done = (r q : Result T StepErr) (p : A) (d : D) → OnOk q (IsOk r) → Done r p d → Done q p d
 
-pub joined_back : {S D T : Type 0} (Done : Result T StepErr → S → D → Type 0) (Failing : S → D → Type 0) (xs : List S) (x : S) (back now : List D) (y : D) (end came both : Result T StepErr)
+joined_back : {S D T : Type 0} (Done : Result T StepErr → S → D → Type 0) (Failing : S → D → Type 0) (xs : List S) (x : S) (back now : List D) (y : D) (end came both : Result T StepErr)
     → IsLater Done → both ≡ result_and end came → now ≡ back ++ y ∷ [] → IsBack Done Failing xs back end → Done came x y → (IsErrOf came Disk → Failing x y)
     → IsBack Done Failing (xs ++ x ∷ []) now both
 joined_back Done Failing xs x back now y end came both later is pushed s own fault = rw pushed (record {
@@ -117,6 +117,34 @@ joined_back Done Failing xs x back now y end came both later is pushed s own fau
       (later came both x y (and_second_ok end came both is) own);
   failed = λ f. elim (and_failed end came both is f) [ inl g ↦ some_more Failing xs back x y (s.failed g) | inr r ↦ some_last Failing xs back x y s.long (fault r) ];
 })
+
+-- ---- helpers that come back one after another
+
+-- what was done on the parts of the helpers so far, for which there is as much room as before
+pub record AreComing {S D T : Type 0} (Done : Result T StepErr → S → D → Type 0) (Failing : S → D → Type 0) (workers yielded left : List S) (first now : Vec D Global) (end : Result T StepErr) : Type 0 where
+  pub all : yielded ++ left ≡ workers
+  pub room : vec_capacity now ≡ vec_capacity first
+  pub back : IsBack Done Failing yielded now.items end
+
+pub coming_none : {S D T : Type 0} (Done : Result T StepErr → S → D → Type 0) (Failing : S → D → Type 0) (workers left : List S) (first : Vec D Global) (t : T) → left ≡ workers → first.items ≡ []
+    → AreComing Done Failing workers [] left first first (Ok t)
+coming_none Done Failing workers left first t all none = record { all = all; room = refl; back = rw none (record { long = refl; done = tt; failed = λ f. first_of (search rules, grind (arith, common_steps)) }) }
+
+module _ {S D T : Type 0} {Done : Result T StepErr → S → D → Type 0} {Failing : S → D → Type 0} {workers yielded left more : List S} {first now : Vec D Global} {end : Result T StepErr} {worker : S}
+    (s : AreComing Done Failing workers yielded left first now end) (e : left ≡ worker ∷ more) where
+  next_worker : yielded ++ worker ∷ more ≡ workers
+  next_worker = ap (λ (ws : List S). yielded ++ ws) (sym e) ∙ s.all
+
+  pub coming_worker : In workers worker
+  coming_worker = middle_in yielded more workers worker next_worker
+
+  pub coming_next : (new : Vec D Global) (y : D) (came both : Result T StepErr) → IsLater Done → both ≡ result_and end came → new.items ≡ now.items ++ y ∷ [] → vec_capacity new ≡ vec_capacity now
+      → Done came worker y → (IsErrOf came Disk → Failing worker y) → AreComing Done Failing workers (yielded ++ worker ∷ []) more first new both
+  coming_next new y came both later is pushed room own fault = record {
+    all = append_assoc yielded (worker ∷ []) more ∙ next_worker;
+    room = room ∙ s.room;
+    back = joined_back Done Failing yielded worker now.items new.items y end came both later is pushed s.back own fault;
+  }
 
 pub err_not_ok : {T E : Type 0} (P : Type 0) (r : Result T E) → IsErr r → OnOk r P
 err_not_ok P (Ok x) e = absurd cc

@@ -1,6 +1,7 @@
 -- The words of this crate's proofs, from where they stand.
-pub use Rattle.list_laws.proofs.Std.{AllZip, Bool, Err, ForSome, IfErr, IfNone, IfOk, IfSome, IsErr, IsErrOf, IsOk, List, None, Ok, OnOk, Option, Result, Some, [], all_zipped_more, ap, append-nil, append_assoc, arith, common_steps, drop, drop-append_seam, eqb-true, false, flat_map, flat_map-map, get_or, inl, is_some, inr, le-leb, leb-true, length, length-map, lt-ltb, ltb-false, ltb-true, map, map-append, min, leb_tells, nat_lt, nat_tests, not, range_with_len, refl, result_and, rules, same_Some, set, slice_get, slice_get_within, subst, suc, sym, take, take-append_seam, take_all, take_more, true, vec_capacity, zero, zip, ℕ, ◌++◌, ◌+◌, ◌-◌, ◌/◌, ◌<◌, ◌==◌, ◌^◌, ◌∙◌, ◌∷◌, ◌≡◌, ◌≤◌, ◌⊎◌, length-drop, take_rest}
+pub use Rattle.list_laws.proofs.Std.{AllZip, Bool, Err, ForSome, IfErr, IfNone, IfOk, IfSome, IsErr, IsErrOf, IsOk, List, None, Ok, OnOk, Option, Result, Some, Vec, [], all_zipped_more, ap, append-nil, append_assoc, arith, common_steps, drop, drop-append_seam, eqb-true, false, flat_map, flat_map-map, get_or, inl, is_some, inr, le-leb, leb-true, length, length-map, lt-ltb, ltb-false, ltb-true, map, map-append, min, leb_tells, nat_lt, nat_tests, not, range_with_len, refl, result_and, rules, same_Some, set, slice_get, slice_get_within, subst, suc, sym, take, take-append_seam, take_all, take_more, true, vec_capacity, zero, zip, ℕ, ◌++◌, ◌+◌, ◌-◌, ◌/◌, ◌<◌, ◌==◌, ◌^◌, ◌∙◌, ◌∷◌, ◌≡◌, ◌≤◌, ◌⊎◌, length-drop, take_rest}
 pub use Rattle.std.proofs.Common.{length-set}
+pub use Rattle.std.specs.declared.alloc.Global.{Global}
 pub use Rattle.std.proofs.lemmas.List.{length-append}
 pub use Rattle.aggregator_rounds.proofs.CoveredBytes.{hole_short, in_ranges, ranges_in}
 pub use Rattle.aggregator_rounds.proofs.PastSteps.{past_extents, past_in, past_kept, past_later, past_none, past_sorted, past_twice}

@@ -10,7 +10,7 @@ pub use Rattle.aggregator_rounds.proofs.SplitSteps.{dropped_past, entry_ends, ex
 pub use Rattle.aggregator_rounds.specs.EntryParts.{AreFilled, IsCovered, buffer_cell, got_cells, part_in, places_of}
 pub use Rattle.aggregator_rounds.specs.Left.{IsPast, entries_left}
 pub use Rattle.aggregator_rounds.specs.ToldWindows.{told_window}
-pub use Rattle.exchange_crew.proofs.BackLaws.{AreKept, IsLater, and_first_ok, came_back, err_not_ok, joined_back, kept_all, lent_kept, middle_in, zip_next}
+pub use Rattle.exchange_crew.proofs.BackLaws.{AreComing, AreKept, IsLater, and_first_ok, came_back, coming_next, coming_none, coming_worker, err_not_ok, kept_all, lent_kept, zip_next}
 pub use Rattle.exchange_crew.proofs.CrewLaws.{HaveServed, all_served, each_joined, IsHanding, handing_begun, handing_domain, handing_next, handing_room, have_served, some_served}
 pub use Rattle.exchange_crew.proofs.DomainTurns.{domain_part, domain_turns, domain_windows}
 pub use Rattle.exchange_crew.proofs.OneChanged.{fewer_all, set_each}

@@ -12,7 +12,7 @@ pub use Rattle.aggregator_rounds.proofs.SplitSteps.{entry_ends}
 pub use Rattle.aggregator_rounds.specs.EntryParts.{IsCovered}
 pub use Rattle.aggregator_rounds.specs.Left.{IsPast}
 pub use Rattle.aggregator_rounds.specs.ToldWindows.{told_window}
-pub use Rattle.exchange_crew.proofs.BackLaws.{AreKept, IsLater, came_back, err_not_ok, joined_back, kept_all, lent_kept, middle_in}
+pub use Rattle.exchange_crew.proofs.BackLaws.{AreComing, AreKept, IsLater, came_back, coming_next, coming_none, coming_worker, err_not_ok, kept_all, lent_kept}
 pub use Rattle.exchange_crew.proofs.CrewLaws.{all_served, IsHanding, handing_begun, handing_domain, handing_next, handing_room, have_served, some_served}
 pub use Rattle.exchange_crew.proofs.OneChanged.{fewer_all, set_each}
 pub use Rattle.exchange_crew.proofs.PartsInTurn.{AreServedTo, all_kept, all_served_to, none_served, one_cut, one_failed, one_served}
