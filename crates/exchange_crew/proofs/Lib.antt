@@ -7,3 +7,4 @@ pub mod CrewLaws
 pub mod SplitLaws
 pub mod OneChanged
 pub mod PartsInTurn
+mod LeastRounds

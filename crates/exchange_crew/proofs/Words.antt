@@ -16,6 +16,7 @@ pub use Rattle.exchange_crew.specs.Parts.{SomeZip}
 pub use Rattle.exchange_crew.specs.Pieces.{ArePieces}
 pub use Rattle.exchange_crew.specs.Plan.{HaveDomains, IsDomainOf, IsPlan}
 pub use Rattle.exchange_crew.specs.Rooms.{HasRoom, HasRooms}
+pub use Rattle.exchange_crew.specs.Rounds.{HasRound}
 pub use Rattle.exchange_crew.specs.Turns.{Told, turns_ahead, turns_of}
 pub use Rattle.exchange_crew.specs.declared.plan.Aggregator.{Aggregator}
 pub use Rattle.exchange_crew.specs.declared.shares.Served.{Served}

@@ -6,3 +6,4 @@ pub mod Handed
 pub mod Hulls
 pub mod Cursor
 pub mod Parts
+pub mod Rounds

@@ -1,5 +1,6 @@
 // Whose turn is next, where windows are gone over round by round.
-ghost use Rattle.std.specs.Prelude.{◌≡◌, ◌<◌, ℕ, length, slice_get, IfNone, IfSome, None, Option, Some};
+ghost use Rattle.std.specs.Prelude.{◌≡◌, ◌<◌, ◌≤◌, ℕ, length, slice_get, IfNone, IfSome, None, Option, Some};
+ghost use Rattle.exchange_crew.specs.Rounds.{HasRound};
 
 /// What has its turns in rounds.
 pub trait InRounds {
@@ -13,6 +14,8 @@ pub trait InRounds {
 /// The first one of those whose next turn is of the least round. None where nobody has one.
 pub fn first_in_turn<T: InRounds>(all: &[T]) -> Option<usize>
     ensures some { IfSome result (λ k. (k < length all.now) × ((one : T) → slice_get all.now k ≡ Some one → T.next one ≡ None → ⊥)) }
+    ensures least { IfSome result (λ k. (r j s : ℕ) → HasRound T.next all.now k r → HasRound T.next all.now j s → r ≤ s) }
+    ensures first { IfSome result (λ k. (r j s : ℕ) → HasRound T.next all.now k r → HasRound T.next all.now j s → j < k → r < s) }
     ensures none { IfNone result ((k : ℕ) (one : T) → slice_get all.now k ≡ Some one → T.next one ≡ None) }
 {
     let mut first = None;
@@ -29,8 +32,8 @@ pub fn first_in_turn<T: InRounds>(all: &[T]) -> Option<usize>
 
 // A round, where there is one and the other one is not as early.
 fn earlier(round: Option<u64>, than: Option<u64>) -> Option<u64>
-    ensures some { IfSome result (λ _. round ≡ None → ⊥) }
-    ensures none { IfNone result (than ≡ None → round ≡ None) }
+    ensures some { IfSome result (λ r. (round ≡ Some r) × ((s : ℕ) → than ≡ Some s → r < s)) }
+    ensures none { IfNone result ((r : ℕ) → round ≡ Some r → (s : ℕ) × (than ≡ Some s) × (s ≤ r)) }
 {
     let round = round?;
     match than {
