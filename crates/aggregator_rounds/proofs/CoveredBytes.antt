@@ -1,5 +1,5 @@
 -- The bytes that entries have.
-use Rattle.aggregator_rounds.proofs.Words.{◌≡◌, ℕ, ◌<◌, ◌≤◌, ◌⊎◌, inl, inr, refl, sym, subst, List, [], ◌∷◌, ◌++◌, arith, ◌+◌, ◌-◌, length, Bool, true, false, range_with_len, Owned, In, ranges, IsAscending, extents, EndBelow, in_left, in_right, in_either, in_flat, flat_in, in_range, range_low, range_high, IsCovered, IsPast, BeginBefore, in_extents, cases_lt, nat_tests, ltb-true, ltb-false}
+use Rattle.aggregator_rounds.proofs.Words.{◌≡◌, ℕ, ◌<◌, ◌≤◌, inl, inr, refl, sym, subst, List, [], ◌∷◌, ◌++◌, arith, ◌+◌, ◌-◌, length, range_with_len, Owned, In, ranges, IsAscending, extents, EndBelow, in_left, in_right, in_either, in_flat, flat_in, in_range, range_low, range_high, IsCovered, IsPast, BeginBefore, in_extents, cases_lt, nat_tests}
 use Rattle.aggregator_rounds.proofs.PastSteps.{past_in, past_kept}
 use Rattle.overlay_laws.proofs.HullLaws.{ascending_few}
 
@@ -11,17 +11,11 @@ covered_left a b x h = record { by = h.by; inside = in_left a b h.by h.inside; l
 pub covered_right : (a b : List Owned) (x : ℕ) → IsCovered b x → IsCovered (a ++ b) x
 covered_right a b x h = record { by = h.by; inside = in_right a b h.by h.inside; low = h.low; high = h.high }
 
-pub covered_either : (a b : List Owned) (x : ℕ) → IsCovered (a ++ b) x → IsCovered a x ⊎ IsCovered b x
-covered_either a b x h = grind (arith, nat_tests, in_either)
-
 pub in_ranges : (list : List Owned) (x : ℕ) → IsCovered list x → In (ranges list) x
-in_ranges list x h =
-    in_flat (λ (o : Owned). range_with_len o.extent.at o.extent.len) list h.by x h.inside (in_range h.by.extent.at h.by.extent.len x h.low h.high)
+in_ranges list x h = grind (arith, nat_tests, in_flat, in_range, range_with_len)
 
 pub ranges_in : (list : List Owned) (x : ℕ) → In (ranges list) x → IsCovered list x
-ranges_in list x h =
-    let r = flat_in (λ (o : Owned). range_with_len o.extent.at o.extent.len) list x h in
-    record { by = r.0; inside = r.1; low = range_low r.0.extent.at r.0.extent.len x r.2; high = range_high r.0.extent.at r.0.extent.len x r.2 }
+ranges_in list x h = grind (arith, nat_tests, flat_in, range_low, range_high)
 
 pub covered_below : (n : ℕ) (list : List Owned) (x : ℕ) → EndBelow n (extents list) → IsCovered list x → x < n
 covered_below n list x h c = grind (arith, nat_tests, in_extents)
@@ -29,9 +23,7 @@ covered_below n list x h c = grind (arith, nat_tests, in_extents)
 -- ---- what is left
 
 pub past_covered : (place : ℕ) (whole left : List Owned) (x : ℕ) → IsPast place whole left → place ≤ x → IsCovered whole x → IsCovered left x
-past_covered place whole left x h l c =
-    let end = c.high in
-    record { by = c.by; inside = past_kept place whole left c.by h c.inside (omega arith); low = c.low; high = c.high }
+past_covered place whole left x h l c = grind (arith, nat_tests, past_kept)
 
 pub covered_past : (place : ℕ) (whole left : List Owned) (x : ℕ) → IsPast place whole left → IsCovered left x → IsCovered whole x
 covered_past place whole left x h c = record { by = c.by; inside = past_in place whole left c.by h c.inside; low = c.low; high = c.high }
@@ -39,11 +31,7 @@ covered_past place whole left x h c = record { by = c.by; inside = past_in place
 -- ---- what has front
 
 pub front_covered : (place : ℕ) (left front : List Owned) (x : ℕ) → BeginBefore place left front → x < place → IsCovered left x → IsCovered front x
-front_covered place left front x h l c =
-    elim (covered_either front h.rest x (subst (λ (w : List Owned). IsCovered w x) h.joined c)) [
-      | inl g ↦ g
-      | inr g ↦ (let e = h.later g.by g.inside in let m = g.low in absurd (omega arith))
-    ]
+front_covered place left front x h l c = grind (arith, nat_tests, in_either)
 
 pub covered_front : (place : ℕ) (left front : List Owned) (x : ℕ) → BeginBefore place left front → IsCovered front x → IsCovered left x
 covered_front place left front x h c = subst (λ (w : List Owned). IsCovered w x) (sym h.joined) (covered_left front h.rest x c)
@@ -55,7 +43,6 @@ hole_short [] a e y h k l m n = omega arith
 hole_short (x ∷ xs) a e y h k l m n =
     elim (cases_lt y x) [
       | inl g ↦ (let short = ascending_few (x ∷ xs) (y + 1) e h (λ z i. (grind (arith, nat_tests, h.0 z), (k z i).1)) in omega arith)
-      | inr low ↦ (let apart : x ≡ y → ⊥ = λ s. n (inl s) in let past : x < y = omega arith in
-          let rest = hole_short xs (x + 1) e y h.1 (λ z i. let g = h.0 z i in let r = k z (inr i) in let high = r.1 in (omega arith, omega arith)) (omega arith) m (λ i. n (inr i)) in
+      | inr low ↦ (let apart : x ≡ y → ⊥ = λ s. n (inl s) in let rest = hole_short xs (x + 1) e y h.1 (λ z i. let g = h.0 z i in let r = k z (inr i) in let high = r.1 in (omega arith, omega arith)) (omega arith) m (λ i. n (inr i)) in
           omega (arith, (k x (inl refl)).0))
     ]

@@ -1,5 +1,5 @@
 -- Entries as cells: what they say, and where they lie.
-use Rattle.aggregator_rounds.proofs.Words.{◌≡◌, ℕ, ◌+◌, ◌-◌, ◌<◌, ◌≤◌, inl, inr, refl, sym, ◌∙◌, ap, subst, List, [], ◌∷◌, ◌++◌, length, take, drop, get_or, Option, Some, None, arith, map-append, length-take, length-drop, map, enumerate_from, option_or, said_below, said_past, said_inside, said_append, neither_some, second_counts, first_counts, Owned, Cell, said_at, said_by, IsFrom, IsWithin, clips, HasPlace, In, Source, cell_of, AreFound, clips_in, said_joined, IsCovered, some_or_none, nat_tests, ltb-true, ltb-false}
+use Rattle.aggregator_rounds.proofs.Words.{◌≡◌, ℕ, ◌+◌, ◌-◌, ◌<◌, ◌≤◌, inl, inr, refl, sym, ◌∙◌, ap, subst, List, [], ◌∷◌, ◌++◌, length, take, drop, get_or, None, arith, map-append, length-take, length-drop, map, enumerate_from, option_or, said_below, said_past, said_inside, said_append, neither_some, second_counts, first_counts, Owned, Cell, said_at, said_by, IsFrom, IsWithin, clips, HasPlace, In, Source, cell_of, AreFound, clips_in, said_joined, IsCovered, some_or_none, nat_tests, ltb-true, ltb-false}
 use Rattle.aggregator_rounds.proofs.CoveredBytes.{covered_right}
 
 -- ---- what entries say
@@ -33,7 +33,6 @@ said_of source (p ∷ list) x o f (inl e) l h =
     let taken = take p.extent.len (drop p.from (source p.rank p.slot)) in
     let low : p.extent.at ≤ x = subst (λ (z : Owned). z.extent.at ≤ x) (sym e) l in
     let k : x < p.extent.at + p.extent.len = subst (λ (z : Owned). x < z.extent.at + z.extent.len) (sym e) h in
-    let room = f.0 in
     let high : x < p.extent.at + length taken = omega (arith, length-take p.extent.len (drop p.from (source p.rank p.slot)), length-drop p.from (source p.rank p.slot)) in
     let joined = said_append (enumerate_from p.extent.at taken) (said_by (entry_cells source list)) x in
     elim (some_or_none (said_at (said_by (entry_cells source list)) x)) [
@@ -45,8 +44,7 @@ said_of source (p ∷ list) x o f (inl e) l h =
 pub covered_place : (source : Source) (list : List Owned) (lo hi x : ℕ) → AreFound source list → lo ≤ x → x < hi → IsCovered list x
     → HasPlace (clips lo hi (entry_cells source list)) x
 covered_place source list lo hi x f l h c =
-    let r = said_of source list x c.by f c.inside c.low c.high in
-    (r.0, clips_in lo hi (entry_cells source list) x l h ∙ r.1)
+    grind (arith, nat_tests, said_of source list x c.by f c.inside c.low c.high, clips_in lo hi (entry_cells source list) x l h)
 
 -- ---- where they lie
 

@@ -1,11 +1,10 @@
 -- Parts of entries, and entries laid over a buffer one by one.
-use Rattle.aggregator_rounds.proofs.Words.{◌≡◌, ℕ, zero, suc, ◌+◌, ◌-◌, ◌<◌, ◌≤◌, refl, sym, ◌∙◌, ap, subst, List, [], ◌∷◌, length, take, drop, get_or, min, slice_get, arith, set, take-take, take_all, drop-drop, length-take, get_or_default, slice_get-get_or, Owned, Post, written, Cell, write_cells, moved_down, clip, Source, cell_of, AreFound, bytes_of_post, source_of, part_at, part_in, blob_at, buffer_cell, nat_tests, ltb-true, ltb-false}
+use Rattle.aggregator_rounds.proofs.Words.{◌≡◌, ℕ, zero, suc, ◌+◌, ◌-◌, ◌<◌, ◌≤◌, refl, sym, ◌∙◌, ap, List, [], ◌∷◌, length, take, drop, get_or, min, slice_get, arith, set, take-take, take_all, drop-drop, length-take, get_or_default, slice_get-get_or, Owned, Post, written, Cell, write_cells, moved_down, clip, Source, cell_of, AreFound, bytes_of_post, source_of, part_at, part_in, blob_at, buffer_cell, nat_tests, ltb-true, ltb-false}
 
 -- ---- slices of slices
 
 take_none : {X : Type 0} (n : ℕ) → take {A = X} n [] ≡ []
-take_none zero = refl
-take_none (suc n) = refl
+take_none n = grind (arith, nat_tests)
 
 drop_taken : {X : Type 0} (k n : ℕ) (xs : List X) → drop k (take n xs) ≡ take (n - k) (drop k xs)
 drop_taken zero n xs = let e : n ≡ n - 0 = omega arith in ap (λ (m : ℕ). take m xs) e
@@ -34,9 +33,7 @@ part_bytes lo hi o b =
     by_len : (m : ℕ) → min (hi - part_at lo hi o) (o.extent.len - (lo - o.extent.at)) ≡ m
         → take (part_in lo hi o).extent.len (drop (part_in lo hi o).from b)
         ≡ take (min (hi - part_at lo hi o) (o.extent.len - (lo - o.extent.at))) (drop (o.from + (lo - o.extent.at)) b)
-    by_len zero e =
-        ap (λ (k : ℕ). take k (drop (part_in lo hi o).from b)) (long ∙ e)
-        ∙ sym (ap (λ (k : ℕ). take k (drop (o.from + (lo - o.extent.at)) b)) e)
+    by_len zero e = grind (arith, nat_tests)
     by_len (suc m) e =
         let begin : (part_in lo hi o).from ≡ o.from + (lo - o.extent.at) = omega arith in
         ap (λ (k : ℕ). take (part_in lo hi o).extent.len (drop k b)) begin
@@ -49,14 +46,13 @@ slot_in [] slot h = absurd (omega arith)
 slot_in (p ∷ posts) zero h = omega arith
 slot_in (p ∷ posts) (suc slot) h = let l = slot_in posts slot h in omega arith
 
-pub slot_bytes : (posts : List Post) (slot : ℕ) (p : Post) → slot < length posts → (get_or posts slot p).bytes ≡ bytes_of_post (slice_get posts slot)
+slot_bytes : (posts : List Post) (slot : ℕ) (p : Post) → slot < length posts → (get_or posts slot p).bytes ≡ bytes_of_post (slice_get posts slot)
 slot_bytes posts slot p l = sym (ap bytes_of_post (slice_get-get_or posts slot p l))
 
 -- the bytes of the post that an entry names
 pub found_bytes : (posts given : List Post) (o : Owned) (p : Post) (bytes : List ℕ) → 1 ≤ o.extent.len → o.from + o.extent.len ≤ length (source_of posts o.rank o.slot)
     → given ≡ posts → bytes ≡ (get_or given o.slot p).bytes → bytes ≡ source_of posts o.rank o.slot
-found_bytes posts given o p bytes some room e of =
-    of ∙ ap (λ (ps : List Post). (get_or ps o.slot p).bytes) e ∙ slot_bytes posts o.slot p (slot_in posts o.slot (omega arith))
+found_bytes posts given o p bytes some room e of = grind (arith, nat_tests, slot_bytes, slot_in, source_of, get_or)
 
 pub found_at : (source : Source) (list : List Owned) (i : ℕ) (d : Owned) → i < length list → AreFound source list
     → (get_or list i d).from + (get_or list i d).extent.len ≤ length (source (get_or list i d).rank (get_or list i d).slot)
@@ -71,9 +67,7 @@ laid_entry lo hi source o p post bytes buf now part is of laid = grind (arith, n
 
 -- a part lies in its window, and in its entry's bytes
 pub part_high : (lo n : ℕ) (o p : Owned) → p ≡ part_in lo (lo + n) o → (lo ≤ p.extent.at) × (p.extent.at - lo + p.extent.len ≤ n) × (p.from + p.extent.len ≤ o.from + o.extent.len)
-part_high lo n o p e =
-    subst (λ (q : Owned). (lo ≤ q.extent.at) × (q.extent.at - lo + q.extent.len ≤ n) × (q.from + q.extent.len ≤ o.from + o.extent.len)) (sym e)
-    (omega arith, omega arith, omega arith)
+part_high lo n o p e = grind (arith, nat_tests)
 
 -- ---- one entry more
 

@@ -1,5 +1,5 @@
 -- What is left of entries when some that end there or before are gone.
-use Rattle.aggregator_rounds.proofs.Words.{◌≡◌, ℕ, ◌+◌, ◌^◌, ◌<◌, ◌≤◌, ◌⊎◌, inl, inr, refl, sym, ◌∙◌, ap, append_assoc, length, subst, Some, slice_get, List, [], ◌∷◌, ◌++◌, Bool, false, cond, min, arith, filter, nat_lt, same_Some, no_none_some, Extent, Owned, In, Source, extents, EndBelow, IsByPlace, AreFound, filter_in, in_either, in_right, filter_past, IsPast, nat_tests, ltb-true, ltb-false}
+use Rattle.aggregator_rounds.proofs.Words.{◌≡◌, ℕ, ◌+◌, ◌^◌, ◌<◌, ◌≤◌, ◌⊎◌, inl, inr, refl, sym, ◌∙◌, ap, append_assoc, length, subst, Some, slice_get, List, [], ◌∷◌, ◌++◌, Bool, false, min, arith, filter, nat_lt, same_Some, no_none_some, Extent, Owned, In, Source, extents, EndBelow, IsByPlace, AreFound, filter_in, in_either, in_right, filter_past, IsPast, nat_tests, ltb-true, ltb-false}
 
 -- ---- what is gone
 
@@ -11,7 +11,7 @@ pub past_front : (place : ℕ) (front left : List Owned) → ((o : Owned) → In
 past_front place [] left h = past_none place left
 past_front place (o ∷ front) left h = inl (h o (inl refl), past_front place front left (λ p m. h p (inr m)))
 
-pub past_gone : (place : ℕ) (list rest : List Owned) (o : Owned) → o.extent.at + o.extent.len ≤ place → IsPast place (list ++ o ∷ rest) (list ++ rest)
+past_gone : (place : ℕ) (list rest : List Owned) (o : Owned) → o.extent.at + o.extent.len ≤ place → IsPast place (list ++ o ∷ rest) (list ++ rest)
 past_gone place [] rest o h = inl (h, past_none place rest)
 past_gone place (p ∷ list) rest o h = inr (list ++ rest, refl, past_gone place list rest o h)
 
@@ -35,10 +35,8 @@ past_later p q whole left l h = past_twice p q whole left left l h (past_none q 
 pub past_same : (test : Owned → Bool) (place : ℕ) (whole left : List Owned) → ((o : Owned) → o.extent.at + o.extent.len ≤ place → test o ≡ false) → IsPast place whole left
     → filter test whole ≡ filter test left
 past_same test place [] left out h = ap (λ (l : List Owned). filter test l) (sym h)
-past_same test place (o ∷ whole) left out (inl h) =
-    ap (λ (b : Bool). cond b (o ∷ filter test whole) (filter test whole)) (out o h.0) ∙ past_same test place whole left out h.1
-past_same test place (o ∷ whole) left out (inr h) =
-    ap (λ (l : List Owned). cond (test o) (o ∷ l) l) (past_same test place whole h.0 out h.2) ∙ ap (λ (l : List Owned). filter test l) (sym h.1)
+past_same test place (o ∷ whole) left out (inl h) = grind (arith, nat_tests, past_same test place whole left out h.1)
+past_same test place (o ∷ whole) left out (inr h) = grind (arith, nat_tests, past_same test place whole h.0 out h.2)
 
 -- ---- before anything was served
 
@@ -53,8 +51,7 @@ walk_begin list left all = subst (λ (l : List Owned). IsPast 0 list l) all (pas
 pub past_in : (place : ℕ) (whole left : List Owned) (o : Owned) → IsPast place whole left → In left o → In whole o
 past_in place [] left o h m = subst (λ (list : List Owned). In list o) h m
 past_in place (p ∷ whole) left o (inl h) m = inr (past_in place whole left o h.1 m)
-past_in place (p ∷ whole) left o (inr h) m =
-    elim (subst (λ (list : List Owned). In list o) h.1 m) [ inl e ↦ inl e | inr n ↦ inr (past_in place whole h.0 o h.2 n) ]
+past_in place (p ∷ whole) left o (inr h) m = grind (arith, nat_tests, past_in place whole h.0 o h.2)
 
 pub past_kept : (place : ℕ) (whole left : List Owned) (o : Owned) → IsPast place whole left → In whole o → place < o.extent.at + o.extent.len → In left o
 past_kept place [] left o h m l = absurd m
@@ -65,8 +62,7 @@ past_kept place (p ∷ whole) left o (inr h) (inr m) l = subst (λ (list : List 
 
 -- the first of those behind a list
 pub ahead_in : (place : ℕ) (whole list ahead rest : List Owned) (entry : Owned) → ahead ≡ entry ∷ rest → IsPast place whole (list ++ ahead) → In whole entry
-ahead_in place whole list ahead rest entry e h =
-    past_in place whole (list ++ ahead) entry h (in_right list ahead entry (subst (λ (l : List Owned). In l entry) (sym e) (inl refl)))
+ahead_in place whole list ahead rest entry e h = grind (arith, nat_tests, past_in, in_right)
 
 -- where nothing is left all end there
 pub past_all : (place : ℕ) (whole left : List Owned) (o : Owned) → left ≡ [] → IsPast place whole left → In whole o → o.extent.at + o.extent.len ≤ place
@@ -75,21 +71,17 @@ past_all place whole left o none h m = grind (arith, nat_tests, past_kept, ltb-t
 pub past_extents : (place : ℕ) (whole left : List Owned) (e : Extent) → IsPast place whole left → In (extents left) e → In (extents whole) e
 past_extents place [] left e h m = subst (λ (list : List Owned). In (extents list) e) h m
 past_extents place (p ∷ whole) left e (inl h) m = inr (past_extents place whole left e h.1 m)
-past_extents place (p ∷ whole) left e (inr h) m =
-    elim (subst (λ (list : List Owned). In (extents list) e) h.1 m) [ inl g ↦ inl g | inr n ↦ inr (past_extents place whole h.0 e h.2 n) ]
+past_extents place (p ∷ whole) left e (inr h) m = grind (arith, nat_tests, past_extents place whole h.0 e h.2)
 
 pub past_sorted : (place : ℕ) (whole left : List Owned) → IsByPlace (extents whole) → IsPast place whole left → IsByPlace (extents left)
 past_sorted place [] left s h = subst (λ (list : List Owned). IsByPlace (extents list)) (sym h) tt
 past_sorted place (o ∷ whole) left s (inl h) = past_sorted place whole left s.1 h.1
-past_sorted place (o ∷ whole) left s (inr h) =
-    subst (λ (list : List Owned). IsByPlace (extents list)) (sym h.1)
-    ((λ e m. s.0 e (past_extents place whole h.0 e h.2 m)), past_sorted place whole h.0 s.1 h.2)
+past_sorted place (o ∷ whole) left s (inr h) = grind (arith, nat_tests, past_extents place whole h.0, past_sorted place whole h.0 s.1 h.2)
 
 pub past_found : (source : Source) (place : ℕ) (whole left : List Owned) → AreFound source whole → IsPast place whole left → AreFound source left
 past_found source place [] left f h = subst (λ (list : List Owned). AreFound source list) (sym h) f
 past_found source place (o ∷ whole) left f (inl h) = past_found source place whole left f.1 h.1
-past_found source place (o ∷ whole) left f (inr h) =
-    subst (λ (list : List Owned). AreFound source list) (sym h.1) (f.0, past_found source place whole h.0 f.1 h.2)
+past_found source place (o ∷ whole) left f (inr h) = grind (arith, nat_tests, past_found source place whole h.0 f.1 h.2)
 
 -- ---- ends below 2 ^ 62
 
@@ -98,8 +90,7 @@ pub filter_ends : (place : ℕ) (list : List Owned) → EndBelow (2 ^ 62) (exten
 filter_ends place [] h = refl
 filter_ends place (o ∷ list) h =
     let end = h o.extent (inl refl) in
-    let same : min (o.extent.at + o.extent.len) 18446744073709551615 ≡ o.extent.at + o.extent.len = omega arith in
-    λ i. cond (nat_lt place (same i)) (o ∷ filter_ends place list (λ e m. h e (inr m)) i) (filter_ends place list (λ e m. h e (inr m)) i)
+    grind (arith, nat_tests, filter_ends place list, o.extent.at, o.extent.len)
 
 -- ---- one entry more that a walk has passed: it ends there, or is carried
 
@@ -119,9 +110,7 @@ passed_carried stop old carried now entry xs b o m = grind (arith, nat_tests, in
 
 pub kept_carried : (stop : ℕ) (old now : List Owned) → now ≡ filter_past stop old
     → (o : Owned) → In now o → (In old o ⊎ (o.extent.at < stop)) × (stop < o.extent.at + o.extent.len)
-kept_carried stop old now e o m =
-    let r = filter_in (λ (q : Owned). nat_lt stop (q.extent.at + q.extent.len)) old o (subst (λ (l : List Owned). In l o) e m) in
-    (inl r.0, ltb-true _ _ r.1)
+kept_carried stop old now e o m = grind (arith, nat_tests, filter_in)
 
 -- what was there in front of the others ends past the place, if nothing was carried then the first of those ahead does
 pub first_further : (stop : ℕ) (carried ahead : List Owned) (P : Owned → Type 0)
@@ -132,8 +121,7 @@ first_further stop (p ∷ carried) ahead P h k o e = subst (λ (q : Owned). stop
 
 pub first_ahead : (stop : ℕ) (ahead rest : List Owned) (entry : Owned) → ahead ≡ entry ∷ rest → stop < entry.extent.at + entry.extent.len
     → (o : Owned) → slice_get ahead 0 ≡ Some o → stop < o.extent.at + o.extent.len
-first_ahead stop ahead rest entry e h o g =
-    subst (λ (q : Owned). stop < q.extent.at + q.extent.len) (same_Some entry o (ap (λ (l : List Owned). slice_get l 0) (sym e) ∙ g)) h
+first_ahead stop ahead rest entry e h o g = grind (arith, nat_tests, slice_get)
 
 pub none_ahead : (stop : ℕ) (ahead : List Owned) → length ahead ≡ 0 → (o : Owned) → slice_get ahead 0 ≡ Some o → stop < o.extent.at + o.extent.len
 none_ahead stop [] e o g = no_none_some o g

@@ -1,5 +1,5 @@
 -- Entries of which a piece of the file was read: what their parts say, each byte once.
-use Rattle.aggregator_rounds.proofs.Words.{◌≡◌, ℕ, zero, suc, ◌+◌, ◌-◌, ◌<◌, ◌≤◌, inl, inr, refl, sym, ◌∙◌, ap, subst, List, [], ◌∷◌, take, drop, arith, map, enumerate_from, range_with_len, Owned, at, read, Cell, said_by, Says, IsOneValued, IsWithin, In, got_cell, says_left, says_right, says_cases, got_cells, places_of, part_at, part_in, buffer_cell, read_long, nat_tests}
+use Rattle.aggregator_rounds.proofs.Words.{◌≡◌, ℕ, zero, suc, ◌+◌, ◌-◌, ◌<◌, ◌≤◌, inl, inr, refl, ◌∙◌, ap, List, [], ◌∷◌, take, drop, arith, map, enumerate_from, range_with_len, Owned, at, read, Cell, said_by, Says, IsOneValued, IsWithin, In, got_cell, says_left, says_right, says_cases, got_cells, places_of, part_at, part_in, buffer_cell, read_long, nat_tests}
 
 -- ---- parts of bytes that were read
 
@@ -40,17 +40,13 @@ read_says file p a zero y v h = absurd h
 read_says file p a (suc m) y v (inl h) = grind (arith, nat_tests)
 read_says file p a (suc m) y v (inr h) =
     let r = read_says file (p + 1) (a + 1) m y v h in
-    let l = r.within in
-    let f = r.place in
     let e : a + suc r.index ≡ a + 1 + r.index = omega arith in
     record { index = suc r.index; within = omega arith; place = omega arith; byte = ap (λ (k : ℕ). at file k) e ∙ r.byte }
 
 says_read : (file : List ℕ) (p a m j y v : ℕ) → j < m → p + j ≡ y → at file (a + j) ≡ v → Says (enumerate_from p (read file a m)) y v
 says_read file p a zero j y v h e f = absurd (omega arith)
 says_read file p a (suc m) zero y v h e f = let g : a ≡ a + 0 = omega arith in inl (omega arith, ap (λ (k : ℕ). at file k) g ∙ f)
-says_read file p a (suc m) (suc j) y v h e f =
-    let g : a + 1 + j ≡ a + suc j = omega arith in
-    inr (says_read file (p + 1) (a + 1) m j y v (omega arith) (omega arith) (ap (λ (k : ℕ). at file k) g ∙ f))
+says_read file p a (suc m) (suc j) y v h e f = grind (arith, nat_tests, says_read file (p + 1) (a + 1) m j y v, at)
 
 module _ (base : ℕ) (file : List ℕ) (lo hi : ℕ) where
   -- what is read of an entry
@@ -60,20 +56,9 @@ module _ (base : ℕ) (file : List ℕ) (lo hi : ℕ) where
   one_read : (o : Owned) (y v : ℕ) → base ≤ o.extent.at → Says (bytes_of o) y v → IsRead base file lo hi (o ∷ []) y v
   one_read o y v on h =
       let r = read_says file (part_in lo hi o).from ((part_in lo hi o).extent.at - base) (part_in lo hi o).extent.len y v h in
-      let l = r.within in
       let f = r.place in
       let e : part_at lo hi o + r.index - base ≡ part_at lo hi o - base + r.index = omega arith in
-      record {
-        by = o;
-        inside = inl refl;
-        place = part_at lo hi o + r.index;
-        low = omega arith;
-        high = omega arith;
-        begin = omega arith;
-        end = omega arith;
-        from = omega arith;
-        byte = ap (λ (k : ℕ). at file k) e ∙ r.byte;
-      }
+      grind (arith, nat_tests, at, r.index, r.byte)
 
   -- the same between other places, of other entries, where they have the byte
   pub read_as : (from to : ℕ) (os more : List Owned) (y v : ℕ) (r : IsRead base file lo hi os y v) → from ≤ r.place → r.place < to → In more r.by → IsRead base file from to more y v
@@ -93,14 +78,10 @@ module _ (base : ℕ) (file : List ℕ) (lo hi : ℕ) where
   says_got_of : (os : List Owned) (o : Owned) (x y v : ℕ) → In os o → base ≤ o.extent.at → lo ≤ x → x < hi → o.extent.at ≤ x → x < o.extent.at + o.extent.len
       → o.from + (x - o.extent.at) ≡ y → at file (x - base) ≡ v → Says (said_by (parts_got base file lo hi os)) y v
   says_got_of [] o x y v m on l h b e f g = absurd m
-  says_got_of (p ∷ os) o x y v (inr m) on l h b e f g =
-      says_right (bytes_of p) (said_by (parts_got base file lo hi os)) y v (says_got_of os o x y v m on l h b e f g)
+  says_got_of (p ∷ os) o x y v (inr m) on l h b e f g = grind (arith, nat_tests, says_right, says_got_of os o x y v m on l h b e f g, parts_got)
   says_got_of (p ∷ os) o x y v (inl m) on l h b e f g =
       let k : part_at lo hi o - base + (x - part_at lo hi o) ≡ x - base = omega arith in
-      let here : Says (bytes_of o) y v =
-      says_read file (part_in lo hi o).from ((part_in lo hi o).extent.at - base) (part_in lo hi o).extent.len (x - part_at lo hi o) y v
-      (omega arith) (omega arith) (ap (λ (j : ℕ). at file j) k ∙ g) in
-      says_left (bytes_of p) (said_by (parts_got base file lo hi os)) y v (subst (λ (q : Owned). Says (bytes_of q) y v) (sym m) here)
+      grind (arith, nat_tests, says_read, at, says_left, bytes_of)
 
   pub says_got : (os : List Owned) (y v : ℕ) → ((o : Owned) → In os o → base ≤ o.extent.at) → IsRead base file lo hi os y v → Says (said_by (parts_got base file lo hi os)) y v
   says_got os y v on r = says_got_of os r.by r.place y v r.inside (on r.by r.inside) r.low r.high r.begin r.end r.from r.byte
@@ -121,11 +102,7 @@ pub read_once : (base : ℕ) (file : List ℕ) (lo hi : ℕ) (os : List Owned) �
     → IsOneValued (said_by (parts_got base file lo hi os))
 read_once base file lo hi os on once y v u h k =
     let r = got_says base file lo hi os y v on h in
-    let s = got_says base file lo hi os y u on k in
-    let same = once y r.place s.place
-    (subst (λ (z : ℕ). Says (places_of os) z r.place) r.from (place_said os r.by r.place r.inside r.begin r.end))
-    (subst (λ (z : ℕ). Says (places_of os) z s.place) s.from (place_said os s.by s.place s.inside s.begin s.end)) in
-    sym r.byte ∙ ap (λ (z : ℕ). at file (z - base)) same ∙ s.byte
+    grind (arith, nat_tests, got_says base file lo hi os y u on k, place_said os r.by r.place r.inside r.begin r.end, place_said os (got_says base file lo hi os y u on k).by (got_says base file lo hi os y u on k).place, at file, r.from, r.byte, places_of)
 
 -- ---- where parts lie in a blob, and parts that are whole
 
@@ -145,9 +122,7 @@ whole_parts place (o ∷ os) h = λ i. whole_part place o (h o (inl refl)) i ∷
 -- what is read of a file that begins at 0
 pub got_whole : (file : List ℕ) (list : List Owned) → got_cells 0 file list ≡ map (λ o. got_cell file o) list
 got_whole file [] = refl
-got_whole file (o ∷ list) =
-    let place : o.extent.at - 0 ≡ o.extent.at = omega arith in
-    λ i. (o.from, read file (place i) o.extent.len) ∷ got_whole file list i
+got_whole file (o ∷ list) = grind (arith, nat_tests, read file, got_whole file list)
 
 -- ---- a buffer that has the file's bytes
 

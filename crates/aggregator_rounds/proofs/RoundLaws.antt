@@ -3,19 +3,13 @@ use Rattle.aggregator_rounds.proofs.Words.{◌≡◌, ℕ, ◌+◌, ◌-◌, ◌
 
 pub got_read : (held : Option (List ℕ)) (buf : List ℕ) (x m n size : ℕ) → IfSome held (λ b. length b ≡ size) → m ≡ n → x + n ≤ size
     → IfSome held (λ file. buf ≡ take m (drop x file)) → IfSome held (λ file. buf ≡ read file x n)
-got_read None buf x m n size long e room h = tt
-got_read (Some file) buf x m n size long e room h = h ∙ ap (λ (k : ℕ). take k (drop x file)) e ∙ sym (read_slice file x n (omega arith))
+got_read held buf x m n size long e room h = grind (arith, nat_tests, read_slice)
 
 -- ---- cells seen from two places
 
-one_more : (x y : ℕ) (b : List ℕ) (r s : List Cell) → x ≡ y → r ≡ s → ◌≡◌ {A = List Cell} ((x, b) ∷ r) ((y, b) ∷ s)
-one_more x y b r s e f = λ i. (e i, b) ∷ f i
-
 lowered_twice : (from lo : ℕ) (cells : List Cell) → from ≤ lo → moved_down (lo - from) (moved_down from cells) ≡ moved_down lo cells
 lowered_twice from lo [] h = refl
-lowered_twice from lo (c ∷ cells) h =
-    let same : (c.0 - from) - (lo - from) ≡ c.0 - lo = omega arith in
-    one_more ((c.0 - from) - (lo - from)) (c.0 - lo) c.1 (moved_down (lo - from) (moved_down from cells)) (moved_down lo cells) same (lowered_twice from lo cells h)
+lowered_twice from lo (c ∷ cells) h = grind (arith, nat_tests, lowered_twice from lo cells h)
 
 from_lowered : (from lo : ℕ) (cells : List Cell) → IsFrom lo cells → IsFrom (lo - from) (moved_down from cells)
 from_lowered from lo [] h = tt
@@ -28,7 +22,7 @@ from_less from lo (c ∷ cells) l h = let a : lo ≤ c.0 = h.0 in (omega arith, 
 -- ---- the window
 
 -- a buffer that was read, or of which each byte has a piece, overlaid and written
-pub window_over : (full : Bool) (file buf : List ℕ) (from lo n : ℕ) (cells : List Cell) → length buf ≡ n → from ≤ lo → lo - from + n ≤ length file
+window_over : (full : Bool) (file buf : List ℕ) (from lo n : ℕ) (cells : List Cell) → length buf ≡ n → from ≤ lo → lo - from + n ≤ length file
     → IsFrom lo cells → IsWithin cells (lo + n)
     → (full ≡ true → (x : ℕ) → lo ≤ x → x < lo + n → HasPlace cells x)
     → (full ≡ false → buf ≡ read file (lo - from) n)
@@ -50,11 +44,6 @@ window_over full file buf from lo n cells long low room least most whole was_rea
         (sym none ∙ ap (λ (y : ℕ). said_at (said_by (moved_down from cells)) y) (sym place)
         ∙ moved_said from cells (x + from) (from_less from lo cells low least) (omega arith) ∙ has.1)
 
--- a write that was refused leaves each byte old or as the whole would have it
-between : (old left inner : List ℕ) (x : ℕ) (whole : List ℕ) → x + length inner ≤ length old → written old x inner ≡ whole → PartlyWritten x inner old left
-    → IsBetween old whole left
-between old left inner x whole room e h = grind (arith, nat_tests, length-written_inside)
-
 -- the calls of a window of which the write was refused
 pub window_begun : (full : Bool) (x n : ℕ) (old mid now : Option (List DiskCall)) → mid ≡ with_end old (if full then [] else load_calls (x, n, full)) → now ≡ mid
     → IsBegun (store_calls (x, n, full)) old now
@@ -69,8 +58,7 @@ pub window_told_by : (held mid now : Option (List ℕ)) (full : Bool) (buf inner
     → (full ≡ false → IfSome held (λ file. buf ≡ read file (lo - from) n))
     → now ≡ after (λ file. written file (lo - begin) inner) mid
     → now ≡ after (λ file. write_cells file (moved_down from cells)) held
-window_told_by None mid now full buf inner from begin lo n size cells e f i told long low room least most whole was_read h =
-    h ∙ ap (λ (m : Option (List ℕ)). after (λ file. written file (lo - begin) inner) m) f
+window_told_by None mid now full buf inner from begin lo n size cells e f i told long low room least most whole was_read h = grind (arith, nat_tests, written)
 window_told_by (Some file) mid now full buf inner from begin lo n size cells e f i told long low room least most whole was_read h =
     h ∙ (λ t. after (λ file. written file (lo - e t) (i t)) (f t)) ∙ ap Some (window_over full file buf from lo n cells long low (omega arith) least most whole was_read)
 
@@ -81,15 +69,6 @@ pub window_refused_by : (held mid left : Option (List ℕ)) (full : Bool) (buf i
     → (full ≡ false → IfSome held (λ file. buf ≡ read file (lo - from) n))
     → BothTold (PartlyWritten (lo - begin) inner) mid left
     → BothTold (λ old now. IsBetween old (write_cells old (moved_down from cells)) now) held left
-window_refused_by None mid left full buf inner from begin lo n size cells e f i told long low room least most whole was_read h =
-    subst (λ (m : Option (List ℕ)). BothTold (PartlyWritten (lo - begin) inner) m left) f h
+window_refused_by None mid left full buf inner from begin lo n size cells e f i told long low room least most whole was_read h = grind (arith, nat_tests)
 window_refused_by (Some file) mid left full buf inner from begin lo n size cells e f i told long low room least most whole was_read h =
-    let laid = write_cells buf (moved_down lo cells) in
-    let as_long : length laid ≡ length buf = cells_long (moved_down lo cells) buf (within_lowered lo (length buf) cells least (subst (λ (k : ℕ). IsWithin cells (lo + k)) (sym long) most)) in
-    let w = subst (λ (b : List ℕ). BothTold (PartlyWritten (lo - from) b) (Some file) left) i
-    (subst (λ (m : Option (List ℕ)). BothTold (PartlyWritten (lo - from) inner) m left) f (subst (λ (k : ℕ). BothTold (PartlyWritten (lo - k) inner) mid left) e h)) in (
-      w.0,
-      w.1,
-      between file w.0 laid (lo - from) (write_cells file (moved_down from cells)) (omega arith)
-          (window_over full file buf from lo n cells long low (omega arith) least most whole was_read) w.2,
-    )
+    grind (arith, nat_tests, cells_long (moved_down lo cells) buf, within_lowered lo (length buf) cells least, length-written_inside, window_over full file buf from lo n cells long low)

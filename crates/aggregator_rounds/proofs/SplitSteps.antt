@@ -46,8 +46,7 @@ before_or_later [] i d p l h m = absurd m
 before_or_later (o ∷ list) zero d p l h (inl e) = inr (omega (arith, ap (λ (q : Owned). q.extent.at) e))
 before_or_later (o ∷ list) zero d p l h (inr m) = inr (h.0 p.extent (in_extents list p m))
 before_or_later (o ∷ list) (suc i) d p l h (inl e) = inl (inl e)
-before_or_later (o ∷ list) (suc i) d p l h (inr m) =
-    elim (before_or_later list i d p (omega arith) h.1 m) [ inl g ↦ inl (inr g) | inr g ↦ inr g ]
+before_or_later (o ∷ list) (suc i) d p l h (inr m) = grind (arith, nat_tests, before_or_later list i d p)
 
 -- ---- the parts of a list
 
