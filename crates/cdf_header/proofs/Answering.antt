@@ -1,5 +1,5 @@
 -- Bytes have one answer.
-use Rattle.cdf_header.proofs.Words.{◌≡◌, ℕ, ◌+◌, ◌-◌, ◌≤◌, ◌^◌, List, [], ◌∷◌, ◌++◌, take, drop, length, true, Option, Some, None, refl, sym, ap, subst, ◌∙◌, length-append, arith, inl, inr, take-append-drop, length-take-le, append-nil, take-append_seam, take-append-add, leb-true, and_first, and_second, Header, HeaderErr, canon, header_len, Spells, HasFault, field_fault, is_writable, is_sound, canon_spelled, fault_only, spells_once, BeginsWith, none_of_test, nat_tests}
+use Rattle.cdf_header.proofs.Words.{◌≡◌, ℕ, ◌+◌, ◌-◌, ◌≤◌, ◌^◌, List, [], ◌∷◌, ◌++◌, take, drop, length, true, Option, Some, None, refl, sym, ap, ◌∙◌, length-append, arith, inl, inr, take-append-drop, length-take-le, append-nil, take-append_seam, take-append-add, and_first, and_second, Header, HeaderErr, canon, header_len, Spells, HasFault, field_fault, is_writable, canon_spelled, fault_only, spells_once, BeginsWith, none_of_test, nat_tests}
 use Rattle.cdf_header.proofs.Walks.{no_fault}
 
 no_some : {A : Type 0} (o : Option A) (x : A) → o ≡ None → o ≡ Some x → ⊥
@@ -32,11 +32,7 @@ cut_after : (t more : List ℕ) (n : ℕ) → length t ≤ n → (rest : List �
 cut_after t more n h = grind (arith, nat_tests, take-append-add t more (n - length t))
 
 pub begins_cut : (header : Header) (more : List ℕ) → is_writable header ≡ true → BeginsWith (take (2 ^ 20) (canon header ++ more)) header (header_len header)
-begins_cut header more is =
-    let sound : is_sound header ≡ true = and_first _ _ (and_first _ _ (and_first _ _ (and_first _ _ is))) in
-    let short : header_len header ≤ 2 ^ 20 = leb-true (header_len header) (2 ^ 20) (and_second _ _ (and_first _ _ sound)) in
-    let cut = cut_after (canon header) more (2 ^ 20) short in
-    subst (λ (t : List ℕ). BeginsWith t header (header_len header)) (sym cut.1) (begins_whole header cut.0 is)
+begins_cut header more is = grind (arith, nat_tests, and_first, and_second, cut_after (canon header) more (2 ^ 20), begins_whole header)
 
 nothing_more : (t more : List ℕ) → t ≡ t ++ more → more ≡ []
 nothing_more t [] e = refl
@@ -44,5 +40,4 @@ nothing_more t (x ∷ more) e = absurd (let l = ap (λ (s : List ℕ). length s)
 
 pub no_longer : (h k : Header) (bytes more : List ℕ) → Spells h bytes → Spells k (bytes ++ more) → more ≡ []
 no_longer h k bytes more p q =
-    let once = spells_once h k bytes (bytes ++ more) more [] p q (sym (append-nil (bytes ++ more))) in
-    nothing_more bytes more once.1
+    grind (arith, nat_tests, spells_once h k bytes (bytes ++ more) more [] p q (sym (append-nil (bytes ++ more))), nothing_more bytes more)

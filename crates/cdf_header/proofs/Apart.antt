@@ -1,5 +1,5 @@
 -- Spans that are seen to share no byte share none.
-use Rattle.cdf_header.proofs.Words.{Contains-append_left, Contains-push, ◌∙◌, ◌++◌, ◌≡◌, ℕ, ◌+◌, ◌<◌, ◌≤◌, min, List, [], ◌∷◌, Bool, true, false, None, length, get_or, drop, refl, sym, ap, subst, inl, inr, ◌⊎◌, arith, nat_lt, nat_le, All, AllPairs, Contains, cases_lt, le-ltb, le-leb, lt-leb, get_or_default, get_or-drop, length-drop, All-contains, All-head, All-tail, All-get_or, Contains-get_or, Span, fixed_meet, records_meet, share, partner, NoneShares, EndsBefore, EndsBeforeNext, AreApart, HasAll, AreSpans, nat_tests, cond}
+use Rattle.cdf_header.proofs.Words.{Contains-append_left, Contains-push, ◌∙◌, ◌++◌, ◌≡◌, ℕ, ◌+◌, ◌<◌, ◌≤◌, min, List, [], ◌∷◌, Bool, true, false, None, length, get_or, drop, refl, sym, ap, subst, inl, inr, ◌⊎◌, arith, nat_lt, nat_le, All, AllPairs, Contains, cases_lt, le-ltb, le-leb, lt-leb, get_or_default, get_or-drop, length-drop, All-contains, All-head, All-tail, All-get_or, Contains-get_or, Span, fixed_meet, records_meet, share, partner, NoneShares, EndsBefore, AreApart, HasAll, AreSpans, nat_tests, cond}
 use mathlib.Core.Bool.{beq}
 
 other_kind : (a b : Bool) → beq a b ≡ false → a ≡ b → ⊥
@@ -70,18 +70,12 @@ by_kinds : (n size : ℕ) (spans fixed records : List Span) (p q : Span) → Are
     → AreTwo n spans p q → (s t : Bool) → p.is_record ≡ s → q.is_record ≡ t
     → cond s (cond t (cond (nat_le p.begin q.begin) (records_meet size p q) (records_meet size q p)) (nat_lt p.begin q.end)) (cond t (nat_lt q.begin p.end) (fixed_meet p q)) ≡ false
 by_kinds n size spans fixed records p q clear has_fixed has_records two false false e f =
-    let here = All-contains (λ s. s.is_record ≡ false → Contains fixed s) spans p has_fixed two.in_p e in
-    let there = All-contains (λ s. s.is_record ≡ false → Contains fixed s) spans q has_fixed two.in_q f in
-    apart_fixed p q (ends_before n p q two.low (pair_of (EndsBefore n) fixed p q clear.fixed_apart here there two.differ))
+    grind (arith, nat_tests, apart_fixed p q, ends_before n p q two.low, pair_of (EndsBefore n) fixed p q clear.fixed_apart)
 by_kinds n size spans fixed records p q clear has_fixed has_records two false true e f = grind (arith, nat_tests, low_left n p.number q.number two.low, le-ltb)
 by_kinds n size spans fixed records p q clear has_fixed has_records two true false e f = grind (arith, nat_tests, low_right n p.number q.number two.low, le-ltb)
 by_kinds n size spans fixed records p q clear has_fixed has_records two true true e f =
     let here = All-contains (λ s. s.is_record ≡ true → Contains records s) spans p has_records two.in_p e in
-    let there = All-contains (λ s. s.is_record ≡ true → Contains records s) spans q has_records two.in_q f in
-    let next = All-contains (λ s. EndsBeforeNext n size p s) records q (All-contains (λ r. All (λ s. EndsBeforeNext n size r s) records) records p clear.next_apart here) there in
-    let other = All-contains (λ s. EndsBeforeNext n size q s) records p (All-contains (λ r. All (λ s. EndsBeforeNext n size r s) records) records q clear.next_apart there) here in
-    record_pair size p q two.filled_p two.filled_q (ends_before n p q two.low (pair_of (EndsBefore n) records p q clear.records_apart here there two.differ))
-    (next (low_left n p.number q.number two.low)) (other (low_right n p.number q.number two.low))
+    grind (arith, nat_tests, record_pair size p q two.filled_p two.filled_q, ends_before n p q two.low, pair_of (EndsBefore n) records p q clear.records_apart here, low_left n p.number q.number two.low, low_right n p.number q.number two.low)
 
 pub apart : (n size : ℕ) (spans fixed records : List Span) (p q : Span) → AreApart n size fixed records → HasAll false spans fixed → HasAll true spans records
     → AreTwo n spans p q → share size p q ≡ false

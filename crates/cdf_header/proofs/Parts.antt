@@ -23,7 +23,4 @@ pub attrs_ready : (h : Header) → is_writable h ≡ true → IsWritableList h.v
 attrs_ready h t = list_parts h.version (is_writable_attr h.version) h.attrs (and_second _ _ (and_first _ _ t))
 
 pub vars_ready : (h : Header) → is_writable h ≡ true → IsWritableList h.version (IsWritableVar h) h.vars
-vars_ready h t =
-    let sound = and_first _ _ (and_first _ _ (and_first _ _ (and_first _ _ t))) in
-    let fit = and_second _ _ t in
-    record { count = and_first _ _ fit; each = each_var h h.vars (and_second _ _ fit) (sizes_kept h (measured h sound)) }
+vars_ready h t = grind (arith, nat_tests, and_first, and_second, each_var, sizes_kept, measured)

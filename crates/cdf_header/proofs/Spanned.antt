@@ -44,9 +44,7 @@ some_bytes header v h = grind (arith, nat_tests, product-pos, inner-pos, size_po
 
 filled : (header : Header) (k n : ℕ) (vs : List Var) → position_from (record_later header) n vs ≡ None → AllByRecursion (λ s. s.begin < s.end) (spans_of header k vs)
 filled header k n [] h = tt
-filled header k n (v ∷ vs) h =
-    let p = told_else (record_later header v) n (position_from (record_later header) (n + 1) vs) h in
-    (some_bytes header v p.0, filled header (suc k) (n + 1) vs p.1)
+filled header k n (v ∷ vs) h = grind (arith, nat_tests, told_else, some_bytes, filled header (suc k) (n + 1) vs, spans_of)
 
 pub are_spans : (header : Header) → position (record_later header) header.vars ≡ None → AreSpans (spans_of header 0 header.vars)
 are_spans header h = record {

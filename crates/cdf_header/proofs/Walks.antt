@@ -1,5 +1,5 @@
 -- Over what is written of a header the grammar asks for right fields only.
-use Rattle.cdf_header.proofs.Words.{◌≡◌, ℕ, ◌+◌, ◌-◌, ◌*◌, ◌^◌, ◌≤◌, ◌<◌, List, [], ◌∷◌, ◌++◌, take, drop, length, Bool, true, false, cond, Some, None, refl, sym, ap, subst, ◌∙◌, append_assoc, length-append, arith, ◌==◌, ◌||◌, ◌&&◌, not, nat_lt, nat_le, replicate, list_all, w32, w64, byte_len, to_be_bytes, from_be_bytes, drop-append_seam, take-append_seam, length-drop, length-replicate, drop-drop, from_be_bytes-to_be_bytes_4, from_be_bytes-to_be_bytes_8, ltb-true, eqb-true, le-ltb, leb-true, width_long, and_first, and_second, all_three, equal_itself, Header, Dim, Attr, Var, NcType, HeaderErr, most_dims, most_vars, most_dims_of_var, file_limit, size_of, round_up, vsize, number_of, is_version, count, tag, name, padded, list_of, dimension, attribute, variable, magic, canon, count_width, begin_width, Field, Magic, Records, Tag, Count, NameLength, Block, DimLength, AttrType, AttrCount, DimCount, DimId, VarType, Vsize, Begin, Entries, Dimensions, Attributes, Variables, Ids, Ask, One, Many, Run, stands, takes, asked, the_header, first_field, other_fields, many, block, most_of, tag_of, type_size, bad_type, version_of, fault_if, wrong, wrong_at, after_field, field_number, field_len, big_endian, field_fault, is_type, fits_field, fits_count, is_writable, is_writable_dim, is_writable_attr, is_writable_list, is_writable_var, run_on, run_whole, len_pos, known_version, nat_tests, flat_map}
+use Rattle.cdf_header.proofs.Words.{◌≡◌, ℕ, ◌+◌, ◌-◌, ◌*◌, ◌^◌, ◌≤◌, ◌<◌, List, [], ◌∷◌, ◌++◌, take, drop, length, Bool, true, false, cond, Some, None, refl, sym, ap, subst, ◌∙◌, append_assoc, length-append, arith, ◌==◌, ◌||◌, ◌&&◌, not, nat_lt, nat_le, replicate, list_all, w32, w64, byte_len, to_be_bytes, from_be_bytes, drop-append_seam, take-append_seam, length-drop, length-replicate, drop-drop, from_be_bytes-to_be_bytes_4, from_be_bytes-to_be_bytes_8, ltb-true, eqb-true, le-ltb, leb-true, width_long, and_first, and_second, all_three, equal_itself, Header, Dim, Attr, Var, NcType, HeaderErr, most_dims, most_vars, most_dims_of_var, size_of, round_up, vsize, number_of, is_version, count, tag, name, padded, list_of, dimension, attribute, variable, magic, canon, count_width, begin_width, Field, Magic, Records, Tag, Count, NameLength, Block, DimLength, AttrType, AttrCount, DimCount, DimId, VarType, Vsize, Begin, Entries, Dimensions, Attributes, Variables, Ids, Ask, One, Many, Run, stands, takes, asked, the_header, first_field, other_fields, many, block, most_of, tag_of, type_size, bad_type, version_of, fault_if, wrong, wrong_at, after_field, field_number, field_len, big_endian, field_fault, is_type, fits_field, fits_count, is_writable, is_writable_dim, is_writable_attr, is_writable_list, is_writable_var, run_on, run_whole, len_pos, known_version, nat_tests, flat_map}
 use Rattle.nc_base.specs.declared.errors.HeaderErr.TheVariants as fault
 use Rattle.cdf_header.proofs.Pieces.{AtMost, above_none}
 
@@ -71,21 +71,13 @@ number_walk : (v n : ℕ) (asks rest later : List Ask) (f : Field) → asked ask
     → ((b : List ℕ) (x : ℕ) → field_number v f b x ≡ big_endian (take (field_len v f) (drop x b)))
     → fits_count v n ≡ true → ((x : ℕ) → wrong v f x n ≡ None) → (after_field f n ++ rest) ≡ later → Walk v asks later (count v n)
 number_walk v n asks rest later f a wide read fits fine after =
-    let known = back_by (v == 5) n fits in
-    walk_field v asks rest later f (count v n) a (known.1 ∙ sym wide)
-    (λ b x here.
-    let is : field_number v f b x ≡ n = read b x ∙ ap (λ (t : List ℕ). big_endian t) here ∙ known.0 in
-    (subst (λ (k : ℕ). wrong v f x k ≡ None) (sym is) (fine x), subst (λ (k : ℕ). (after_field f k ++ rest) ≡ later) (sym is) after))
+    grind (arith, nat_tests, back_by (v == 5) n fits, walk_field v asks rest later f (count v n) a ((back_by (v == 5) n fits).1 ∙ sym wide))
 
 -- a tag or a type
 word_walk : (v n : ℕ) (asks rest later : List Ask) (f : Field) → asked asks ≡ Some (f, rest) → field_len v f ≡ 4
     → ((b : List ℕ) (x : ℕ) → field_number v f b x ≡ big_endian (take (field_len v f) (drop x b)))
     → n < 2 ^ 32 → ((x : ℕ) → wrong v f x n ≡ None) → (after_field f n ++ rest) ≡ later → Walk v asks later (tag n)
-word_walk v n asks rest later f a wide read small fine after =
-    walk_field v asks rest later f (tag n) a (sym wide)
-    (λ b x here.
-    let is : field_number v f b x ≡ n = read b x ∙ ap (λ (t : List ℕ). big_endian t) here ∙ back_4 n small in
-    (subst (λ (k : ℕ). wrong v f x k ≡ None) (sym is) (fine x), subst (λ (k : ℕ). (after_field f k ++ rest) ≡ later) (sym is) after))
+word_walk v n asks rest later f a wide read small fine after = grind (arith, nat_tests, walk_field v asks rest later f (tag n) a (sym wide), back_4 n small)
 
 -- ---- names and blocks
 
@@ -97,8 +89,7 @@ padded_long t = length-append t (replicate (round_up 4 (length t) - length t) 0)
 
 block_walk : (v : ℕ) (t : List ℕ) (rest : List Ask) → Walk v (block (length t) ++ rest) rest (padded t)
 block_walk v [] rest = nothing v rest
-block_walk v (c ∷ t) rest =
-    walk_field v (One (Block (length t)) ∷ rest) rest rest (Block (length t)) (padded (c ∷ t)) refl (padded_long (c ∷ t)) (λ b x here. (refl, refl))
+block_walk v (c ∷ t) rest = grind (arith, nat_tests, walk_field v (One (Block (length t)) ∷ rest) rest rest (Block (length t)) (padded (c ∷ t)), padded_long (c ∷ t))
 
 name_walk : (v : ℕ) (n : List ℕ) (asks rest : List Ask) → asked asks ≡ Some (NameLength, rest) → fits_count v (length n) ≡ true → Walk v asks rest (name v n)
 name_walk v n asks rest a fits =
@@ -111,9 +102,7 @@ name_walk v n asks rest a fits =
 dim_walk : (v : ℕ) (d : Dim) (asks rest : List Ask) → asked asks ≡ Some (NameLength, One DimLength ∷ rest) → is_writable_dim v d ≡ true → Walk v asks rest (dimension v d)
 dim_walk v d asks rest a h =
     let fits : fits_count v d.len ≡ true = and_second _ _ (and_first _ _ h) in
-    let few : nat_lt file_limit d.len ≡ false = leb-true d.len file_limit (and_second _ _ h) in
-    walk_then v asks (One DimLength ∷ rest) rest (name v d.name) (count v d.len) (name_walk v d.name asks (One DimLength ∷ rest) a (and_first _ _ (and_first _ _ h)))
-    (number_walk v d.len (One DimLength ∷ rest) rest rest DimLength refl refl (λ b x. refl) fits (λ x. rw (not_negative _ _ fits, few) refl) refl)
+    grind (arith, nat_tests, and_second, walk_then v asks (One DimLength ∷ rest) rest (name v d.name) (count v d.len), name_walk v d.name asks (One DimLength ∷ rest) a, and_first, number_walk v d.len (One DimLength ∷ rest) rest rest DimLength, not_negative)
   where
     leb-true : (n m : ℕ) → nat_le n m ≡ true → nat_lt m n ≡ false
     leb-true n m k = grind arith
@@ -196,11 +185,7 @@ id_walk v id fits asks rest a = number_walk v id asks rest rest DimId a refl (λ
 
 begin_walk : (v n : ℕ) (rest : List Ask) → fits_field (begin_width v) n ≡ true → Walk v (One Begin ∷ rest) rest (to_be_bytes (begin_width v) n)
 begin_walk v n rest fits =
-    let known = back_begin (v == 1) n fits in
-    walk_field v (One Begin ∷ rest) rest rest Begin (to_be_bytes (begin_width v) n) refl known.1
-    (λ b x here.
-    let is : field_number v Begin b x ≡ n = ap (λ (t : List ℕ). big_endian t) here ∙ known.0 in
-    (subst (λ (k : ℕ). wrong v Begin x k ≡ None) (sym is) (rw (not_negative _ _ fits) refl), refl))
+    grind (arith, nat_tests, back_begin (v == 1) n fits, walk_field v (One Begin ∷ rest) rest rest Begin (to_be_bytes (begin_width v) n), not_negative)
 
 var_walk : (h : Header) (v : Var) → is_writable_var h v ≡ true → nat_le (length v.dims) most_dims_of_var ≡ true → WalksEntry h.version Variables (λ w. variable h w) v
 var_walk h v is few asks rest a =
@@ -246,13 +231,7 @@ version_cases : (v : ℕ) (P : ℕ → Type 0) → P 1 → P 2 → P 5 → is_ve
 version_cases v P a b c h = grind (arith, nat_tests, eqb-true)
 
 magic_walk : (v : ℕ) (rest : List Ask) → is_version v ≡ true → Walk v (One Magic ∷ rest) rest (magic v)
-magic_walk v rest known =
-    walk_field v (One Magic ∷ rest) rest rest Magic (magic v) refl refl
-    (λ b x here. (
-      subst (λ (t : List ℕ). wrong v Magic x (big_endian t) ≡ None) (sym here)
-          (version_cases v (λ w. wrong w Magic x (big_endian (magic w)) ≡ None) refl refl refl known),
-      refl,
-    ))
+magic_walk v rest known = grind (arith, nat_tests, walk_field v (One Magic ∷ rest) rest rest Magic (magic v), version_cases v)
 
 records_walk : (v n : ℕ) (rest : List Ask) → fits_count v n ≡ true → Walk v (One Records ∷ rest) rest (count v n)
 records_walk v n rest fits = number_walk v n (One Records ∷ rest) rest rest Records refl refl (λ b x. refl) fits (λ x. rw (not_negative _ _ fits) refl) refl

@@ -24,5 +24,4 @@ fields_written header o p q r s t f g h i j =
     let first = magic v ++ count v header.records in
     let dims = list_of v 10 (λ d. dimension v d) header.dims in
     let attrs = list_of v 12 (λ a. attribute v a) header.attrs in
-    then_append o s t (first ++ dims ++ attrs) (list_of v 11 (λ w. variable header w) header.vars)
-    (then_append o r s (first ++ dims) attrs (then_append o q r first dims (then_append o p q (magic v) (count v header.records) f g) h) i) j
+    grind (arith, nat_tests, then_append o s t (first ++ dims ++ attrs), then_append o r s (first ++ dims) attrs, then_append o q r first dims (then_append o p q (magic v) (count v header.records) f g) h, then_append o p q (magic v) (count v header.records) f g)
