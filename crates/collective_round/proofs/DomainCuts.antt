@@ -1,11 +1,11 @@
 -- The domains so far adjoin, and have the bytes of the shares so far.
-use Rattle.collective_round.proofs.Words.{◌≡◌, ℕ, ◌+◌, ◌-◌, ◌*◌, ◌/◌, ◌^◌, ◌<◌, ◌≤◌, inl, inr, refl, sym, ◌∙◌, ap, List, [], ◌∷◌, ◌++◌, length, map, true, Some, arith, append-nil, flat_map_more, length_push, map-append, leb-true, mul-le, same_Some, mul_comm, filter, flat_map, ◌==◌, range_with_len, no_none_some, Extent, Hints, first_of, last_of, windows, collective_windows, are_lawful_hints, In, EndBelow, end_after, first_at, told_of, IsCover, spans, hull_told, spans_ascend, filter_in, ceil_covers, first_least, in_left, in_range, last_most, filter_none, windows_walked, border, low_of, share_of, bytes_in, turns_of, Told, begin_or, Adjoin, AreDomains, nat_tests, ltb-true, slice_get}
+use Rattle.collective_round.proofs.Words.{◌≡◌, ℕ, ◌+◌, ◌-◌, ◌/◌, ◌^◌, ◌<◌, ◌≤◌, inl, inr, refl, sym, ◌∙◌, ap, List, [], ◌∷◌, ◌++◌, length, map, true, Some, arith, append-nil, flat_map_more, length_push, map-append, leb-true, same_Some, filter, flat_map, ◌==◌, range_with_len, no_none_some, Extent, Hints, first_of, last_of, windows, collective_windows, are_lawful_hints, In, EndBelow, end_after, first_at, told_of, IsCover, spans, hull_told, spans_ascend, filter_in, ceil_covers, first_least, in_left, in_range, last_most, filter_none, windows_walked, border, low_of, share_of, bytes_in, turns_of, Told, begin_or, Adjoin, AreDomains, nat_tests, ltb-true, slice_get}
 use Rattle.collective_round.proofs.DomainSteps.{collective_is, in_range_hints, same_domains}
 use Rattle.list_laws.proofs.Ranges.{range_next}
 
 -- ---- domains that adjoin
 
-pub adjoin_more : (domains : List Extent) (d : Extent) (n : ℕ) → Adjoin domains → 1 ≤ d.len → end_after n domains ≡ d.at → Adjoin (domains ++ d ∷ [])
+adjoin_more : (domains : List Extent) (d : Extent) (n : ℕ) → Adjoin domains → 1 ≤ d.len → end_after n domains ≡ d.at → Adjoin (domains ++ d ∷ [])
 adjoin_more [] d n h l e = (l, refl, tt)
 adjoin_more (c ∷ []) d n h l e = (h.0, sym e, (l, refl, tt))
 adjoin_more (c ∷ b ∷ domains) d n h l e = (h.0, h.1, adjoin_more (b ∷ domains) d (c.at + c.len) h.2 l e)
@@ -15,14 +15,13 @@ end_more [] d n = refl
 end_more (c ∷ domains) d n = end_more domains d (c.at + c.len)
 
 begin_more : (domains : List Extent) (d : Extent) (m n lo : ℕ) → begin_or m domains ≡ lo → d.at ≡ m → begin_or n (domains ++ d ∷ []) ≡ lo
-begin_more [] d m n lo h e = e ∙ h
-begin_more (c ∷ domains) d m n lo h e = h
+begin_more domains d m n lo h e = grind (arith, nat_tests)
 
 pub end_grows : (domains : List Extent) (n : ℕ) → Adjoin domains → begin_or n domains ≤ end_after n domains
 end_grows [] n h = omega arith
 end_grows (d ∷ domains) n h = let rest = end_grows domains (d.at + d.len) h.2 in let next = h.1 in omega arith
 
-pub ends_within : (domains : List Extent) (n : ℕ) (e : Extent) → Adjoin domains → In domains e → e.at + e.len ≤ end_after n domains
+ends_within : (domains : List Extent) (n : ℕ) (e : Extent) → Adjoin domains → In domains e → e.at + e.len ≤ end_after n domains
 ends_within [] n e h m = absurd m
 ends_within (d ∷ domains) n e h (inl same) = grind (arith, nat_tests, end_grows domains (d.at + d.len) h.2)
 ends_within (d ∷ domains) n e h (inr m) = ends_within domains (d.at + d.len) e h.2 m
@@ -96,15 +95,7 @@ cut_none lo hi nodes unit size cover a domains d s h begin end bytes none =
 
 -- the last share ends at the end
 pub last_border : (lo hi nodes unit : ℕ) → lo ≤ hi → 1 ≤ nodes → 1 ≤ unit → border lo hi nodes unit nodes ≡ hi
-last_border lo hi nodes unit order h u =
-    let n = hi - low_of lo unit in
-    let c = (n + (nodes - 1)) / nodes in
-    let s = share_of lo hi nodes unit in
-    let covers : n ≤ c * nodes = ceil_covers n nodes h in
-    let rounded : c ≤ (c + (unit - 1)) / unit * unit = ceil_covers c unit u in
-    let grown : c * nodes ≤ s * nodes = mul-le c nodes s nodes (omega arith) (omega arith) in
-    let turned : s * nodes ≡ nodes * s = mul_comm s nodes in
-    omega arith
+last_border lo hi nodes unit order h u = grind (arith, nat_tests, ceil_covers, border)
 
 pub cut_domains : (lo hi nodes unit size : ℕ) (cover domains : List Extent) → lo ≤ hi → 1 ≤ nodes → 1 ≤ unit → lo ≡ first_at cover → hi ≡ end_after 0 cover
     → AreCut lo hi nodes unit size cover nodes domains → AreDomains cover domains
@@ -112,15 +103,10 @@ cut_domains lo hi nodes unit size cover domains order n u first last h = grind (
 
 -- ---- from the first covered byte to the last
 
-pub cover_reach : (cover : List Extent) → IsCover cover → (first_at cover ≡ first_of (spans cover)) × (1 ≤ length cover → end_after 0 cover ≡ last_of (spans cover) + 1)
+cover_reach : (cover : List Extent) → IsCover cover → (first_at cover ≡ first_of (spans cover)) × (1 ≤ length cover → end_after 0 cover ≡ last_of (spans cover) + 1)
 cover_reach [] h = (refl, λ some. absurd (omega arith))
 cover_reach (c ∷ cover) h =
-    let told = hull_told c cover h in
-    let begin : first_of (spans (c ∷ cover)) ≡ c.at = ap (λ (t : Told). t.0) told in
-    let long : last_of (spans (c ∷ cover)) + 1 - first_of (spans (c ∷ cover)) ≡ end_after 0 (c ∷ cover) - c.at = ap (λ (t : Told). t.1) told in
-    let len = h.0 in
-    let most = last_most (spans (c ∷ cover)) c.at (in_left (range_with_len c.at c.len) (spans cover) c.at (in_range c.at c.len c.at (omega arith) (omega arith))) in
-    (sym begin, λ some. omega arith)
+    grind (arith, nat_tests, hull_told c cover h, last_most (spans (c ∷ cover)) c.at, in_left (range_with_len c.at c.len) (spans cover) c.at, in_range c.at c.len c.at)
 
 -- each covered byte lies from the first covered byte to the last
 pub within_reach : (cover : List Extent) (x : ℕ) → IsCover cover → In (spans cover) x → (first_at cover ≤ x) × (x < end_after 0 cover)
@@ -134,10 +120,7 @@ pub reach_is : (cover : List Extent) (first last : Extent) → IsCover cover →
     → (first.at ≡ first_at cover) × (last.at + last.len ≡ end_after 0 cover) × (first_at cover ≤ end_after 0 cover)
 reach_is [] first last h e f = no_none_some first e
 reach_is (c ∷ cover) first last h e f =
-    let index : length cover ≡ length (c ∷ cover) - 1 = omega arith in
-    let len = h.0 in
-    let inside = (within_reach (c ∷ cover) c.at h (in_left (range_with_len c.at c.len) (spans cover) c.at (in_range c.at c.len c.at (omega arith) (omega arith)))).1 in
-    (ap (λ (z : Extent). z.at) (sym (same_Some c first e)), sym (last_ends 0 c cover last (ap (λ (k : ℕ). slice_get (c ∷ cover) k) index ∙ f)), omega arith)
+    grind (arith, nat_tests, within_reach (c ∷ cover) c.at h, in_left (range_with_len c.at c.len) (spans cover) c.at, in_range c.at c.len c.at, last_ends 0 c cover last)
 
 -- ---- the windows
 
@@ -146,8 +129,4 @@ pub cut_windows : (hints : Hints) (lo hi : ℕ) (cover domains : List Extent) �
     → flat_map (λ d. turns_of hints.cb_buffer d cover) domains ≡ map told_of (collective_windows hints (spans cover))
 cut_windows hints lo hi cover domains lawful h first last cut =
     let range = in_range_hints hints lawful in
-    let reach = cover_reach cover h in
-    cut.windows
-    ∙ ap (λ (ws : List (List ℕ)). map told_of ws)
-    (same_domains cover hints.cb_buffer hints.cb_nodes hints.striping_unit lo hi (first ∙ reach.0) (λ some. last ∙ reach.1 some)
-    ∙ sym (collective_is hints (spans cover) range.buffer.0))
+    grind (arith, nat_tests, cover_reach cover h, same_domains cover hints.cb_buffer hints.cb_nodes hints.striping_unit lo hi (first ∙ (cover_reach cover h).0), collective_is hints (spans cover) range.buffer.0, cut.windows)

@@ -1,5 +1,5 @@
 -- Entries that say one value of each byte.
-use Rattle.collective_round.proofs.Words.{◌≡◌, ℕ, ◌∙◌, ap, inl, inr, refl, subst, sym, List, [], ◌∷◌, map, enumerate_from, Owned, Source, cell_of, In, AreFound, IsOnceEach, IsResolved, byte_at, origins, says_moved, in_map, map_in, cells_by_origins, greatest_once, Cell, IsOneValued, Says, said_by}
+use Rattle.collective_round.proofs.Words.{◌≡◌, ℕ, inl, inr, refl, subst, List, [], ◌∷◌, map, enumerate_from, Owned, Source, cell_of, In, AreFound, IsOnceEach, IsResolved, byte_at, origins, says_moved, in_map, map_in, cells_by_origins, greatest_once, Cell, IsOneValued, Says, said_by, arith, nat_tests}
 
 -- so do those of a list with nothing more
 pub one_moved : (cell : Owned → Cell) (xs ys : List Owned) → ((o : Owned) → In ys o → In xs o) → IsOneValued (said_by (map cell xs)) → IsOneValued (said_by (map cell ys))
@@ -21,6 +21,4 @@ pub resolved_one : (source : Source) (list result : List Owned) → IsOnceEach (
     → IsOneValued (said_by (map (λ o. cell_of source o) result))
 resolved_one source list result once resolved found x v w a b =
     let cells = cells_by_origins source result found in
-    let p = mapped_says (byte_at source) (origins result) x v (subst (λ ps. Says ps x v) cells a) in
-    let q = mapped_says (byte_at source) (origins result) x w (subst (λ ps. Says ps x w) cells b) in
-    sym p.2 ∙ ap (byte_at source) (greatest_once (origins list) once x p.0 q.0 (resolved.0 x p.0 p.1) (resolved.0 x q.0 q.1)) ∙ q.2
+    grind (arith, nat_tests, mapped_says (byte_at source) (origins result) x v, mapped_says (byte_at source) (origins result) x w, greatest_once (origins list) once x, resolved.0)

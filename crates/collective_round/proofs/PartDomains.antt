@@ -101,13 +101,7 @@ module _ (list : List Owned) (cover domains : List Extent) (len : ℕ) (a : AreO
       → (x : ℕ) → IsCovered list x → (part : D) × In parts part × ((state part).from ≤ x) × (x < (state part).from + (state part).len)
   on_some_part {D} state disk parts long are x covered =
       let inside = covered_in x covered in
-      let reach = within_reach cover x a.covers inside in
-      let high = reach.1 in
-      let end = a.div.end in
-      let room = ends_there in
-      let found = place_on disk domains (first_at cover) x a.div.line (omega arith) (begins_first disk.len x inside) (omega arith) in
-      let of = map_in state parts found.part (subst (λ (ps : List PartState). In ps found.part) (sym are) found.inside) in
-      (of.0, of.1, subst (λ (p : PartState). p.from ≤ x) (sym of.2) found.low, subst (λ (p : PartState). x < p.from + p.len) (sym of.2) found.high)
+      grind (arith, nat_tests, within_reach cover x a.covers inside, ends_there, place_on disk domains (first_at cover) x a.div.line, first_at cover, begins_first disk.len x inside, map_in state parts, a.div.end)
 
 -- ---- what is said of parts is said of their states
 

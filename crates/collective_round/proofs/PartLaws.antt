@@ -50,7 +50,6 @@ told_all : (S : ℕ → ℕ → ℕ → Type 0) (n : ℕ) (held now : Option (Li
     → BothTold (λ file left. AreBytes S 0 (take n file) left) held now → BothTold (AreBytes S 0) held now
 told_all S n None now long h = h
 told_all S n (Some file) now long h =
-    let whole : length file ≡ n = long in
     (h.0, h.1, subst (λ (bytes : List ℕ). AreBytes S 0 bytes h.0) (take_all n file (omega arith)) h.2)
 
 -- bytes that are the old ones
@@ -58,8 +57,7 @@ abbrev pub IsOld : ℕ → ℕ → ℕ → Type 0
 IsOld x old new = new ≡ old
 
 pub told_kept : (base : ℕ) (held now : Option (List ℕ)) → now ≡ held → BothTold (AreBytes IsOld base) held now
-told_kept base None now e = e
-told_kept base (Some file) now e = (file, e, record { len = refl; each = λ y x same l. refl })
+told_kept base held now e = grind (arith, nat_tests)
 
 pub kept_told : (held now : Option (List ℕ)) → BothTold (AreBytes IsOld 0) held now → now ≡ held
 kept_told None now h = h
@@ -103,11 +101,7 @@ module _ (disk : PartState) where
   len_from : (front : PartState) (domains : List Extent) (news : List PartState) (m : ℕ) → front.len ≡ begin_or disk.len domains → Adjoin domains → end_after m domains ≤ disk.len
       → OfEach disk domains InPlace news → (with_parts front news).len ≡ disk.len
   len_from front [] [] m e line room h = e
-  len_from front (d ∷ rest) (n ∷ news) m e line room h =
-      let next = next_begin d rest m disk.len line room in
-      let low = next.0 in
-      let long : n.len ≡ begin_or disk.len rest - d.at = h.0.len in
-      len_from (with_part front n) rest news (d.at + d.len) (omega arith) line.2 room h.1
+  len_from front (d ∷ rest) (n ∷ news) m e line room h = grind (arith, nat_tests, next_begin, len_from (with_part front n) rest news (d.at + d.len), with_parts)
   len_from front _ _ m e line room h = absurd h
 
   calls_from : (front : PartState) (calls : Extent → List DiskCall) (domains : List Extent) (news : List PartState) (done : List DiskCall) → front.calls ≡ with_end disk.calls done
@@ -124,9 +118,7 @@ module _ (disk : PartState) where
   told_from S front [] [] m line room long h k = told_all S disk.len disk.held front.held long h
   told_from S front (d ∷ rest) (n ∷ news) m line room long h k =
       let next = next_begin d rest m disk.len line room in
-      let low = next.0 in
-      told_from S (with_part front n) rest news (d.at + d.len) line.2 room long
-      (told_more S d.at (begin_or disk.len rest) disk.len disk.held front.held n.held (omega arith) next.1 long h k.0) k.1
+      grind (arith, nat_tests, told_from S (with_part front n) rest news (d.at + d.len) line.2 room long, told_more S d.at (begin_or disk.len rest) disk.len disk.held front.held n.held, next.0, next.1, k.0, k.1)
   told_from S front _ _ m line room long h k = absurd k
 
   rose_from : (before : ℕ) (front : PartState) (domains : List Extent) (news : List PartState) → min before (2 ^ 64 - 1) ≤ front.faults
@@ -152,14 +144,8 @@ split_from state disk front domains parts states end begin line room s are = rec
 pub all_cause : {D T : Type 0} (state : D → PartState) (disk front new : PartState) (domains : List Extent) (parts news : List D) (end : Result T StepErr) → AreSplit state disk front domains parts
     → disk.faults < 2 ^ 64 → disk.faults ≤ front.faults → (IsErrOf end Disk → SomeZip (λ old new. Rose (state old).faults (state new).faults) parts news) → new ≡ with_parts front (map state news)
     → HasDiskCause disk.faults new.faults end
-all_cause state disk front new domains parts news end s counted later failed back = record {
-  later = subst (λ (p : PartState). disk.faults ≤ p.faults) (sym back) (joined_at_least disk.faults front (map state news) counted later);
-  failed = λ f.
-      subst (λ (p : PartState). Rose disk.faults p.faults) (sym back)
-      (rose_from disk disk.faults front domains (map state news) (omega arith)
-      (subst (λ (ps : List PartState). SomeZip (λ old new. Rose old.faults new.faults) ps (map state news)) s.parts_are
-      (some_states state (λ old new. Rose old.faults new.faults) parts news (failed f))));
-}
+all_cause state disk front new domains parts news end s counted later failed back =
+    grind (arith, nat_tests, joined_at_least disk.faults front (map state news) counted later, rose_from disk disk.faults front domains (map state news), some_states state)
 
 module _ {D : Type 0} (state : D → PartState) (disk front : PartState) (domains : List Extent) (parts : List D) (s : AreSplit state disk front domains parts)
     (Q : Extent → PartState → PartState → Type 0) (news : List D) (did : AllZip (λ p new. Q p.1 (state p.0) (state new)) (zip parts domains) news) where
@@ -171,15 +157,10 @@ module _ {D : Type 0} (state : D → PartState) (disk front : PartState) (domain
 
   -- the parts follow the front, as taking them back requires
   pub all_follow : ((d : Extent) (p new : PartState) → Q d p new → IsInPlace p new) → Follow (front.from + front.len) (map state news)
-  all_follow place =
-      let end : begin_or disk.len domains ≡ front.from + front.len = omega (arith, s.begin, s.front_is.from, s.front_is.len) in
-      subst (λ (n : ℕ). Follow n (map state news)) end (follow_from disk domains (map state news) 0 s.line s.room (of_each InPlace place))
+  all_follow place = grind (arith, nat_tests, follow_from disk domains (map state news) 0 s.line s.room (of_each InPlace place), of_each InPlace place)
 
   pub all_place : ((d : Extent) (p new : PartState) → Q d p new → IsInPlace p new) → IsInPlace disk (with_parts front (map state news))
-  all_place place = record {
-    from = from_kept front (map state news) ∙ s.front_is.from;
-    len = len_from disk front domains (map state news) 0 s.front_is.len s.line s.room (of_each InPlace place);
-  }
+  all_place place = grind (arith, nat_tests, from_kept, len_from, of_each, with_parts)
 
   pub all_calls : {T E : Type 0} (end : Result T E) (calls : Extent → List DiskCall) → ((d : Extent) (p new : PartState) → Q d p new → OnOk end (new.calls ≡ with_end p.calls (calls d)))
       → OnOk end ((with_parts front (map state news)).calls ≡ with_end disk.calls (flat_map calls domains))

@@ -1,5 +1,5 @@
 -- A disk that is split from the last domain on, and taken back.
-use Rattle.collective_round.proofs.Words.{◌≡◌, ℕ, zero, suc, ◌+◌, ◌-◌, ◌^◌, ◌<◌, ◌≤◌, ◌∙◌, ap, subst, List, [], ◌∷◌, ◌++◌, length, take, drop, get_or, map, Option, Err, arith, drop-take, drop_more, reverse-append, take-append-drop, take-take, reverse, IsErrOf, Extent, DiskCall, both_faults, after, joined, end_after, PartState, begin_or, part_between, with_part, with_parts, Adjoin, Follow, IsFront, nat_tests}
+use Rattle.collective_round.proofs.Words.{◌≡◌, ℕ, zero, suc, ◌+◌, ◌-◌, ◌^◌, ◌<◌, ◌≤◌, ◌∙◌, ap, subst, List, [], ◌∷◌, ◌++◌, length, take, drop, get_or, map, Err, arith, drop-take, drop_more, reverse-append, take-append-drop, take-take, reverse, IsErrOf, Extent, both_faults, after, joined, end_after, PartState, begin_or, part_between, with_part, with_parts, Adjoin, Follow, IsFront, nat_tests}
 use Rattle.collective_round.proofs.DomainCuts.{end_grows}
 use Rattle.collective_round.proofs.PutLaws.{held_two}
 
@@ -7,8 +7,7 @@ use Rattle.collective_round.proofs.PutLaws.{held_two}
 
 -- what comes behind a domain begins where it ends or later, and within the disk
 pub next_begin : (d : Extent) (rest : List Extent) (m n : ℕ) → Adjoin (d ∷ rest) → end_after m (d ∷ rest) ≤ n → (d.at + d.len ≤ begin_or n rest) × (begin_or n rest ≤ n)
-next_begin d [] m n h l = (l, omega arith)
-next_begin d (e ∷ rest) m n h l = let next = h.1 in let grown = end_grows (e ∷ rest) (d.at + d.len) h.2 in (omega arith, omega arith)
+next_begin d rest m n h l = grind (arith, nat_tests, end_grows)
 
 pub end_dropped : (k : ℕ) (domains : List Extent) (m n : ℕ) → end_after m domains ≤ n → end_after 0 (drop k domains) ≤ n
 end_dropped zero [] m n l = omega arith
@@ -23,7 +22,7 @@ adjoin_dropped (suc k) (d ∷ domains) h = adjoin_dropped k domains h.2
 
 -- ---- bytes
 
-pub cut_between : (a b : ℕ) (file : List ℕ) → a ≤ b → drop a (take b file) ≡ take (b - a) (drop a file)
+cut_between : (a b : ℕ) (file : List ℕ) → a ≤ b → drop a (take b file) ≡ take (b - a) (drop a file)
 cut_between a b file l = let whole : b ≡ a + (b - a) = omega arith in ap (λ (n : ℕ). drop a (take n file)) whole ∙ drop-take a (b - a) file
 
 pub take_both : (a b : ℕ) (file : List ℕ) → a ≤ b → take a file ++ take (b - a) (drop a file) ≡ take b file
@@ -34,9 +33,7 @@ take_both a b file l = grind (arith, nat_tests, cut_between a b file l, take-tak
 pub front_more : (disk mid new : PartState) (d : Extent) (rest : List Extent) → disk.from ≡ 0 → Adjoin (d ∷ rest) → end_after 0 (d ∷ rest) ≤ disk.len → IsFront rest disk mid
     → new.from ≡ mid.from → new.len ≡ d.at - mid.from → new.held ≡ after (take (d.at - mid.from)) mid.held → new.calls ≡ mid.calls → IsFront (d ∷ rest) disk new
 front_more disk mid new d rest whole line room f from len held calls =
-    let start = f.from in
     let next = next_begin d rest 0 disk.len line room in
-    let low = next.0 in
     let first : d.at - mid.from ≡ d.at = omega arith in
     let order : d.at ≤ begin_or disk.len rest = omega arith in
     record {
@@ -51,18 +48,7 @@ pub part_split : (disk mid part : PartState) (d : Extent) (rest : List Extent) �
     → part.from ≡ d.at → part.len ≡ mid.from + mid.len - d.at → part.held ≡ after (drop (d.at - mid.from)) mid.held → part.calls ≡ after (λ _. []) mid.calls → part.faults ≡ 0
     → part ≡ part_between disk d.at (begin_or disk.len rest)
 part_split disk mid part d rest whole line room f from len held calls faults =
-    let start = f.from in
-    let long = f.len in
-    let next = next_begin d rest 0 disk.len line room in
-    let low = next.0 in
-    let first : d.at - mid.from ≡ d.at = omega arith in
-    let order : d.at ≤ begin_or disk.len rest = omega arith in
-    let many : part.len ≡ begin_or disk.len rest - d.at = omega arith in
-    let bytes : part.held ≡ after (λ file. take (begin_or disk.len rest - d.at) (drop d.at file)) disk.held
-    = held_two disk.held mid.held part.held (take (begin_or disk.len rest)) (drop (d.at - mid.from)) (λ file. take (begin_or disk.len rest - d.at) (drop d.at file)) f.held held
-    (λ file. ap (λ (n : ℕ). drop n (take (begin_or disk.len rest) file)) first ∙ cut_between d.at (begin_or disk.len rest) file order) in
-    let none : part.calls ≡ after (λ _. []) disk.calls = calls ∙ ap (λ (c : Option (List DiskCall)). after (λ _. []) c) f.calls in
-    λ i. record { from = from i; len = many i; held = bytes i; calls = none i; faults = faults i }
+    grind (arith, nat_tests, next_begin, held_two, cut_between, part_between, begin_or, take, drop, after)
 
 -- the parts so far, the last one first
 pub turned_more : {D : Type 0} (state : D → PartState) (parts now : List D) (part : D) (p : PartState) (ps : List PartState) → now ≡ parts ++ part ∷ [] → state part ≡ p

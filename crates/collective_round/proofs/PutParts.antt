@@ -17,30 +17,16 @@ module _ (cells : List Cell) where
   abbrev part_of : ℕ → List ℕ → List ℕ
   part_of base p = write_cells p (moved_down base (clips base (base + length p) cells))
 
-  part_long : (base : ℕ) (p : List ℕ) → length (part_of base p) ≡ length p
-  part_long base p = grind (arith, nat_tests, cells_long, within_lowered, clips_from, clips_within)
-
   part_byte : (base : ℕ) (p : List ℕ) (y x : ℕ) → x ≡ base + y → y < length p → at (part_of base p) y ≡ byte_or (said_at (said_by cells) x) (at p y)
   part_byte base p y x e h =
       let inside = clips base (base + length p) cells in
-      let place : x - base ≡ y = omega arith in
-      cells_said (moved_down base inside) p y
-      ∙ ap (λ (o : Option ℕ). byte_or o (at p y))
-      (ap (λ (n : ℕ). said_at (said_by (moved_down base inside)) n) (sym place)
-      ∙ moved_said base inside x (clips_from base (base + length p) cells (omega arith)) (omega arith) ∙ clips_in base (base + length p) cells x (omega arith) (omega arith))
+      grind (arith, nat_tests, cells_said (moved_down base inside) p y, at p y, said_at (said_by (moved_down base inside)), moved_said base inside x, clips_from base (base + length p) cells, clips_in base (base + length p) cells x)
 
   told_put : (base : ℕ) (held now : Option (List ℕ)) → now ≡ after (part_of base) held → BothTold (AreBytes IsNew base) held now
-  told_put base None now e = e
-  told_put base (Some file) now e = (part_of base file, e, record { len = part_long base file; each = λ y x same l. part_byte base file y x same l })
+  told_put base held now e = grind (arith, nat_tests, cells_long, within_lowered, clips_from, clips_within, part_byte)
 
   told_between : (base : ℕ) (held now : Option (List ℕ)) → BothTold (λ file left. IsBetween file (part_of base file) left) held now → BothTold (AreBytes IsEither base) held now
-  told_between base held now b =
-      told_as (λ file left. IsBetween file (part_of base file) left) (AreBytes IsEither base) held now
-      (λ file left h. record {
-        len = h.len;
-        each = λ y x same l. elim (h.each y) [ inl k ↦ inl k | inr k ↦ inr (k ∙ part_byte base file y x same l) ];
-      })
-      b
+  told_between base held now b = grind (arith, nat_tests, told_as, part_byte base)
 
   -- before the first cell nothing is put
   pub unput : (n x v : ℕ) → IsFrom n cells → x < n → v ≡ byte_or (said_at (said_by cells) x) v

@@ -1,5 +1,5 @@
 -- A torn file: each byte outside of the count's field that is old or new, and what a longer or a later write leaves of it.
-use Rattle.collective_round.proofs.Words.{each_in, and_first, and_second, no_false, or_first_false, or_second_false, leb-true, le-leb, lt-ltb, or_right, ◌≡◌, ℕ, ◌+◌, ◌<◌, ◌≤◌, refl, sym, subst, ◌∙◌, inl, inr, ◌⊎◌, List, [], length, true, false, ◌&&◌, max, Option, Some, None, arith, common_steps, map_in, nat_tests, nat_lt, nat_le, ◌==◌, slice_get, list_any, range_with_len, byte_len, Header, Var, Post, Direction, PartlyWritten, size_of, at, longer, Setting, end_for, after_puts, count, count_width, header_len, is_sound, place, IsElementBelow, needed_by, records_of, with_records, check_some, places, elements, Puts, bytes_of, bytes_of_some, covered, IsTorn, accepted_elements, elements_past_header, at-longer, at-written_before, at-written_after, longer_long, canon_len, IsBetween, In, any_in, flat_in, range_low, ArePuts, written_grows, after_long, ltb-true, ltb-false}
+use Rattle.collective_round.proofs.Words.{each_in, and_first, and_second, no_false, or_first_false, or_second_false, leb-true, or_right, ◌≡◌, ℕ, ◌+◌, ◌<◌, ◌≤◌, refl, ◌∙◌, inl, ◌⊎◌, List, [], length, true, false, max, Option, Some, None, arith, common_steps, map_in, nat_tests, ◌==◌, slice_get, list_any, range_with_len, byte_len, Header, Var, Post, Direction, PartlyWritten, size_of, at, longer, Setting, end_for, after_puts, count, count_width, header_len, is_sound, place, IsElementBelow, needed_by, records_of, with_records, check_some, places, elements, Puts, bytes_of, bytes_of_some, covered, IsTorn, accepted_elements, elements_past_header, at-longer, at-written_before, at-written_after, longer_long, canon_len, IsBetween, In, any_in, flat_in, range_low, ArePuts, written_grows, after_long, ltb-true, ltb-false}
 use Rattle.nc_base.specs.declared.answer.Code.TheVariants as code
 use Rattle.serial_spec.proofs.KeepLaws.{after_keeps, count_long as length-count}
 
@@ -9,7 +9,7 @@ use Rattle.serial_spec.proofs.KeepLaws.{after_keeps, count_long as length-count}
 abbrev pub field_of : Header → ℕ
 field_of header = byte_len (count_width header.version)
 
-pub field_before : (header : Header) → 4 + field_of header ≤ header_len header
+field_before : (header : Header) → 4 + field_of header ≤ header_len header
 field_before header = let whole = canon_len header in omega arith
 
 -- each byte of the puts stands after it
@@ -31,35 +31,24 @@ covered_past header puts x sound are m =
 
 -- ---- a torn file
 
-outside_of : (field x : ℕ) → (nat_le 4 x && nat_lt x (4 + field)) ≡ false → (x < 4) ⊎ (4 + field ≤ x)
-outside_of field x h = grind (arith, nat_tests, ltb-false, no_false)
-
 pub torn_by : (bytes : List ℕ) (field : ℕ) (old new left : List ℕ) → length old ≤ length left → length left ≤ length new
     → ((x : ℕ) → list_any (λ y. y == x) bytes ≡ true → (at left x ≡ at old x) ⊎ (at left x ≡ at new x))
     → ((x : ℕ) → list_any (λ y. y == x) bytes ≡ false → 4 ≤ x → x < 4 + field → (at left x ≡ at old x) ⊎ (at left x ≡ at new x))
     → ((x : ℕ) → list_any (λ y. y == x) bytes ≡ false → (x < 4) ⊎ (4 + field ≤ x) → at left x ≡ at old x)
     → IsTorn bytes field old new left
 torn_by bytes field old new left long short inside beside outside =
-    grind (arith, nat_tests, or_first_false, outside_of, or_second_false, leb-true, and_first, ltb-true, and_second)
+    grind (arith, nat_tests, or_first_false, no_false, ltb-false, or_second_false, leb-true, and_first, ltb-true, and_second)
 
 -- nothing was written
 pub torn_still : (bytes : List ℕ) (field : ℕ) (old new : List ℕ) → length old ≤ length new → IsTorn bytes field old new old
 torn_still bytes field old new h = record { long = omega arith; short = h; changed = λ x l k. inl refl; kept = λ x l k. refl }
-
--- zeros were added
-pub torn_grown : (bytes : List ℕ) (field m : ℕ) (old new : List ℕ) → length (longer old m) ≤ length new → IsTorn bytes field old new (longer old m)
-torn_grown bytes field m old new h = grind (arith, nat_tests, longer_long old m, at-longer)
 
 -- some windows of the puts were written over the file that was made longer
 pub torn_laid : (s : Setting) (puts : Puts) (n : ℕ) (old left : List ℕ) → n ≡ needed_by s.header puts
     → IsBetween (longer old (end_for s n)) (after_puts s puts None old) left → IsTorn (covered s.header puts) 0 old (after_puts s puts None old) left
 torn_laid s puts n old left is b =
     let made : length left ≡ max (length old) (end_for s n) = b.len ∙ longer_long old (end_for s n) in
-    let whole : max (length old) (end_for s n) ≤ length (after_puts s puts None old) =
-    subst (λ (k : ℕ). max (length old) (end_for s k) ≤ length (after_puts s puts None old)) (sym is) (after_long s puts old) in
-    torn_by (covered s.header puts) 0 old (after_puts s puts None old) left (omega arith) (omega arith)
-    (λ x e. elim (b.each x) [ inl k ↦ inl (k ∙ at-longer old (end_for s n) x) | inr k ↦ inr k ]) (λ x e l h. absurd (omega arith))
-    (λ x e h. elim (b.each x) [ inl k ↦ k ∙ at-longer old (end_for s n) x | inr k ↦ k ∙ after_keeps s puts None old x e ])
+    grind (arith, nat_tests, after_long s puts old, torn_by (covered s.header puts) 0 old (after_puts s puts None old) left, at-longer old (end_for s n), after_keeps s puts None old, b.each)
 
 -- a torn file, byte by byte, past its end too
 pub record AreSides (bytes : List ℕ) (field : ℕ) (old new left : List ℕ) : Type 0 where
@@ -70,14 +59,8 @@ pub record AreSides (bytes : List ℕ) (field : ℕ) (old new left : List ℕ) :
 past_end : (xs : List ℕ) (x : ℕ) → length xs ≤ x → at xs x ≡ 0
 past_end xs x h = grind (arith, common_steps)
 
-not_field : (field x : ℕ) → (x < 4) ⊎ (4 + field ≤ x) → (nat_le 4 x && nat_lt x (4 + field)) ≡ false
-not_field field x h = grind (arith, nat_tests, leb-true, ltb-true)
-
-in_field : (field x : ℕ) → 4 ≤ x → x < 4 + field → (nat_le 4 x && nat_lt x (4 + field)) ≡ true
-in_field field x l h = λ i. (le-leb 4 x l i && lt-ltb x (4 + field) h i)
-
 pub torn_sides : (bytes : List ℕ) (field : ℕ) (old new left : List ℕ) → IsTorn bytes field old new left → AreSides bytes field old new left
-torn_sides bytes field old new left t = grind (arith, nat_tests, or_right, in_field, not_field, ltb-false, past_end, ltb-true)
+torn_sides bytes field old new left t = grind (arith, nat_tests, or_right, leb-true, ltb-false, past_end, ltb-true)
 
 -- as bytes of the field may change that did not
 pub torn_wider : (bytes : List ℕ) (field : ℕ) (old new left : List ℕ) → IsTorn bytes 0 old new left → IsTorn bytes field old new left
@@ -91,30 +74,18 @@ pub torn_counted : (version n : ℕ) (bytes : List ℕ) (old whole left : List �
     → IsTorn bytes 0 old whole left → IsTorn bytes (byte_len (count_width version)) old (with_records version whole n) left
 torn_counted version n bytes old whole left past t =
     let w = torn_wider bytes (byte_len (count_width version)) old whole left t in
-    let s = torn_sides bytes (byte_len (count_width version)) old whole left w in
-    let u = torn_sides bytes 0 old whole left t in
-    torn_by bytes (byte_len (count_width version)) old (with_records version whole n) left t.long
-    (let l = t.short in let g = written_grows whole 4 (count version n) in omega arith)
-    (λ x e. elim (s.inside x e) [ inl k ↦ inl k | inr k ↦ inr (k ∙ sym (counted_past version n whole x (past x (any_in bytes x e)))) ])
-    (λ x e l h. inl (u.outside x e (inr (omega arith)))) s.outside
+    grind (arith, nat_tests, torn_sides bytes (byte_len (count_width version)) old whole left w, torn_sides bytes 0 old whole left t, torn_by bytes (byte_len (count_width version)) old (with_records version whole n) left t.long, written_grows whole 4 (count version n), counted_past version n whole, any_in bytes, t.short)
 
 -- the count was cut off, after the puts were written
 pub torn_after : (bytes : List ℕ) (field : ℕ) (old whole new left : List ℕ) → length old ≤ length whole
     → ((x : ℕ) → list_any (λ y. y == x) bytes ≡ false → at whole x ≡ at old x) → ((x : ℕ) → In bytes x → 4 + field ≤ x)
     → ((x : ℕ) → 4 + field ≤ x → at new x ≡ at whole x) → IsTorn [] field whole new left → IsTorn bytes field old new left
 torn_after bytes field old whole new left grows keeps past agree t =
-    let s = torn_sides [] field whole new left t in
-    torn_by bytes field old new left (let l = t.long in omega arith) t.short
-    (λ x e. inr (s.outside x refl (inr (past x (any_in bytes x e))) ∙ sym (agree x (past x (any_in bytes x e)))))
-    (λ x e l h. elim (s.beside x l h) [ inl k ↦ inl (k ∙ keeps x e) | inr k ↦ inr k ]) (λ x e h. s.outside x refl h ∙ keeps x e)
+    grind (arith, nat_tests, torn_sides [] field whole new left t, torn_by bytes field old new left, any_in bytes)
 
 -- the write of the count itself
 pub torn_stored : (version n : ℕ) (old left : List ℕ) → PartlyWritten 4 (count version n) old left
     → IsTorn [] (byte_len (count_width version)) old (with_records version old n) left
 torn_stored version n old left p =
     let g = written_grows old 4 (count version n) in
-    let l = p.len in
-    let same : (x : ℕ) → (x < 4) ⊎ (4 + byte_len (count_width version) ≤ x) → at (with_records version old n) x ≡ at old x =
-    λ x h. elim h [ inl l ↦ at-written_before old (count version n) 4 x l | inr l ↦ counted_past version n old x l ] in
-    torn_by [] (byte_len (count_width version)) old (with_records version old n) left (omega arith) (omega arith)
-    (λ x e. cc) (λ x e l h. p.each x) (λ x e h. elim (p.each x) [ inl k ↦ k | inr k ↦ k ∙ same x h ])
+    grind (arith, nat_tests, at (with_records version old n), at old, at-written_before old (count version n) 4, counted_past version n old, torn_by [] (byte_len (count_width version)) old (with_records version old n) left, p.len, p.each)

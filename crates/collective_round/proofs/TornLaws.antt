@@ -1,17 +1,16 @@
 -- What a refused step of puts leaves of a file.
-use Rattle.collective_round.proofs.Words.{Header, lt-ltb, ◌≡◌, ℕ, ◌+◌, ◌<◌, ◌≤◌, refl, ap, subst, List, [], length, Bool, true, false, cond, Option, Some, None, arith, nat_lt, byte_len, Pair, PartlyWritten, after, BothTold, told_as, at, longer, Setting, end_for, after_puts, told, count, count_width, is_sound, needed_by, with_records, Puts, covered, IsTorn, IsBetween, needed_now, ArePuts, after_round, counted, after_keeps, longer_long, after_long, after_grows, raised_grows, nat_tests}
+use Rattle.collective_round.proofs.Words.{Header, lt-ltb, ◌≡◌, ℕ, ◌+◌, ◌<◌, ◌≤◌, refl, subst, List, [], length, Bool, true, false, cond, Option, Some, None, arith, nat_lt, byte_len, Pair, PartlyWritten, after, BothTold, told_as, at, longer, Setting, end_for, after_puts, told, count, count_width, is_sound, needed_by, with_records, Puts, covered, IsTorn, IsBetween, needed_now, ArePuts, after_round, counted, after_keeps, longer_long, after_long, after_grows, raised_grows, nat_tests, at-longer}
 use Rattle.list_laws.proofs.Truth.{either}
 use Rattle.collective_round.proofs.PutLaws.{laid_round}
 use Rattle.collective_round.proofs.StepLaws.{round_by}
-use Rattle.collective_round.proofs.TornFiles.{covered_past, field_of, torn_by, torn_still, torn_grown, torn_laid, torn_wider, counted_past, torn_counted, torn_after, torn_stored}
+use Rattle.collective_round.proofs.TornFiles.{covered_past, field_of, torn_by, torn_laid, torn_wider, counted_past, torn_counted, torn_after, torn_stored}
 
 -- ---- a step, on a disk that may tell its bytes
 
 -- nothing was written
 pub none_torn : (bytes : List ℕ) (field : ℕ) (whole : List ℕ → List ℕ) (held : Option (List ℕ)) → ((file : List ℕ) → length file ≤ length (whole file))
     → BothTold (λ old left. IsTorn bytes field old (whole old) left) held held
-none_torn bytes field whole None grows = refl
-none_torn bytes field whole (Some old) grows = (old, refl, torn_still bytes field old (whole old) (grows old))
+none_torn bytes field whole held grows = grind (arith, nat_tests)
 
 pub round_grows : (s : Setting) (puts : Puts) (records : ℕ) (file : List ℕ) → length file ≤ length (after_round s puts (counted file records)).file
 round_grows s puts records file =
@@ -26,13 +25,8 @@ pub grown_torn : (s : Setting) (puts : Puts) (n m : ℕ) (held now : Option (Lis
     → (now ≡ after (λ file. longer file m) held) × (m ≤ end_for s n)
     → BothTold (λ old left. IsTorn (covered s.header puts) 0 old (after_puts s puts None old) left) held now
 grown_torn s puts n m None now is h = h.0
-grown_torn s puts n m (Some old) now is h = (
-  longer old m,
-  h.0,
-  torn_grown (covered s.header puts) 0 m old (after_puts s puts None old)
-      (let end : end_for s n ≡ end_for s (needed_by s.header puts) = ap (λ (k : ℕ). end_for s k) is in
-      omega (arith, longer_long old m, after_long s puts old, h.1)),
-)
+grown_torn s puts n m (Some old) now is h =
+    grind (arith, nat_tests, longer old m, at-longer, longer_long old m, after_long s puts old)
 
 -- some of the windows were written
 pub laid_torn : (s : Setting) (puts : Puts) (n : ℕ) (held mid now : Option (List ℕ)) (g : List ℕ → List ℕ) → n ≡ needed_by s.header puts
@@ -72,13 +66,7 @@ count_torn s puts records n None mid now sound are is none f b = grind (arith, n
 count_torn s puts records n (Some old) mid now sound are is none f b =
     let whole = after_puts s puts None old in
     let new = counted_file s.header n (nat_lt records n) whole in
-    let r = subst (λ (m : Option (List ℕ)). BothTold (λ file left. IsTorn [] (field_of s.header) file (counted_file s.header n (nat_lt records n) file) left) m now) f b in (
-      r.0,
-      r.1,
-      subst (λ (g : List ℕ). IsTorn (covered s.header puts) (field_of s.header) old g r.0) (round_by s puts records n old is none)
-          (torn_after (covered s.header puts) (field_of s.header) old whole new r.0 (after_grows s puts None old) (λ x h. after_keeps s puts None old x h)
-          (λ x m. covered_past s.header puts x sound are m) (λ x h. counted_agree s.header n (nat_lt records n) whole x h) r.2),
-    )
+    let r = subst (λ (m : Option (List ℕ)). BothTold (λ file left. IsTorn [] (field_of s.header) file (counted_file s.header n (nat_lt records n) file) left) m now) f b in grind (arith, nat_tests, round_by s puts records n old is none, torn_after (covered s.header puts) (field_of s.header) old whole new r.0 (after_grows s puts None old), after_grows s puts None old, after_keeps s puts None old, covered_past s.header puts, counted_agree s.header n (nat_lt records n) whole, r.1, r.2)
 
 -- the write of the count
 pub store_torn : (version records needed : ℕ) (held now : Option (List ℕ)) → records < needed → BothTold (PartlyWritten 4 (count version needed)) held now

@@ -1,19 +1,13 @@
 -- A rank after another.
-use Rattle.collective_round.proofs.Words.{◌≡◌, ℕ, ◌+◌, ◌++◌, List, length, refl, subst, sym, ap, ◌∙◌, arith, read_in, Batch, Post, In, entries_of_posts, posts_of, next_numbered}
+use Rattle.collective_round.proofs.Words.{◌≡◌, ℕ, ◌+◌, ◌++◌, List, refl, sym, ap, ◌∙◌, arith, read_in, Batch, Post, entries_of_posts, posts_of, next_numbered, nat_tests}
 use Rattle.collective_round.proofs.StepEntries.{few_posts}
 use Rattle.collective_round.proofs.gathered.entries.Goals as goal
 
 pub push_posts-requires-clause-few : goal.push_posts-requires-clause-few
-push_posts-requires-clause-few c =
-    let few = c.requires.few c.index-batches-k.result (read_in c.args.batches.now c.loop-k.k c.index-batches-k.result c.loop-k-test.true c.index-batches-k.is) in
-    let long = ap (λ (ps : List Post). length ps) c.posts_of.ensures in
-    let part = few_posts c.args.direction c.index-batches-k.result in
-    omega arith
+push_posts-requires-clause-few c = grind (arith, nat_tests, read_in, few_posts, c.requires.few, c.posts_of.ensures)
 
 pub push_posts-requires-clause-accepted : goal.push_posts-requires-clause-accepted
-push_posts-requires-clause-accepted c = λ p m.
-    c.requires.accepted c.index-batches-k.result p (read_in c.args.batches.now _ _ c.loop-k-test.true c.index-batches-k.is)
-    (subst (λ (ps : List Post). In ps p) c.posts_of.ensures m)
+push_posts-requires-clause-accepted c = grind (arith, nat_tests, read_in, c.requires.accepted, c.loop-k-test.true, c.index-batches-k.is, c.posts_of.ensures)
 
 pub loop-k-init : goal.loop-k-init
 loop-k-init c = let first : c.args.first + 0 ≡ c.args.first = omega arith in rw (c.new-list.ensures.items, first) refl

@@ -1,5 +1,5 @@
 -- An extent after another.
-use Rattle.collective_round.proofs.Words.{ap, arith, extents_left, Extents}
+use Rattle.collective_round.proofs.Words.{ap, arith, extents_left, Extents, nat_tests}
 use Rattle.collective_round.proofs.PostEntries.{all_left, first_small, next_left, none_left, left_of}
 use Rattle.collective_round.proofs.gathered.push_post.Goals as goal
 
@@ -10,9 +10,7 @@ loop-extent-init c =
     (ap (λ (e : Extents). extents_left e) c.into_iter-extent-iterator.ensures.into_iter_gives) c.new-extent-items.ensures.extents)
 
 pub overflow_add-from : goal.overflow_add-from
-overflow_add-from c =
-    let small = first_small _ _ _ _ _ _ _ _ _ c.in-Some.ensures.steps c.loop-extent.invariant in
-    omega (arith, small)
+overflow_add-from c = grind (arith, nat_tests, first_small, c.in-Some.ensures.steps, c.loop-extent.invariant)
 
 pub loop-extent-preserved : goal.loop-extent-preserved
 loop-extent-preserved c =

@@ -1,14 +1,11 @@
 -- One share more is cut: its domain, where it has a byte.
-use Rattle.collective_round.proofs.Words.{◌≡◌, ℕ, ◌+◌, ◌∙◌, sym, subst, List, vec_capacity, arith, Vec, Global, Extent, low_of, share_of, bytes_in, rules, common_steps}
-use Rattle.collective_round.proofs.DomainCuts.{cut_domains, cut_more, cut_none, cut_windows, ends_below, last_border, share_bytes, within_reach, AreCut}
+use Rattle.collective_round.proofs.Words.{◌≡◌, ◌+◌, arith, low_of, share_of, bytes_in, nat_tests}
+use Rattle.collective_round.proofs.DomainCuts.{cut_domains, cut_more, cut_none, cut_windows, ends_below, last_border, share_bytes, within_reach}
 use Rattle.collective_round.proofs.DomainSteps.{domain_is, in_range_hints}
 use Rattle.collective_round.proofs.parts.domains_of.Goals as goal
-use Rattle.collective_round.proofs.parts.domains_of.Goals.{then-domain-gt0, else-domain-gt0}
 
 pub cut-domain-requires : goal.cut-domain-requires
-cut-domain-requires c =
-    let range = in_range_hints c.args.hints.now c.requires.hints in
-    record { order = omega arith; limit = c.reach_of-reach.ensures.limit; number = c.loop-a-test.true; few = range.nodes.1; least_unit = range.unit.0; greatest_unit = range.unit.1 }
+cut-domain-requires c = grind (arith, nat_tests, in_range_hints, c.reach_of-reach.ensures.limit, c.loop-a-test.true)
 
 pub loop-a-preserved : goal.loop-a-preserved
 loop-a-preserved c =
@@ -27,21 +24,7 @@ loop-a-preserved c =
     = domain_is cover domain lo hi (low_of lo unit) (share_of lo hi nodes unit) c.loop-a.a c.cut-domain.ensures.bytes
     (λ x m. let reach = (within_reach cover x c.requires.cover m).0 in omega arith)
     (λ x m. let reach = (within_reach cover x c.requires.cover m).1 in omega arith) in
-    elim c.if-domain-gt0.branch [
-      | then-domain-gt0 w ↦
-          let some = w.if-domain-gt0.true in
-          subst (λ (v : Vec Extent Global). AreCut lo hi nodes unit size cover (c.loop-a.a + 1) v.items × (vec_capacity v ≡ vec_capacity c.in_ok-domains.domains)) (sym w.domains-is) (
-            subst (λ (ds : List Extent). AreCut lo hi nodes unit size cover (c.loop-a.a + 1) ds) (sym w.push_reserved.ensures.items)
-                (cut_more lo hi nodes unit size cover c.loop-a.a c.loop-a.domains.items domain cut c.cut-domain.ensures.begin c.cut-domain.ensures.end bytes (omega arith)),
-            w.push_reserved.ensures.capacity ∙ c.loop-a.invariant.1,
-          )
-      | else-domain-gt0 w ↦
-          let none = w.if-domain-gt0.false in
-          subst (λ (v : Vec Extent Global). AreCut lo hi nodes unit size cover (c.loop-a.a + 1) v.items × (vec_capacity v ≡ vec_capacity c.in_ok-domains.domains)) (sym w.domains-is) (
-            cut_none lo hi nodes unit size cover c.loop-a.a c.loop-a.domains.items domain range.buffer.0 cut c.cut-domain.ensures.begin c.cut-domain.ensures.end bytes (omega arith),
-            c.loop-a.invariant.1,
-          )
-    ]
+    grind (arith, nat_tests, cut_more lo hi nodes unit size cover c.loop-a.a c.loop-a.domains.items domain cut c.cut-domain.ensures.begin, cut_none lo hi nodes unit size cover c.loop-a.a c.loop-a.domains.items domain range.buffer.0 cut, c.cut-domain.ensures.end, c.loop-a.invariant.1)
 
 pub returns : goal.returns
 returns c =
@@ -55,10 +38,4 @@ returns c =
     let begin = c.reach_of-reach.ensures.begin in
     let end = c.reach_of-reach.ensures.end in
     let last : c.loop-a.a ≡ nodes = (let over = c.loop-a-test.false in let within = c.loop-a.auto.a-end in omega arith) in
-    let cut = subst (λ (k : ℕ). AreCut lo hi nodes unit size c.args.cover.now k domains) last c.loop-a.invariant.0 in
-    record {
-      few = first_of (search rules, grind (arith, common_steps));
-      domains = cut_domains lo hi nodes unit size c.args.cover.now domains (omega arith) range.nodes.0 range.unit.0 begin end cut;
-      ends = ends_below domains lo hi cut.line (cut.end ∙ last_border lo hi nodes unit (omega arith) range.nodes.0 range.unit.0) c.reach_of-reach.ensures.limit;
-      windows = cut_windows c.args.hints.now lo hi c.args.cover.now domains c.requires.hints c.requires.cover begin end cut;
-    }
+    grind (arith, nat_tests, cut_domains lo hi nodes unit size c.args.cover.now domains, ends_below domains lo hi, last_border lo hi nodes unit, cut_windows c.args.hints.now lo hi c.args.cover.now domains c.requires.hints c.requires.cover begin end, c.loop-a.invariant.0, c.reach_of-reach.ensures.limit)

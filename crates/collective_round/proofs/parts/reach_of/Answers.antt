@@ -1,17 +1,14 @@
 -- The first extent begins at the first covered byte, and the last one ends behind the last.
-use Rattle.collective_round.proofs.Words.{◌≡◌, ◌+◌, ◌-◌, ◌^◌, ◌<◌, ◌≤◌, ◌∙◌, sym, ap, length, arith, option_copied, at_in, end_after, first_at}
+use Rattle.collective_round.proofs.Words.{◌≡◌, ◌+◌, ◌-◌, ◌^◌, ◌<◌, ◌≤◌, length, arith, at_in, end_after, first_at, nat_tests}
 use Rattle.collective_round.proofs.DomainCuts.{reach_is}
 use Rattle.collective_round.proofs.parts.reach_of.Goals as goal
 
 reach : (c : goal.In-Some-Some) → (c.in-Some-Some.first.now.at ≡ first_at c.args.cover.now)
     × (c.in-Some-Some.last.now.at + c.in-Some-Some.last.now.len ≡ end_after 0 c.args.cover.now) × (first_at c.args.cover.now ≤ end_after 0 c.args.cover.now)
-reach c =
-    reach_is c.args.cover.now c.in-Some-Some.first.now c.in-Some-Some.last.now c.requires.cover (sym c.first.ensures.value ∙ ap option_copied c.in-Some-Some.is-0)
-    (sym c.last.ensures.value ∙ ap option_copied c.in-Some-Some.is-1)
+reach c = grind (arith, nat_tests, reach_is, c.first.ensures.value, c.last.ensures.value)
 
 high : (c : goal.In-Some-Some) → c.in-Some-Some.last.now.at + c.in-Some-Some.last.now.len < 2 ^ 62
-high c =
-    c.requires.ends c.in-Some-Some.last.now (at_in c.args.cover.now (length c.args.cover.now - 1) c.in-Some-Some.last.now (sym c.last.ensures.value ∙ ap option_copied c.in-Some-Some.is-1))
+high c = grind (arith, nat_tests, at_in c.args.cover.now (length c.args.cover.now - 1) c.in-Some-Some.last.now, c.requires.ends, c.last.ensures.value)
 
 pub overflow_add-result : goal.overflow_add-result
 overflow_add-result c = let h = high c in omega arith

@@ -1,5 +1,5 @@
 -- What was split off goes back.
-use Rattle.collective_round.proofs.Words.{List, ℕ, ap, subst, ◌≡◌, ◌∙◌, ◌+◌, ◌-◌, ◌^◌, map, drop, min, rules, arith, common_steps, AreSplit, Disk, PartState, part_state, with_parts}
+use Rattle.collective_round.proofs.Words.{List, ℕ, ap, subst, ◌≡◌, ◌∙◌, ◌-◌, map, drop, rules, arith, common_steps, AreSplit, Disk, PartState, part_state, nat_tests}
 use Rattle.collective_round.proofs.PartSplits.{joined_at_least, same_fault}
 use Rattle.collective_round.proofs.PartLaws.{parts_follow, parts_rejoined, split_from}
 use Rattle.collective_round.proofs.parts.split.Given.{Over}
@@ -34,13 +34,4 @@ returns-in-Err-clause-kept g c =
 pub returns-in-Err-clause-cause : goal.returns-in-Err-clause-cause
 returns-in-Err-clause-cause g c =
     let mid = state g c.split_backwards-end.new.disk in
-    let parts = map (state g) c.reverse.new.self.items in
-    let cause = c.in-Err.ensures.cause in
-    let now : g.D.Disk.faults c.append_all.new.disk ≡ (with_parts mid parts).faults = ap (λ (p : PartState). p.faults) c.append_all.ensures in
-    let least = joined_at_least (g.D.Disk.faults c.args.disk.now) mid parts c.size-size.ensures.counted cause.later in
-    record {
-      later = omega arith;
-      failed = λ f.
-          let rose = cause.failed (same_fault c.in-Err.fault Disk f) in
-          omega (arith, joined_at_least (min (g.D.Disk.faults c.args.disk.now + 1) (2 ^ 64 - 1)) mid parts (omega arith) rose);
-    }
+    grind (arith, nat_tests, joined_at_least, same_fault, c.in-Err.ensures.cause, c.append_all.ensures, c.size-size.ensures.counted, c.in-Err.ensures.cause.later, c.in-Err.ensures.cause.failed)
