@@ -1,12 +1,8 @@
 -- The calls that were done, and those that are left.
-use Rattle.data_sieving.proofs.Words.{◌≡◌, ℕ, ◌+◌, ◌≤◌, refl, sym, ◌∙◌, ap, List, [], ◌∷◌, ◌++◌, length, take, min, Option, Some, None, append_assoc, arith, append-nil, take_at, drop_at, take_min, take-append-le, take-add, flat_map, option_map, DiskCall, with_end, IsBegun, HasDone, no_calls, with_end-with_end, nat_tests}
+use Rattle.data_sieving.proofs.Words.{◌≡◌, ℕ, ◌+◌, ◌≤◌, refl, sym, ◌∙◌, ap, List, [], ◌++◌, length, take, min, Option, Some, None, append_assoc, arith, append-nil, take_at, drop_at, take_min, take-append-le, take-add, option_map, DiskCall, with_end, IsBegun, HasDone, no_calls, nat_tests}
 
 pub none_done : (plan rest : List DiskCall) (old : Option (List DiskCall)) → plan ≡ rest → HasDone plan rest old old
 none_done plan rest old e = record { done = []; told = no_calls old; whole = e }
-
-pub done_more : (f : List ℕ → List DiskCall) (ws : List ℕ) (here later : List (List ℕ)) (plan calls : List DiskCall) (old mid now : Option (List DiskCall))
-    → here ≡ ws ∷ later → f ws ≡ calls → now ≡ with_end mid calls → HasDone plan (flat_map f here) old mid → HasDone plan (flat_map f later) old now
-done_more f ws here later plan calls old mid now e g k h = grind (arith, nat_tests, with_end-with_end, append_assoc)
 
 pub all_done : (plan rest : List DiskCall) (old now : Option (List DiskCall)) → rest ≡ [] → HasDone plan rest old now → now ≡ with_end old plan
 all_done plan rest old now e h =

@@ -1,5 +1,5 @@
 -- The entries of one window, which are collected from its buffer one after another.
-use Rattle.data_sieving.proofs.Words.{◌≡◌, ℕ, ◌+◌, ◌-◌, ◌<◌, ◌≤◌, sym, ◌∙◌, subst, List, [], ◌∷◌, ◌++◌, length, take, drop, get_or, set, Option, Some, None, arith, fold-append, map-append, length-take, length-set, take_more, get_or-set_same, get_or-set_other, IfSome, length-written_inside, Owned, Window, read, written, write_cells, of_slot, HasGot, FitBlobs, HaveOnePlace, AreAsLong, LieOn, blob_at, part_in, buffer_cell, IsPast, IsNext, HasGotPart, filter-append, buffer_cells, nat_tests, eqb-true, eqb-false, map}
+use Rattle.data_sieving.proofs.Words.{◌≡◌, ℕ, ◌+◌, ◌-◌, ◌<◌, ◌≤◌, sym, ◌∙◌, subst, List, [], ◌∷◌, ◌++◌, length, take, drop, get_or, set, Option, Some, None, arith, fold-append, map-append, length-take, length-set, take_more, get_or-set_same, get_or-set_other, IfSome, length-written_inside, Owned, Window, read, written, write_cells, of_slot, FitBlobs, HaveOnePlace, AreAsLong, LieOn, blob_at, part_in, buffer_cell, IsPast, IsNext, HasGotPart, filter-append, buffer_cells, nat_tests, eqb-true, eqb-false, map}
 use Rattle.data_sieving.proofs.GetSteps.{got_step}
 
 -- ---- one entry more

@@ -1,10 +1,10 @@
 -- Entries that are read window by window, each into its blob: before the first window, one window more, after the last.
-use Rattle.data_sieving.proofs.Words.{◌≡◌, ℕ, ◌+◌, ◌<◌, ◌≤◌, inl, inr, sym, ◌∙◌, ap, subst, List, [], ◌++◌, length, Option, Some, None, IfSome, LieOn, arith, fold-append, cases_lt, some_or_none, ◌⊎◌, ◌==◌, in_filter, filter_in, equal_true, Owned, Window, written, said_at, said_by, Says, IsOneValued, Cell, write_cells, In, same_said, said_is, said_in_any_order, append_within, said_by_joined, says_left, says_right, says_cases, in_either, of_slot, HasGot, FitBlobs, HaveOnePlace, got_cells, blob_at, places_of, IsCovered, IsPast, IsNext, HasGotPart, past_covered, past_all, past_kept, parts_got, IsRead, got_says, says_got, read_as, read_once, parts_within, whole_parts, nat_tests, eqb-true}
+use Rattle.data_sieving.proofs.Words.{◌≡◌, ℕ, ◌+◌, ◌<◌, ◌≤◌, inl, inr, sym, ◌∙◌, ap, subst, List, [], ◌++◌, length, Option, Some, None, IfSome, LieOn, arith, fold-append, cases_lt, some_or_none, ◌==◌, in_filter, filter_in, equal_true, Owned, Window, written, said_at, said_by, Says, IsOneValued, Cell, write_cells, In, same_said, said_is, said_in_any_order, append_within, said_by_joined, says_left, says_right, says_cases, in_either, of_slot, HasGot, FitBlobs, HaveOnePlace, got_cells, blob_at, places_of, IsCovered, IsPast, IsNext, HasGotPart, past_covered, past_all, past_kept, parts_got, IsRead, got_says, says_got, read_as, read_once, parts_within, whole_parts, nat_tests, eqb-true}
 use Rattle.data_sieving.proofs.ReachSteps.{served_in}
 
 -- ---- the entries of a slot
 
-pub in_slot : (k : ℕ) (list : List Owned) (o : Owned) → In (of_slot k list) o → In list o × (o.slot ≡ k)
+in_slot : (k : ℕ) (list : List Owned) (o : Owned) → In (of_slot k list) o → In list o × (o.slot ≡ k)
 in_slot k list o m = let r = filter_in (λ (q : Owned). q.slot == k) list o m in (r.0, eqb-true _ _ r.1)
 
 pub slot_in : (k : ℕ) (list : List Owned) (o : Owned) → In list o → o.slot ≡ k → In (of_slot k list) o
@@ -39,8 +39,7 @@ module _ (base : ℕ) (file : List ℕ) (list : List Owned) {left : List Owned} 
       let b = is_served r.by r.place m.0 l r.high r.begin r.end in
       let c : IsCovered list r.place = record { by = r.by; inside = m.0; low = r.begin; high = r.end } in
       let d : IsCovered served r.place = record { by = r.by; inside = b; low = r.begin; high = r.end } in
-      read_as base file 0 stop w.hull.at (w.hull.at + w.hull.len) (of_slot k list) (of_slot k served) x v r
-      (n.least r.place (past_covered place list left r.place p l c) l) (n.hull.each r.place d r.high) (slot_in k served r.by b m.1)
+      grind (arith, nat_tests, read_as base file 0 stop w.hull.at (w.hull.at + w.hull.len) (of_slot k list) (of_slot k served) x v r, past_covered place list left r.place p l c, slot_in k served r.by b m.1, n.least, n.hull.each, r.high)
 
   slot_said : (k y : ℕ) → IsOneValued (places_of (of_slot k list)) → said_at (said_by (upto stop k)) y ≡ said_at (said_by (upto place k ++ here k)) y
   slot_said k y once = said_in_any_order (said_by (upto stop k)) (said_by (upto place k ++ here k)) (read_once base file 0 stop (of_slot k list) (slot_on k) once) there back y

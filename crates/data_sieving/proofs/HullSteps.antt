@@ -1,5 +1,5 @@
 -- The hull of entries, entry by entry.
-use Rattle.data_sieving.proofs.Words.{◌≡◌, ℕ, ◌+◌, ◌-◌, ◌<◌, ◌≤◌, ◌⊎◌, inl, inr, refl, sym, ◌∙◌, ap, subst, List, [], ◌∷◌, ◌++◌, append_assoc, length, take, get_or, Bool, true, false, min, max, Some, slice_get, arith, take_more, take_all, slice_get-get_or, entry_in, Owned, Window, In, extents, IsByPlace, in_either, in_left, in_right, AreFilled, cases_lt, IsCovered, IsHull, Reach, covered_left, before_or_later, nat_tests, ltb-true, ltb-false}
+use Rattle.data_sieving.proofs.Words.{◌≡◌, ℕ, ◌+◌, ◌-◌, ◌<◌, ◌≤◌, ◌⊎◌, inl, inr, refl, sym, ◌∙◌, ap, subst, List, [], ◌∷◌, ◌++◌, append_assoc, length, take, get_or, Bool, true, false, min, max, Some, slice_get, arith, take_more, take_all, slice_get-get_or, entry_in, Owned, Window, In, extents, IsByPlace, in_either, in_left, in_right, AreFilled, IsCovered, IsHull, Reach, covered_left, before_or_later, nat_tests, ltb-true, ltb-false}
 
 -- the entries seen so far reach up to a place, with a hole before it or not
 pub record Scanned (at stop end : ℕ) (solid : Bool) (whole seen : List Owned) (count : ℕ) : Type 0 where
@@ -11,16 +11,11 @@ pub record Scanned (at stop end : ℕ) (solid : Bool) (whole seen : List Owned) 
   pub full : solid ≡ true → (x : ℕ) → at ≤ x → x < end → IsCovered seen x
   pub hole : solid ≡ false → (x : ℕ) × (at ≤ x) × (x < end) × (IsCovered whole x → ⊥)
 
-more_in : (seen more : List Owned) (o p : Owned) → more ≡ seen ++ o ∷ [] → In more p → In seen p ⊎ (o ≡ p)
-more_in seen more o p e m =
-    elim (in_either seen (o ∷ []) p (subst (λ (l : List Owned). In l p) e m)) [ inl g ↦ inl g | inr g ↦ elim g [ inl f ↦ inr f | inr f ↦ absurd f ] ]
-
 more_seen : (seen more : List Owned) (o : Owned) (x : ℕ) → more ≡ seen ++ o ∷ [] → IsCovered seen x → IsCovered more x
 more_seen seen more o x e c = subst (λ (l : List Owned). IsCovered l x) (sym e) (covered_left seen (o ∷ []) x c)
 
 more_by : (seen more : List Owned) (o : Owned) (x : ℕ) → more ≡ seen ++ o ∷ [] → o.extent.at ≤ x → x < o.extent.at + o.extent.len → IsCovered more x
-more_by seen more o x e l h =
-    record { by = o; inside = subst (λ (l : List Owned). In l o) (sym e) (in_right seen (o ∷ []) o (inl refl)); low = l; high = h }
+more_by seen more o x e l h = grind (arith, nat_tests, in_right seen (o ∷ []) o)
 
 scan : (at stop end next count : ℕ) (solid more_solid : Bool) (whole seen more : List Owned) (o : Owned) → more ≡ seen ++ o ∷ []
     → ((p : Owned) → In whole p → In seen p ⊎ (o.extent.at ≤ p.extent.at)) → 1 ≤ o.extent.len → o.extent.at < stop
@@ -30,22 +25,10 @@ scan : (at stop end next count : ℕ) (solid more_solid : Bool) (whole seen more
 scan at stop end next count solid more_solid whole seen more o e apart filled begin first room n keeps breaks h = record {
   low = (let l = h.low in omega arith);
   high = (let l = h.high in omega arith);
-  some = λ g. elim (cases_lt 0 count) [
-    | inl f ↦ (let l = h.some f in omega arith)
-    | inr f ↦ (let l = first (omega arith) in omega arith)
-  ];
-  reach = λ p m. elim (more_in seen more o p e m) [
-    | inl g ↦ (let r = h.reach p g in omega arith)
-    | inr g ↦ subst (λ (z : Owned). min stop (z.extent.at + z.extent.len) ≤ next) g (omega arith)
-  ];
-  last = λ l. elim (cases_lt end (min (o.extent.at + o.extent.len) stop)) [
-    | inl past ↦ more_by seen more o (next - 1) e (omega arith) (omega arith)
-    | inr within ↦ (let same : end ≡ next = omega arith in more_seen seen more o (next - 1) e (subst (λ (k : ℕ). IsCovered seen (k - 1)) same (h.last (omega arith))))
-  ];
-  full = λ s x l m. elim (cases_lt x end) [
-    | inl f ↦ more_seen seen more o x e (h.full (keeps s).0 x l f)
-    | inr f ↦ (let near = (keeps s).1 in more_by seen more o x e (omega arith) (omega arith))
-  ];
+  some = grind (arith, nat_tests, h.some);
+  reach = grind (arith, nat_tests, in_either, h.reach);
+  last = grind (arith, nat_tests, more_by, more_seen, o.extent.at, o.extent.len, h.last);
+  full = grind (arith, nat_tests, more_seen, more_by, h.full);
   hole = λ s. elim (breaks s) [
     | inl g ↦ (let r = h.hole g in let m = r.2 in (r.0, r.1, omega arith, r.3))
     | inr g ↦ (end, h.low, omega arith, (λ c. gap g c))
@@ -53,13 +36,7 @@ scan at stop end next count solid more_solid whole seen more o e apart filled be
 }
   where
     gap : end < o.extent.at → IsCovered whole end → ⊥
-    gap g c =
-        let low = c.low in
-        let high = c.high in
-        elim (apart c.by c.inside) [
-          | inl m ↦ (let r = h.reach c.by m in absurd (omega arith))
-          | inr m ↦ absurd (omega arith)
-        ]
+    gap g c = grind (arith, nat_tests)
 
 -- one entry more, which is the next behind those that were carried
 pub scanned_more : (at stop end next i : ℕ) (solid more_solid : Bool) (carried fresh : List Owned) (o d : Owned) → i < length fresh → o ≡ get_or fresh i d
@@ -113,7 +90,7 @@ pub reach_more : (at stop end next i : ℕ) (list : List Owned) (d : Owned) → 
     → next ≡ max end (min ((get_or list i d).extent.at + (get_or list i d).extent.len) stop) → at < stop
     → Reach at stop (take i list) end → Reach at stop (take (i + 1) list) next
 reach_more at stop end next i list d l across n room r =
-    grind (arith, nat_tests, take_more list i d l, entry_in list i d l, more_in, more_seen, ltb-true, ltb-false, more_by)
+    grind (arith, nat_tests, take_more list i d l, entry_in list i d l, in_either, more_seen, ltb-true, ltb-false, more_by)
 
 pub all_scanned : (at stop end i : ℕ) (solid : Bool) (carried fresh : List Owned) (w : Window) → length fresh ≤ i → 1 ≤ length carried + i
     → Scanned at stop end solid (carried ++ fresh) (carried ++ take i fresh) (length carried + i)

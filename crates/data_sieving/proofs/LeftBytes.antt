@@ -1,9 +1,8 @@
 -- The bytes that entries have from a place on.
-use Rattle.data_sieving.proofs.Words.{◌≡◌, ℕ, ◌≤◌, inl, refl, ap, List, [], ◌∷◌, arith, nat_le, le-leb, leb-true, in_filter, filter_in, Owned, in_order, In, ranges, IsAscending, filter_ascends, in_in_order, in_order_in, in_order_ascends, first_least, same_ascending, IsCovered, in_ranges, ranges_in, bytes_from, nat_tests}
+use Rattle.data_sieving.proofs.Words.{◌≡◌, ℕ, ◌≤◌, inl, refl, ap, List, [], ◌∷◌, arith, nat_le, leb-true, in_filter, filter_in, Owned, in_order, In, ranges, IsAscending, filter_ascends, in_in_order, in_order_in, in_order_ascends, first_least, same_ascending, IsCovered, in_ranges, ranges_in, bytes_from, nat_tests}
 
 pub byte_from : (place : ℕ) (list : List Owned) (x : ℕ) → place ≤ x → IsCovered list x → In (bytes_from place list) x
-byte_from place list x h c =
-    in_filter (λ (y : ℕ). nat_le place y) (in_order (ranges list)) x (in_in_order (ranges list) x (in_ranges list x c)) (le-leb place x h)
+byte_from place list x h c = grind (arith, nat_tests, in_filter, in_order, in_in_order, in_ranges, bytes_from)
 
 pub from_byte : (place : ℕ) (list : List Owned) (x : ℕ) → In (bytes_from place list) x → (place ≤ x) × IsCovered list x
 from_byte place list x h = grind (arith, nat_tests, filter_in, leb-true, ranges_in, in_order_in)

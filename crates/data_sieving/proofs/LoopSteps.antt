@@ -1,7 +1,7 @@
 -- One window of a loop over all windows.
-use Rattle.data_sieving.proofs.Words.{Bool, ◌≡◌, ℕ, ◌+◌, ◌^◌, ◌≤◌, ◌∙◌, ap, subst, List, [], ◌++◌, length, Option, Some, None, refl, arith, IfSome, flat_map, at_in, In, Owned, Post, DiskCall, Window, after, with_end, BothTold, overlays, write_cells, moved_down, told_of, clips, extents, IsByPlace, EndBelow, IsBetween, IsBegun, store_calls, told_window, source_of, AreFilled, put_cells, entry_windows, LieOn, IsPast, AreLeft, LieAcross, IsNext, HasDone, windows_from, entries_from, entries_within, nat_tests}
+use Rattle.data_sieving.proofs.Words.{Bool, ◌≡◌, ℕ, ◌+◌, ◌^◌, ◌≤◌, ◌∙◌, ap, subst, List, [], ◌++◌, length, Option, Some, None, arith, IfSome, flat_map, at_in, In, Owned, Post, DiskCall, Window, after, with_end, BothTold, overlays, write_cells, moved_down, told_of, clips, extents, IsByPlace, EndBelow, IsBetween, IsBegun, store_calls, told_window, source_of, AreFilled, put_cells, entry_windows, LieOn, IsPast, AreLeft, LieAcross, IsNext, HasDone, windows_from, entries_from, entries_within, nat_tests, with_end-with_end, append_assoc}
 use Rattle.data_sieving.proofs.WindowSteps.{window_bytes, next_told, windows_next, all_windows, no_window}
-use Rattle.data_sieving.proofs.CallSteps.{none_done, done_more, all_done, done_begun}
+use Rattle.data_sieving.proofs.CallSteps.{none_done, all_done, done_begun}
 use Rattle.data_sieving.proofs.PutSteps.{AreCells, file_to, file_step, to_begin, to_end, mixed_to, held_refused}
 use Rattle.data_sieving.proofs.ReachSteps.{hull_low, hull_high}
 
@@ -19,14 +19,13 @@ walk_ready list left size all sorted ends filled some =
 
 pub calls_begin : (f : List ℕ → List DiskCall) (size : ℕ) (list : List Owned) (old : Option (List DiskCall))
     → HasDone (flat_map f (entry_windows size list)) (flat_map f (windows_from size 0 list)) old old
-calls_begin f size list old =
-    none_done (flat_map f (entry_windows size list)) (flat_map f (windows_from size 0 list)) old (ap (λ (ws : List (List ℕ)). flat_map f ws) (all_windows size list))
+calls_begin f size list old = grind (arith, nat_tests, none_done, all_windows, flat_map, entry_windows, windows_from)
 
 module _ {left : List Owned} {place size : ℕ} {w : Window} {served : List Owned} {stop : ℕ} (list : List Owned) (p : IsPast place list left) (l : AreLeft left place size)
     (n : IsNext left place size w served stop) where
   pub calls_more : (calls : ℕ × ℕ × Bool → List DiskCall) (plan : List DiskCall) (old mid now : Option (List DiskCall)) → now ≡ with_end mid (calls (told_window w))
       → HasDone plan (flat_map (λ ws. calls (told_of ws)) (windows_from size place list)) old mid → HasDone plan (flat_map (λ ws. calls (told_of ws)) (windows_from size stop list)) old now
-  calls_more calls plan old mid now e h = grind (arith, nat_tests, window_bytes left place size w, windows_next list l n p, next_told l n, done_more)
+  calls_more calls plan old mid now e h = grind (arith, nat_tests, window_bytes left place size w, windows_next list l n p, next_told l n, with_end-with_end, append_assoc)
 
   pub stores_begun : (plan : List DiskCall) (old mid now : Option (List DiskCall)) → IsBegun (store_calls (told_window w)) mid now
       → HasDone plan (flat_map overlays (windows_from size place list)) old mid → IsBegun plan old now
@@ -42,16 +41,12 @@ calls_end f size place list left plan old now none p h =
 
 -- ---- the bytes of puts
 
-pub are_cells : (posts : List Post) (list : List Owned) (base n : ℕ) → LieOn base n list → AreCells base n (put_cells posts list)
-are_cells posts list base n on = record {
-  from = entries_from (source_of posts) list base (λ o m. (on o m).0);
-  within = entries_within (source_of posts) list (base + n) (λ o m. (on o m).1);
-}
+are_cells : (posts : List Post) (list : List Owned) (base n : ℕ) → LieOn base n list → AreCells base n (put_cells posts list)
+are_cells posts list base n on = grind (arith, nat_tests, entries_from (source_of posts) list base, entries_within (source_of posts) list (base + n))
 
 pub put_begin : (held : Option (List ℕ)) (posts : List Post) (list : List Owned) (base n : ℕ) → IfSome held (λ b. length b ≡ n) → LieOn base n list
     → held ≡ after (λ file. file_to base 0 (put_cells posts list) file) held
-put_begin None posts list base n told on = refl
-put_begin (Some file) posts list base n told on = ap Some (to_begin base n (put_cells posts list) file (are_cells posts list base n on) told)
+put_begin held posts list base n told on = grind (arith, nat_tests, to_begin, are_cells)
 
 module _ (posts : List Post) (list : List Owned) {left : List Owned} {place size : ℕ} {w : Window} {served : List Owned} {stop : ℕ} (base here n : ℕ) (on : LieOn base n list) (same : here ≡ base)
     (p : IsPast place list left) (k : IsNext left place size w served stop) where
@@ -66,8 +61,7 @@ module _ (posts : List Post) (list : List Owned) {left : List Owned} {place size
 
   pub put_more : (held mid now : Option (List ℕ)) → IfSome held (λ b. length b ≡ n) → mid ≡ after (λ file. file_to base place (put_cells posts list) file) held → now ≡ after (over here) mid
       → now ≡ after (λ file. file_to base stop (put_cells posts list) file) held
-  put_more None mid now told e f = f ∙ ap (λ (m : Option (List ℕ)). after (over here) m) e
-  put_more (Some old) mid now told e f = f ∙ (λ i. after (over (same i)) (e i)) ∙ ap Some (step old told)
+  put_more held mid now told e f = grind (arith, nat_tests, step)
 
   pub put_refused : (held mid now : Option (List ℕ)) → IfSome held (λ b. length b ≡ n) → mid ≡ after (λ file. file_to base place (put_cells posts list) file) held
       → BothTold (λ old left. IsBetween old (over here old) left) mid now → BothTold (λ old left. IsBetween old (write_cells old (moved_down base (put_cells posts list))) left) held now

@@ -1,5 +1,5 @@
 -- The next window of what is left.
-use Rattle.data_sieving.proofs.Words.{◌≡◌, ℕ, ◌+◌, ◌-◌, ◌^◌, ◌<◌, ◌≤◌, ◌⊎◌, inl, refl, sym, ◌∙◌, ap, subst, List, [], ◌∷◌, ◌++◌, length, max, min, Some, slice_get, arith, same_Some, at_in, Owned, In, Window, IsPast, BeginBefore, AreLeft, LieAcross, IsHull, IsNext, past_in, past_extents, past_sorted, front_all, first_begins, first_joined, in_extents, nat_tests}
+use Rattle.data_sieving.proofs.Words.{◌≡◌, ℕ, ◌+◌, ◌-◌, ◌^◌, ◌<◌, ◌≤◌, ◌⊎◌, inl, refl, subst, List, [], ◌∷◌, ◌++◌, length, max, min, Some, slice_get, arith, same_Some, at_in, Owned, In, Window, IsPast, BeginBefore, AreLeft, LieAcross, IsHull, IsNext, past_in, past_extents, past_sorted, front_all, first_begins, first_joined, in_extents, nat_tests}
 
 module _ {left : List Owned} {place size : ℕ} (l : AreLeft left place size) (at : ℕ) (first : Owned) (e : slice_get left 0 ≡ Some first) (is : at ≡ max first.extent.at place) where
   -- the first byte that is not served lies in the first entry
@@ -19,9 +19,7 @@ module _ {left : List Owned} {place size : ℕ} (l : AreLeft left place size) (a
 -- the first entry begins before the stop, so there is one
 pub some_served : (left served : List Owned) (at stop : ℕ) (first : Owned) → slice_get left 0 ≡ Some first → first.extent.at ≤ at → at < stop → BeginBefore stop left served
     → 1 ≤ length served
-some_served left [] at stop first e begin room b =
-    let past = b.later first (at_in b.rest 0 first (ap (λ (list : List Owned). slice_get list 0) (sym b.joined) ∙ e)) in
-    absurd (omega arith)
+some_served left [] at stop first e begin room b = grind (arith, nat_tests, at_in b.rest 0 first, slice_get)
 some_served left (o ∷ served) at stop first e begin room b = omega arith
 
 -- where entries are carried the window begins behind the one before
@@ -31,9 +29,7 @@ carried_at [] ahead place at first o h e is m = absurd m
 carried_at (p ∷ carried) ahead place at first o h e is m =
     let low : first.extent.at < place = subst (λ (q : Owned). q.extent.at < place) (same_Some p first e) (h p (inl refl)).0 in
     let r = h o m in
-    let before = r.0 in
-    let past = r.1 in
-    (omega arith, omega arith)
+    grind (arith, nat_tests, r.0, r.1)
 
 -- what is known of the next window before its hull is, the carried entries being those of a list
 pub record Ready (carried ahead fresh : List Owned) (place size at stop : ℕ) (first : Owned) : Type 0 where
@@ -46,8 +42,7 @@ pub record Ready (carried ahead fresh : List Owned) (place size at stop : ℕ) (
 pub is_ready : (items carried ahead fresh : List Owned) (place size at stop : ℕ) (first : Owned) → carried ≡ items → AreLeft (items ++ ahead) place size → LieAcross place items
     → Some first ≡ slice_get (items ++ ahead) 0 → at ≡ max first.extent.at place → stop ≡ min (at + size) (2 ^ 64 - 1) → BeginBefore stop ahead fresh
     → Ready carried ahead fresh place size at stop first
-is_ready items carried ahead fresh place size at stop first same l h e is ends b =
-    subst (λ (list : List Owned). Ready list ahead fresh place size at stop first) (sym same) (grind (arith, nat_tests, stop_past l at first (sym e) is stop ends, front_all))
+is_ready items carried ahead fresh place size at stop first same l h e is ends b = grind (arith, nat_tests, stop_past, front_all)
 
 -- ---- what is left behind it
 

@@ -4,8 +4,7 @@ use Rattle.data_sieving.proofs.Words.{◌≡◌, ℕ, ◌+◌, ◌-◌, ◌<◌,
 -- ---- entries laid
 
 pub or_none : (o : Option ℕ) → option_or o None ≡ o
-or_none None = refl
-or_none (Some v) = refl
+or_none o = grind (arith, nat_tests)
 
 -- entries of two lists, one after another
 pub laid_twice : (source : Source) (lo hi : ℕ) (a b : List Owned) (old mid now : List ℕ)
@@ -79,7 +78,7 @@ file_to base place cells file = write_cells file (moved_down base (clips base (m
 to_within : (base place n : ℕ) (cells : List Cell) → AreCells base n cells → IsWithin (moved_down base (clips base (max base place) cells)) n
 to_within base place n cells a = grind (arith, nat_tests, within_lowered, clips_from, clips_fit)
 
-pub to_long : (base place n : ℕ) (cells : List Cell) (file : List ℕ) → AreCells base n cells → length file ≡ n → length (file_to base place cells file) ≡ length file
+to_long : (base place n : ℕ) (cells : List Cell) (file : List ℕ) → AreCells base n cells → length file ≡ n → length (file_to base place cells file) ≡ length file
 to_long base place n cells file a e = grind (arith, nat_tests, cells_long, to_within)
 
 -- one window more
@@ -97,7 +96,6 @@ module _ (source : Source) (list : List Owned) {left : List Owned} {place size :
   -- the parts of the entries up to a window, and in it, say what their parts up to its end say
   step_said : (base x : ℕ) → base ≤ w.hull.at → base ≤ x → said_at (said_by (clips base (max base place) cells ++ here)) x ≡ said_at (said_by (clips base (max base stop) cells)) x
   step_said base x low least =
-      let some = k.hull.some in
       let short = k.hull.short in
       let from = k.from in
       said_joined (clips base (max base place) cells) here x
@@ -125,7 +123,7 @@ module _ (source : Source) (list : List Owned) {left : List Owned} {place size :
       (λ i. moved_at base (before ++ here) i lows ∙ step_said base (i + base) low (omega arith) ∙ sym (moved_at base whole i (clips_from base (max base stop) cells (omega arith))))
 
 -- each byte is old, or that of the whole
-pub to_either : (base place n : ℕ) (cells : List Cell) (file : List ℕ) (i : ℕ) → AreCells base n cells
+to_either : (base place n : ℕ) (cells : List Cell) (file : List ℕ) (i : ℕ) → AreCells base n cells
     → (at (file_to base place cells file) i ≡ at file i) ⊎ (at (file_to base place cells file) i ≡ at (write_cells file (moved_down base cells)) i)
 to_either base place n cells file i a =
     grind (
@@ -175,8 +173,7 @@ pub held_refused : (held mid now : Option (List ℕ)) (n : ℕ) (f g h whole : L
     → ((file : List ℕ) → length file ≡ n → g (f file) ≡ h file)
     → ((file : List ℕ) → length file ≡ n → IsMixed file (whole file) (f file)) → ((file : List ℕ) → length file ≡ n → IsMixed file (whole file) (h file))
     → mid ≡ after f held → BothTold (λ old left. IsBetween old (g old) left) mid now → BothTold (λ old left. IsBetween old (whole old) left) held now
-held_refused None mid now n f g h whole long same before past e b =
-    subst (λ (m : Option (List ℕ)). BothTold (λ old left. IsBetween old (g old) left) m now) e b
+held_refused None mid now n f g h whole long same before past e b = grind (arith, nat_tests)
 held_refused (Some file) mid now n f g h whole long same before past e b =
     by_told (subst (λ (m : Option (List ℕ)). BothTold (λ old left. IsBetween old (g old) left) m now) e b)
   where

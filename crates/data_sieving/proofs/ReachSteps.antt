@@ -1,9 +1,8 @@
 -- What holds of all entries holds of those of a window.
-use Rattle.data_sieving.proofs.Words.{ℕ, ◌+◌, ◌^◌, ◌<◌, ◌≤◌, sym, subst, List, [], ◌∷◌, ◌++◌, arith, Extent, Owned, Window, In, Source, AreFound, extents, EndBelow, in_left, AreFilled, LieOn, IsPast, BeginBefore, AreLeft, IsNext, past_in, past_found, extents_left, in_extents, nat_tests}
+use Rattle.data_sieving.proofs.Words.{ℕ, ◌+◌, ◌^◌, ◌<◌, ◌≤◌, sym, subst, List, [], ◌∷◌, ◌++◌, arith, Owned, Window, In, Source, AreFound, extents, EndBelow, in_left, AreFilled, LieOn, IsPast, BeginBefore, AreLeft, IsNext, past_in, past_found, extents_left, in_extents, nat_tests}
 
 pub served_in : (place stop : ℕ) (list left served : List Owned) (o : Owned) → IsPast place list left → BeginBefore stop left served → In served o → In list o
-served_in place stop list left served o p b m =
-    past_in place list left o p (subst (λ (l : List Owned). In l o) (sym b.joined) (in_left served b.rest o m))
+served_in place stop list left served o p b m = grind (arith, nat_tests, past_in, in_left)
 
 -- ---- their bytes
 
@@ -37,7 +36,4 @@ module _ {left : List Owned} {place size : ℕ} {w : Window} {served : List Owne
   pub hull_end : AreLeft left place size → w.hull.at + w.hull.len < 2 ^ 62
   hull_end l =
       let last = n.hull.last in
-      let below = served_ends l n.front last.by.extent (in_extents served last.by last.inside) in
-      let end = last.high in
-      let some = n.hull.some in
-      omega arith
+      grind (arith, nat_tests, served_ends l n.front last.by.extent (in_extents served last.by last.inside), in_extents served last.by last.inside, last.high, n.hull.some)

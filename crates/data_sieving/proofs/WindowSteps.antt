@@ -1,5 +1,5 @@
 -- The first window of what is left, as it is told and as one of the windows of sieving.
-use Rattle.data_sieving.proofs.Words.{◌≡◌, ℕ, ◌+◌, ◌-◌, ◌^◌, ◌<◌, ◌≤◌, refl, sym, ◌∙◌, ap, List, [], ◌∷◌, length, Bool, true, false, arith, filter, nat_lt, nat_le, ◌==◌, range_with_len, length-range_with_len, lt-ltb, le-leb, lt-leb, leb-true, in_filter, filter_in, equal_below, equal_true, Owned, Window, first_of, hull_len, sieved, sieving_windows, In, IsAscending, told_of, filter_at_most, filter_ascends, in_range, range_low, range_high, range_ascends, last_most, last_below, drop_first, filter_all, sieved_walked, same_ascending, triple_same, walked_enough, told_window, entry_windows, IsCovered, IsPast, AreLeft, IsNext, bytes_from, windows_from, covered_below, past_covered, covered_past, front_covered, covered_front, hole_short, nat_tests, ltb-true}
+use Rattle.data_sieving.proofs.Words.{◌≡◌, ℕ, ◌+◌, ◌-◌, ◌^◌, ◌<◌, ◌≤◌, refl, sym, ◌∙◌, ap, List, [], ◌∷◌, length, Bool, true, false, arith, filter, nat_lt, nat_le, ◌==◌, range_with_len, length-range_with_len, le-leb, lt-leb, in_filter, filter_in, equal_below, equal_true, Owned, Window, first_of, hull_len, In, IsAscending, told_of, filter_at_most, filter_ascends, in_range, range_low, range_high, range_ascends, last_most, last_below, drop_first, filter_all, sieved_walked, same_ascending, triple_same, walked_enough, told_window, entry_windows, IsCovered, IsPast, AreLeft, IsNext, bytes_from, windows_from, covered_below, past_covered, covered_past, front_covered, covered_front, hole_short, nat_tests}
 use Rattle.data_sieving.proofs.LeftBytes.{byte_from, from_byte, bytes_ascend, same_bytes, begins}
 
 -- ---- the bytes of the window
@@ -15,20 +15,10 @@ module _ {left : List Owned} {place size : ℕ} {w : Window} {served : List Owne
   before_stop x c h = grind (arith, nat_tests, n.ends, covered_below (2 ^ 62) left x l.ends c)
 
   in_window : (x : ℕ) → In bytes x → (w.hull.at ≤ x) × (x < w.hull.at + w.hull.len) × IsCovered served x
-  in_window x m =
-      let r = filter_in (λ (y : ℕ). nat_lt y (w.hull.at + size)) (bytes_from place left) x m in
-      let b = from_byte place left x r.0 in
-      let before = before_stop x b.1 (ltb-true _ _ r.1) in
-      let c = front_covered stop left served x n.front before b.1 in
-      (n.least x b.1 b.0, n.hull.each x c before, c)
+  in_window x m = grind (arith, nat_tests, filter_in, from_byte place left x, before_stop x, front_covered stop left served x n.front)
 
   window_in : (x : ℕ) → w.hull.at ≤ x → x < w.hull.at + w.hull.len → IsCovered served x → In bytes x
-  window_in x h k c =
-      let short = n.hull.short in
-      let is = n.ends in
-      let low = n.from in
-      in_filter (λ (y : ℕ). nat_lt y (w.hull.at + size)) (bytes_from place left) x
-      (byte_from place left x (omega arith) (covered_front stop left served x n.front c)) (lt-ltb x (w.hull.at + size) (omega arith))
+  window_in x h k c = grind (arith, nat_tests, in_filter, byte_from place left x, covered_front stop left served x n.front c)
 
   begin_window : (ys : List ℕ) × (bytes_from place left ≡ w.hull.at ∷ ys)
   begin_window = grind (arith, nat_tests, n.from, n.first, n.least, begins, bytes_ascend, byte_from, from_byte)
@@ -41,12 +31,7 @@ module _ {left : List Owned} {place size : ℕ} {w : Window} {served : List Owne
       asc = filter_ascends (λ (y : ℕ). nat_lt y (w.hull.at + size)) (bytes_from place left) (bytes_ascend place left)
 
       first : first_of bytes ≡ w.hull.at
-      first =
-          let s = n.hull.some in
-          let short = n.hull.short in
-          let b = begins bytes w.hull.at asc
-          (window_in w.hull.at (omega arith) (omega arith) (front_covered stop left served w.hull.at n.front (omega arith) n.first)) (λ x m. (in_window x m).0) in
-          ap (λ (xs : List ℕ). first_of xs) b.1
+      first = grind (arith, nat_tests, begins bytes w.hull.at asc, window_in w.hull.at, front_covered stop left served w.hull.at n.front, in_window, first_of)
 
       long : hull_len bytes ≡ w.hull.len
       long =
@@ -79,16 +64,10 @@ module _ {left : List Owned} {place size : ℕ} {w : Window} {served : List Owne
       (filter_ascends (λ (y : ℕ). nat_le (w.hull.at + size) y) (bytes_from place left) (bytes_ascend place left)) (bytes_ascend stop left)
       (λ x m.
       let r = filter_in (λ (y : ℕ). nat_le (w.hull.at + size) y) (bytes_from place left) x m in
-      let past = leb-true (w.hull.at + size) x r.1 in
-      let is = n.ends in
-      byte_from stop left x (omega arith) (from_byte place left x r.0).1)
+      grind (arith, nat_tests, byte_from, from_byte, w.hull.at, r.1, n.ends))
       (λ x m.
       let b = from_byte stop left x m in
-      let past = b.0 in
-      let below = covered_below (2 ^ 62) left x l.ends b.1 in
-      let is = n.ends in
-      let low = n.from in
-      in_filter (λ (y : ℕ). nat_le (w.hull.at + size) y) (bytes_from place left) x (byte_from place left x (omega arith) b.1) (le-leb (w.hull.at + size) x (omega arith)))
+      grind (arith, nat_tests, covered_below (2 ^ 62) left x l.ends b.1, in_filter, byte_from place left x, b.0, n.ends, n.from, w.hull.at, bytes_from))
 
   -- a window ends past what was served before it
   pub goes_on : place < stop
@@ -96,27 +75,15 @@ module _ {left : List Owned} {place size : ℕ} {w : Window} {served : List Owne
 
 -- ---- the windows that are left
 
-enough : (f size : ℕ) (xs : List ℕ) → length xs ≤ f → sieved f size xs ≡ sieving_windows size xs
-enough f size xs h =
-    sieved_walked f size xs ∙ walked_enough (λ (x : ℕ). x + size) f (length xs) xs h (omega arith) ∙ sym (sieved_walked (length xs) size xs)
-
-sieve_first : (size a : ℕ) (ys xs : List ℕ) → 1 ≤ size → xs ≡ a ∷ ys
-    → sieving_windows size xs ≡ filter (λ (y : ℕ). nat_lt y (a + size)) xs ∷ sieving_windows size (filter (λ (y : ℕ). nat_le (a + size) y) xs)
-sieve_first size a ys xs h e = grind (arith, nat_tests, enough, filter_at_most, drop_first, lt-leb)
-
 past_bytes : (place : ℕ) (list left : List Owned) (stop : ℕ) → place ≤ stop → IsPast place list left → bytes_from stop list ≡ bytes_from stop left
-past_bytes place list left stop h p =
-    same_bytes stop list left (λ x l c. past_covered place list left x p (omega arith) c) (λ x l c. covered_past place list left x p c)
+past_bytes place list left stop h p = grind (arith, nat_tests, same_bytes, past_covered, covered_past, bytes_from)
 
 -- the first of the windows that are left, and the others
 pub windows_next : {left : List Owned} {place size : ℕ} {w : Window} {served : List Owned} {stop : ℕ} (list : List Owned) → AreLeft left place size → IsNext left place size w served stop
     → IsPast place list left → windows_from size place list ≡ window_bytes left place size w ∷ windows_from size stop list
 windows_next {left} {place} {size} {w} {served} {stop} list l n p =
     let b = begin_window l n in
-    let further = goes_on l n in
-    ap (λ (xs : List ℕ). sieving_windows size xs) (past_bytes place list left place (omega arith) p)
-    ∙ sieve_first size w.hull.at b.0 (bytes_from place left) l.some b.1
-    ∙ ap (λ (xs : List ℕ). window_bytes left place size w ∷ sieving_windows size xs) (rest_bytes l n ∙ sym (past_bytes place list left stop (omega arith) p))
+    grind (arith, nat_tests, goes_on l n, past_bytes place list left place, sieved_walked, walked_enough, filter_at_most, drop_first, lt-leb, rest_bytes l n, past_bytes place list left stop, window_bytes)
 
 pub all_windows : (size : ℕ) (list : List Owned) → entry_windows size list ≡ windows_from size 0 list
 all_windows size list = grind (arith, nat_tests, filter_all, le-leb)

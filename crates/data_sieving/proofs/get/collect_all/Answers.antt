@@ -1,5 +1,5 @@
 -- Each entry's bytes lie in its blob.
-use Rattle.data_sieving.proofs.Words.{no_entry, ◌+◌, ◌∙◌, refl, ap, List, map, get_or, take_all, entry_in, Owned, write_cells, of_slot, blob_at, buffer_cell, entry_ends, slot_below}
+use Rattle.data_sieving.proofs.Words.{no_entry, ◌+◌, ◌∙◌, refl, ap, List, map, get_or, take_all, entry_in, Owned, write_cells, of_slot, blob_at, buffer_cell, entry_ends, slot_below, arith, nat_tests}
 use Rattle.data_sieving.proofs.CollectedSteps.{fit_as_long, as_long_twice, collected_more, collected_long}
 use Rattle.data_sieving.proofs.get.collect_all.Goals as goal
 
@@ -14,9 +14,7 @@ collect_entry-requires-clause-filled c =
     c.requires.filled (get_or c.args.entries.now c.loop-entry.entry-index no_entry) (entry_in c.args.entries.now c.loop-entry.entry-index no_entry c.loop-entry-test.true)
 
 pub collect_entry-requires-clause-fit : goal.collect_entry-requires-clause-fit
-collect_entry-requires-clause-fit c =
-    fit_as_long c.args.blobs.now c.loop-entry.blobs c.args.entries.now c.loop-entry.invariant.long c.requires.fit
-    (get_or c.args.entries.now c.loop-entry.entry-index no_entry) (entry_in c.args.entries.now c.loop-entry.entry-index no_entry c.loop-entry-test.true)
+collect_entry-requires-clause-fit c = grind (arith, nat_tests, fit_as_long, entry_in)
 
 pub loop-entry-preserved : goal.loop-entry-preserved
 loop-entry-preserved c =
@@ -26,9 +24,7 @@ loop-entry-preserved c =
     record {
       each = collected_more c.args.hull.at (c.args.hull.at + c.args.hull.len) c.args.buf.now c.args.blobs.now c.loop-entry.blobs c.collect_entry.new.blobs c.args.entries.now
           c.loop-entry.entry-index (get_or c.args.entries.now c.loop-entry.entry-index no_entry) no_entry c.loop-entry-test.true refl room c.collect_entry.ensures c.loop-entry.invariant.each;
-      long = as_long_twice c.args.blobs.now c.loop-entry.blobs c.collect_entry.new.blobs c.loop-entry.invariant.long
-          (collected_long c.args.hull.at (c.args.hull.at + c.args.hull.len) c.args.buf.now c.loop-entry.blobs c.collect_entry.new.blobs
-          (get_or c.args.entries.now c.loop-entry.entry-index no_entry) room fit c.collect_entry.ensures);
+      long = grind (arith, nat_tests, as_long_twice, collected_long, c.collect_entry.ensures);
     }
 
 pub returns-clause-each : goal.returns-clause-each

@@ -1,5 +1,5 @@
 -- The bytes of those that were carried are copied first, and then those of the ones behind them.
-use Rattle.data_sieving.proofs.Words.{◌+◌, in_left, in_right, extents_left, extents_right}
+use Rattle.data_sieving.proofs.Words.{◌+◌, in_left, in_right, extents_left, extents_right, arith, nat_tests}
 use Rattle.data_sieving.proofs.CollectedSteps.{as_long_twice, collected_twice, fit_as_long}
 use Rattle.data_sieving.proofs.get.collect_window.Goals as goal
 
@@ -19,9 +19,7 @@ pub collect_all-requires-2-clause-filled : goal.collect_all-requires-2-clause-fi
 collect_all-requires-2-clause-filled c = λ o m. c.requires.filled o (in_right c.args.next.now.carried.now c.args.next.now.fresh.now o m)
 
 pub collect_all-requires-2-clause-fit : goal.collect_all-requires-2-clause-fit
-collect_all-requires-2-clause-fit c =
-    fit_as_long c.args.blobs.now c.collect_all.new.blobs c.args.next.now.fresh.now c.collect_all.ensures.long
-    (λ o m. c.requires.fit o (in_right c.args.next.now.carried.now c.args.next.now.fresh.now o m))
+collect_all-requires-2-clause-fit c = grind (arith, nat_tests, fit_as_long, in_right, c.requires.fit)
 
 pub returns-clause-each : goal.returns-clause-each
 returns-clause-each c = λ k.

@@ -1,5 +1,5 @@
 -- Each window brings the blobs' bytes up to its end.
-use Rattle.data_sieving.proofs.Words.{◌≡◌, ◌++◌, ◌∙◌, refl, sym, ap, subst, List, length, take, drop, ℕ, Option, arith, flat_map, IfSome, refill, take-append_seam, loads, with_end, DiskCall, IsBegun, load_calls, entry_windows, AreAsLong, HasGot, entries_in, HasDone, HasGotPart, IsNext, windows_from, entries_left, past_twice, all_left, walk_begin, on_err}
+use Rattle.data_sieving.proofs.Words.{◌≡◌, ◌++◌, ◌∙◌, sym, ap, subst, List, length, take, drop, ℕ, Option, arith, flat_map, IfSome, refill, take-append_seam, loads, with_end, DiskCall, IsBegun, load_calls, entry_windows, AreAsLong, HasGot, entries_in, HasDone, IsNext, windows_from, entries_left, past_twice, all_left, walk_begin, on_err, nat_tests}
 use Rattle.data_sieving.proofs.WindowSteps.{goes_on}
 use Rattle.data_sieving.proofs.CallSteps.{none_begun}
 use Rattle.data_sieving.proofs.ReachSteps.{served_in, hull_low, hull_high, hull_end, served_ends, served_filled}
@@ -16,21 +16,7 @@ returned_long : (old now : List (List ℕ)) → AreAsLong old now → AreAsLong 
 returned_long old now long = subst (λ (bs : List (List ℕ)). AreAsLong old bs) (sym (returned old now long)) long
 
 pub windows-init : goal.windows-init
-windows-init g c = let lent = c.as_mut_slice-blobs.ensures.seen in record {
-  past = walk_begin c.args.list.now (entries_left c.new.result) (all_left c.args.list.now c.new.result.carried.items c.new.result.ahead.now c.new.ensures.carried c.new.ensures.ahead);
-  left = walk_ready c.args.list.now (entries_left c.new.result) (length c.args.buf.now) (all_left c.args.list.now c.new.result.carried.items c.new.result.ahead.now c.new.ensures.carried c.new.ensures.ahead) c.requires.sorted c.requires.ends c.requires.filled c.requires.buffer;
-  across = none_carried c.new.result.carried.items c.new.ensures.carried;
-  size = refl;
-  from = refl;
-  len = refl;
-  bytes = refl;
-  got = subst (λ (bs : List (List ℕ)). IfSome (g.D.Disk.held c.args.disk.now) (λ file. HasGotPart (0, 0) (g.D.Disk.from c.args.disk.now) file c.args.list.now c.args.into.now bs)) (sym lent)
-      (got_none (g.D.Disk.held c.args.disk.now) (g.D.Disk.from c.args.disk.now) (g.D.Disk.len c.args.disk.now) c.args.list.now c.args.into.now c.requires.on_disk c.requires.fit);
-  long = subst (λ (bs : List (List ℕ)). AreAsLong c.args.into.now bs) (sym lent) (refl, (λ k. refl));
-  calls = calls_begin loads (length c.args.buf.now) c.args.list.now (g.D.Disk.calls c.args.disk.now);
-  sure = λ s. s;
-  faults = omega arith;
-}
+windows-init g c = let lent = c.as_mut_slice-blobs.ensures.seen in grind (arith, nat_tests, walk_begin c.args.list.now (entries_left c.new.result), all_left c.args.list.now c.new.result.carried.items c.new.result.ahead.now c.new.ensures.carried, walk_ready c.args.list.now (entries_left c.new.result) (length c.args.buf.now), none_carried c.new.result.carried.items c.new.ensures.carried, got_none (g.D.Disk.held c.args.disk.now) (g.D.Disk.from c.args.disk.now) (g.D.Disk.len c.args.disk.now), calls_begin loads (length c.args.buf.now) c.args.list.now (g.D.Disk.calls c.args.disk.now), c.new.ensures.ahead, c.requires.sorted, c.requires.ends, c.requires.filled, c.requires.buffer, c.requires.on_disk, c.requires.fit)
 
 pub read_window-requires-clause-low : goal.read_window-requires-clause-low
 read_window-requires-clause-low g c κs within =
@@ -63,8 +49,7 @@ windows-preserved g c =
     let later = c.in_ok-read_window.ensures.cause.later in
     let faults = c.windows.invariant.faults in
     record {
-      past = past_twice c.windows.walk.from c.pass.new.self.from c.args.list.now (entries_left c.windows.walk.entries) (entries_left c.pass.new.self.entries) (omega arith)
-          c.windows.invariant.past c.pass.ensures.past;
+      past = grind (arith, nat_tests, past_twice, c.windows.invariant.past, c.pass.ensures.past);
       left = c.pass.ensures.left;
       across = c.pass.ensures.across;
       size = c.pass.ensures.size ∙ c.windows.invariant.size;

@@ -1,5 +1,5 @@
 -- Each entry's bytes lie in its post.
-use Rattle.data_sieving.proofs.Words.{no_entry, get_or, entry_in, Owned, source_of, entry_ends, found_at}
+use Rattle.data_sieving.proofs.Words.{no_entry, get_or, entry_in, source_of, entry_ends, found_at}
 use Rattle.data_sieving.proofs.put.lay_all.Goals as goal
 
 pub lay_entry-requires-clause-end : goal.lay_entry-requires-clause-end

@@ -1,5 +1,5 @@
 -- The hull as it is written is the old one with the entries' bytes.
-use Rattle.data_sieving.proofs.Words.{◌≡◌, ◌+◌, length, rules, arith, common_steps, clips, clips_from, clips_within, window_told_by, window_refused_by, window_begun, put_cells, entries_in, on_err}
+use Rattle.data_sieving.proofs.Words.{◌≡◌, ◌+◌, length, rules, arith, common_steps, clips_from, clips_within, window_told_by, window_refused_by, window_begun, put_cells, entries_in, on_err}
 use Rattle.data_sieving.proofs.put.put_window.Goals as goal
 
 pub returns-clause-bytes : goal.returns-clause-bytes

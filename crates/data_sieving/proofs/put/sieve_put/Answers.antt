@@ -1,5 +1,5 @@
 -- Each window brings the entries' bytes up to its end.
-use Rattle.data_sieving.proofs.Words.{◌+◌, ◌∙◌, refl, sym, ap, subst, length, ℕ, arith, flat_map, overlays, with_end, IsBegun, store_calls, source_of, entry_windows, entries_in, HasDone, IsNext, windows_from, entries_left, past_twice, all_left, walk_begin, covered_place, on_err}
+use Rattle.data_sieving.proofs.Words.{◌+◌, ◌∙◌, refl, sym, ap, subst, length, ℕ, arith, flat_map, overlays, with_end, IsBegun, store_calls, source_of, entry_windows, entries_in, HasDone, IsNext, windows_from, entries_left, past_twice, all_left, walk_begin, covered_place, on_err, nat_tests}
 use Rattle.data_sieving.proofs.WindowSteps.{goes_on}
 use Rattle.data_sieving.proofs.ReachSteps.{hull_low, hull_high, hull_end, served_ends, served_filled, served_found}
 use Rattle.data_sieving.proofs.LoopSteps.{none_carried, walk_ready, calls_begin, calls_more, stores_begun, calls_end, put_begin, put_more, put_refused, put_end}
@@ -53,8 +53,7 @@ windows-preserved g c =
     let later = c.in_ok-put_window.ensures.cause.later in
     let faults = c.windows.invariant.faults in
     record {
-      past = past_twice c.windows.walk.from c.pass.new.self.from c.args.list.now (entries_left c.windows.walk.entries) (entries_left c.pass.new.self.entries) (omega arith)
-          c.windows.invariant.past c.pass.ensures.past;
+      past = grind (arith, nat_tests, past_twice, c.windows.invariant.past, c.pass.ensures.past);
       left = c.pass.ensures.left;
       across = c.pass.ensures.across;
       size = c.pass.ensures.size ∙ c.windows.invariant.size;

@@ -1,12 +1,10 @@
 -- Each entry has all bytes from the place to its end.
-use Rattle.data_sieving.proofs.Words.{no_entry, ◌∙◌, ap, subst, List, max, min, arith, ℕ, take_all, Owned, Reach, entry_ends}
+use Rattle.data_sieving.proofs.Words.{no_entry, ◌∙◌, ap, subst, List, max, min, arith, ℕ, take_all, Owned, Reach, entry_ends, nat_tests}
 use Rattle.data_sieving.proofs.HullSteps.{reach_none, reach_more}
 use Rattle.data_sieving.proofs.walk.reach.Goals as goal
 
 pub end_of-requires : goal.end_of-requires
-end_of-requires c =
-    let low = entry_ends c.args.carried.now c.loop-entry.entry-index no_entry c.requires.ends c.loop-entry-test.true in
-    omega arith
+end_of-requires c = grind (arith, nat_tests, entry_ends)
 
 pub loop-entry-init : goal.loop-entry-init
 loop-entry-init c = reach_none c.args.at c.args.stop c.args.carried.now c.requires.order

@@ -1,5 +1,5 @@
 -- Each entry makes the hull longer, or has a hole before it.
-use Rattle.data_sieving.proofs.Words.{no_entry, inl, inr, ◌∙◌, ap, sym, refl, max, min, get_or, arith, ℕ, length-append, Owned, entry_ends, extents_left, extents_right}
+use Rattle.data_sieving.proofs.Words.{no_entry, inl, inr, ◌∙◌, ap, sym, refl, max, min, get_or, arith, ℕ, length-append, entry_ends, extents_left, extents_right}
 use Rattle.data_sieving.proofs.HullSteps.{reach_scanned, scanned_more, all_scanned}
 use Rattle.data_sieving.proofs.walk.window_of.Goals.{then-entry-end, else-entry-end}
 use Rattle.data_sieving.proofs.walk.window_of.Goals as goal

@@ -1,5 +1,5 @@
 -- The window is that of the entries that begin before its end.
-use Rattle.data_sieving.proofs.Words.{◌++◌, List, sym, subst, arith, Owned, in_right, entries_left, IsNext, none_got, sorted_right, front_sorted}
+use Rattle.data_sieving.proofs.Words.{◌++◌, List, sym, subst, arith, Owned, in_right, entries_left, IsNext, none_got, sorted_right, front_sorted, nat_tests}
 use Rattle.data_sieving.proofs.ReachSteps.{served_ends, served_filled}
 use Rattle.data_sieving.proofs.NextSteps.{first_below, some_served, carried_at, is_next, is_ready, Ready}
 use Rattle.data_sieving.proofs.walk.SieveWalk.next_window.Goals.{After-ahead_before-fresh}
@@ -20,19 +20,7 @@ pub window_of-window-requires : goal.window_of-window-requires
 window_of-window-requires c =
     let r = ready c in
     let left = c.as_slice-carried.result.now ++ c.args.self.now.entries.ahead.now in
-    let served = c.as_slice-carried.result.now ++ c.ahead_before-fresh.result.now in
-    let is = c.max-at.ensures in
-    record {
-      sorted = front_sorted c.saturating_add-stop.result c.args.self.now.entries.ahead.now c.ahead_before-fresh.result.now
-          (sorted_right c.args.self.now.entries.carried.items c.args.self.now.entries.ahead.now c.requires.left.sorted) c.ahead_before-fresh.ensures;
-      ends = served_ends r.left r.front;
-      filled = λ o m. served_filled r.left r.front o (in_right c.as_slice-carried.result.now c.ahead_before-fresh.result.now o m);
-      across = λ o m. carried_at c.as_slice-carried.result.now c.args.self.now.entries.ahead.now c.args.self.now.from c.max-at.result c.in-Some.first o r.before r.at_first is m;
-      before = c.ahead_before-fresh.ensures.before;
-      first = λ o g. first_below r.left c.max-at.result c.in-Some.first r.at_first is served c.saturating_add-stop.result o r.front g;
-      some = some_served left served c.max-at.result c.saturating_add-stop.result c.in-Some.first r.at_first (omega arith) r.room r.front;
-      order = r.room;
-    }
+    grind (arith, nat_tests, front_sorted c.saturating_add-stop.result c.args.self.now.entries.ahead.now c.ahead_before-fresh.result.now, sorted_right c.args.self.now.entries.carried.items c.args.self.now.entries.ahead.now c.requires.left.sorted, served_ends r.left r.front, served_filled r.left r.front, in_right c.as_slice-carried.result.now c.ahead_before-fresh.result.now, carried_at c.as_slice-carried.result.now c.args.self.now.entries.ahead.now c.args.self.now.from, first_below r.left c.max-at.result c.in-Some.first r.at_first c.max-at.ensures, some_served left (c.as_slice-carried.result.now ++ c.ahead_before-fresh.result.now) c.max-at.result, c.ahead_before-fresh.ensures, c.ahead_before-fresh.ensures.before)
 
 pub returns-clause-next : goal.returns-clause-next
 returns-clause-next c =
