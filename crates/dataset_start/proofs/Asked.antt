@@ -1,6 +1,6 @@
 -- What the text of a source asks for, and what it doesn't.
-use Rattle.dataset_start.proofs.Words.{◌≡◌, List, Option, Some, None, inl, inr, ap, subst, ℕ, IfSome, IsSomeAnd, Result, Reads, Script, ScriptErr, fault_of, script_fault, Asks, AsksFor, AsksForBadLayout, IsFaultless, IsFaultyFile, IsFaultyText, IsSoundFile, IsWrong, creation_fault, holds_or_not, some_not_none}
-use Rattle.dataset_start.proofs.ReadyLaws.{laid-mislaid, of_bad_layout, same_script}
+use Rattle.dataset_start.proofs.Words.{◌≡◌, List, Option, Some, None, inl, inr, ap, ℕ, IfSome, IsSomeAnd, Result, Reads, Script, ScriptErr, fault_of, script_fault, Asks, AsksFor, AsksForBadLayout, IsFaultless, IsFaultyFile, IsFaultyText, IsSoundFile, IsWrong, creation_fault, holds_or_not, some_not_none, arith, nat_tests}
+use Rattle.dataset_start.proofs.ReadyLaws.{laid-mislaid, of_bad_layout}
 
 -- ---- a text that is read has no fault
 
@@ -12,8 +12,7 @@ read-faulty text script e r f = absurd (some_not_none e (script_fault text) f (n
 
 -- it is not refused
 pub not_unread : {Q : Type 0} (left : Option (List ℕ)) (script : Script) → Asks left script → IsSomeAnd left IsFaultyText → Q
-not_unread None script a r = absurd r
-not_unread (Some text) script a r = read-faulty text script r.0 a r.1
+not_unread left script a r = grind (arith, nat_tests)
 
 -- ---- the dataset that it asks for
 
@@ -32,8 +31,7 @@ faultless-wrong script held n w = elim (holds_or_not script.fresh) [
 -- what a text asks for is so of the script that it spells
 pub asked_for : (P : Script → Option (List ℕ) → Type 0) (left held : Option (List ℕ)) (script : Script) → Asks left script
     → IsSomeAnd left (λ text. AsksFor P text held) → P script held
-asked_for P None held script a w = absurd w
-asked_for P (Some text) held script a w = subst (λ (z : Script). P z held) (same_script text w.0 script w.1 a) w.2
+asked_for P left held script a w = grind (arith, nat_tests)
 
 -- where nothing is wrong with it, it is not one that is wrong, nor one that can't be laid out
 pub not_wrong : {Q : Type 0} (left held : Option (List ℕ)) (script : Script) → Asks left script → IsFaultless script held

@@ -2,35 +2,26 @@
 use Rattle.dataset_start.proofs.Words.{◌≡◌, ℕ, ◌^◌, ◌≤◌, Bool, true, List, length, ◌==◌, eqb-true, if◌then◌else◌, list_all, and_first, and_second, Extra, Script, are_lawful_hints, is_lawful_extra, is_lawful_header, is_whole_extra, is_empty, Reads, read_unplaced, read_writable, read_lawful, read_whole, IsKept, within_is, arith, nat_tests}
 
 pub read_kept : (text : List ℕ) (script : Script) → Reads text script → IsKept script
-read_kept text script r = record {
-  lawful = read_lawful text script r;
-  whole = read_whole text script r;
-  unplaced = read_unplaced text script r;
-  writable = read_writable text script r;
-}
+read_kept text script r = grind (arith, nat_tests, read_lawful, read_whole, read_unplaced, read_writable)
 
 pub kept_hints : (script : Script) → IsKept script → are_lawful_hints script.hints ≡ true
-kept_hints script k =
-    and_second _ _ (and_first _ _ (and_first _ _ (and_first _ _ (and_first _ _ (and_first _ _ (and_first _ _ (and_first _ _ (and_first _ _ (and_first _ _ k.lawful)))))))))
+kept_hints script k = grind (arith, nat_tests, and_second, and_first)
 
 -- ---- the size of a window
 
 pub kept_wr_buffer : (script : Script) → IsKept script → (1 ≤ script.hints.wr_buffer) × (script.hints.wr_buffer ≤ 2 ^ 25)
-kept_wr_buffer script k =
-    within_is 1 (2 ^ 25) script.hints.wr_buffer (and_second _ _ (and_first _ _ (and_first _ _ (and_first _ _ (and_first _ _ (kept_hints script k))))))
+kept_wr_buffer script k = grind (arith, nat_tests, within_is 1 (2 ^ 25) script.hints.wr_buffer, and_second, and_first, kept_hints script k)
 
 -- ---- the alignments, and the record count
 
 pub kept_header_align : (script : Script) → IsKept script → (4 ≤ script.hints.header_align) × (script.hints.header_align ≤ 1048576)
-kept_header_align script k =
-    within_is 4 1048576 script.hints.header_align (and_first _ _ (and_second _ _ (and_first _ _ (and_first _ _ (kept_hints script k)))))
+kept_header_align script k = grind (arith, nat_tests, within_is, and_first, and_second, kept_hints)
 
 pub kept_var_align : (script : Script) → IsKept script → (4 ≤ script.hints.var_align) × (script.hints.var_align ≤ 1048576)
 kept_var_align script k = within_is 4 1048576 script.hints.var_align (and_first _ _ (and_second _ _ (and_first _ _ (kept_hints script k))))
 
 kept_header : (script : Script) → IsKept script → is_lawful_header script ≡ true
-kept_header script k =
-    and_second _ _ (and_first _ _ (and_first _ _ (and_first _ _ (and_first _ _ (and_first _ _ (and_first _ _ (and_first _ _ (and_first _ _ k.lawful))))))))
+kept_header script k = grind (arith, nat_tests, and_second, and_first)
 
 pub kept_records : (script : Script) → IsKept script → script.header.records ≡ 0
 kept_records script k = eqb-true script.header.records 0 (and_first _ _ (kept_header script k))

@@ -1,5 +1,5 @@
 -- A dataset that was not made ready.
-use Rattle.dataset_start.proofs.Words.{◌≡◌, ℕ, ◌≤◌, ◌==◌, ◌⊎◌, inl, inr, refl, sym, ◌∙◌, ap, subst, List, [], length, Bool, true, false, Option, Some, None, arith, IfSome, HeaderErr, Extra, PartlyWritten, after, BothTold, at, longer, written, canon, header_len, HasFault, start, redefined, IsBegun, IsLengthened, IsTornCreation, IsTornRedefinition, at-longer, longer_long, IsBetween, filled_long, IsApplied, new_end, KeepsPlaces, created_header, creation_fault, front, AreHeadersOf, Asks, blank_file, dataset_end, filled_if, IsCutRedefinition, IsLeftUnready, IsNotReady, IsOpened, IsPartlyOpened, IsPartlyRedefined, IsUnready, told_as, both_ways, holds_or_not, nat_tests}
+use Rattle.dataset_start.proofs.Words.{◌≡◌, ℕ, ◌≤◌, ◌==◌, ◌⊎◌, inl, inr, refl, ◌∙◌, ap, subst, List, [], length, Bool, true, false, Option, Some, None, arith, IfSome, HeaderErr, Extra, PartlyWritten, after, BothTold, at, longer, written, canon, header_len, HasFault, start, redefined, IsBegun, IsLengthened, IsTornCreation, IsTornRedefinition, at-longer, longer_long, IsBetween, filled_long, IsApplied, new_end, KeepsPlaces, created_header, creation_fault, front, AreHeadersOf, Asks, blank_file, dataset_end, filled_if, IsCutRedefinition, IsLeftUnready, IsNotReady, IsOpened, IsPartlyOpened, IsPartlyRedefined, IsUnready, told_as, both_ways, holds_or_not, nat_tests}
 use Rattle.nc_base.specs.declared.header.Header as head
 use Rattle.nc_base.specs.declared.script.Script as script_type
 use Rattle.dataset_start.proofs.Created.{front-of-zeros}
@@ -16,26 +16,12 @@ start_refused header whole held now xs = grind (arith, nat_tests)
 pub grow_refused : (bytes : List ℕ) (size end : ℕ) (held mid now : Option (List ℕ)) → size ≤ end → mid ≡ after (λ _. []) held
     → now ≡ after (λ file. longer file size) mid → BothTold (λ old left. IsTornCreation bytes (longer bytes end) old left) held now
 grow_refused bytes size end None mid now few e g = g ∙ ap (λ (t : Option (List ℕ)). after (λ file. longer file size) t) e
-grow_refused bytes size end (Some file) mid now few e g = (
-  longer [] size,
-  g ∙ ap (λ (t : Option (List ℕ)). after (λ f. longer f size) t) e,
-  inr (record {
-    short = (let one = longer_long [] size in let two = longer_long bytes end in omega arith);
-    each = λ x l. inl (at-longer [] size x);
-  }),
-)
+grow_refused bytes size end (Some file) mid now few e g = grind (arith, nat_tests, longer [] size, longer_long [] size, longer_long bytes end, at-longer [] size)
 
 -- the header is there in part
 head_part : (bytes left : List ℕ) (end : ℕ) → length bytes ≤ end → PartlyWritten 0 bytes (longer [] end) left → IsBegun bytes (longer bytes end) left
-head_part bytes left end fits p = record {
-  short = (let same = p.len ∙ ap (λ (f : List ℕ). length f) (front-of-zeros bytes end fits) in omega arith);
-  each = λ x l. by_byte x (p.each x);
-}
-  where
-    by_byte : (x : ℕ) → (at left x ≡ at (longer [] end) x) ⊎ (at left x ≡ at (written (longer [] end) 0 bytes) x)
-        → (at left x ≡ 0) ⊎ (at left x ≡ at bytes x) ⊎ (at left x ≡ at (longer bytes end) x)
-    by_byte x (inl e) = inl (e ∙ at-longer [] end x)
-    by_byte x (inr e) = inr (inr (e ∙ ap (λ (f : List ℕ). at f x) (front-of-zeros bytes end fits)))
+head_part bytes left end fits p =
+    grind (arith, nat_tests, front-of-zeros bytes end fits, at left, longer [] end, written, at bytes, longer bytes end, at-longer [] end)
 
 pub head_refused : (bytes other : List ℕ) (size end place : ℕ) (held mid grown now : Option (List ℕ)) → length bytes ≤ end → size ≡ end → place ≡ 0 → other ≡ bytes
     → mid ≡ after (λ _. []) held → grown ≡ after (λ file. longer file size) mid → BothTold (PartlyWritten place other) grown now
@@ -44,13 +30,9 @@ head_refused bytes other size end place held mid grown now fits s p o e g b = gr
 
 -- ---- what is not ready
 
-as_created : (script : script_type.Script) (file left : List ℕ) → script.fresh ≡ true
-    → IsTornCreation (canon (created_header script)) (start script (created_header script) file) file left → IsNotReady script file left
-as_created script file left f t = record { created = λ _. t; opened = λ o. absurd (both_ways script.fresh o f) }
-
 -- nothing was done to a dataset that was to be created
 pub not_laid : (script : script_type.Script) (held : Option (List ℕ)) → script.fresh ≡ true → BothTold (IsNotReady script) held held
-not_laid script held f = grind (arith, nat_tests, as_created)
+not_laid script held f = grind (arith, nat_tests)
 
 unfilled_file : head.Header → List ℕ
 unfilled_file header = blank_file header
@@ -78,7 +60,7 @@ pub create_refused : (script : script_type.Script) (header : head.Header) (held 
     → header ≡ created_header script
     → BothTold (λ old left. IsTornCreation (canon header) (blank_file header) old left) held now
     → IsUnready script held now
-create_refused script header held now f l h b = grind (arith, nat_tests, created_part, told_as, as_created, unfilled_part)
+create_refused script header held now f l h b = grind (arith, nat_tests, created_part, told_as, unfilled_part)
 
 -- the fill was cut off
 filled_part : (script : script_type.Script) (header : head.Header) (file left : List ℕ) → script.fresh ≡ true
@@ -90,7 +72,7 @@ filled_part script header file left f b = grind (arith, nat_tests, start_as_long
 fill_left : (script : script_type.Script) (header : head.Header) (held mid now : Option (List ℕ)) → script.fresh ≡ true → header ≡ created_header script
     → mid ≡ after (λ _. blank_file header) held
     → BothTold (λ old left. IsBetween old (filled_if script.filled header old) left) mid now → BothTold (IsNotReady script) held now
-fill_left script header held mid now f h e b = grind (arith, nat_tests, as_created, filled_part)
+fill_left script header held mid now f h e b = grind (arith, nat_tests, filled_part)
 
 pub fill_refused : (script : script_type.Script) (header : head.Header) (held mid now : Option (List ℕ)) → script.fresh ≡ true → creation_fault script ≡ None
     → header ≡ created_header script → mid ≡ after (λ _. blank_file header) held
@@ -104,17 +86,12 @@ as_opened script file left f p = record { created = λ c. absurd (both_ways scri
 
 heads_of : (script : script_type.Script) (old header : head.Header) (file : List ℕ) → script.fresh ≡ false → IsOpened (Some file) old
     → ((length script.extra == 0) ≡ true → header ≡ old) → ((length script.extra == 0) ≡ false → IsApplied old script.extra header) → AreHeadersOf script file old header
-heads_of script old header file f o same changed = record {
-  created = λ c. absurd (both_ways script.fresh f c);
-  opened = λ _. at_front (Some file) old o;
-  made = elim (holds_or_not (length script.extra == 0)) [ inl e ↦ same e ∙ sym (header-kept script old e) | inr e ↦ header-changed script old header e (changed e) ];
-}
+heads_of script old header file f o same changed = grind (arith, nat_tests, at_front, holds_or_not, header-kept, header-changed)
 
 -- what is so of the file that is told, and of its first header, says what was opened in part
 opened_part : {R : List ℕ → List ℕ → Type 0} (script : script_type.Script) {old : head.Header} (held now : Option (List ℕ)) → script.fresh ≡ false → IsOpened held old
     → BothTold R held now → ((file left : List ℕ) → IsOpened (Some file) old → R file left → IsPartlyOpened script file left) → BothTold (IsNotReady script) held now
-opened_part script None now f o b opens = b
-opened_part script (Some file) now f o b opens = (b.0, b.1, as_opened script file b.0 f (opens file b.0 o b.2))
+opened_part script held now f o b opens = grind (arith, nat_tests)
 
 pub lengthen_refused : (script : script_type.Script) (header : head.Header) (held mid now : Option (List ℕ)) → script.fresh ≡ false → (length script.extra == 0) ≡ true
     → IsOpened held header → IfSome held (λ file. (e : HeaderErr) → HasFault (front file) e → ⊥) → mid ≡ held
@@ -138,19 +115,15 @@ redefine_refused script old held mid now f x o n e b =
     by_part : (file left : List ℕ) → IsOpened (Some file) old → ((e : HeaderErr) → HasFault (front file) e → ⊥) → now ≡ Some left
         → IsPartlyRedefined old script.extra file left → IsUnready script (Some file) now
     by_part file left p n s (inl same) = inl (s ∙ ap (λ (t : List ℕ). Some t) same)
-    by_part file left p n s (inr (new, a, t)) = inr (record {
-      faultless = opened-faultless script old (Some file) f p (fault-some script old x ∙ a.faultless) n;
-      left = (
-        left,
-        s,
-        as_opened script file left f (inr (
-          old,
-          new,
-          heads_of script old new file f p (λ r. absurd (both_ways (length script.extra == 0) x r)) (λ _. a),
-          record { kept = λ r. absurd (both_ways (length script.extra == 0) x r); moved = λ _. t },
-        )),
-      );
-    })
+    by_part file left p n s (inr (new, a, t)) =
+        grind (
+          arith,
+          nat_tests,
+          opened-faultless script old (Some file) f p (fault-some script old x ∙ a.faultless) n,
+          fault-some script old x,
+          as_opened script file left f,
+          heads_of script old new file f p,
+        )
 
     by_held : (t : Option (List ℕ)) → IsOpened t old → IfSome t (λ file. (e : HeaderErr) → HasFault (front file) e → ⊥)
         → BothTold (IsPartlyRedefined old script.extra) t now → IsUnready script t now
@@ -167,12 +140,7 @@ left_unready left held now script a xs = grind (arith, nat_tests)
 pub not_redefined : (old : head.Header) (extras : List Extra) (held : Option (List ℕ)) → BothTold (IsPartlyRedefined old extras) held held
 not_redefined old extras held = grind (arith, nat_tests)
 
-both_parts : {A : Type 0} (R S : A → A → Type 0) (held now : Option A) → BothTold R held now → BothTold S held now → BothTold (λ old left. R old left × S old left) held now
-both_parts xs ys held now r s = grind (arith, nat_tests)
-
 pub relocate_refused : (old new : head.Header) (extras : List Extra) (held now : Option (List ℕ)) → IsApplied old extras new
     → BothTold (λ file left. IsTornRedefinition (header_len new) (new_end old new) file (redefined file old new) left) held now → BothTold (KeepsPlaces old new) held now
     → BothTold (IsPartlyRedefined old extras) held now
-relocate_refused old new extras held now a b k =
-    told_as (IsCutRedefinition old new) (IsPartlyRedefined old extras) held now (λ file left t. inr (new, a, t))
-    (both_parts (λ file left. IsTornRedefinition (header_len new) (new_end old new) file (redefined file old new) left) (KeepsPlaces old new) held now b k)
+relocate_refused old new extras held now a b k = grind (arith, nat_tests, told_as (IsCutRedefinition old new) (IsPartlyRedefined old extras) held now)

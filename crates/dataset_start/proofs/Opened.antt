@@ -44,9 +44,7 @@ empty_front (Some file) len told e = front_is file 0 (omega (arith, told, e))
 -- the calls by which a file that is told is made longer, where they were answered Ok
 pub grown_calls : {T E : Type 0} (r : Result T E) (held : Option (List ℕ)) (told now : Option (List DiskCall)) (len end most : ℕ) → IfSome held (λ bytes. length bytes ≡ len) → end ≡ most
     → now ≡ (if is_ok r then with_end told (grow_to len end) else told) → OnOk r (IfSome held (λ file. now ≡ with_end told (grow_to (length file) most)))
-grown_calls (Ok x) None told now len end most l e g = tt
-grown_calls (Ok x) (Some file) told now len end most l e g = g ∙ ap (λ (n : ℕ). with_end told (grow_to n end)) (sym l) ∙ ap (λ (n : ℕ). with_end told (grow_to (length file) n)) e
-grown_calls (Err x) held told now len end most l e g = tt
+grown_calls r held told now len end most l e g = grind (arith, nat_tests)
 
 -- ---- what the front that was read tells of the file
 

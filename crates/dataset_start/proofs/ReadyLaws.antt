@@ -1,5 +1,5 @@
 -- A dataset that is ready for the ranks.
-use Rattle.dataset_start.proofs.Words.{◌≡◌, ℕ, ◌≤◌, ◌==◌, ◌++◌, Bool, true, false, List, [], ◌∷◌, length, Option, Some, None, inl, inr, refl, sym, ap, subst, append_assoc, eqb-true, ◌∙◌, arith, IfErr, IfOk, IfSome, IsSomeAnd, Result, Ok, Err, IsErrAnd, HeaderErr, RedefErr, Extra, DiskCall, Grow, Store, after, with_end, after-after, after-same, grow_to, head_load, opening_calls, redefining_calls, longer, header_len, HasFault, is_sound, brought, redefined, redefined_fault, redefined_header, start, longer-enough, BeginsWith, IsApplied, new_end, relocation_calls, Reads, created_header, creation_fault, front, header_of_run, redefinition_fault, Asks, AsksForBadLayout, HasRedefinitionFault, IsBadDataset, IsLaid, IsMislaid, IsSoundFile, TellsDataset, blank_file, dataset_end, empty_end, fill_calls_if, filled_if, first_calls, IsFaultless, IsOpened, IsReady, line_of, status_of, IsOfHeader, IsOfRedefinition, Stop, both_ways, some_not_none, nat_tests, common_steps}
+use Rattle.dataset_start.proofs.Words.{◌≡◌, ℕ, ◌≤◌, ◌==◌, ◌++◌, Bool, true, false, List, [], ◌∷◌, length, Option, Some, None, inl, inr, refl, sym, ap, append_assoc, eqb-true, ◌∙◌, arith, IfErr, IfOk, IfSome, IsSomeAnd, Result, Ok, Err, IsErrAnd, HeaderErr, RedefErr, Extra, DiskCall, Grow, Store, after, with_end, after-after, after-same, grow_to, head_load, longer, header_len, HasFault, is_sound, brought, redefined, redefined_fault, redefined_header, start, longer-enough, BeginsWith, IsApplied, new_end, relocation_calls, Reads, created_header, creation_fault, front, header_of_run, redefinition_fault, Asks, AsksForBadLayout, HasRedefinitionFault, IsBadDataset, IsLaid, IsMislaid, IsSoundFile, TellsDataset, blank_file, dataset_end, empty_end, fill_calls_if, filled_if, first_calls, IsFaultless, IsOpened, IsReady, line_of, status_of, IsOfHeader, IsOfRedefinition, Stop, both_ways, some_not_none, nat_tests, common_steps}
 use Rattle.nc_base.specs.declared.header.Header as head
 use Rattle.nc_base.specs.declared.script.Script as script_type
 use Rattle.dataset_start.specs.declared.stop.Stop.TheVariants as stops
@@ -27,10 +27,6 @@ header-changed script old new x a = a.made ∙ sym (ap (λ (b : Bool). elim b [ 
 pub file-kept : (script : script_type.Script) (old new : head.Header) (file : List ℕ) → AddsNothing script true → brought script old new file ≡ file
 file-kept script old new file x = ap (λ (b : Bool). elim b [ true ↦ file | false ↦ redefined file old new ]) x
 
-first-calls : (script : script_type.Script) (old new : head.Header) (file : List ℕ) (b : Bool) → AddsNothing script b
-    → first_calls script old new file ≡ elim b [ true ↦ opening_calls script new file | false ↦ redefining_calls script.hints old new file ]
-first-calls script old new file b x = grind (arith, nat_tests)
-
 pub fault-none : (script : script_type.Script) (old : head.Header) → AddsNothing script true → redefinition_fault script old ≡ None
 fault-none script old x = ap (λ (b : Bool). elim b [ true ↦ None | false ↦ redefined_fault old script.extra ]) x
 
@@ -52,34 +48,17 @@ start-opened script header file f = rw f refl
 created-calls : script_type.Script → head.Header → List DiskCall
 created-calls script header = Grow (empty_end header) ∷ Store 0 (header_len header) ∷ fill_calls_if script.filled script.hints header
 
-opening-created : (script : script_type.Script) (header : head.Header) (file : List ℕ) → script.fresh ≡ true
-    → opening_calls script header file ≡ created-calls script header
-unfolding created-calls
-opening-created script header file f = rw f refl
-
 calls-created : (script : script_type.Script) (header : head.Header) (held : Option (List ℕ)) (before mid now : Option (List DiskCall)) → script.fresh ≡ true
     → AddsNothing script true
     → mid ≡ after (λ _. Grow (empty_end header) ∷ Store 0 (header_len header) ∷ []) before
     → now ≡ with_end mid (fill_calls_if script.filled script.hints header)
     → IfSome held (λ bytes. now ≡ after (λ _. first_calls script header header bytes) before)
 unfolding created-calls
-calls-created script header held before mid now f x m n = grind (arith, nat_tests, opening-created, first-calls)
+calls-created script header held before mid now f x m n = grind (arith, nat_tests)
 
 extended : (before mid now : Option (List DiskCall)) (first more : List DiskCall) → mid ≡ after (λ _. first) before → now ≡ with_end mid more
     → now ≡ after (λ _. first ++ more) before
 extended before mid now first more m n = grind (arith, nat_tests)
-
-calls-opened : (script : script_type.Script) (header : head.Header) (held : Option (List ℕ)) (before mid now : Option (List DiskCall)) → script.fresh ≡ false
-    → AddsNothing script true → IfSome held (λ file. mid ≡ after (λ _. head_load file) before)
-    → IfSome held (λ file. now ≡ with_end mid (grow_to (length file) (dataset_end header)))
-    → IfSome held (λ bytes. now ≡ after (λ _. first_calls script header header bytes) before)
-calls-opened script header held before mid now f x m n = grind (arith, nat_tests, extended, first-calls)
-
-calls-redefined : (script : script_type.Script) (old new : head.Header) (held : Option (List ℕ)) (before mid now : Option (List DiskCall)) → AddsNothing script false
-    → IfSome held (λ file. mid ≡ after (λ _. head_load file) before)
-    → IfSome held (λ file. now ≡ with_end mid (relocation_calls script.hints.wr_buffer old new file))
-    → IfSome held (λ bytes. now ≡ after (λ _. first_calls script old new bytes) before)
-calls-redefined script old new held before mid now x m n = grind (arith, nat_tests, extended, append_assoc, first-calls)
 
 -- what is held, or nothing where nothing is told
 abbrev told : Option (List ℕ) → List ℕ
@@ -117,8 +96,7 @@ ready-created script header before mid now calls_before calls_mid calls_now f x 
 
 -- the header at the front of what is held
 pub at_front : (held : Option (List ℕ)) (header : head.Header) → IsOpened held header → IfSome held (λ file. (n : ℕ) × BeginsWith (front file) header n)
-at_front None header o = tt
-at_front (Some file) header o = (o.count, subst (λ (t : List ℕ). BeginsWith (front t) header o.count) (sym o.told) o.begins)
+at_front held header o = grind (arith, nat_tests)
 
 -- where nothing is at fault in the header, and it refuses nothing, nothing is at fault
 sound-file : (script : script_type.Script) (old : head.Header) (held : Option (List ℕ)) → IsOpened held old → redefinition_fault script old ≡ None
@@ -151,15 +129,8 @@ ready-kept script header before mid now calls_before calls_mid calls_now f x o s
   sound = s;
   faultless = opened-faultless script header before f o (fault-none script header x) n;
   bytes = grind (arith, nat_tests, after-same, start-opened, file-kept);
-  calls = calls-opened script header before calls_before calls_mid calls_now f x m
-      (subst (λ (t : Option (List ℕ)). IfSome t (λ file. calls_now ≡ with_end calls_mid (grow_to (length file) (dataset_end header)))) h k);
+  calls = grind (arith, nat_tests, extended, with_end, dataset_end);
 }
-
--- the redefined file is as long as its end
-redefined-start : (script : script_type.Script) (old new : head.Header) (file : List ℕ) → script.fresh ≡ false → AddsNothing script false → IsApplied old script.extra new
-    → start script new (brought script old new file) ≡ redefined file old new
-redefined-start script old new file f x a =
-    grind (arith, nat_tests, start-opened script new (brought script old new file) f, same_end old new script.extra a.made, long_enough old new file, longer-enough)
 
 pub redefined-ready : (script : script_type.Script) (old : head.Header) (before mid now : Option (List ℕ)) (calls_before calls_mid calls_now : Option (List DiskCall))
     (result : Result head.Header Stop) → script.fresh ≡ false → AddsNothing script false → IsOpened before old
@@ -176,10 +147,8 @@ redefined-ready script old before mid now calls_before calls_mid calls_now (Ok n
   heads = record { created = λ c. absurd (both_ways script.fresh f c); opened = λ _. (o.count, o.begins); made = header-changed script old new x a };
   sound = redefined_sound old new script.extra a;
   faultless = opened-faultless script old before f o (fault-some script old x ∙ a.faultless) n;
-  bytes = subst (λ (m : Option (List ℕ)). now ≡ after (λ file. redefined file old new) m) h e
-      ∙ after-same (λ file. redefined file old new) (λ file. start script new (brought script old new file)) before (λ file. sym (redefined-start script old new file f x a));
-  calls = calls-redefined script old new before calls_before calls_mid calls_now x m
-      (subst (λ (t : Option (List ℕ)). IfSome t (λ file. calls_now ≡ with_end calls_mid (relocation_calls script.hints.wr_buffer old new file))) h k);
+  bytes = grind (arith, nat_tests, after-same, brought, start-opened, same_end, long_enough, longer-enough, after);
+  calls = grind (arith, nat_tests, extended, append_assoc, script.hints.wr_buffer, with_end, relocation_calls);
 }
 
 pub redefined_long : (old : head.Header) (len : ℕ) (extras : List Extra) (result : Result head.Header Stop)
@@ -200,16 +169,11 @@ pub bad-header : {T U : Type 0} (script : script_type.Script) (held : Option (Li
     → result ≡ Err err → ((e : HeaderErr) → result ≡ Err (stops.Header e) → IfSome held (λ file. HasFault (front file) e)) → IfErr result IsOfHeader
     → IsErrAnd left (λ stop. stop ≡ err)
     → IfErr left (λ stop. status_of stop ≡ 4 → IfSome (line_of stop) (TellsDataset script held))
-bad-header script held result err (Ok x) f r h o e = tt
-bad-header script held (Ok x) err (Err stop) f r h o e = absurd cc
-bad-header script held (Err other) err (Err stop) f r h o e =
-    let same : other ≡ stop = let t : other ≡ err = cc in t ∙ sym e in
-    bad-header-stop script held stop f (λ x s. h x (ap (λ (y : Stop). Err y) (same ∙ s))) (subst IsOfHeader same o)
+bad-header script held result err left f r h o e = grind (arith, nat_tests, bad-header-stop)
 
 redefinition-told : (script : script_type.Script) (old : head.Header) (held : Option (List ℕ)) (e : RedefErr) → AddsNothing script false → IsOpened held old
     → redefined_fault old script.extra ≡ Some e → IfSome held (λ file. HasRedefinitionFault script file e)
-redefinition-told script old None e x o r = tt
-redefinition-told script old (Some file) e x o r = grind (arith, nat_tests, at_front, fault-some)
+redefinition-told script old held e x o r = grind (arith, nat_tests)
 
 pub bad-redefinition : (script : script_type.Script) (old : head.Header) (held : Option (List ℕ)) (result : Result head.Header Stop) → script.fresh ≡ false
     → AddsNothing script false → IsOpened held old
@@ -239,14 +203,8 @@ laid-mislaid script l m = absurd (some_not_none m.fault (creation_fault script) 
 -- what is so of a script whose layout is refused is so where the text asks for one
 pub of_bad_layout : {Q : Type 0} (left : Option (List ℕ)) (script : script_type.Script) → Asks left script → (IsMislaid script → Q)
     → IsSomeAnd left AsksForBadLayout → Q
-of_bad_layout None script r h b = absurd b
-of_bad_layout (Some text) script r h b = h (subst IsMislaid (same_script text b.0 script b.1 r) b.2)
-
--- what is so of a created dataset with a fault, by the line that tells it
-untouched : {Untouched : Type 0} (script : script_type.Script) (held : Option (List ℕ)) (line : List ℕ) → TellsDataset script held line
-    → (IsMislaid script → Untouched) → script.fresh ≡ true → Untouched
-untouched script held line t h f = let told = t.created f in h (record { created = f; fault = told.0; refuses = told.1.0 })
+of_bad_layout left script r h b = grind (arith, nat_tests)
 
 pub bad-dataset : {Untouched : Type 0} (left held : Option (List ℕ)) (script : script_type.Script) (told : Option (List ℕ)) → Asks left script
     → (IsMislaid script → Untouched) → IfSome told (TellsDataset script held) → IfSome told (IsBadDataset left held Untouched)
-bad-dataset left held script told a h t = grind (arith, nat_tests, untouched)
+bad-dataset left held script told a h t = grind (arith, nat_tests)

@@ -1,5 +1,5 @@
 -- The header and the file of a redefinition.
-use Rattle.dataset_start.proofs.Words.{◌≡◌, ℕ, ◌-◌, ◌≤◌, List, [], ◌∷◌, length, fold, zip, ap, ◌∙◌, arith, length-append, length-replicate, Header, Var, Extra, header_len, end_of, moved, redefined, redefined_header, new_end, written_grows, nat_tests}
+use Rattle.dataset_start.proofs.Words.{◌≡◌, ℕ, ◌-◌, ◌≤◌, List, [], ◌∷◌, length, fold, zip, ap, ◌∙◌, arith, length-append, length-replicate, Header, Extra, header_len, end_of, redefined, redefined_header, new_end, written_grows, nat_tests}
 use Rattle.serial_spec.proofs.AddedLaws.{records_stay}
 
 -- ---- the record count stays
@@ -17,8 +17,5 @@ fold_grows : {A : Type 0} (f : List ℕ → A → List ℕ) → ((file : List �
 fold_grows f g [] file = omega arith
 fold_grows f g (a ∷ list) file = omega (arith, g file a, fold_grows f g list (f file a))
 
-moved_grows : (old new : Header) (file into : List ℕ) (v : Var × Var) → length into ≤ length (moved old new file into v)
-moved_grows old new file into (v, w) = grind (arith, nat_tests, fold_grows, written_grows)
-
 pub long_enough : (old new : Header) (file : List ℕ) → new_end old new ≤ length (redefined file old new)
-long_enough old new file = grind (arith, nat_tests, fold_grows, moved_grows, zip, length-append, length-replicate)
+long_enough old new file = grind (arith, nat_tests, fold_grows, written_grows, zip, length-append, length-replicate)

@@ -1,4 +1,4 @@
-use Rattle.dataset_start.proofs.Words.{arith, sound_end}
+use Rattle.dataset_start.proofs.Words.{arith, sound_end, nat_tests}
 use Rattle.dataset_start.proofs.Opened.{grown_calls}
 use Rattle.dataset_start.proofs.existing.lengthen.Goals as goal
 
@@ -6,10 +6,7 @@ pub end_of-end-requires-clause-below : goal.end_of-end-requires-clause-below
 end_of-end-requires-clause-below g c = sound_end c.args.header.now c.args.header.now.records c.requires.sound (omega arith)
 
 pub grow_to-requires-clause-below : goal.grow_to-requires-clause-below
-grow_to-requires-clause-below g c κs within =
-    let below = sound_end c.args.header.now c.args.header.now.records c.requires.sound (omega arith) in
-    let end = c.end_of-end.ensures in
-    omega arith
+grow_to-requires-clause-below g c κs within = grind (arith, nat_tests, sound_end, c.end_of-end.ensures)
 
 pub returns-clause-bytes : goal.returns-clause-bytes
 returns-clause-bytes g c = rw c.end_of-end.ensures at c.grow_to.ensures.bytes

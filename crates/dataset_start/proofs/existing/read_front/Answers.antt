@@ -1,4 +1,4 @@
-use Rattle.dataset_start.proofs.Words.{◌≡◌, ◌-◌, ◌^◌, min, ℕ, List, take, drop, length, sym, subst, arith, rules, IfSome, with_items, with_items_is, front}
+use Rattle.dataset_start.proofs.Words.{◌≡◌, ◌-◌, ◌^◌, min, ℕ, List, take, drop, length, sym, subst, arith, rules, IfSome, with_items, with_items_is, front, nat_tests}
 use Rattle.dataset_start.proofs.Opened.{empty_front, read_front}
 use Rattle.dataset_start.proofs.existing.read_front.Goals as goal
 
@@ -13,5 +13,4 @@ returns-clause-bytes g c =
 
 pub returns-then-len-eq0-clause-bytes : goal.returns-then-len-eq0-clause-bytes
 returns-then-len-eq0-clause-bytes g c =
-    let none : min (g.D.Disk.len c.args.disk.now) (2 ^ 20) ≡ 0 = omega arith in
-    rw c.new.ensures.items (empty_front (g.D.Disk.held c.args.disk.now) (g.D.Disk.len c.args.disk.now) (g.D.Disk.told c.args.disk.now) none)
+    grind (arith, nat_tests, empty_front (g.D.Disk.held c.args.disk.now) (g.D.Disk.len c.args.disk.now) (g.D.Disk.told c.args.disk.now))

@@ -1,4 +1,4 @@
-use Rattle.dataset_start.proofs.Words.{◌≡◌, ◌≤◌, ◌-◌, ℕ, List, inl, refl, arith, ◌∙◌, ap, writable_is_sound, after, longer, written, end_of, Header, canon, header_len, sound_end, on_err}
+use Rattle.dataset_start.proofs.Words.{◌≡◌, ◌≤◌, ◌-◌, ℕ, List, refl, arith, ◌∙◌, ap, writable_is_sound, after, longer, written, end_of, Header, canon, header_len, sound_end, on_err, nat_tests}
 use Rattle.dataset_start.proofs.Created.{created, front_fits}
 use Rattle.dataset_start.proofs.NotReady.{grow_refused, head_refused, start_refused}
 use Rattle.dataset_start.proofs.fresh.create.Goals as goal
@@ -10,10 +10,7 @@ pub end_of-end-requires-clause-below : goal.end_of-end-requires-clause-below
 end_of-end-requires-clause-below g c = sound_end c.args.header.now 0 (writable_is_sound c.args.header.now c.requires.writable) (omega arith)
 
 pub grow-requires-clause-below : goal.grow-requires-clause-below
-grow-requires-clause-below g c =
-    let below = sound_end c.args.header.now 0 (writable_is_sound c.args.header.now c.requires.writable) (omega arith) in
-    let end = c.end_of-end.ensures in
-    omega arith
+grow-requires-clause-below g c = grind (arith, nat_tests, sound_end, writable_is_sound, c.end_of-end.ensures)
 
 pub returns-clause-bytes : goal.returns-clause-bytes
 returns-clause-bytes g c =
@@ -26,15 +23,10 @@ returns-clause-bytes g c =
     ∙ ap (λ (b : List ℕ). after (λ file. written file (0 - g.D.Disk.from c.grow.new.self) b) (g.D.Disk.held c.grow.new.self)) (c.as_slice.ensures ∙ c.in_ok-bytes.ensures))
 
 pub returns-in_err-bytes-clause-refused : goal.returns-in_err-bytes-clause-refused
-returns-in_err-bytes-clause-refused g c =
-    let h : Header = c.args.header.now in
-    on_err c.from_residual.result (start_refused (canon h) (longer (canon h) (end_of h (header_len h) 0)) (g.D.Disk.held c.args.disk.now) (g.D.Disk.held c.args.disk.now) (inl refl))
+returns-in_err-bytes-clause-refused g c = grind (arith, nat_tests, on_err, start_refused, longer)
 
 pub returns-in_err-start-clause-refused : goal.returns-in_err-start-clause-refused
-returns-in_err-start-clause-refused g c =
-    let h : Header = c.args.header.now in
-    on_err c.from_residual-in_err-start.result
-    (start_refused (canon h) (longer (canon h) (end_of h (header_len h) 0)) (g.D.Disk.held c.args.disk.now) (g.D.Disk.held c.start.new.self) c.in_err-start.ensures.refused)
+returns-in_err-start-clause-refused g c = grind (arith, nat_tests, on_err, start_refused, longer, c.in_err-start.ensures.refused)
 
 pub returns-in_err-grow-clause-refused : goal.returns-in_err-grow-clause-refused
 returns-in_err-grow-clause-refused g c =

@@ -1,4 +1,4 @@
-use Rattle.dataset_start.proofs.Words.{◌∙◌, writable_is_sound, on_err}
+use Rattle.dataset_start.proofs.Words.{writable_is_sound, on_err, arith, nat_tests}
 use Rattle.dataset_start.proofs.Keeping.{kept_created, kept_hints, kept_records}
 use Rattle.dataset_start.proofs.NotReady.{create_refused, fill_refused}
 use Rattle.dataset_start.proofs.ReadyLaws.{created_long, ready-created}
@@ -17,9 +17,7 @@ returns-clause-ready g c =
     c.in_ok-create.ensures.bytes c.in_ok-fill.ensures.bytes c.in_ok-create.ensures.calls c.in_ok-fill.ensures.calls
 
 pub returns-clause-len : goal.returns-clause-len
-returns-clause-len g c =
-    created_long c.args.script.now c.args.header.now (g.D.Disk.len c.fill.new.disk) (kept_records c.args.script.now c.requires.kept) c.requires.laid
-    (c.fill.ensures.len ∙ c.in_ok-create.ensures.len)
+returns-clause-len g c = grind (arith, nat_tests, created_long, kept_records, c.requires.laid, c.fill.ensures.len, c.in_ok-create.ensures.len)
 
 -- ---- where it was not made ready
 

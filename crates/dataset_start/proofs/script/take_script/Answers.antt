@@ -1,4 +1,4 @@
-use Rattle.dataset_start.proofs.Words.{◌≡◌, ℕ, List, [], ◌++◌, ◌≤◌, ◌∙◌, length, Option, Some, None, ap, arith, nat_tests, subst, sym, Script, Asks, Reads, after, with_front, max_text}
+use Rattle.dataset_start.proofs.Words.{◌≡◌, ℕ, List, [], ◌≤◌, length, Option, Some, None, arith, nat_tests, Script, Asks, Reads, after, with_front, max_text}
 use Rattle.std.proofs.Common.{append-nil}
 use Rattle.dataset_start.proofs.script.take_script.Goals as goal
 
@@ -10,18 +10,12 @@ to_end left now text script t e r = grind (arith, nat_tests)
 -- so it is all that was left
 asked : (left now : Option (List ℕ)) (text : List ℕ) (script : Script) → left ≡ with_front text now → now ≡ after (λ _. []) left → Reads text script → Asks left script
 asked None now text script t n r = tt
-asked (Some all) now text script t n r =
-    let e : Some all ≡ Some (text ++ []) = t ∙ ap (λ (m : Option (List ℕ)). with_front text m) n in
-    let whole : all ≡ text ++ [] = cc in
-    subst (λ (x : List ℕ). Reads x script) (sym (whole ∙ append-nil text)) r
+asked (Some all) now text script t n r = grind (arith, nat_tests, append-nil)
 
 pub returns-clause-taken : goal.returns-clause-taken
 returns-clause-taken g c =
-    to_end (g.S.Source.left c.args.source.now) (g.S.Source.left c.take_all.new.source) c.in_ok-text.text.items c.in_ok-script.script c.in_ok-text.ensures.taken c.in_ok-text.ensures.ended
-    (subst (λ (t : List ℕ). Reads t c.in_ok-script.script) c.deref.ensures.value c.in_ok-script.ensures.read)
+    grind (arith, nat_tests, to_end, c.in_ok-text.ensures.taken, c.in_ok-text.ensures.ended, c.deref.ensures.value, c.in_ok-script.ensures.read)
 
 pub returns-clause-asks : goal.returns-clause-asks
 returns-clause-asks g c =
-    let read = subst (λ (t : List ℕ). Reads t c.in_ok-script.script) c.deref.ensures.value c.in_ok-script.ensures.read in
-    asked (g.S.Source.left c.args.source.now) (g.S.Source.left c.take_all.new.source) c.in_ok-text.text.items c.in_ok-script.script c.in_ok-text.ensures.taken
-    (to_end (g.S.Source.left c.args.source.now) (g.S.Source.left c.take_all.new.source) c.in_ok-text.text.items c.in_ok-script.script c.in_ok-text.ensures.taken c.in_ok-text.ensures.ended read) read
+    grind (arith, nat_tests, asked, to_end, c.deref.ensures.value, c.in_ok-script.ensures.read, c.in_ok-text.ensures.taken, c.in_ok-text.ensures.ended)

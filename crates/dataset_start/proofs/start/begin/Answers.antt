@@ -1,5 +1,5 @@
 use Rattle.dataset_start.proofs.Keeping.{read_kept}
-use Rattle.dataset_start.proofs.Words.{inl, refl, line_of, on_err}
+use Rattle.dataset_start.proofs.Words.{inl, refl, on_err, arith, nat_tests}
 use Rattle.dataset_start.proofs.NotReady.{left_unready}
 use Rattle.dataset_start.proofs.ReadyLaws.{bad-dataset, laid-mislaid, of_bad_layout}
 use Rattle.dataset_start.proofs.Untold.{late}
@@ -11,9 +11,7 @@ make_ready-requires-clause-kept g c = λ _ _. read_kept c.in_ok-script.ensures.r
 -- ---- where the dataset was not made ready
 
 pub returns-in-Err-clause-bad : goal.returns-in-Err-clause-bad
-returns-in-Err-clause-bad g c = λ s.
-    bad-dataset (g.S.Source.left c.args.source.now) (g.D.Disk.held c.args.disk.now) c.in_ok-script.script (line_of c.in-Err.stop) c.in_ok-script.ensures.asks
-    c.in-Err.ensures.unlaid (c.in-Err.ensures.bad s)
+returns-in-Err-clause-bad g c = grind (arith, nat_tests, bad-dataset, c.in_ok-script.ensures.asks, c.in-Err.ensures.unlaid, c.in-Err.ensures.bad)
 
 pub returns-in-Err-clause-unlaid : goal.returns-in-Err-clause-unlaid
 returns-in-Err-clause-unlaid g c =
@@ -23,9 +21,7 @@ pub returns-in_err-script-clause-torn : goal.returns-in_err-script-clause-torn
 returns-in_err-script-clause-torn g c = on_err c.from_residual.result (inl refl)
 
 pub returns-in-Err-clause-torn : goal.returns-in-Err-clause-torn
-returns-in-Err-clause-torn g c =
-    left_unready (g.S.Source.left c.args.source.now) (g.D.Disk.held c.args.disk.now) (g.D.Disk.held c.make_ready.new.disk) c.in_ok-script.script c.in_ok-script.ensures.asks
-    c.in-Err.ensures.refused
+returns-in-Err-clause-torn g c = grind (arith, nat_tests, left_unready, c.in_ok-script.ensures.asks, c.in-Err.ensures.refused)
 
 pub returns-in-Err-clause-asked : goal.returns-in-Err-clause-asked
 returns-in-Err-clause-asked g c = λ s. (c.in_ok-script.script, (c.in_ok-script.ensures.asks, c.in-Err.ensures.laid s))

@@ -1,4 +1,4 @@
-use Rattle.dataset_start.proofs.Words.{◌≡◌, ℕ, List, ◌++◌, take, Option, Some, None, sym, ap, subst, ◌∙◌, append_assoc, arith, length-take, nat_tests, rules, with_front, length-append}
+use Rattle.dataset_start.proofs.Words.{◌≡◌, ℕ, List, ◌++◌, take, Option, Some, None, sym, ap, ◌∙◌, append_assoc, arith, length-take, nat_tests, with_front, length-append}
 use Rattle.dataset_start.proofs.streams.take_all.Goals as goal
 
 -- what was taken, and one piece more
@@ -15,14 +15,7 @@ none_more mid (Some rest) piece n z e = e ∙ ap (λ (k : ℕ). Some (take k pie
 pub returns-then-count-eq0 : goal.returns-then-count-eq0
 returns-then-count-eq0 g c =
     let same = none_more (g.S.Source.left c.loop-turn.source) (g.S.Source.left c.take.new.self) c.take.new.into c.in_ok-count.count c.if-count-eq0.true c.in_ok-count.ensures.bytes in
-    let taken = c.loop-turn.invariant.taken ∙ ap (λ (t : Option (List ℕ)). with_front c.loop-turn.text.items t) same in
-    record {
-      taken = taken;
-      few = record { front = c.loop-turn.text.items; few = omega (arith, c.loop-turn.invariant.short); taken = taken };
-      ended = grind (arith, nat_tests, same, c.in_ok-count.ensures.end);
-      fault = search rules;
-      later = omega (arith, c.loop-turn.invariant.later, c.take.ensures.cause.later);
-    }
+    grind (arith, nat_tests, c.loop-turn.invariant.taken, c.loop-turn.invariant.short, c.in_ok-count.ensures.end, c.loop-turn.invariant.later, c.take.ensures.cause.later)
 
 pub returns-in_err-extend_from_slice-clause-few : goal.returns-in_err-extend_from_slice-clause-few
 returns-in_err-extend_from_slice-clause-few g c =
@@ -31,19 +24,10 @@ returns-in_err-extend_from_slice-clause-few g c =
     record {
       front = text ++ piece;
       few = omega (arith, length-append text piece, length-take c.in_ok-count.count c.take.new.into, c.in_ok-count.ensures.count);
-      taken = one_more (g.S.Source.left c.args.source.now) (g.S.Source.left c.loop-turn.source) (g.S.Source.left c.take.new.self) text piece
-          c.loop-turn.invariant.taken c.in_ok-count.ensures.bytes;
+      taken = grind (arith, nat_tests, one_more (g.S.Source.left c.args.source.now) (g.S.Source.left c.loop-turn.source), c.loop-turn.invariant.taken, c.in_ok-count.ensures.bytes);
     }
 
 pub loop-turn-preserved : goal.loop-turn-preserved
 loop-turn-preserved g c =
     let text : List ℕ = c.loop-turn.text.items in
-    let piece : List ℕ = take c.in_ok-count.count c.take.new.into in
-    record {
-      long = omega (arith, c.loop-turn.invariant.long, c.if-count-eq0.false, c.in_ok-count.ensures.count, c.in_ok-extend_from_slice.ensures.len, length-take c.in_ok-count.count c.take.new.into);
-      short = omega (arith, c.len.ensures, c.if-len-gt-MAX_SCRIPT_BYTES.false);
-      taken = subst (λ (t : List ℕ). g.S.Source.left c.args.source.now ≡ with_front t (g.S.Source.left c.take.new.self)) (sym c.in_ok-extend_from_slice.ensures.items)
-          (one_more (g.S.Source.left c.args.source.now) (g.S.Source.left c.loop-turn.source) (g.S.Source.left c.take.new.self) text piece
-          c.loop-turn.invariant.taken c.in_ok-count.ensures.bytes);
-      later = omega (arith, c.loop-turn.invariant.later, c.take.ensures.cause.later);
-    }
+    grind (arith, nat_tests, one_more (g.S.Source.left c.args.source.now) (g.S.Source.left c.loop-turn.source), c.loop-turn.invariant.long, c.if-count-eq0.false, c.in_ok-count.ensures.count, c.in_ok-extend_from_slice.ensures.len, c.len.ensures, c.if-len-gt-MAX_SCRIPT_BYTES.false, c.loop-turn.invariant.taken, c.in_ok-count.ensures.bytes, c.loop-turn.invariant.later, c.take.ensures.cause.later)
