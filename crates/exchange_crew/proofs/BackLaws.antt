@@ -1,5 +1,5 @@
 -- Parts that come back one after another.
-use Rattle.exchange_crew.proofs.Words.{◌≡◌, ℕ, zero, suc, ◌+◌, ◌<◌, ◌≤◌, ◌⊎◌, min, get_or, inl, inr, refl, ◌∙◌, ap, subst, List, [], ◌∷◌, ◌++◌, length, map, take, drop, Some, Result, Ok, Err, arith, length-append, take_more, slice_get_within, all_zipped_more, slice_get, zip, OnOk, IsErr, IsErrOf, IsOk, AllZip, result_and, entry_below, refilled, Extent, StepErr, Disk, In, in_either, in_right, at_in, in_at, SomeZip, zip_weaker, nat_tests, rules, common_steps, Global, Vec, append_assoc, sym, vec_capacity}
+use Rattle.exchange_crew.proofs.Words.{◌≡◌, ℕ, zero, suc, ◌+◌, ◌<◌, ◌≤◌, ◌⊎◌, min, get_or, inl, inr, refl, ◌∙◌, ap, subst, List, [], ◌∷◌, ◌++◌, length, map, take, drop, Some, Result, Ok, arith, length-append, take_more, slice_get_within, all_zipped_more, slice_get, zip, OnOk, IsErr, IsErrOf, IsOk, AllZip, result_and, entry_below, refilled, Extent, StepErr, Disk, In, in_either, in_right, at_in, in_at, SomeZip, zip_weaker, nat_tests, rules, common_steps, Global, Vec, append_assoc, sym, vec_capacity}
 
 -- ---- two lists, place by place
 
@@ -45,8 +45,7 @@ pub and_second_ok : {T E : Type 0} (end came both : Result T E) → both ≡ res
 and_second_ok end came both is = grind (arith, nat_tests)
 
 pub and_failed : {T : Type 0} (end came both : Result T StepErr) → both ≡ result_and end came → IsErrOf both Disk → IsErrOf end Disk ⊎ IsErrOf came Disk
-and_failed (Ok x) came both is f = inr (subst (λ (r : Result _ StepErr). IsErrOf r Disk) is f)
-and_failed (Err x) came both is f = inl (subst (λ (r : Result _ StepErr). IsErrOf r Disk) is f)
+and_failed end came both is f = grind (arith, nat_tests)
 
 -- ---- a vector whose slice was lent, and came back as long
 
@@ -73,20 +72,13 @@ pub record AreKept {S : Type 0} (Kept : S → S → Type 0) (first last whole : 
 
 pub lent_kept : {S : Type 0} (Kept : S → S → Type 0) (count : ℕ) (first lent last : List S) → lent ≡ first → count ≡ length first → length last ≡ length lent
     → ((k : ℕ) (a b : S) → slice_get lent k ≡ Some a → slice_get last k ≡ Some b → Kept a b) → AreKept Kept first last (take count (last ++ drop (length last) first))
-lent_kept {S} Kept count first lent last is many long each =
-    let same = long ∙ ap (λ (ws : List S). length ws) is in
-    record {
-      long = same;
-      each = subst (λ (ws : List S). (k : ℕ) (a b : S) → slice_get ws k ≡ Some a → slice_get last k ≡ Some b → Kept a b) is each;
-      same = slice_kept count last first many same;
-    }
+lent_kept {S} Kept count first lent last is many long each = grind (arith, nat_tests, slice_kept, take, drop)
 
 pub kept_all : {S : Type 0} (Kept : S → S → Type 0) (P Q : S → Type 0) {first last whole : List S} → AreKept Kept first last whole → ((x y : S) → Kept x y → P x → Q y)
     → ((x : S) → In first x → P x) → (y : S) → In whole y → Q y
 kept_all {S} Kept P Q {first} {last} kept f all y m =
     let k = in_at last y (subst (λ (ws : List S). In ws y) kept.same m) in
     let l = slice_get_within last k.0 y k.1 in
-    let long = kept.long in
     let x = entry_below first k.0 (omega arith) in
     f x.0 y (kept.each k.0 x.0 y x.1 k.1) (all x.0 (at_in first k.0 x.0 x.1))
 
@@ -147,5 +139,4 @@ module _ {S D T : Type 0} {Done : Result T StepErr → S → D → Type 0} {Fail
   }
 
 pub err_not_ok : {T E : Type 0} (P : Type 0) (r : Result T E) → IsErr r → OnOk r P
-err_not_ok P (Ok x) e = absurd cc
-err_not_ok P (Err x) e = tt
+err_not_ok P r e = grind (arith, nat_tests)

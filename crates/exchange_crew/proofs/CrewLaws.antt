@@ -1,6 +1,6 @@
 -- Helpers that were handed parts one after another, each the next part.
-use Rattle.exchange_crew.proofs.Words.{ℕ, ◌≡◌, ◌+◌, ◌∙◌, List, [], ◌∷◌, ◌++◌, length, map, take, Option, None, Some, Result, Ok, Err, refl, sym, ap, subst, arith, append-nil, append_assoc, length-append, length-map, map-append, same_Some, slice_get, zip, ForSome, IfErr, IfOk, OnOk, AllZip, middle_at, take_next, Aggregator, AreHanded, DiskGhosts, Extent, HasAdded, HasRoom, HasRooms, HaveDomains, In, IsDomainOf, IsGiven, IsNext, Owned, Shares, SomeZip, in_either, nat_tests, ◌<◌, ◌≤◌, slice_get_within, drop, result_and, vec_capacity}
-use Rattle.exchange_crew.proofs.SplitLaws.{first_parts, parts_behind}
+use Rattle.exchange_crew.proofs.Words.{ℕ, ◌≡◌, ◌+◌, ◌∙◌, List, [], ◌∷◌, ◌++◌, length, map, take, Option, None, Some, Result, Ok, Err, refl, sym, ap, subst, arith, append-nil, append_assoc, length-append, length-map, map-append, same_Some, slice_get, zip, ForSome, IfErr, IfOk, OnOk, AllZip, middle_at, take_next, Aggregator, AreHanded, DiskGhosts, Extent, HasAdded, HasRoom, HasRooms, HaveDomains, In, IsDomainOf, IsGiven, IsNext, Owned, Shares, SomeZip, in_either, nat_tests, ◌<◌, ◌≤◌, slice_get_within, drop, result_and, vec_capacity, take-append_seam}
+use Rattle.exchange_crew.proofs.SplitLaws.{parts_behind}
 use Rattle.exchange_crew.proofs.BackLaws.{some_mapped, zip_mapped, AreKept, map_new}
 
 pub workers_few : {S D : Type 0} (part : S → D) (workers : List S) (rest parts : List D) → map part workers ++ rest ≡ parts → length workers + length rest ≡ length parts
@@ -25,11 +25,7 @@ crew_each {S} P workers now worker e all own s m = grind (arith, nat_tests, in_e
 
 pub none_handed : {W D : Type 0} (Fresh : W → Type 0) (part : W → D) (share : W → Extent) (domains : List Extent) (shares : Shares W D) → shares.workers.items ≡ [] → shares.rest.items ≡ []
     → AreHanded Fresh part share domains [] shares
-none_handed {W} Fresh part share domains shares no_workers no_rest = record {
-  of_parts = λ i. map part (no_workers i) ++ no_rest i;
-  of_domains = ap (λ (ws : List W). map share ws) no_workers ∙ sym (ap (λ (ws : List W). take (length ws) domains) no_workers);
-  workers = λ worker m. absurd (subst (λ (ws : List W). In ws worker) no_workers m);
-}
+none_handed {W} Fresh part share domains shares no_workers no_rest = grind (arith, nat_tests)
 
 -- one part more was handed out, or is left
 handed_more : {W D : Type 0} (Fresh : W → Type 0) (part : W → D) (share : W → Extent) (domains : List Extent) (yielded : List D) (own : D) (old new : Shares W D) (next : Option Aggregator) (handed : Result W D)
@@ -121,19 +117,12 @@ module _ {S D : Type 0} (part : S → D) (share : S → Extent) {first last whol
       → map part first ++ rest ≡ parts → map share first ≡ take (length first) domains → length back ≡ length whole → HaveServed part share last rest back parts domains
   have_served Kept rest back parts domains kept same handed shares long =
       let many : length back ≡ length first = long ∙ ap (λ (ws : List S). length ws) kept.same ∙ kept.long in
-      record {
-        of_parts = map_new part Kept first last kept.long kept.each (λ a b k. (same a b k).0) ∙ sym (first_parts part first rest parts (length back) many handed);
-        of_domains = map_new share Kept first last kept.long kept.each (λ a b k. (same a b k).1) ∙ shares ∙ ap (λ (k : ℕ). take k domains) (sym many);
-        behind = parts_behind part first rest parts (length back) many handed;
-        few = omega (arith, workers_few part first rest parts handed, many);
-      }
+      grind (arith, nat_tests, map_new part Kept first last kept.long kept.each, length-map, take-append_seam, map_new share Kept first last kept.long kept.each, parts_behind part first rest parts (length back) many handed, workers_few part first rest parts handed, take)
 
   pub all_served : {Kept : S → S → Type 0} {rest back parts : List D} {domains : List Extent} (Q : D × Extent → D → Type 0) → AreKept Kept first last whole
       → HaveServed part share last rest back parts domains → AllZip (λ worker new. Q (part worker, share worker) new) whole back → AllZip Q (zip (take (length back) parts) (take (length back) domains)) back
-  all_served {back = back} Q kept served h =
-      rw (served.of_parts, served.of_domains) at (zip_mapped part share Q last back (subst (λ (ws : List S). AllZip (λ worker new. Q (part worker, share worker) new) ws back) kept.same h))
+  all_served {back = back} Q kept served h = grind (arith, nat_tests, zip_mapped, zip, take)
 
   pub some_served : {Kept : S → S → Type 0} {rest back parts : List D} {domains : List Extent} (R : D → D → Type 0) → AreKept Kept first last whole
       → HaveServed part share last rest back parts domains → SomeZip (λ worker new. R (part worker) new) whole back → SomeZip R (take (length back) parts) back
-  some_served {back = back} R kept served h =
-      rw served.of_parts at (some_mapped part R last back (subst (λ (ws : List S). SomeZip (λ worker new. R (part worker) new) ws back) kept.same h))
+  some_served {back = back} R kept served h = grind (arith, nat_tests, some_mapped, take)

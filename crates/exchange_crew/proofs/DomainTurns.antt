@@ -1,5 +1,5 @@
 -- The windows of a part stand one after another, begin and end with a covered byte, and have each covered byte once.
-use Rattle.exchange_crew.proofs.Words.{◌≡◌, ℕ, zero, suc, ◌+◌, ◌-◌, ◌/◌, ◌<◌, ◌≤◌, ◌⊎◌, min, inl, inr, refl, sym, ◌∙◌, ap, subst, List, [], ◌∷◌, ◌++◌, length, Bool, true, false, not, arith, flat_map-map, flat_map, nat_lt, ◌==◌, range_with_len, ltb-true, ltb-false, eqb-true, lt-ltb, leb-true, le-leb, Extent, Owned, first_of, last_of, hull_len, not_empty, windows, is_empty, In, ranges, HaveSame, IsAscending, joined, told_of, IsCover, spans, windows_have, filter_ascends, in_left, in_right, in_either, in_flat, flat_in, in_range, range_low, any_in, in_any, first_least, last_most, div_grows, equal_true, no_both, in_filter, filter_in, in_map, map_in, same_ascending, spans_ascend, window_short, LiesIn, bytes_in, window_told, round_windows, told_window, IsCovered, in_ranges, ranges_in, hole_short, AreTurns, HaveWindows, IsTurn, LieOnPart, Told, share, nat_tests, map}
+use Rattle.exchange_crew.proofs.Words.{◌≡◌, ℕ, zero, suc, ◌+◌, ◌-◌, ◌/◌, ◌<◌, ◌≤◌, min, inl, inr, refl, ◌∙◌, ap, subst, List, [], ◌∷◌, ◌++◌, length, Bool, true, false, not, arith, flat_map-map, flat_map, nat_lt, range_with_len, ltb-true, ltb-false, eqb-true, lt-ltb, leb-true, le-leb, Extent, Owned, first_of, last_of, hull_len, not_empty, windows, In, ranges, HaveSame, IsAscending, joined, told_of, IsCover, spans, windows_have, filter_ascends, in_left, in_right, in_either, in_flat, flat_in, in_range, range_low, any_in, in_any, first_least, last_most, div_grows, equal_true, no_both, in_filter, filter_in, in_map, map_in, same_ascending, spans_ascend, window_short, LiesIn, bytes_in, window_told, round_windows, told_window, IsCovered, in_ranges, ranges_in, hole_short, AreTurns, HaveWindows, IsTurn, LieOnPart, Told, share, nat_tests, map}
 
 -- ---- numbers in order, one list after another
 
@@ -10,24 +10,23 @@ append_ascends (x ∷ xs) ys h k l = (
   append_ascends xs ys h.1 k (λ z y m n. l z y (inr m) n),
 )
 
-pub ascends_left : (xs ys : List ℕ) → IsAscending (xs ++ ys) → IsAscending xs
+ascends_left : (xs ys : List ℕ) → IsAscending (xs ++ ys) → IsAscending xs
 ascends_left [] ys h = tt
 ascends_left (x ∷ xs) ys h = ((λ y m. h.0 y (in_left xs ys y m)), ascends_left xs ys h.1)
 
-pub ascends_right : (xs ys : List ℕ) → IsAscending (xs ++ ys) → IsAscending ys
+ascends_right : (xs ys : List ℕ) → IsAscending (xs ++ ys) → IsAscending ys
 ascends_right [] ys h = h
 ascends_right (x ∷ xs) ys h = ascends_right xs ys h.1
 
-pub ascends_apart : (xs ys : List ℕ) (x y : ℕ) → IsAscending (xs ++ ys) → In xs x → In ys y → x < y
+ascends_apart : (xs ys : List ℕ) (x y : ℕ) → IsAscending (xs ++ ys) → In xs x → In ys y → x < y
 ascends_apart [] ys x y h m n = absurd m
 ascends_apart (z ∷ xs) ys x y h (inl e) n = let l = h.0 y (in_right xs ys y n) in omega arith
 ascends_apart (z ∷ xs) ys x y h (inr m) n = ascends_apart xs ys x y h.1 m n
 
 pub first_in : (xs : List ℕ) → 1 ≤ length xs → In xs (first_of xs)
-first_in [] h = absurd (omega arith)
-first_in (x ∷ xs) h = inl refl
+first_in xs h = grind (arith, nat_tests)
 
-pub last_in : (xs : List ℕ) → 1 ≤ length xs → In xs (last_of xs)
+last_in : (xs : List ℕ) → 1 ≤ length xs → In xs (last_of xs)
 last_in [] h = absurd (omega arith)
 last_in (x ∷ xs) h = by_last xs (λ l. last_in xs l) (nat_lt x (last_of xs)) refl
   where
@@ -41,10 +40,6 @@ last_in (x ∷ xs) h = by_last xs (λ l. last_in xs l) (nat_lt x (last_of xs)) r
         let most : last_of ys ≡ last_of (x ∷ ys) = omega arith in
         inr (subst (λ (z : ℕ). In ys z) most (rest (some ys l)))
     by_last ys rest false e = let l : last_of ys ≤ x = ltb-false _ _ e in inl (omega arith)
-
--- a number is in a list, or it is not
-pub in_or_out : (xs : List ℕ) (x : ℕ) → In xs x ⊎ (In xs x → ⊥)
-in_or_out xs x = grind (arith, nat_tests, any_in, no_both, in_any)
 
 -- ---- shares, counted from c by k
 
@@ -68,10 +63,6 @@ joined_kept [] = refl
 joined_kept ([] ∷ ws) = joined_kept ws
 joined_kept ((x ∷ w) ∷ ws) = ap (λ r. (x ∷ w) ++ r) (joined_kept ws)
 
-some_kept : (w : List ℕ) → not (is_empty w) ≡ true → 1 ≤ length w
-some_kept [] h = absurd cc
-some_kept (x ∷ w) h = omega arith
-
 -- ---- the windows of a domain
 
 windows_joined : (size : ℕ) (bytes : List ℕ) → 1 ≤ size → IsAscending bytes → joined (windows size bytes) ≡ bytes
@@ -83,7 +74,7 @@ windows_joined size bytes h asc =
     let grows = div_grows (x - first_of bytes) (last_of bytes - first_of bytes) size h (omega arith) in omega arith)
 
 window_of : (size : ℕ) (bytes w : List ℕ) → In (windows size bytes) w → (1 ≤ length w) × (j : ℕ) × (share (first_of bytes) size bytes j ≡ w)
-window_of size bytes w m = grind (arith, nat_tests, filter_in, not, map_in, some_kept)
+window_of size bytes w m = grind (arith, nat_tests, filter_in, not, map_in)
 
 -- ---- windows as turns
 
@@ -96,23 +87,9 @@ in_joined : (ws : List (List ℕ)) (w : List ℕ) (x : ℕ) → In ws w → In w
 in_joined ws w x m k = in_flat (λ (v : List ℕ). v) ws w x m k
 
 is_turn : (list : List Owned) (room : ℕ) (w : List ℕ) → IsAscending w → 1 ≤ length w → hull_len w ≤ room → ((x : ℕ) → In w x → IsCovered list x) → IsTurn list room (told_of w)
-is_turn list room w asc some short covered =
-    let order = first_least w (last_of w) asc (last_in w some) in
-    let last : last_of w ≡ first_of w + hull_len w - 1 = omega arith in
-    record {
-      some = omega arith;
-      short = short;
-      last = subst (λ (x : ℕ). IsCovered list x) last (covered (last_of w) (last_in w some));
-      full = λ e x l h. covered x (filled e x l h (in_or_out w x));
-    }
-  where
-    filled : (length w == hull_len w) ≡ true → (x : ℕ) → first_of w ≤ x → x < first_of w + hull_len w → In w x ⊎ (In w x → ⊥) → In w x
-    filled e x l h (inl m) = m
-    filled e x l h (inr out) =
-        let short = hole_short w (first_of w) (first_of w + hull_len w) x asc (λ y m. let a = first_least w y asc m in let b = last_most w y m in (a, omega arith)) l h out in
-        absurd (omega (arith, eqb-true _ _ e))
+is_turn list room w asc some short covered = grind (arith, nat_tests, first_least w, last_of w, last_in w some, first_of w, any_in, no_both, in_any, hole_short w, last_most w)
 
-pub are_turns : (list : List Owned) (room : ℕ) (ws : List (List ℕ)) → IsAscending (joined ws) → ((w : List ℕ) → In ws w → 1 ≤ length w)
+are_turns : (list : List Owned) (room : ℕ) (ws : List (List ℕ)) → IsAscending (joined ws) → ((w : List ℕ) → In ws w → 1 ≤ length w)
     → ((w : List ℕ) → In ws w → hull_len w ≤ room) → ((x : ℕ) → In (joined ws) x → IsCovered list x) → AreTurns list room (map told_of ws)
 are_turns list room [] asc some short covered = tt
 are_turns list room (w ∷ ws) asc some short covered = (
@@ -120,9 +97,7 @@ are_turns list room (w ∷ ws) asc some short covered = (
   (λ u m.
       let r = told_from ws u m in
       let before = ascends_apart w _ _ _ asc (last_in w (some w (inl refl))) (in_joined ws _ _ r.1 (first_in _ (some r.0 (inr r.1)))) in
-      let order = first_least w _ (ascends_left w _ asc) (last_in w (some w (inl refl))) in
-      let begin : first_of r.0 ≡ u.0 = ap (λ (t : Told). t.0) r.2 in
-      omega arith),
+      grind (arith, nat_tests, first_least, ascends_left, last_in, r.2)),
   are_turns list room ws (ascends_right w _ asc) (λ v m. some v (inr m)) (λ v m. short v (inr m)) (λ x m. covered x (in_right w _ x m)),
 )
 
@@ -149,23 +124,13 @@ short_window : (size : ℕ) (domain : Extent) (cover : List Extent) (w : List �
     → (1 ≤ length w) × (hull_len w ≤ min size domain.len) × (domain.at ≤ first_of w) × (first_of w + hull_len w ≤ domain.at + domain.len)
 short_window size domain cover w h c m =
     let asc = domain_ascends domain cover c in
-    let some = (window_of size (bytes_in domain cover) w m).0 in
-    let short = window_short size (bytes_in domain cover) w h asc m in
-    let first = in_domain domain cover (first_of w) (in_windows size domain cover w (first_of w) h c m (first_in w some)) in
-    let last = in_domain domain cover (last_of w) (in_windows size domain cover w (last_of w) h c m (last_in w some)) in
-    let low = first.1 in
-    let high = last.2 in
-    let order = last_most w (first_of w) (first_in w some) in
-    (some, omega arith, low, omega arith)
+    grind (arith, nat_tests, window_of size (bytes_in domain cover) w m, window_short size (bytes_in domain cover) w h asc m, in_domain domain cover (first_of w), first_of w, in_windows size domain cover w (first_of w) h c m, first_in w ((window_of size (bytes_in domain cover) w m).0), in_domain domain cover (last_of w), last_of w, in_windows size domain cover w (last_of w) h c m (last_in w ((window_of size (bytes_in domain cover) w m).0)), last_in w ((window_of size (bytes_in domain cover) w m).0), last_most w (first_of w) (first_in w ((window_of size (bytes_in domain cover) w m).0)))
 
 pub domain_turns : (size : ℕ) (domain : Extent) (list : List Owned) (cover : List Extent) → 1 ≤ size → IsCover cover → HaveSame (spans cover) (ranges list)
     → AreTurns list (min size domain.len) (map told_of (windows size (bytes_in domain cover)))
 domain_turns size domain list cover h c same =
     let ws = windows size (bytes_in domain cover) in
-    let asc = domain_ascends domain cover c in
-    let whole = windows_joined size (bytes_in domain cover) h asc in
-    are_turns list (min size domain.len) ws (subst (λ (xs : List ℕ). IsAscending xs) (sym whole) asc) (λ w m. (short_window size domain cover w h c m).0)
-    (λ w m. (short_window size domain cover w h c m).1) (λ x m. ranges_in list x (same.0 x (in_domain domain cover x (subst (λ (xs : List ℕ). In xs x) whole m)).0))
+    grind (arith, nat_tests, domain_ascends domain cover c, windows_joined size (bytes_in domain cover) h (domain_ascends domain cover c), are_turns list (min size domain.len) ws, short_window size domain cover, ranges_in list, in_domain domain cover, same.0, bytes_in)
 
 pub domain_part : (size : ℕ) (domain : Extent) (cover : List Extent) (from len : ℕ) → 1 ≤ size → IsCover cover → from ≤ domain.at → domain.at + domain.len ≤ from + len
     → LieOnPart from len (map told_of (windows size (bytes_in domain cover)))
@@ -181,6 +146,4 @@ domain_windows size from len domain list cover h c same inside x low high covere
     let bytes = bytes_in domain cover in
     let m : In bytes x = in_filter _ _ x (in_filter _ _ x (same.1 x (in_ranges _ x covered)) (le-leb domain.at x a)) (lt-ltb x (domain.at + domain.len) b) in
     let w = windows_have _ _ x h (domain_ascends domain _ c) m in
-    let first = first_least _ x w.ascends w.has in
-    let last = last_most _ x w.has in
-    (told_of w.window, in_map told_of _ _ w.is_one, first, omega arith)
+    grind (arith, nat_tests, first_least, last_most, in_map told_of, w.ascends, w.has, w.window, w.is_one)

@@ -1,5 +1,5 @@
 -- The first parts, and those behind them: what holds of both holds of all.
-use Rattle.exchange_crew.proofs.Words.{◌≡◌, ℕ, zero, suc, ◌+◌, inl, inr, ap, ◌∙◌, List, [], ◌∷◌, ◌++◌, length, map, take, drop, Some, Result, arith, drop-append_seam, take-append_seam, length-map, slice_get, zip, IsErrOf, AllZip, result_and, Extent, Owned, StepErr, Disk, SomeZip, nat_tests, ◌-◌, ◌≤◌, length-drop, take_rest, vec_capacity, zip_weaker, AreFirst, DiskGhosts, HaveDomains, Served}
+use Rattle.exchange_crew.proofs.Words.{◌≡◌, ℕ, zero, suc, ◌+◌, inl, inr, ap, ◌∙◌, List, [], ◌∷◌, ◌++◌, length, map, take, drop, Some, Result, arith, drop-append_seam, length-map, slice_get, zip, IsErrOf, AllZip, result_and, Extent, Owned, StepErr, Disk, SomeZip, nat_tests, ◌-◌, ◌≤◌, length-drop, take_rest, vec_capacity, zip_weaker, AreFirst, DiskGhosts, HaveDomains, Served}
 use Rattle.exchange_crew.proofs.BackLaws.{and_failed, and_first_ok, and_second_ok, came_back, IsLater}
 
 pub zip_split : {A B : Type 0} (k : ℕ) (xs : List A) (ds : List B) → length ds ≡ length xs → zip xs ds ≡ zip (take k xs) (take k ds) ++ zip (drop k xs) (drop k ds)
@@ -28,9 +28,6 @@ some_second R [] (y ∷ ys) zs m = absurd m
 some_second R (x ∷ xs) (y ∷ ys) zs m = inr (some_second R xs ys zs m)
 
 -- ---- the parts of those that were handed out, and those behind them
-
-pub first_parts : {S D : Type 0} (part : S → D) (workers : List S) (rest parts : List D) (k : ℕ) → k ≡ length workers → map part workers ++ rest ≡ parts → take k parts ≡ map part workers
-first_parts {S} {D} part workers rest parts k many whole = grind (arith, nat_tests, length-map workers part, take-append_seam (map part workers) rest)
 
 pub parts_behind : {S D : Type 0} (part : S → D) (workers : List S) (rest parts : List D) (k : ℕ) → k ≡ length workers → map part workers ++ rest ≡ parts → rest ≡ drop k parts
 parts_behind {S} {D} part workers rest parts k many whole = grind (arith, nat_tests, length-map workers part, drop-append_seam (map part workers) rest)
@@ -87,7 +84,4 @@ module _ {D T : Type 0} {parts rest : List D} {domains more : List Extent} (back
       (rw (split.behind, split.later) at (zip_weaker (Done came) (Done both) (zip rest more) others (λ p d h. later came both p d (and_second_ok end came both is) h) second)))
 
   pub failed_joined : (R : D → D → Type 0) → (IsErrOf end Disk → SomeZip R (take (length back) parts) back) → (IsErrOf came Disk → SomeZip R rest others) → IsErrOf both Disk → SomeZip R parts whole
-  failed_joined R first second f = rw all (elim (and_failed end came both is f) [
-    | inl e ↦ some_first R (length back) parts back others (first e)
-    | inr e ↦ some_second R parts back others (rw split.behind at (second e))
-  ])
+  failed_joined R first second f = grind (arith, nat_tests, and_failed, some_first, some_second)

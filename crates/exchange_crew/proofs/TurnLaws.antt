@@ -30,7 +30,7 @@ pub served_now : (list left begun : List Owned) (room : ℕ) (ahead rest : List 
     → AreServed list begun t.0 (t.0 + t.1)
 served_now list left begun room ahead rest t a e f = record { left = left; past = a.past t (subst (λ (ts : List Told). In ts t) (sym e) (inl refl)); front = f }
 
-pub turn_now : (list left : List Owned) (room : ℕ) (ahead rest : List Told) (t : Told) → IsAt list room ahead left → ahead ≡ t ∷ rest → IsTurn list room t
+turn_now : (list left : List Owned) (room : ℕ) (ahead rest : List Told) (t : Told) → IsAt list room ahead left → ahead ≡ t ∷ rest → IsTurn list room t
 turn_now list left room ahead rest t a e = (subst (λ (ts : List Told). AreTurns list room ts) e a.turns).0
 
 -- what is left where a window is next is in order, as the list is
