@@ -1,5 +1,5 @@
 -- What is left of a cover from a place on, by how many extents begin before the place.
-use Rattle.file_domains.proofs.Words.{◌≡◌, ℕ, zero, suc, ◌+◌, ◌-◌, ◌<◌, ◌≤◌, refl, sym, ◌∙◌, ap, subst, inl, inr, List, [], ◌∷◌, ◌++◌, length, take, drop, get_or, length-drop, ◌^◌, true, false, min, Some, slice_get, arith, take_all, get_or_default, filter, nat_le, ◌==◌, range_with_len, AllWithin, IsPartitionedBy, same_Some, slice_get-get_or, le-leb, leb-true, leb-false, at_in, no_none_some, Extent, In, EndBelow, below, IsCover, end_after, is_single, first_at, spans, range_above_none, IsLeft, filter-append, nat_tests, cases_lt}
+use Rattle.file_domains.proofs.Words.{◌≡◌, ℕ, zero, suc, ◌+◌, ◌-◌, ◌<◌, ◌≤◌, refl, sym, ◌∙◌, ap, subst, inl, inr, List, [], ◌∷◌, ◌++◌, length, take, drop, get_or, length-drop, ◌^◌, true, false, min, Some, slice_get, arith, take_all, get_or_default, filter, nat_le, ◌==◌, range_with_len, AllWithin, IsPartitionedBy, same_Some, slice_get-get_or, le-leb, at_in, no_none_some, Extent, In, EndBelow, below, IsCover, end_after, is_single, first_at, spans, range_above_none, IsLeft, filter-append, nat_tests, cases_lt}
 pub use Rattle.overlay_laws.proofs.CoverLaws.{long_enough}
 
 pub in_dropped : {X : Type 0} (k : ℕ) (xs : List X) (e : X) → In (drop k xs) e → In xs e
@@ -9,8 +9,7 @@ in_dropped (suc k) (x ∷ xs) e h = inr (in_dropped k xs e h)
 
 pub ends_before : (cover : List Extent) (i j : ℕ) (d e : Extent) → IsCover cover → i < j → slice_get cover i ≡ Some d → slice_get cover j ≡ Some e → d.at + d.len < e.at
 ends_before [] i j d e h l f g = no_none_some d f
-ends_before (c ∷ cover) zero (suc j) d e h l f g =
-    subst (λ (z : Extent). z.at + z.len < e.at) (same_Some c d f) (h.1 e (at_in cover j e g))
+ends_before (c ∷ cover) zero (suc j) d e h l f g = grind (arith, nat_tests, at_in cover j e g)
 ends_before (c ∷ cover) (suc i) (suc j) d e h l f g = ends_before cover i j d e h.2 (omega arith) f g
 ends_before (c ∷ cover) _ zero d e h l f g = absurd (omega arith)
 
@@ -47,22 +46,15 @@ whole_tail k xs = take_all (length xs - k) (drop k xs) (omega (arith, length-dro
 dropped : (k place : ℕ) (cover : List Extent) → IsCover cover → EndBelow (2 ^ 62) cover
     → ((i : ℕ) (e : Extent) → i < k → slice_get cover i ≡ Some e → e.at + e.len ≤ place)
     → ((e : Extent) → slice_get cover k ≡ Some e → place < e.at + e.len) → IsLeft place cover (drop k cover)
-dropped k place cover h ends before after = record {
-  bytes = dropped_bytes k place cover before;
-  past = dropped_left k place cover h after;
-  cover = cover_dropped k cover h;
-  ends = λ e m. ends e (in_dropped k cover e m);
-}
+dropped k place cover h ends before after =
+    grind (arith, nat_tests, dropped_bytes k place cover before, dropped_left k place cover h after, cover_dropped k cover h, in_dropped k cover)
 
 -- the last extent in front is not past
 pub left_from_last : (count place : ℕ) (last : Extent) (cover : List Extent) → IsCover cover → EndBelow (2 ^ 62) cover → 0 < count
     → slice_get cover (count - 1) ≡ Some last → place < last.at + last.len
     → ((i : ℕ) (e : Extent) → i < count → slice_get cover i ≡ Some e → e.at ≤ place)
     → IsLeft place cover (drop (count - 1) cover)
-left_from_last count place last cover h ends some at_last long before =
-    dropped (count - 1) place cover h ends
-    (λ i e l g. let gap = ends_before cover i (count - 1) e last h l g at_last in let low = before (count - 1) last (omega arith) at_last in omega arith)
-    (λ e g. subst (λ (z : Extent). place < z.at + z.len) (same_Some last e (sym at_last ∙ g)) long)
+left_from_last count place last cover h ends some at_last long before = grind (arith, nat_tests, dropped (count - 1) place cover h ends, ends_before cover)
 
 -- the last extent in front is past, or there is none
 pub left_from_next : (count place : ℕ) (cover : List Extent) → IsCover cover → EndBelow (2 ^ 62) cover
@@ -74,17 +66,14 @@ left_from_next count place cover h ends last bound after =
     dropped count place cover h ends
     (λ i e l g.
     let there = slice_get-get_or cover (count - 1) (record { at = 0; len = 0 }) (omega arith) in
-    let rise = ends_rise cover i (count - 1) e _ h (omega arith) g there in
-    let final = last _ (omega arith) there in
-    omega arith)
+    grind (arith, nat_tests, ends_rise))
     (λ e g. let low = after e g in let long = long_enough cover e h (at_in cover count e g) in omega arith)
 
 pub cover_rises : (cover : List Extent) (place i j : ℕ) (d : Extent) → IsCover cover → i ≤ j → j < length cover
     → nat_le (get_or cover j d).at place ≡ true → nat_le (get_or cover i d).at place ≡ true
 cover_rises cover place i j d h l room e =
     let rise = ends_rise cover i j _ _ h l (slice_get-get_or cover i d (omega arith)) (slice_get-get_or cover j d room) in
-    let last = leb-true (get_or cover j d).at place e in
-    le-leb (get_or cover i d).at place (omega arith)
+    grind (arith, nat_tests)
 
 pub get_is : {X : Type 0} (xs : List X) (i : ℕ) (e : X) → slice_get xs i ≡ Some e → (i < length xs) × (get_or xs i e ≡ e)
 get_is [] i e h = no_none_some e h
@@ -93,15 +82,11 @@ get_is (x ∷ xs) (suc i) e h = let r = get_is xs i e h in let l = r.0 in (omega
 
 pub front_low : (cover : List Extent) (place k : ℕ) → AllWithin (λ e. nat_le e.at place ≡ true) cover 0 k
     → (i : ℕ) (e : Extent) → i < k → slice_get cover i ≡ Some e → e.at ≤ place
-front_low cover place k h i e l g =
-    leb-true e.at place (subst (λ (z : Extent). nat_le z.at place ≡ true) (get_is cover i e g).1 (h i e (omega arith) l))
+front_low cover place k h i e l g = grind (arith, nat_tests, get_is cover i e g)
 
 pub front_high : (cover : List Extent) (place k : ℕ) → AllWithin (λ e. nat_le e.at place ≡ false) cover k (length cover)
     → (e : Extent) → slice_get cover k ≡ Some e → place ≤ e.at
-front_high cover place k h e g =
-    let r = get_is cover k e g in
-    let past = leb-false e.at place (subst (λ (z : Extent). nat_le z.at place ≡ false) r.1 (h k e (omega arith) r.0)) in
-    omega arith
+front_high cover place k h e g = grind (arith, nat_tests, get_is cover k e g)
 
 -- a half below a place where an extent begins by then, and a half from a place on where one does not
 pub half_front : (cover : List Extent) (place middle i : ℕ) (none d : Extent) → IsPartitionedBy (λ e. nat_le e.at place) cover → middle < length cover
@@ -127,5 +112,4 @@ counted_below m zero e last cover h l g low after = grind (arith, nat_tests, non
 counted_below m (suc k) e last [] h l g low after = no_none_some last g
 counted_below m (suc k) e last (f ∷ cover) h l g low after =
     let gap = h.1 f (inl refl) in
-    let next = (ends_rise (f ∷ cover) 0 k f last h.2 (omega arith) refl g).0 in
-    grind (arith, nat_tests, counted_below m k f last cover h.2 (omega arith) g low after)
+    grind (arith, nat_tests, ends_rise (f ∷ cover) 0 k f last h.2, counted_below m k f last cover h.2)

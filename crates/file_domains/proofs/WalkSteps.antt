@@ -1,5 +1,5 @@
 -- One window of a walk.
-use Rattle.file_domains.proofs.Words.{◌≡◌, ℕ, zero, suc, ◌+◌, ◌-◌, ◌/◌, ◌^◌, ◌<◌, ◌≤◌, refl, sym, ◌∙◌, ap, subst, inl, inr, List, [], ◌∷◌, length, ◌&&◌, min, max, Some, None, slice_get, get_or, arith, nat_tests, filter, map, nat_lt, nat_le, ◌==◌, range_with_len, no_none_some, Extent, first_of, IsAscending, In, EndBelow, below, above, IsCover, end_after, is_single, first_at, told_of, walked, round_end, spans, filter_same, take_first, drop_first, windows_walked, filter_in, filter_at_most, filter_ascends, flat_in, range_high, range_low, in_either, filter_two, spans_below, spans_above, below_told, range_first, past_round, spans_below_none, spans_ascend, spans_past, triple_same, same_Some, slice_get-get_or, lt-ltb, lt-leb, Window, window_told, round_windows, cases_lt, ◌⊎◌}
+use Rattle.file_domains.proofs.Words.{◌≡◌, ℕ, zero, suc, ◌+◌, ◌-◌, ◌/◌, ◌^◌, ◌<◌, ◌≤◌, refl, sym, ◌∙◌, ap, subst, inl, inr, List, [], ◌∷◌, length, ◌&&◌, min, max, Some, None, slice_get, get_or, arith, nat_tests, filter, map, nat_lt, nat_le, ◌==◌, range_with_len, no_none_some, Extent, first_of, IsAscending, In, EndBelow, below, above, IsCover, end_after, is_single, first_at, told_of, walked, round_end, spans, filter_same, take_first, drop_first, windows_walked, filter_in, filter_at_most, filter_ascends, flat_in, range_high, range_low, in_either, filter_two, spans_below, spans_above, below_told, range_first, past_round, spans_below_none, spans_ascend, spans_past, triple_same, same_Some, slice_get-get_or, lt-ltb, Window, window_told, round_windows, cases_lt, ◌⊎◌}
 use Rattle.file_domains.proofs.CoverParts.{counted_below, ends_rise}
 
 -- ---- walks
@@ -11,22 +11,7 @@ walked_enough stop zero (suc g) (x ∷ xs) h k = absurd (omega arith)
 walked_enough stop (suc f) zero [] h k = refl
 walked_enough stop (suc f) zero (x ∷ xs) h k = absurd (omega arith)
 walked_enough stop (suc f) (suc g) [] h k = refl
-walked_enough stop (suc f) (suc g) (x ∷ xs) h k =
-    let short = filter_at_most (λ y. nat_le (stop x) y) xs in
-    ap (λ r. filter (λ y. nat_lt y (stop x)) (x ∷ xs) ∷ r) (walked_enough stop f g (filter (λ y. nat_le (stop x) y) xs) (omega arith) (omega arith))
-
--- the first window of a walk over these bytes, and the others
-walked_first : (stop : ℕ → ℕ) (x : ℕ) (ys bytes : List ℕ) → x < stop x → bytes ≡ x ∷ ys
-    → walked stop (length bytes) bytes ≡ filter (λ y. nat_lt y (stop x)) bytes ∷ walked stop (length (filter (λ y. nat_le (stop x) y) bytes)) (filter (λ y. nat_le (stop x) y) bytes)
-walked_first stop x ys bytes h e =
-    subst (λ (b : List ℕ). walked stop (length b) b ≡ filter (λ y. nat_lt y (stop x)) b ∷ walked stop (length (filter (λ y. nat_le (stop x) y) b)) (filter (λ y. nat_le (stop x) y) b))
-    (sym e)
-    (ap (λ r. filter (λ y. nat_lt y (stop x)) (x ∷ ys) ∷ r)
-    (let dropped : filter (λ y. nat_le (stop x) y) (x ∷ ys) ≡ filter (λ y. nat_le (stop x) y) ys
-    = drop_first x (filter (λ y. nat_le (stop x) y) ys) (nat_le (stop x) x) (lt-leb (stop x) x h) in
-    let short = filter_at_most (λ y. nat_le (stop x) y) ys in
-    walked_enough stop (length ys) (length (filter (λ y. nat_le (stop x) y) ys)) (filter (λ y. nat_le (stop x) y) ys) short (omega arith)
-    ∙ ap (λ (b : List ℕ). walked stop (length b) b) (sym dropped)))
+walked_enough stop (suc f) (suc g) (x ∷ xs) h k = grind (arith, nat_tests, filter_at_most, walked_enough stop f g)
 
 -- ---- the bytes of the first window, and those after it
 
@@ -68,10 +53,7 @@ pub first_told : (from stop k : ℕ) (e last : Extent) (cover : List Extent) →
 first_told from stop k e last cover h l room at_last low after =
     let head = head_cover from e cover h l in
     let counted = by_count k at_last low after in
-    ap (λ (b : List ℕ). told_of (filter (λ y. nat_lt y stop) b)) (spans_above from (e ∷ cover) h ∙ ap spans (above_first from e cover l))
-    ∙ ap told_of (spans_below stop (head_from from e ∷ cover) head)
-    ∙ below_told stop (head_from from e) cover head room
-    ∙ triple_same _ _ _ _ _ _ counted.2 (λ i. counted.0 i - counted.2 i) counted.1
+    grind (arith, nat_tests, spans_above from (e ∷ cover) h, above_first from e cover l, spans_below stop (head_from from e ∷ cover) head, below_told stop (head_from from e) cover head room, triple_same, counted.2, counted.0, counted.1, filter)
   where
     by_count : (k : ℕ) → slice_get (e ∷ cover) k ≡ Some last → last.at < stop → ((d : Extent) → slice_get cover k ≡ Some d → stop ≤ d.at)
         → (end_after 0 (below stop (head_from from e ∷ cover)) ≡ min (last.at + last.len) stop) × (is_single (below stop (head_from from e ∷ cover)) ≡ (k == 0))
@@ -103,19 +85,14 @@ first_window : (first size from end stop k : ℕ) (e last : Extent) (cover left 
 first_window first size from end stop k e last cover left big begin h l room is_stop at_last low after same =
     let x : ℕ = max e.at from in
     let re : ℕ = round_end first size x in
-    let past : x < re = past_round first size x big in
     let bytes : List ℕ = between from end (e ∷ cover) in
     let begins = first_byte from end e cover h l room in
     let told = first_told from stop k e last cover h l (omega arith) at_last low after in
     let here : filter (λ y. nat_lt y re) bytes ≡ between from stop (e ∷ cover)
-    = window_bytes re end (filter (λ y. nat_le from y) (spans (e ∷ cover)))
-    ∙ ap (λ (n : ℕ). filter (λ y. nat_lt y n) (filter (λ y. nat_le from y) (spans (e ∷ cover)))) (sym is_stop) in
+    = grind (arith, nat_tests, window_bytes, filter) in
     let later : filter (λ y. nat_le re y) bytes ≡ between stop end left
-    = later_bytes re end from (spans (e ∷ cover)) (omega arith)
-    ∙ ap (λ (n : ℕ). filter (λ y. nat_lt y end) (filter (λ y. nat_le n y) (spans (e ∷ cover)))) (sym is_stop)
-    ∙ ap (λ (b : List ℕ). filter (λ y. nat_lt y end) b) (sym same) in
-    ap (λ (ws : List (List ℕ)). map (window_told first size) (map told_of ws)) (walked_first (round_end first size) x begins.0 bytes past begins.1)
-    ∙ (λ i. window_told first size ((ap told_of here ∙ told) i) ∷ told_windows first size (later i))
+    = grind (arith, nat_tests, later_bytes, filter) in
+    grind (arith, nat_tests, drop_first, filter_at_most, walked_enough, filter, window_told)
 
 -- nothing is left past the end
 no_bytes : (from end : ℕ) (e : Extent) (cover : List Extent) → IsCover (e ∷ cover) → from < e.at + e.len → end ≤ max e.at from → between from end (e ∷ cover) ≡ []
@@ -146,30 +123,17 @@ no_windows : (size : ℕ) → 1 ≤ size → round_windows size [] ≡ []
 no_windows size h = ap (λ (ws : List (List ℕ)). map (window_told 0 size) (map told_of ws)) (windows_walked size [] h tt)
 
 same_windows : (from size x : ℕ) (ys bytes : List ℕ) → 1 ≤ size → IsAscending bytes → bytes ≡ from ∷ ys → told_windows from size bytes ≡ round_windows size bytes
-same_windows from size x ys bytes h asc e =
-    let first : from ≡ first_of bytes = ap first_of (sym e) in
-    ap (λ (n : ℕ). map (window_told n size) (map told_of (walked (round_end n size) (length bytes) bytes))) first
-    ∙ ap (λ (ws : List (List ℕ)). map (window_told (first_of bytes) size) (map told_of ws)) (sym (windows_walked size bytes h asc))
+same_windows from size x ys bytes h asc e = grind (arith, nat_tests, first_of, windows_walked, told_windows, round_windows, window_told)
 
 spans_high : (cover : List Extent) (n y : ℕ) → EndBelow n cover → In (spans cover) y → y < n
-spans_high cover n y h k =
-    let some = flat_in (λ (e : Extent). range_with_len e.at e.len) cover y k in
-    let high = range_high some.0.at some.0.len y some.2 in
-    let ends = h some.0 some.1 in
-    omega arith
-
-same_end : (y end top : ℕ) → y < top → nat_lt y (min end top) ≡ nat_lt y end
-same_end y end top h = grind (arith, nat_tests)
+spans_high cover n y h k = grind (arith, nat_tests, flat_in, range_high)
 
 same_begin : (y low from first : ℕ) → from ≡ max first low → first ≤ y → nat_le from y ≡ nat_le low y
 same_begin y low from first e h = grind (arith, nat_tests)
 
 spans_low : (e : Extent) (cover : List Extent) (y : ℕ) → IsCover (e ∷ cover) → In (spans (e ∷ cover)) y → e.at ≤ y
 spans_low e cover y h k =
-    elim (in_either (range_with_len e.at e.len) (spans cover) y k) [
-      | inl g ↦ range_low e.at e.len y g
-      | inr g ↦ (let past = spans_past cover (e.at + e.len) y h.1 g in omega arith)
-    ]
+    grind (arith, nat_tests, in_either (range_with_len e.at e.len) (spans cover) y k, range_low e.at e.len y, spans_past cover (e.at + e.len) y h.1)
 
 -- the walk that begins at the first covered byte
 pub begin_windows : (size low from end top : ℕ) (cover : List Extent) → 1 ≤ size → IsCover cover → EndBelow (2 ^ 62) cover → 2 ^ 62 ≤ top
@@ -179,12 +143,10 @@ begin_windows size low from end top [] big h ends cap past begins = sym (no_wind
 begin_windows size low from end top (e ∷ cover) big h ends cap past begins =
     let is : from ≡ max e.at low = begins e refl in
     let long = past e (inl refl) in
-    let len : 1 ≤ e.len = h.0 in
     let from_low : filter (λ y. nat_le from y) (spans (e ∷ cover)) ≡ filter (λ y. nat_le low y) (spans (e ∷ cover))
     = filter_same (λ y. nat_le from y) (λ y. nat_le low y) (spans (e ∷ cover)) (λ y m. same_begin y low from e.at is (spans_low e cover y h m)) in
     let same : between from (min end top) (e ∷ cover) ≡ between from end (e ∷ cover)
-    = filter_same (λ y. nat_lt y (min end top)) (λ y. nat_lt y end) (filter (λ y. nat_le from y) (spans (e ∷ cover)))
-    (λ y m. let high = spans_high (e ∷ cover) (2 ^ 62) y ends (filter_in (λ z. nat_le from z) (spans (e ∷ cover)) y m).0 in same_end y end top (omega arith)) in
+    = grind (arith, nat_tests, filter_same, spans_high (e ∷ cover) (2 ^ 62), filter_in, filter) in
     ap (told_windows from size) same
     ∙ by_end is (omega arith) (cases_lt from end)
     ∙ ap (λ (b : List ℕ). round_windows size (filter (λ y. nat_lt y end) b)) from_low
@@ -197,9 +159,7 @@ begin_windows size low from end top (e ∷ cover) big h ends cap past begins =
         same_windows from size from some.0 (between from end (e ∷ cover)) big
         (filter_ascends (λ y. nat_lt y end) (filter (λ y. nat_le from y) (spans (e ∷ cover))) (filter_ascends (λ y. nat_le from y) (spans (e ∷ cover)) (spans_ascend (e ∷ cover) h)))
         (some.1 ∙ ap (λ (n : ℕ). n ∷ some.0) begin)
-    by_end is l (inr past_end) =
-        let nothing = no_bytes from end e cover h l (omega arith) in
-        ap (told_windows from size) nothing ∙ sym (ap (round_windows size) nothing ∙ no_windows size big)
+    by_end is l (inr past_end) = grind (arith, nat_tests, no_bytes, no_windows)
 
 pub empty_left : (first size from end : ℕ) (cover : List Extent) → None ≡ slice_get cover 0 → told_windows first size (between from end cover) ≡ []
 empty_left first size from end [] h = refl
@@ -226,7 +186,6 @@ pub next_window_at : (first size from end sat stop top count last at : ℕ) (e d
 next_window_at first size from end sat stop top count last at e d [] left is big low h past g room cap is_sat is_stop bound before after is_last same = no_none_some e g
 next_window_at first size from end sat stop top count last at e d (c ∷ cover) left is big low h past g room cap is_sat is_stop bound before after is_last same =
     let begin : max c.at from ≡ at = ap (λ (z : Extent). max z.at from) (same_Some c e g) ∙ sym is in
-    let re = past_round first size at (omega arith) in
     let stops : stop ≡ min (round_end first size at) end = omega arith in
     let some : 1 ≤ count = some_before stop count c cover after (omega arith) in
     let index : suc (count - 1) ≡ count = omega arith in
