@@ -1,5 +1,5 @@
 -- A number's own step, as the disk, the order and the lines show it.
-use Rattle.file_owner.proofs.Words.{◌≡◌, ℕ, ◌≤◌, refl, sym, subst, List, [], ◌∷◌, ◌++◌, length, map, max, Option, arith, IfSome, Hints, Solo, Offer, Reply, after, with_end, does_solo, needed_now, to_one, solo_calls, Setting, puts_of, solo, told, wanted, counted, AreAlike, TellAlike, owner_at, GoesSo, Grows, HoldSingle, IsAlone, Standing, put_one, gots_long, if_some_at, nat_tests}
+use Rattle.file_owner.proofs.Words.{◌≡◌, ℕ, ◌≤◌, [], ◌∷◌, ◌++◌, length, map, max, arith, IfSome, Hints, Solo, Offer, Reply, after, with_end, needed_now, to_one, solo_calls, Setting, puts_of, solo, told, wanted, counted, AreAlike, TellAlike, Grows, IsAlone, Standing, put_one, gots_long, if_some_at, nat_tests}
 use Rattle.nc_base.specs.declared.step.Reply as reply
 
 one_alike : (r : ℕ) (y z : reply.Reply) (q : ℕ) → TellAlike y z → AreAlike (put_one r (Reply y) q) (to_one r z q)
@@ -23,21 +23,4 @@ pub record CameAlone (s : Setting) (hints : Hints) (r c : ℕ) (o : Offer) (b n 
   pub lines : Grows b.lines (put_one r (Reply y)) n.lines
 
 pub alone : (s : Setting) (hints : Hints) (r c : ℕ) (o : Offer) (b n : Standing) (y : reply.Reply) → CameAlone s hints r c o b n y → IsAlone hints s c (r, o) b n
-alone s hints r c o b n y h = record {
-  more = put_one r (Reply y);
-  lines = h.lines;
-  alike = λ file. record {
-    owner = λ i. record { clients = sym h.clients i; met = sym h.same_met i; state = counted (solo s r o (counted file b.records)).0.file (sym h.same_records i); reached = reached_is i };
-    marks = h.order;
-    heard = h.heard;
-    given = grind (arith, nat_tests, gots_long s (solo s r o (counted file b.records)).0.file o.batch.gets, one_alike);
-  };
-  exact = exact b.told refl;
-  single = λ once. subst (λ ss. HoldSingle ss) (sym h.clients) once;
-}
-  where
-    reached_is : max b.reached (needed_now s (puts_of (r, o))) ≡ n.reached
-    reached_is = let a = h.reached in let d = h.records in let e = h.known_low in omega arith
-
-    exact : (m : Option (List ℕ)) → b.told ≡ m → IfSome m (λ file. GoesSo (HoldSingle b.clients) (does_solo s (owner_at b file) r c o) (solo_calls hints s r o (counted file b.records)) (put_one r (Reply y)) b n)
-    exact m e = grind (arith, nat_tests, if_some_at)
+alone s hints r c o b n y h = grind (arith, nat_tests, gots_long s, one_alike, if_some_at)

@@ -1,5 +1,5 @@
 -- An arrival that is not strange, as the clients, the disk, the order and the lines show it.
-use Rattle.file_owner.proofs.Words.{◌≡◌, ℕ, zero, suc, ◌<◌, ◌≤◌, refl, sym, ◌∙◌, ap, subst, inl, inr, ◌⊎◌, List, [], ◌∷◌, ◌++◌, length, set, get_or, Bool, true, false, Option, Some, None, Result, arith, cases_eq, append-nil, length-set, slice_get, is_some, IfSome, OnOk, list_all, list_any, same_Some, get_or_from_slice_get, and_first, and_second, Header, Hints, DiskCall, MeetKind, Offer, OfferKind, OwnerItem, Stop, RankItem, with_end, End, Owner, Event, Client, at_offer, differs, does_meeting, does_solo, event, holds, is_strange, keeps, kind_held, meets_if, offers_held, stop_held, stops, meeting_calls, solo_calls, Setting, is_sound, Arrival, kind_of_meeting, counted, HasOwnElements, HasOwnPuts, AreAlike, IsCount, IsFit, event_is, calls_at, calls_at_offer, calls_if, owner_at, each_told, event_calls, GoesSo, Grows, HasDone, HasMovedOnce, HoldSingle, IsAlone, IsHeld, IsSingle, IsSteady, IsTogether, Standing, IsSingleOffer, held_stops, put_one, stop_each, stops_for, count_less, count_longer, entry_below, entry_set, entry_set_other, with_end-nil, client_ended, client_held, nat_tests, IfSome_then}
+use Rattle.file_owner.proofs.Words.{◌≡◌, ℕ, zero, suc, ◌<◌, ◌≤◌, refl, sym, ◌∙◌, ap, subst, inl, inr, ◌⊎◌, List, [], ◌∷◌, ◌++◌, length, set, get_or, Bool, true, false, Option, Some, None, Result, arith, cases_eq, append-nil, length-set, slice_get, is_some, OnOk, list_all, list_any, same_Some, get_or_from_slice_get, and_first, and_second, Header, Hints, DiskCall, MeetKind, Offer, OfferKind, OwnerItem, Stop, RankItem, End, Owner, Event, Client, at_offer, differs, does_meeting, does_solo, event, holds, is_strange, keeps, kind_held, meets_if, offers_held, stop_held, stops, meeting_calls, solo_calls, Setting, is_sound, Arrival, kind_of_meeting, counted, HasOwnElements, HasOwnPuts, IsCount, IsFit, event_is, calls_at, calls_at_offer, calls_if, owner_at, event_calls, Grows, HasDone, HasMovedOnce, HoldSingle, IsAlone, IsHeld, IsSingle, IsSteady, IsTogether, Standing, IsSingleOffer, held_stops, put_one, stop_each, stops_for, count_less, count_longer, entry_below, entry_set, entry_set_other, with_end-nil, client_ended, client_held, nat_tests}
 use Rattle.nc_base.specs.declared.step.OfferKind.TheVariants as offer
 use Rattle.nc_base.specs.declared.step.RankItem.TheVariants as item
 use Rattle.file_owner.proofs.AlikeLaws.{lines_as, lines_none, lines_twice}
@@ -60,17 +60,8 @@ as_event hints s b m n a once to made told calls order heard lines e c alone h =
   lines = subst (λ (l : List (End OwnerItem)). Grows l h.more n.lines) lines h.lines;
   alike = λ file.
       let g = h.alike file in
-      record {
-        owner = ap (λ (ev : Event). ev.owner) (e file) ∙ g.owner ∙ ap (λ (ev : Event). owner_at n ev.owner.state.file) (sym (e file));
-        marks = g.marks ∙ (λ i. order i ++ (sym (e file) i).marks);
-        heard = g.heard ∙ (λ i. with_end (heard i) (each_told (sym (e file) i)));
-        given = λ q l. subst (λ (ev : Event). AreAlike (h.more q) (ev.given q)) (sym (e file)) (g.given q (low q l));
-      };
-  exact = IfSome_then b.told (subst (λ (t : Option (List ℕ)). IfSome t (λ file. GoesSo once (to file) (made file) h.more m n)) told h.exact) (λ file k. record {
-    told = k.told ∙ ap (λ (ev : Event). Some ev.owner.state.file) (sym (e file));
-    given = λ q l. k.given q (low q l) ∙ ap (λ (ev : Event). ev.given q) (sym (e file));
-    calls = λ o. k.calls (alone o) ∙ (λ i. with_end (calls i) (sym (c file) i));
-  });
+      grind (arith, nat_tests);
+  exact = grind (arith, nat_tests);
   single = λ o. h.single (alone o);
 }
   where
@@ -146,16 +137,14 @@ pub record IsGood (header : Header) (len : ℕ) (b : Standing) (r c : ℕ) (o : 
 pub is_good : (s : Setting) (len : ℕ) (b : Standing) (r c : ℕ) (o : Offer) → is_sound s.header ≡ true → IsSteady s.header len b → r < length b.clients → HasOwnElements o.batch.puts
     → ((file : List ℕ) → is_strange s (owner_at b file) (r, item.Offer c o) ≡ false) → IsGood s.header len b r c o
 is_good s len b r c o sound h low own fit =
-    let x = entry_below b.clients r low in
-    let p = passes s (owner_at b []) r c o x.0 x.1 (fit []) in
-    record {
-      client = x.0;
-      there = x.1;
-      free = p.free;
-      fit = fits s.header len b.reached o sound p.good own (count_less s.header len b.reached o.known sound h.reached p.known);
-      known = p.known;
-      kinds = p.kinds;
-    }
+    grind (
+      arith,
+      nat_tests,
+      entry_below b.clients r low,
+      passes s (owner_at b []) r c o (entry_below b.clients r low).0 (entry_below b.clients r low).1 (fit []),
+      fits s.header len b.reached o sound,
+      count_less s.header len b.reached o.known sound h.reached,
+    )
 
 pub steady_held : (header : Header) (len : ℕ) (b : Standing) (r c : ℕ) (o : Offer) (y : Client) (kind : MeetKind) → IsSteady header len b → (good : IsGood header len b r c o) → y ≡ client_held good.client o
     → o.kind ≡ offer.Meet kind → IsSteady header len (with_clients b (set b.clients r y))
@@ -186,8 +175,7 @@ steady_alone header len more b n h clients lines records l m count =
       below = omega arith;
       held = λ r x o e f.
           let g = h.held r x o (ap (λ (ss : List Client). slice_get ss r) (sym clients) ∙ e) f in
-          let k = g.known in
-          record { fit = record { sound = g.fit.sound; known = count_longer header len more o.known l g.fit.known; few = g.fit.few }; known = omega arith; meets = g.meets };
+          grind (arith, nat_tests, count_longer header len more o.known l g.fit.known);
       same = λ r q x y o p e f i j. h.same r q x y o p (ap (λ (ss : List Client). slice_get ss r) (sym clients) ∙ e) (ap (λ (ss : List Client). slice_get ss q) (sym clients) ∙ f) i j;
     }
 
@@ -224,8 +212,7 @@ all_stopped d r c o x y old now e free all long g = lines_as old now stop_each (
 pub alone_stopped : (r c : ℕ) (o : Offer) (clients same : List Client) (old mid last now : List (End OwnerItem)) → mid ≡ old → same ≡ clients → Grows mid (held_stops same) last → Grows last (put_one r Stop) now
     → Grows old (λ q. held_stops clients q ++ stops_for ((r, item.Offer c o) ∷ []) q) now
 alone_stopped r c o clients same old mid last now e f g h =
-    lines_as old now (λ q. held_stops clients q ++ put_one r Stop q) (λ q. held_stops clients q ++ stops_for ((r, item.Offer c o) ∷ []) q) (λ q l. ap (λ (items : List OwnerItem). held_stops clients q ++ items) (stop_for_offer r c o q))
-    (lines_twice old last now (held_stops clients) (put_one r Stop) (subst (λ (ss : List Client). Grows old (held_stops ss) last) f (subst (λ (l : List (End OwnerItem)). Grows l (held_stops same) last) e g)) h)
+    grind (arith, nat_tests, lines_as old now, stop_for_offer r c o, lines_twice old last now (held_stops clients) (put_one r Stop))
 
 -- ---- an item, by what it is
 

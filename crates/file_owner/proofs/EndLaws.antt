@@ -1,5 +1,5 @@
 -- What the owner's ends tell when it is done.
-use Rattle.file_owner.proofs.Words.{point, ◌≡◌, ℕ, suc, ◌+◌, ◌<◌, refl, sym, ◌∙◌, ap, subst, List, [], ◌∷◌, ◌++◌, length, map, replicate, Bool, true, Option, Some, None, arith, append-nil, length-append, length-map, length-replicate, slice_get, nat_lt, filter, IfSome, list_all, same_Some, Hints, DiskCall, Mark, OwnerItem, Stop, RankItem, StepErr, with_end, In, End, Receiver, Owner, Client, free_client, given_along, offers_in, owed, own_items, served, stop_held, stops, IsGivenInPart, Setting, Arrival, is_offer, OwnerStoodAt, counted, of_fault, of_stranger, IsHaltAt, Outcome, taken_from, stopped_with, owner_at, owner_calls, run, AreSingle, GoesSo, Grows, HoldSingle, Standing, HasCutService, arrived, gained, opening, HasFailed, HasTaken, HasToldAlong, HavePut, IsCutOff, IsDone, IsDoneSo, passed, Outlets, Halt, one_if, owed_count, alike_same, alike_two, if_some_at, entry_below, entry_replicate, own_two, nat_tests, in_left, in_right}
+use Rattle.file_owner.proofs.Words.{point, ◌≡◌, ℕ, ◌+◌, ◌<◌, refl, sym, ◌∙◌, ap, subst, List, [], ◌∷◌, ◌++◌, length, replicate, Bool, true, Option, Some, None, arith, append-nil, length-append, length-map, length-replicate, slice_get, nat_lt, filter, IfSome, list_all, same_Some, Hints, DiskCall, Mark, OwnerItem, Stop, RankItem, StepErr, with_end, In, End, Receiver, Owner, Client, free_client, given_along, offers_in, owed, own_items, served, stops, IsGivenInPart, Setting, Arrival, is_offer, OwnerStoodAt, counted, of_fault, of_stranger, IsHaltAt, Outcome, taken_from, stopped_with, owner_at, owner_calls, run, AreSingle, GoesSo, Grows, HoldSingle, Standing, HasCutService, arrived, gained, opening, HasFailed, HasTaken, HasToldAlong, HavePut, IsCutOff, IsDone, IsDoneSo, passed, Outlets, Halt, one_if, owed_count, alike_same, alike_two, if_some_at, entry_below, entry_replicate, own_two, nat_tests, in_left, in_right}
 use Rattle.nc_outside.specs.declared.disk.Disk.{Ghosts as DiskGhosts}
 use Rattle.nc_outside.specs.declared.told.Told.{Ghosts as ToldGhosts}
 use Rattle.file_owner.specs.declared.service.Halt.TheVariants as halt

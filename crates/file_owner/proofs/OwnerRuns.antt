@@ -1,8 +1,6 @@
 -- What the owner does along arrivals, one arrival after another.
 use Rattle.file_owner.proofs.Words.{◌≡◌, ℕ, refl, List, [], ◌∷◌, ◌++◌, true, false, Some, None, append_assoc, ◌==◌, eqb_tells, Hints, Setting, Arrival, Owner, event, given_along, is_strange, owed, served, owed_on, served_on, stranger_on, given_on, owner_calls, owner_told, each_told, event_calls, arith, nat_tests}
 
--- ---- one arrival
-
 -- ---- by numbers
 
 pub other_number : (q r : ℕ) → (q ≡ r → ⊥) → (q == r) ≡ false

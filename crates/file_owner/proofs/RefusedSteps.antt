@@ -1,5 +1,5 @@
 -- What a refused step leaves, as the owner's event has it.
-use Rattle.file_owner.proofs.Words.{◌≡◌, ℕ, ◌<◌, length, refl, sym, ◌∙◌, ap, subst, inl, inr, ◌⊎◌, List, [], ◌∷◌, ◌++◌, max, set, Bool, true, false, Option, Some, None, arith, append-nil, same_Some, slice_get, flat_map, IfSome, enumerate_from, list_all, byte_len, Batch, MeetKind, Offer, RankItem, StepErr, Memory, after, BothTold, Owner, Event, Client, does_meeting, does_solo, event, holds, is_strange, meets_if, needed_now, offers_at, offers_held, step_offers, Setting, puts_of, solo, count_width, Arrival, Puts, covered, IsTorn, OwnerStoodAt, at_arrival, between_arrivals, counted, puts_in, torn_by, torn_wider, batches_of, known_of, met, IsOneRise, met_count, met_done, met_torn, event_is, met_is, puts_same, owner_at, HoldSingle, IsSingle, IsSingleOffer, Standing, IsFaultAt, IsRefusedAlone, IsRefusedArrival, IsRefusedTogether, entry_below, client_held, nat_tests, IfSome_then, some_each}
+use Rattle.file_owner.proofs.Words.{◌≡◌, ℕ, ◌<◌, length, refl, sym, ◌∙◌, ap, subst, inl, inr, ◌⊎◌, List, [], ◌∷◌, ◌++◌, max, set, Bool, true, false, Option, Some, None, arith, append-nil, same_Some, slice_get, flat_map, enumerate_from, list_all, byte_len, Batch, MeetKind, Offer, RankItem, StepErr, Memory, after, BothTold, Owner, Event, Client, does_meeting, event, holds, is_strange, meets_if, needed_now, offers_at, offers_held, step_offers, Setting, puts_of, solo, count_width, Arrival, Puts, covered, IsTorn, OwnerStoodAt, at_arrival, between_arrivals, counted, puts_in, torn_by, torn_wider, batches_of, known_of, met, IsOneRise, met_count, met_done, met_torn, event_is, met_is, puts_same, owner_at, HoldSingle, IsSingle, IsSingleOffer, Standing, IsFaultAt, IsRefusedAlone, IsRefusedArrival, IsRefusedTogether, entry_below, client_held, nat_tests, IfSome_then, some_each}
 use Rattle.nc_base.specs.declared.step.OfferKind.TheVariants as offer
 use Rattle.nc_base.specs.declared.step.RankItem.TheVariants as item
 use Rattle.serial_spec.specs.Torn.{IsLeft}
@@ -9,13 +9,7 @@ use Rattle.file_owner.proofs.ArriveSteps.{offer_event, single_set, with_clients}
 
 pub refused_alone : (s : Setting) (r c : ℕ) (o : Offer) (b : Standing) (left : Option (List ℕ))
     → BothTold (λ old left. IsTorn (covered s.header (puts_of (r, o))) 0 old (solo s r o (counted old 0)).0.file left) b.told left → IsRefusedAlone s c (r, o) b left b.records
-refused_alone s r c o b left torn = by_told b.told torn
-  where
-    by_told : (m : Option (List ℕ)) → BothTold (λ old left. IsTorn (covered s.header (puts_of (r, o))) 0 old (solo s r o (counted old 0)).0.file left) m left
-        → IfSome m (λ file. (now : List ℕ) × (left ≡ Some now) × IsLeft s.header (covered s.header (puts_of (r, o))) (counted file b.records) (does_solo s (owner_at b file) r c o).owner.state now b.records)
-    by_told None t = tt
-    by_told (Some file) t =
-        (t.0, t.1, (torn_wider (covered s.header (puts_of (r, o))) (byte_len (count_width s.header.version)) file (solo s r o (counted file b.records)).0.file t.0 t.2, inl refl))
+refused_alone s r c o b left torn = grind (arith, nat_tests, torn_wider)
 
 -- ---- a meeting
 
@@ -68,17 +62,10 @@ pub arrival_ended : (s : Setting) (b : Standing) (r n : ℕ) (i : RankItem) (mem
     → IsRefusedArrival s (r, i) b left n
 arrival_ended s b r n i memory left is low same count =
     subst (λ (j : RankItem). IsRefusedArrival s (r, j) b left n) (sym is) (some_each b.told (λ file there.
-    let x = entry_below b.clients r low in (
-      file,
-      same ∙ there,
-      subst (λ (v : Event). IsLeft s.header (held file) (counted file b.records) v.owner.state file n) (sym (event_is s (owner_at b file) r (item.Ended memory) x.0 x.1)) (kept file),
-    )))
+    let x = entry_below b.clients r low in grind (arith, nat_tests, event_is s (owner_at b file) r (item.Ended memory) x.0 x.1)))
   where
     held : List ℕ → List ℕ
     held file = covered s.header (flat_map puts_of (step_offers (owner_at b file) (r, item.Ended memory)))
-
-    kept : (file : List ℕ) → IsLeft s.header (held file) (counted file b.records) (counted file b.records) file n
-    kept file = grind (arith, nat_tests, torn_by, held)
 
 -- that brings its number's own step
 pub arrival_alone : (s : Setting) (b : Standing) (r c n : ℕ) (i : RankItem) (o : Offer) (x : Client) (left : Option (List ℕ)) → i ≡ item.Offer c o → slice_get b.clients r ≡ Some x → o.kind ≡ offer.Solo

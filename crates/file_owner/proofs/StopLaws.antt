@@ -1,5 +1,5 @@
 -- What was taken, and the stops for it, one item after another.
-use Rattle.file_owner.proofs.Words.{◌≡◌, ℕ, ◌<◌, refl, sym, ◌∙◌, ap, subst, inl, inr, ◌⊎◌, List, [], ◌∷◌, ◌++◌, map, set, Bool, true, append_assoc, arith, cases_eq, nat_tests, append-nil, filter, nat_lt, list_all, OwnerItem, Stop, RankItem, End, Receiver, own_items, Arrival, is_offer, HasEnd, own_here, Grows, stops_for, HaveEnded, HaveMet, IsMore, own_two, entry_set_other, common_steps, Client, Option, Some, None, length, replicate, stop_held, Offer, suc}
+use Rattle.file_owner.proofs.Words.{◌≡◌, ℕ, ◌<◌, refl, sym, ◌∙◌, ap, subst, List, [], ◌∷◌, ◌++◌, map, set, Bool, true, append_assoc, arith, nat_tests, append-nil, filter, nat_lt, list_all, OwnerItem, Stop, RankItem, End, Receiver, own_items, Arrival, is_offer, HasEnd, own_here, Grows, stops_for, HaveEnded, HaveMet, IsMore, own_two, entry_set_other, common_steps, Client, Option, Some, None, length, replicate, stop_held, Offer, suc}
 use Rattle.nc_base.specs.declared.step.RankItem.TheVariants as item
 use Rattle.file_owner.proofs.AlikeLaws.{lines_as, lines_twice}
 
@@ -31,12 +31,7 @@ pub ended_more : (flags : List Bool) (arrivals more : List Arrival) → HaveEnde
 ended_more flags arrivals more h q e = subst HasEnd (sym (own_two q arrivals more)) (end_front (own_items q arrivals) (own_items q more) (h q e))
 
 pub noted_end : (flags : List Bool) (arrivals : List Arrival) (r : ℕ) (memory : Bool) → HaveEnded flags arrivals → HaveEnded (set flags r true) (arrivals ++ (r, item.Ended memory) ∷ [])
-noted_end flags arrivals r memory h q e = by (cases_eq q r)
-  where
-    by : (q ≡ r) ⊎ (q ≡ r → ⊥) → HasEnd (own_items q (arrivals ++ (r, item.Ended memory) ∷ []))
-    by (inl s) =
-        grind (arith, nat_tests, own_two q arrivals ((r, item.Ended memory) ∷ []), own_here r (item.Ended memory) [], end_last (own_items q arrivals) memory)
-    by (inr n) = ended_more flags arrivals ((r, item.Ended memory) ∷ []) h q (sym (entry_set_other flags r q true n) ∙ e)
+noted_end flags arrivals r memory h q e = grind (arith, nat_tests, own_two, own_here, end_last, ended_more, entry_set_other, item.Ended)
 
 pub noted : (flags : List Bool) (arrivals : List Arrival) (r : ℕ) (i j : RankItem) → i ≡ j → HaveEnded flags (arrivals ++ (r, j) ∷ []) → HaveEnded flags (arrivals ++ (r, i) ∷ [])
 noted flags arrivals r i j e h = subst (λ (k : RankItem). HaveEnded flags (arrivals ++ (r, k) ∷ [])) (sym e) h

@@ -18,11 +18,7 @@ each_alike s pair same n next [] [] q e f g = tt
 each_alike s pair same n next [] (o ∷ offers) q e f g = absurd cc
 each_alike s pair same n next (blobs ∷ table) [] q e f g = absurd cc
 each_alike s pair same n next (blobs ∷ table) (o ∷ offers) zero e f g = grind (arith, nat_tests, gots_long)
-each_alike s pair same n next (blobs ∷ table) (o ∷ offers) (suc q) e f g = each_alike s pair same n next table offers q e f (rest g)
-  where
-    rest : (lens blobs ∷ map lens table) ≡ (map (wanted s.header) o.batch.gets ∷ map (λ (p : Offer). map (wanted s.header) p.batch.gets) offers)
-        → map lens table ≡ map (λ (p : Offer). map (wanted s.header) p.batch.gets) offers
-    rest h = cc
+each_alike s pair same n next (blobs ∷ table) (o ∷ offers) (suc q) e f g = grind (arith, nat_tests, each_alike s pair same n next table offers q e f)
 
 replies_each : (pair : Option Pair) (n : ℕ) (table : List (List (List ℕ))) (q : ℕ) → replies pair n table q ≡ to_each (map (reply_of pair n) table) q
 replies_each pair n (blobs ∷ table) (suc q) = replies_each pair n table q

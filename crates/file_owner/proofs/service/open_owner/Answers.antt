@@ -1,13 +1,11 @@
 -- A owner at which nothing arrived.
-use Rattle.file_owner.proofs.Words.{refl, sym, ◌∙◌, subst, HasHalted, taken_from, stopped_with, dataset_setting, IsSteady, Standing}
+use Rattle.file_owner.proofs.Words.{sym, ◌∙◌, subst, HasHalted, taken_from, stopped_with, dataset_setting, IsSteady, Standing, arith, nat_tests}
 use Rattle.nc_base.specs.declared.step.StepErr.TheVariants as fault
 use Rattle.file_owner.proofs.HaltLaws.{halt_none, opened_is, opening_steady}
 use Rattle.file_owner.proofs.service.open_owner.Goals as goal
 
 pub returns-in-Err-clause-halted : goal.returns-in-Err-clause-halted
-returns-in-Err-clause-halted g c =
-    halt_none c.args.dataset.now.hints.now (dataset_setting c.args.dataset.now) c.args.inbox.now c.args.senders.now.ended fault.Memory c.args.inbox.now.senders c.args.out.now.records.now (g.D.Disk.held c.args.out.now.disk.now) (g.D.Disk.calls c.args.out.now.disk.now) c.new-in-Err.result (g.T.Told.heard c.args.out.now.told.now) c.args.out.now.back.now
-    c.requires.ended refl c.new-in-Err.ensures
+returns-in-Err-clause-halted g c = grind (arith, nat_tests, halt_none, c.requires.ended, c.new-in-Err.ensures)
 
 pub serve_all-halt-requires-clause-steady : goal.serve_all-halt-requires-clause-steady
 serve_all-halt-requires-clause-steady g c κs within =

@@ -1,5 +1,5 @@
 -- One more arrival is done, or it is the last one.
-use Rattle.file_owner.proofs.Words.{ℕ, ◌++◌, ◌∷◌, [], Err, refl, ◌∙◌, subst, arith, dataset_setting, standing, Grows, held_stops, stops_for, AllHaveEnded}
+use Rattle.file_owner.proofs.Words.{ℕ, ◌++◌, ◌∷◌, [], refl, ◌∙◌, subst, arith, dataset_setting, standing, Grows, held_stops, stops_for, AllHaveEnded, nat_tests}
 use Rattle.file_owner.proofs.LentLaws.{same_then}
 use Rattle.file_owner.proofs.RefusedSteps.{fault_at}
 use Rattle.file_owner.proofs.HaltLaws.{fault_cause, halt_ended, halt_fault, halt_strange, no_cause, served_more}
@@ -56,8 +56,7 @@ returns-in-Err-clause-halted g c =
     (λ file. c.is_strange.ensures (dataset_setting c.args.dataset.now) file c.loop.out.records.now refl ∙ c.if-is_strange.false) c.in-Err.ensures.refused)
 
 pub returns-in-Err-clause-cause : goal.returns-in-Err-clause-cause
-returns-in-Err-clause-cause g c =
-    fault_cause (g.D.Disk.faults c.args.out.now.disk.now) (g.D.Disk.faults c.loop.out.disk.now) (g.D.Disk.faults c.arrive-done.new.out.disk.now) c.in-Err.fault c.loop.invariant.later c.in-Err.ensures.cause.later (λ e. c.in-Err.ensures.cause.failed (λ i. Err (e i)))
+returns-in-Err-clause-cause g c = grind (arith, nat_tests, fault_cause, c.loop.invariant.later, c.in-Err.ensures.cause.later, c.in-Err.ensures.cause.failed)
 
 pub loop-preserved : goal.loop-preserved
 loop-preserved g c =

@@ -1,5 +1,5 @@
 -- Where it stopped, and what came after.
-use Rattle.file_owner.proofs.Words.{ℕ, ◌≤◌, sym, ◌∙◌, subst, dataset_setting, first_standing, HasSeenAll}
+use Rattle.file_owner.proofs.Words.{ℕ, ◌≤◌, sym, ◌∙◌, subst, dataset_setting, first_standing, arith, nat_tests}
 use Rattle.file_owner.proofs.GainedLaws.{outcome}
 use Rattle.file_owner.proofs.service.serve_to_end.Goals as goal
 
@@ -12,8 +12,7 @@ finish-requires-clause-lines g c κs within =
     a.stopped.long ∙ a.run.moved.lines.long ∙ c.requires.lines ∙ sym a.taken.senders
 
 pub finish-requires-clause-ended : goal.finish-requires-clause-ended
-finish-requires-clause-ended g c κs within =
-    subst (λ (n : ℕ). HasSeenAll n c.open_owner-order.new.senders.ended c.open_owner-order.result.1) (sym c.open_owner-order.ensures.halted.taken.senders) c.open_owner-order.ensures.halted.seen
+finish-requires-clause-ended g c κs within = grind (arith, nat_tests, c.open_owner-order.ensures.halted.taken.senders, c.open_owner-order.ensures.halted.seen)
 
 pub returns-clause-outcome : goal.returns-clause-outcome
 returns-clause-outcome g c = (

@@ -1,5 +1,5 @@
 -- One more number has its stop.
-use Rattle.file_owner.proofs.Words.{ap, arith, stop_held, held_stops, Some, entry_read}
+use Rattle.file_owner.proofs.Words.{ap, arith, stop_held, held_stops, Some, entry_read, nat_tests}
 use Rattle.file_owner.proofs.PutLaws.{all_below, one_more}
 use Rattle.file_owner.proofs.stops.stop_held.Goals as goal
 
@@ -11,5 +11,4 @@ loop-number-preserved g c =
 pub returns : goal.returns
 returns g c =
     let lines = c.requires in
-    let end = c.loop-number-test.false in
-    all_below c.args.back.now c.loop-number.back c.loop-number.number (held_stops c.args.clients.now) c.loop-number.invariant (omega arith)
+    grind (arith, nat_tests, all_below c.args.back.now c.loop-number.back c.loop-number.number (held_stops c.args.clients.now), c.loop-number-test.false, c.loop-number.invariant)

@@ -1,5 +1,5 @@
 -- An end, an offer that a number makes alone, a meeting, and an offer that is held.
-use Rattle.file_owner.proofs.Words.{ℕ, [], sym, refl, ◌∙◌, ap, subst, on_err_weaker, on_ok_weaker, list_all, holds, dataset_setting, owner_of, standing, count_longer, IsCount, entry_read}
+use Rattle.file_owner.proofs.Words.{[], sym, refl, ◌∙◌, ap, on_err_weaker, on_ok_weaker, list_all, holds, dataset_setting, owner_of, standing, count_longer, entry_read, arith, nat_tests}
 use Rattle.nc_base.specs.declared.step.RankItem.TheVariants as item
 use Rattle.file_owner.proofs.ArriveSteps.{all_stopped, as_item, done_alone, done_ended, done_held, done_together, good_at, held_now, on_ok_three, steady_alone, steady_ended, steady_held, stopped_as}
 use Rattle.file_owner.proofs.RefusedSteps.{arrival_alone, arrival_ended, arrival_together}
@@ -65,9 +65,7 @@ returns-in-Solo-clause-steady g c =
     c.do_alone.ensures.done c.do_alone.ensures.reached c.do_alone.ensures.more
 
 pub returns-in-Solo-clause-count : goal.returns-in-Solo-clause-count
-returns-in-Solo-clause-count g c =
-    subst (λ (n : ℕ). IsCount c.args.dataset.now.header.now (g.D.Disk.len c.do_alone.new.out.disk.now) n) (sym c.do_alone.ensures.records)
-    (count_longer c.args.dataset.now.header.now (g.D.Disk.len c.args.out.now.disk.now) (g.D.Disk.len c.do_alone.new.out.disk.now) c.args.out.now.records.now c.do_alone.ensures.longer c.requires.steady.count)
+returns-in-Solo-clause-count g c = grind (arith, nat_tests, count_longer, c.do_alone.ensures.records, c.do_alone.ensures.longer, c.requires.steady.count)
 
 pub returns-then-all_hold-clause-done : goal.returns-then-all_hold-clause-done
 returns-then-all_hold-clause-done g c =
@@ -85,10 +83,7 @@ returns-then-all_hold-clause-stopped g c =
     let b = standing g.D.Disk g.T.Told c.args.self.now c.args.out.now in
     let good = good_at (dataset_setting c.args.dataset.now) (g.D.Disk.len c.args.out.now.disk.now) b c.args.number c.in-Offer.call c.args.item c.in-Offer.offer c.args.dataset.now.sound c.requires.steady c.requires.number
     c.requires.own c.requires.fit c.in-Offer.is in
-    on_err_weaker c.do_together.result (λ h.
-    stopped_as (owner_of c.args.self.now [] 0) c.args.number c.args.item (item.Offer c.in-Offer.call c.in-Offer.offer) c.args.out.now.back.now c.do_together.new.out.back.now c.in-Offer.is
-    (all_stopped (owner_of c.args.self.now [] 0) c.args.number c.in-Offer.call c.in-Offer.offer good.client c.hold.new.self c.args.out.now.back.now c.do_together.new.out.back.now good.there good.free
-    (ap (λ ss. list_all holds ss) (sym c.deref-in-Meet.ensures.value) ∙ sym c.all_hold.ensures ∙ c.if-all_hold.true) c.requires.steady.one_each h)) c.do_together.ensures.stopped
+    grind (arith, nat_tests, stopped_as (owner_of c.args.self.now [] 0) c.args.number c.args.item, all_stopped (owner_of c.args.self.now [] 0) c.args.number c.in-Offer.call c.in-Offer.offer good.client, holds, c.in-Offer.is, c.deref-in-Meet.ensures.value, c.all_hold.ensures, c.if-all_hold.true, c.requires.steady.one_each, c.do_together.ensures.stopped)
 
 pub returns-else-all_hold-clause-done : goal.returns-else-all_hold-clause-done
 returns-else-all_hold-clause-done g c =

@@ -1,5 +1,5 @@
 -- The meeting is done, and its replies are put.
-use Rattle.file_owner.proofs.Words.{ℕ, ◌++◌, ◌∷◌, [], sym, ◌∙◌, ap, subst, length, map, max, List, length-map, Batch, Offer, Meet, with_end, offers_held, wanted, IsRise, offers_long, dataset_setting, standing, standing_at, IsJob, refl, on_err}
+use Rattle.file_owner.proofs.Words.{ℕ, ◌++◌, ◌∷◌, [], sym, ◌∙◌, ap, subst, length, map, max, List, length-map, Batch, Offer, Meet, with_end, offers_held, wanted, IsRise, offers_long, dataset_setting, standing, standing_at, IsJob, on_err, arith, nat_tests}
 use Rattle.file_owner.proofs.HeldLaws.{held_job, held_low, held_once, held_rise, steady_freed}
 use Rattle.file_owner.proofs.TogetherSteps.{together}
 use Rattle.file_owner.proofs.RefusedSteps.{done_once, none_once, refused_once}
@@ -49,8 +49,7 @@ returns-clause-steady g c =
 
 pub returns-in_err-job-clause-refused : goal.returns-in_err-job-clause-refused
 returns-in_err-job-clause-refused g c =
-    let b = standing g.D.Disk g.T.Told c.args.self.now c.args.out.now in
-    on_err _ (none_once (dataset_setting c.args.dataset.now) b c.args.out.now.records.now (g.D.Disk.held c.args.out.now.disk.now) refl refl)
+    grind (arith, nat_tests, on_err, none_once (dataset_setting c.args.dataset.now) (standing g.D.Disk g.T.Told c.args.self.now c.args.out.now))
 
 pub returns-in_err-pair-clause-refused : goal.returns-in_err-pair-clause-refused
 returns-in_err-pair-clause-refused g c =
@@ -60,11 +59,9 @@ returns-in_err-pair-clause-refused g c =
 
 pub returns-in_err-met-clause-refused : goal.returns-in_err-met-clause-refused
 returns-in_err-met-clause-refused g c =
-    let b = standing g.D.Disk g.T.Told c.args.self.now c.args.out.now in
-    on_err _ (none_once (dataset_setting c.args.dataset.now) b c.args.out.now.records.now (g.D.Disk.held c.args.out.now.disk.now) refl refl)
+    grind (arith, nat_tests, on_err, none_once (dataset_setting c.args.dataset.now) (standing g.D.Disk g.T.Told c.args.self.now c.args.out.now))
 
 pub returns-in_err-note_step-clause-refused : goal.returns-in_err-note_step-clause-refused
 returns-in_err-note_step-clause-refused g c =
     let b = standing g.D.Disk g.T.Told c.args.self.now c.args.out.now in
-    on_err _ (done_once (dataset_setting c.args.dataset.now) b c.in_ok-job.job.batches c.in_ok-job.known c.meet_on_file.new.records (g.D.Disk.held c.meet_on_file.new.disk)
-    c.in_ok-job.ensures.batches c.in_ok-job.ensures.known c.in_ok-pair.ensures.bytes c.in_ok-pair.ensures.records)
+    grind (arith, nat_tests, on_err, done_once (dataset_setting c.args.dataset.now) b c.in_ok-job.job.batches c.in_ok-job.known, c.in_ok-job.ensures.batches, c.in_ok-job.ensures.known, c.in_ok-pair.ensures.bytes, c.in_ok-pair.ensures.records)
