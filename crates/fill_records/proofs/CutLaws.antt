@@ -1,5 +1,5 @@
 -- The boxes of a range, as they are found row by row.
-use Rattle.fill_records.proofs.Words.{◌≡◌, ℕ, zero, suc, ◌+◌, ◌-◌, ◌*◌, ◌/◌, ◌%◌, ◌<◌, ◌≤◌, refl, sym, ◌∙◌, ap, inl, inr, ◌⊎◌, List, [], ◌∷◌, ◌++◌, length, map, replicate, take, drop, Bool, true, false, append_assoc, length-append, arith, nat_lt, ◌==◌, mul-div_cancel, mul-mod_left, zero-mod, eqb-false, map-append, append-nil, length-map, take_all, div-add-mod', mod_below, div_below, some_factor, Part, product, boxes, in_row, whole_rows, at_row, boxes_before, nat_tests, eqb-true, ltb-true, ltb-false}
+use Rattle.fill_records.proofs.Words.{◌≡◌, ℕ, zero, suc, ◌+◌, ◌-◌, ◌*◌, ◌/◌, ◌%◌, ◌<◌, ◌≤◌, refl, sym, ◌∙◌, ap, inl, inr, ◌⊎◌, List, [], ◌∷◌, ◌++◌, length, map, replicate, take, drop, Bool, true, false, append_assoc, length-append, arith, nat_lt, ◌==◌, mul-div_cancel, mul-mod_left, zero-mod, eqb-false, map-append, append-nil, length-map, take_all, some_factor, Part, product, boxes, in_row, whole_rows, at_row, boxes_before, nat_tests, eqb-true, ltb-true, ltb-false}
 
 -- ---- boxes in a row
 
@@ -28,10 +28,6 @@ pub one_row : (n : ℕ) (lengths : List ℕ) (from to : ℕ) → from / product 
     → boxes (n ∷ lengths) from to ≡ in_row (from / product lengths) (boxes lengths (from % product lengths) (to % product lengths))
 one_row n lengths from to e = grind (arith, nat_tests, eqb-false)
 
-pub more_rows : (n : ℕ) (lengths : List ℕ) (from to : ℕ) → (from / product lengths ≡ to / product lengths → ⊥)
-    → boxes (n ∷ lengths) from to ≡ boxes_before lengths from (to / product lengths) ++ in_row (to / product lengths) (boxes lengths 0 (to % product lengths))
-more_rows n lengths from to e = grind (arith, nat_tests, eqb-true)
-
 -- ---- no element
 
 same_below : (x : ℕ) → nat_lt x x ≡ false
@@ -55,7 +51,7 @@ pub found_rows : (row later : List ℕ) (lengths : List ℕ) (n size from to : �
     → mid ≡ old ++ map (λ p. at_row row p) (boxes_before lengths from (to / size))
     → new ≡ mid ++ map (λ p. at_row later p) (in_row (to / size) (boxes lengths 0 (to % size)))
     → new ≡ old ++ map (λ p. at_row row p) (boxes (n ∷ lengths) from to)
-found_rows row later lengths n size from to old mid new s e r f g = grind (arith, nat_tests, append_assoc, map-append, more_rows)
+found_rows row later lengths n size from to old mid new s e r f g = grind (arith, nat_tests, append_assoc, map-append, eqb-true)
 
 pub found_counts : (row counts : List ℕ) (from to : ℕ) (old new : List Part) → 1 ≤ length counts
     → ((count : ℕ) → new ≡ old ++ map (λ p. at_row row p) (boxes (count ∷ take (length counts - 1) (drop 1 counts)) from to)) → new ≡ old ++ map (λ p. at_row row p) (boxes counts from to)
@@ -77,35 +73,13 @@ in_row_long i parts = length-map parts (λ (p : Part). let q : Part = record { s
 whole_few : (lengths : List ℕ) (first last : ℕ) → length (whole_rows lengths first last) ≤ 1
 whole_few lengths first last = grind (arith, nat_tests)
 
--- the boxes before row `last`, where those of the first row's part are few
-before_few : (lengths : List ℕ) (from last few : ℕ) → length (boxes lengths (from % product lengths) (product lengths)) ≤ few → length (boxes_before lengths from last) ≤ few + 1
-before_few lengths from last few h =
-    grind (
-      arith,
-      nat_tests,
-      whole_few lengths (from / product lengths) last,
-      whole_few lengths (from / product lengths + 1) last,
-      in_row_long (from / product lengths) (boxes lengths (from % product lengths) (product lengths)),
-      length-append,
-    )
-
 -- those of rows, by those of one row and by those of the first and the last row's parts
 rows_few : (n : ℕ) (lengths : List ℕ) (from to few first last : ℕ)
     → (from / product lengths ≡ to / product lengths → length (boxes lengths (from % product lengths) (to % product lengths)) ≤ few)
     → length (boxes_before lengths from (to / product lengths)) ≤ first → length (boxes lengths 0 (to % product lengths)) ≤ last → first + last ≤ few
     → length (boxes (n ∷ lengths) from to) ≤ few
 rows_few n lengths from to few first last same before after sum =
-    grind (
-      arith,
-      nat_tests,
-      in_row_long (from / product lengths) (boxes lengths (from % product lengths) (to % product lengths)),
-      in_row_long (to / product lengths) (boxes lengths 0 (to % product lengths)),
-      eqb-true,
-      one_row,
-      more_rows,
-      eqb-false,
-      length-append,
-    )
+    grind (arith, nat_tests, in_row_long (from / product lengths) (boxes lengths (from % product lengths) (to % product lengths)), in_row_long (to / product lengths) (boxes lengths 0 (to % product lengths)), eqb-true, one_row, eqb-false, length-append)
 
 -- ---- the bound
 
@@ -120,8 +94,7 @@ front_few : (lengths : List ℕ) (to : ℕ) → length (boxes lengths 0 to) ≤ 
 front_few [] to = grind (arith, nat_tests)
 front_few (n ∷ lengths) to =
     let rest = front_few lengths (to % product lengths) in
-    let rest_of_0 = ap (λ (x : ℕ). length (boxes lengths x (to % product lengths))) (zero-mod (product lengths)) in
-    rows_few n lengths 0 to (suc (length lengths) + 1) 1 (length lengths + 1) (λ e. omega arith) (whole_before (0 % product lengths == 0) refl) rest (omega arith)
+    grind (arith, nat_tests, rows_few n lengths 0 to (suc (length lengths) + 1) 1 (length lengths + 1))
   where
     whole_before : (t : Bool) → (0 % product lengths == 0) ≡ t → length (elim t as (λ v. List Part) [
       | true ↦ whole_rows lengths (0 / product lengths) (to / product lengths)
@@ -138,30 +111,10 @@ back_few (n ∷ lengths) from h = elim (less_or_same from (n * product lengths) 
   | inr l ↦
       (let some = some_factor n (product lengths) from l in
       let last : n * product lengths / product lengths ≡ n = mul-div_cancel n some in
-      let below : from / product lengths < n = div_below from (product lengths) n some l in
-      let r = mod_below from (product lengths) some in
-      let first = back_few lengths (from % product lengths) (omega arith) in
-      let whole : n * product lengths % product lengths ≡ 0 = mul-mod_left n (product lengths) in
-      rows_few n lengths from (n * product lengths) (suc (length lengths) + 1) (length lengths + 1 + 1) 0 (λ e. absurd (omega arith))
-      (before_few lengths from (n * product lengths / product lengths) (length lengths + 1) first)
-      (none_few lengths 0 (n * product lengths % product lengths) 0 (sym whole)) (omega arith))
+      grind (arith, nat_tests, back_few lengths (from % product lengths), rows_few n lengths from (n * product lengths) (suc (length lengths) + 1) (length lengths + 1 + 1) 0, whole_few, in_row_long, length-append, none_few lengths 0 (n * product lengths % product lengths) 0 (sym (mul-mod_left n (product lengths)))))
 ]
 
 pub boxes_few : (lengths : List ℕ) (from to : ℕ) → from ≤ to → to ≤ product lengths → length (boxes lengths from to) ≤ 2 * length lengths + 1
 boxes_few [] from to h k = grind (arith, nat_tests)
-boxes_few (n ∷ lengths) from to h k = elim (less_or_same from to h) [
-  | inl e ↦ none_few (n ∷ lengths) from to (2 * suc (length lengths) + 1) e
-  | inr l ↦
-      (let some = some_factor n (product lengths) from (omega arith) in
-      let r = mod_below from (product lengths) some in
-      let s = mod_below to (product lengths) some in
-      rows_few n lengths from to (2 * suc (length lengths) + 1) (length lengths + 1 + 1) (length lengths + 1)
-      (λ e.
-      let a = div-add-mod' from (product lengths) in
-      let b = div-add-mod' to (product lengths) in
-      let q = ap (λ (x : ℕ). x * product lengths) e in
-      let few = boxes_few lengths (from % product lengths) (to % product lengths) (omega arith) (omega arith) in
-      omega arith)
-      (before_few lengths from (to / product lengths) (length lengths + 1) (back_few lengths (from % product lengths) (omega arith)))
-      (front_few lengths (to % product lengths)) (omega arith))
-]
+boxes_few (n ∷ lengths) from to h k =
+    grind (arith, nat_tests, less_or_same from to h, none_few (n ∷ lengths) from to (2 * suc (length lengths) + 1), some_factor n (product lengths) from, rows_few n lengths from to (2 * suc (length lengths) + 1) (length lengths + 1 + 1) (length lengths + 1), boxes_few lengths (from % product lengths) (to % product lengths), whole_few, in_row_long, length-append, back_few lengths (from % product lengths), front_few lengths (to % product lengths))

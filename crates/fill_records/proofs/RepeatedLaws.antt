@@ -1,5 +1,5 @@
 -- A value's bytes over and over.
-use Rattle.fill_records.proofs.Words.{◌≡◌, ℕ, zero, suc, ◌+◌, ◌-◌, ◌*◌, ◌%◌, ◌<◌, ◌≤◌, refl, sym, ◌∙◌, ap, List, ◌∷◌, ◌++◌, length, take, drop, get_or, arith, slice_index, repeat, each_same, AllZip, add-mod_right, add-mod-mod, mod-eq_of_lt, same_number_lists, take_at, drop_at, length-map-range_with_len, get_or-map-range_with_len, repeated, nat_tests}
+use Rattle.fill_records.proofs.Words.{◌≡◌, ℕ, zero, suc, ◌+◌, ◌-◌, ◌*◌, ◌%◌, ◌<◌, ◌≤◌, refl, sym, ◌∙◌, ap, List, ◌++◌, length, take, drop, get_or, arith, slice_index, repeat, each_same, AllZip, add-mod_right, add-mod-mod, mod-eq_of_lt, same_number_lists, take_at, drop_at, length-map-range_with_len, get_or-map-range_with_len, repeated, nat_tests}
 
 pub repeated_long : (value : List ℕ) (from len : ℕ) → length (repeated value from len) ≡ len
 repeated_long value from len = length-map-range_with_len (λ (i : ℕ). slice_index value (i % length value)) from len
@@ -11,10 +11,7 @@ pub repeated_more : (value : List ℕ) (from m n : ℕ) → repeated value from 
 repeated_more value from zero n = grind (arith, nat_tests)
 repeated_more value from (suc m) n =
     let one : suc m + n ≡ suc (m + n) = omega arith in
-    let next : from + 1 + m ≡ from + suc m = omega arith in
-    ap (λ (k : ℕ). repeated value from k) one
-    ∙ ap (λ bytes. slice_index value (from % length value) ∷ bytes)
-    (repeated_more value (from + 1) m n ∙ ap (λ (k : ℕ). repeated value (from + 1) m ++ repeated value k n) next)
+    grind (arith, nat_tests, repeated_more value (from + 1) m n, repeated)
 
 -- two places that stand at one byte of the value
 pub same_phase : (value : List ℕ) (a b n : ℕ) → a % length value ≡ b % length value → repeated value a n ≡ repeated value b n
@@ -56,7 +53,4 @@ part_of_copies value k n m h =
 
 -- the copies that the code makes, where a clone of a byte is the byte
 pub all_copies : (value made : List ℕ) (n : ℕ) → AllZip (λ x y. y ≡ x) (repeat n value) made → made ≡ repeated value 0 (length made)
-all_copies value made n h =
-    let same : made ≡ repeated value 0 (n * length value) = each_same (repeat n value) made h ∙ copies value n in
-    let long : n * length value ≡ length made = sym (ap (λ (bytes : List ℕ). length bytes) same ∙ repeated_long value 0 (n * length value)) in
-    same ∙ ap (λ (k : ℕ). repeated value 0 k) long
+all_copies value made n h = grind (arith, nat_tests, each_same (repeat n value) made h, copies value n, repeated_long value 0 (n * length value))

@@ -1,16 +1,11 @@
 -- What a filling that was refused leaves: each byte is old, or that of the filled file.
-use Rattle.fill_records.proofs.Words.{◌≡◌, ℕ, suc, ◌+◌, ◌<◌, ◌≤◌, ◌⊎◌, inl, inr, refl, sym, ◌∙◌, ap, subst, in_left, filter_in, in_at, either, not-true, filter-append, take-append-drop, drop, In, List, [], ◌∷◌, ◌++◌, length, take, true, false, not, Option, Some, None, arith, fold, nat_lt, IfSome, cases_lt, nat_tests, told_else, both_none, Header, Var, PartlyWritten, after, BothTold, at, written, fill_bytes, fill_var, filled, header_len, is_sound, end_of, fixed_variables, is_record, share, sharing_from, sharing_with, slab, none_shared, none_with, length-written_inside, get_or-written_below, get_or-written_within, get_or-written_above, IsBetween, repeated, filled_variable, found_long, between_next}
+use Rattle.fill_records.proofs.Words.{◌≡◌, ℕ, suc, ◌+◌, ◌<◌, ◌≤◌, ◌⊎◌, inl, inr, refl, sym, ◌∙◌, ap, subst, in_left, filter_in, in_at, filter-append, take-append-drop, drop, In, List, [], ◌∷◌, ◌++◌, length, take, true, false, not, Option, Some, None, arith, fold, IfSome, cases_lt, nat_tests, told_else, both_none, Header, Var, PartlyWritten, after, BothTold, at, written, fill_bytes, fill_var, filled, header_len, is_sound, end_of, fixed_variables, is_record, share, sharing_from, slab, none_shared, none_with, length-written_inside, get_or-written_below, get_or-written_within, get_or-written_above, IsBetween, repeated, filled_variable, found_long}
 use Rattle.fill_records.proofs.RepeatedLaws.{repeated_long, at_repeated}
 use Rattle.fill_records.proofs.VariableLaws.{filled_more, fixed_end}
 use Rattle.fill_records.proofs.WindowLaws.{for_told}
 use Rattle.fill_records.proofs.WriteLaws.{var_filled}
 
 -- ---- files
-
--- a change more that was cut off, from one file between to another
-partly_between : (place : ℕ) (bytes file left : List ℕ) → place + length bytes ≤ length file → PartlyWritten place bytes file left
-    → IsBetween file (written file place bytes) left
-partly_between place bytes file left room p = record { len = p.len ∙ length-written_inside file place bytes room; each = p.each }
 
 -- the first of the bytes that are written
 pub some_written : (value file : List ℕ) (begin n len : ℕ) → n ≤ len → begin + len ≤ length file
@@ -35,17 +30,12 @@ some_written value file begin n len h room =
 pub change_refused : (held mid now : Option (List ℕ)) (f g whole : List ℕ → List ℕ) → mid ≡ after f held
     → IfSome held (λ file. IsBetween file (whole file) (f file) × IsBetween file (whole file) (g (f file)))
     → BothTold (λ old left. IsBetween old (g old) left) mid now → BothTold (λ old left. IsBetween old (whole old) left) held now
-change_refused None mid now f g whole e s b = subst (λ (m : Option (List ℕ)). BothTold (λ old left. IsBetween old (g old) left) m now) e b
-change_refused (Some file) mid now f g whole e s b = by_told (subst (λ (m : Option (List ℕ)). BothTold (λ old left. IsBetween old (g old) left) m now) e b)
-  where
-    by_told : BothTold (λ old left. IsBetween old (g old) left) (Some (f file)) now → BothTold (λ old left. IsBetween old (whole old) left) (Some file) now
-    by_told r = (r.0, r.1, between_next file (whole file) (f file) (g (f file)) r.0 s.0 s.1 r.2)
+change_refused held mid now f g whole e s b = grind (arith, nat_tests)
 
 -- the write of some bytes was cut off
 pub write_refused : (mid now : Option (List ℕ)) (place : ℕ) (bytes : List ℕ) → IfSome mid (λ file. place + length bytes ≤ length file)
     → BothTold (PartlyWritten place bytes) mid now → BothTold (λ old left. IsBetween old (written old place bytes) left) mid now
-write_refused None now place bytes room b = b
-write_refused (Some file) now place bytes room b = (b.0, b.1, partly_between place bytes file b.0 room b.2)
+write_refused mid now place bytes room b = grind (arith, nat_tests, length-written_inside)
 
 -- one window more of a value's bytes was cut off
 pub part_refused : (held mid now : Option (List ℕ)) (value bytes : List ℕ) (begin len some next place size : ℕ) → IfSome held (λ file. length file ≡ size)
@@ -57,7 +47,6 @@ part_refused None mid now value bytes begin len some next place size long few le
 part_refused (Some file) mid now value bytes begin len some next place size long few less room fits same e b =
     let one = some_written value file begin some len few (omega arith) in
     let two = some_written value file begin next len less (omega arith) in
-    let as_long = one.len in
     change_refused (Some file) (Some (written file begin (repeated value 0 some))) now (λ f. written f begin (repeated value 0 some)) (λ f. written f place bytes)
     (λ f. written f begin (repeated value 0 len)) refl (one, subst (λ (f : List ℕ). IsBetween file (written file begin (repeated value 0 len)) f) (sym (same file long)) two)
     (write_refused (Some (written file begin (repeated value 0 some))) now place bytes (omega arith)
@@ -66,8 +55,7 @@ part_refused (Some file) mid now value bytes begin len some next place size long
 -- the same bytes by another name
 pub whole_same : (held now : Option (List ℕ)) (f g : List ℕ → List ℕ) → IfSome held (λ file. f file ≡ g file)
     → BothTold (λ old left. IsBetween old (f old) left) held now → BothTold (λ old left. IsBetween old (g old) left) held now
-whole_same None now f g same b = b
-whole_same (Some file) now f g same b = (b.0, b.1, subst (λ (w : List ℕ). IsBetween file w b.0) same b.2)
+whole_same held now f g same b = grind (arith, nat_tests)
 
 -- ---- some of the variables
 
@@ -103,29 +91,21 @@ module _ (header : Header) where
   fill_beside v file x fixed room xs = grind (arith, nat_tests, repeated_long, fill_written, get_or-written_below, get_or-written_above)
 
   inside_next : (v : Var) (vars : List Var) (file : List ℕ) → AreInside header (length file) (v ∷ vars) → AreInside header (length (fill_var header file v)) vars
-  inside_next v vars file inside w i =
-      let own = inside v (inl refl) in
-      let other = inside w (inr i) in
-      (other.0, omega (arith, fill_long v file own.0 own.1, other.1))
+  inside_next v vars file inside w i = grind (arith, nat_tests, fill_long v file)
 
   all_long : (vars : List Var) (file : List ℕ) → AreInside header (length file) vars → length (fill_all header vars file) ≡ length file
   all_long [] file inside = refl
   all_long (v ∷ vars) file inside =
-      let own = inside v (inl refl) in
-      all_long vars (fill_var header file v) (inside_next v vars file inside) ∙ fill_long v file own.0 own.1
+      grind (arith, nat_tests, all_long vars (fill_var header file v) (inside_next v vars file inside), inside_next, fill_long, fill_all)
 
   all_beside : (vars : List Var) (file : List ℕ) (x : ℕ) → AreInside header (length file) vars → ((w : Var) → In vars w → IsBeside header x w)
       → at (fill_all header vars file) x ≡ at file x
   all_beside [] file x inside beside = refl
   all_beside (v ∷ vars) file x inside beside =
-      let own = inside v (inl refl) in
-      all_beside vars (fill_var header file v) x (inside_next v vars file inside) (λ w i. beside w (inr i)) ∙ fill_beside v file x own.0 own.1 (beside v (inl refl))
+      grind (arith, nat_tests, all_beside vars (fill_var header file v) x (inside_next v vars file inside), inside_next, fill_beside, fill_all)
 
   in_or_beside : (v : Var) (x : ℕ) → IsBeside header x v ⊎ ((v.begin ≤ x) × (x < v.begin + slab header v))
-  in_or_beside v x = elim (cases_lt x v.begin) [
-    | inl l ↦ inl (inl l)
-    | inr l ↦ elim (cases_lt x (v.begin + slab header v)) [ inl m ↦ inr (l, m) | inr m ↦ inl (inr m) ]
-  ]
+  in_or_beside v x = grind (arith, nat_tests)
 
   -- a byte of one of two fixed variables that share none
   two_apart : (v w : Var) (x : ℕ) → is_record header v ≡ false → is_record header w ≡ false → share header v w ≡ false → v.begin ≤ x → x < v.begin + slab header v
@@ -151,19 +131,10 @@ module _ (header : Header) where
   -- of a header of which no variables share a byte
   fixed_apart : (first n : ℕ) (vars : List Var) → sharing_from header first n vars ≡ None → AreApart header (fixed_variables header vars)
   fixed_apart first n [] alone = tt
-  fixed_apart first n (v ∷ vars) alone =
-      let both = both_none (sharing_with header v n (suc n) vars) (sharing_from header first (suc n) vars) (told_else (nat_lt v.begin first) (n, n) _ alone).1 in
-      let rest = fixed_apart first (suc n) vars both.1 in
-      either (AreApart header) (not (is_record header v)) (v ∷ fixed_variables header vars) (fixed_variables header vars)
-      (λ e. ((λ w i. let there = in_at vars w (filter_in (λ (u : Var). not (is_record header u)) vars w i).0 in none_with header v n (suc n) vars there.0 w both.0 there.1), rest))
-      (λ e. rest)
+  fixed_apart first n (v ∷ vars) alone = grind (arith, nat_tests, both_none, told_else, fixed_apart first (suc n) vars, in_at, filter_in, none_with, AreApart)
 
   fixed_inside : (long : ℕ) → end_of header (header_len header) 0 ≤ long → AreInside header long (fixed_variables header header.vars)
-  fixed_inside long room w i =
-      let found = filter_in (λ (u : Var). not (is_record header u)) header.vars w i in
-      let there = in_at header.vars w found.0 in
-      let fixed = not-true (is_record header w) found.1 in
-      (fixed, omega (arith, fixed_end header (header_len header) there.0 w there.1 fixed, room))
+  fixed_inside long room w i = grind (arith, nat_tests, filter_in, in_at, fixed_end, AreInside)
 
   -- the first of the variables are filled
   pub some_filled : (k : ℕ) (file : List ℕ) → is_sound header ≡ true → end_of header (header_len header) 0 ≤ length file

@@ -1,5 +1,5 @@
 -- The fixed variables of a sound header, one after another.
-use Rattle.fill_records.proofs.Words.{◌≡◌, ℕ, zero, suc, ◌+◌, ◌*◌, ◌<◌, ◌≤◌, ◌-◌, refl, sym, ◌∙◌, ap, List, [], ◌∷◌, ◌++◌, length, map, take, length-take, get_or, Bool, true, false, not, cond, Some, arith, ◌==◌, IfSome, slice_get, fold, flat_map, flat_map-append, append-nil, filter-append, fold-append, size_most, greatest_holds, slab_below, Header, NcType, Var, stores, size_of, written, fill_bytes, fill_var, is_record, slab, vsize, end_of, end_of_var, fixed_variables, recsize, last_share, repeated, filled_variable, variable_stores, entry_map, entry_read, nat_tests}
+use Rattle.fill_records.proofs.Words.{◌≡◌, ℕ, zero, suc, ◌+◌, ◌*◌, ◌<◌, ◌≤◌, ◌-◌, refl, sym, ◌∙◌, ap, List, [], ◌∷◌, ◌++◌, length, map, take, length-take, get_or, Bool, true, false, not, cond, Some, arith, ◌==◌, IfSome, slice_get, fold, flat_map, flat_map-append, append-nil, filter-append, fold-append, size_most, greatest_holds, Header, NcType, Var, stores, size_of, written, fill_bytes, fill_var, is_record, slab, vsize, end_of, end_of_var, fixed_variables, recsize, last_share, repeated, filled_variable, variable_stores, entry_map, entry_read, nat_tests}
 use Rattle.fill_records.proofs.WriteLaws.{var_filled}
 
 -- ---- items of a list
@@ -14,8 +14,7 @@ known_at P [] k h p = absurd (omega arith)
 known_at P (x ∷ xs) zero h p = (x, refl, p)
 known_at P (x ∷ xs) (suc k) h p =
     let rest = known_at P xs k (omega arith) p in
-    let on : suc k + 1 ≡ suc (k + 1) = omega arith in
-    (rest.0, ap (λ (n : ℕ). take n (x ∷ xs)) on ∙ ap (λ ys. x ∷ ys) (rest.1), rest.2)
+    grind (arith, nat_tests, rest.0, rest.1, rest.2, take)
 
 -- ---- sizes and ends
 
@@ -27,14 +26,10 @@ pub fixed_end : (header : Header) (first k : ℕ) (v : Var) → slice_get header
 fixed_end header first k v h e =
     let own : end_of_var header 0 v ≡ v.begin + vsize header v =
     ap (λ (b : Bool). cond b (cond (0 == 0) 0 (v.begin + (0 - 1) * recsize header + last_share header v)) (v.begin + vsize header v)) e in
-    let below = slab_below header v in
     let all = greatest_holds (map (λ w. end_of_var header 0 w) header.vars) k (end_of_var header 0 v) (entry_map (λ w. end_of_var header 0 w) header.vars k v h) in
     omega arith
 
 -- ---- one variable
-
-one_fixed : (header : Header) (v : Var) → is_record header v ≡ false → fixed_variables header (v ∷ []) ≡ v ∷ []
-one_fixed header v e = ap (λ (b : Bool). cond (not b) (v ∷ []) []) e
 
 none_fixed : (header : Header) (v : Var) → is_record header v ≡ true → fixed_variables header (v ∷ []) ≡ []
 none_fixed header v e = ap (λ (b : Bool). cond (not b) (v ∷ []) []) e
@@ -44,28 +39,24 @@ record_kept header v file e = sym (ap (λ vs. fold (fill_var header) file vs) (n
 
 pub fixed_filled : (header : Header) (v : Var) (value file : List ℕ) (len : ℕ) → is_record header v ≡ false → value ≡ fill_bytes v → length value ≡ size_of v.kind
     → len ≡ slab header v → v.begin + len ≤ length file → written file v.begin (repeated value 0 len) ≡ filled_variable header v file
-fixed_filled header v value file len e f l s h = grind (arith, nat_tests, var_filled header v value file e f l (omega arith), one_fixed header v e)
+fixed_filled header v value file len e f l s h = grind (arith, nat_tests, var_filled header v value file e f l (omega arith))
 
 pub record_stores : (size : ℕ) (header : Header) (v : Var) → is_record header v ≡ true → variable_stores size header v ≡ []
 record_stores size header v e = ap (λ vs. flat_map (λ w. stores size w.begin (slab header w)) vs) (none_fixed header v e)
 
 pub fixed_stores : (size : ℕ) (header : Header) (v : Var) (len : ℕ) → is_record header v ≡ false → len ≡ slab header v
     → stores size v.begin len ≡ variable_stores size header v
-fixed_stores size header v len e s = grind (arith, nat_tests, append-nil (stores size v.begin (slab header v)), one_fixed header v e)
+fixed_stores size header v len e s = grind (arith, nat_tests, append-nil (stores size v.begin (slab header v)))
 
 -- ---- one more variable
-
-fixed_more : (header : Header) (k : ℕ) (v : Var) → take (k + 1) header.vars ≡ take k header.vars ++ v ∷ []
-    → fixed_variables header (take (k + 1) header.vars) ≡ fixed_variables header (take k header.vars) ++ fixed_variables header (v ∷ [])
-fixed_more header k v e = grind (arith, nat_tests, filter-append, not)
 
 pub filled_more : (header : Header) (k : ℕ) (v : Var) (file : List ℕ) → take (k + 1) header.vars ≡ take k header.vars ++ v ∷ []
     → filled_variable header v (fold (fill_var header) file (fixed_variables header (take k header.vars)))
     ≡ fold (fill_var header) file (fixed_variables header (take (k + 1) header.vars))
 filled_more header k v file e =
-    grind (arith, nat_tests, fixed_more header k v e, fold-append (fill_var header) file (fixed_variables header (take k header.vars)) (fixed_variables header (v ∷ [])))
+    grind (arith, nat_tests, filter-append, not, fold-append (fill_var header) file (fixed_variables header (take k header.vars)) (fixed_variables header (v ∷ [])))
 
 pub fill_stores_more : (size : ℕ) (header : Header) (k : ℕ) (v : Var) → take (k + 1) header.vars ≡ take k header.vars ++ v ∷ []
     → flat_map (λ w. stores size w.begin (slab header w)) (fixed_variables header (take k header.vars)) ++ variable_stores size header v
     ≡ flat_map (λ w. stores size w.begin (slab header w)) (fixed_variables header (take (k + 1) header.vars))
-fill_stores_more size header k v e = grind (arith, nat_tests, fixed_more header k v e, flat_map-append)
+fill_stores_more size header k v e = grind (arith, nat_tests, filter-append, not, flat_map-append)

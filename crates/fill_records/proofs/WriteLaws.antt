@@ -38,7 +38,7 @@ write_next file xs ys place next e h =
 
 -- ---- elements in row-major order
 
-pub range_joined : (a m n k : ℕ) → k ≡ m + n → range_with_len a m ++ range_with_len (a + m) n ≡ range_with_len a k
+range_joined : (a m n k : ℕ) → k ≡ m + n → range_with_len a m ++ range_with_len (a + m) n ≡ range_with_len a k
 range_joined a zero n k e = grind (arith, nat_tests)
 range_joined a (suc m) n zero e = absurd (omega arith)
 range_joined a (suc m) n (suc k) e = grind (arith, nat_tests, range_joined (a + 1) m n k (omega arith))
@@ -47,11 +47,11 @@ range_moved : (b a n : ℕ) → map (λ k. b + k) (range_with_len a n) ≡ range
 range_moved b a zero = refl
 range_moved b a (suc n) = grind (arith, nat_tests, range_moved b (a + 1) n)
 
-pub map_same : {A B : Type 0} (f g : A → B) → ((x : A) → f x ≡ g x) → (xs : List A) → map f xs ≡ map g xs
+map_same : {A B : Type 0} (f g : A → B) → ((x : A) → f x ≡ g x) → (xs : List A) → map f xs ≡ map g xs
 map_same f g h [] = refl
 map_same f g h (x ∷ xs) = λ t. h x t ∷ map_same f g h xs t
 
-pub rows_in_order : (lengths : List ℕ) → map (λ index. row lengths index) (coordinates lengths) ≡ range_with_len 0 (product lengths)
+rows_in_order : (lengths : List ℕ) → map (λ index. row lengths index) (coordinates lengths) ≡ range_with_len 0 (product lengths)
 rows_in_order [] = refl
 rows_in_order (n ∷ lengths) =
     let none : 0 * product lengths ≡ 0 = omega arith in
@@ -59,13 +59,7 @@ rows_in_order (n ∷ lengths) =
   where
     one_row : map (λ index. row lengths index) (coordinates lengths) ≡ range_with_len 0 (product lengths)
         → (a : ℕ) → map (λ index. row (n ∷ lengths) index) (map (λ c. a ∷ c) (coordinates lengths)) ≡ range_with_len (a * product lengths) (product lengths)
-    one_row ih a =
-        let first : a * product lengths + 0 ≡ a * product lengths = omega arith in
-        map_map (λ index. row (n ∷ lengths) index) (λ (c : List ℕ). a ∷ c) (coordinates lengths)
-        ∙ sym (map_map (λ k. a * product lengths + k) (λ index. row lengths index) (coordinates lengths))
-        ∙ ap (λ ks. map (λ k. a * product lengths + k) ks) ih
-        ∙ range_moved (a * product lengths) 0 (product lengths)
-        ∙ ap (λ (k : ℕ). range_with_len k (product lengths)) first
+    one_row ih a = grind (arith, nat_tests, map_map, range_moved (a * product lengths) 0 (product lengths))
 
     from_row : map (λ index. row lengths index) (coordinates lengths) ≡ range_with_len 0 (product lengths)
         → (a k : ℕ) → map (λ index. row (n ∷ lengths) index) (flat_map (λ i. map (λ c. i ∷ c) (coordinates lengths)) (range_with_len a k))
@@ -86,20 +80,11 @@ write_each : (value : List ℕ) (begin a n : ℕ) (file : List ℕ) → begin + 
     ≡ written file (begin + a * length value) (repeated value 0 (n * length value))
 write_each value begin a zero file h = grind (arith, nat_tests, write_none)
 write_each value begin a (suc n) file h =
-    let next : begin + (a + 1) * length value ≡ begin + a * length value + length value = omega arith in
-    let all : (a + suc n) * length value ≡ a * length value + length value + n * length value = omega arith in
-    let rest : (a + 1 + n) * length value ≡ a * length value + length value + n * length value = omega arith in
-    let more : suc n * length value ≡ length value + n * length value = omega arith in
-    let long = length-written_inside file (begin + a * length value) value (omega arith) in
-    let bytes = repeated_long value 0 (n * length value) in
-    write_each value begin (a + 1) n (written file (begin + a * length value) value) (omega arith)
-    ∙ write_next file value (repeated value 0 (n * length value)) (begin + a * length value) (begin + (a + 1) * length value) next (omega arith)
-    ∙ ap (λ b. written file (begin + a * length value) b) (value_first value (n * length value) (suc n * length value) more)
+    grind (arith, nat_tests, length-written_inside, repeated_long, write_each value begin (a + 1) n (written file (begin + a * length value) value), written, write_next, value_first)
 
 pub var_filled : (header : Header) (v : Var) (value file : List ℕ) → is_record header v ≡ false → value ≡ fill_bytes v → length value ≡ size_of v.kind
     → v.begin + slab header v ≤ length file → fill_var header file v ≡ written file v.begin (repeated value 0 (slab header v))
 var_filled header v value file fixed e long h =
-    let width : (0 + product (inner_lengths header v)) * length value ≡ slab header v = ap (λ (n : ℕ). (0 + product (inner_lengths header v)) * n) long ∙ omega arith in
     let first : v.begin + 0 * length value ≡ v.begin = omega arith in
     let bytes : product (inner_lengths header v) * length value ≡ slab header v = ap (λ (n : ℕ). product (inner_lengths header v) * n) long in
     ap (λ (b : List ℕ). fold (λ f index. written f (place header v index) b) file (coordinates (inner_lengths header v))) (sym e)
@@ -110,8 +95,4 @@ var_filled header v value file fixed e long h =
   where
     all_places : map (λ index. place header v index) (coordinates (inner_lengths header v))
         ≡ map (λ k. v.begin + k * length value) (range_with_len 0 (product (inner_lengths header v)))
-    all_places =
-        map_same (λ index. place header v index) (λ index. v.begin + row (inner_lengths header v) index * length value)
-        (λ index. place_fixed header v index fixed ∙ ap (λ (n : ℕ). v.begin + row (inner_lengths header v) index * n) (sym long)) (coordinates (inner_lengths header v))
-        ∙ sym (map_map (λ k. v.begin + k * length value) (λ index. row (inner_lengths header v) index) (coordinates (inner_lengths header v)))
-        ∙ ap (λ ks. map (λ k. v.begin + k * length value) ks) (rows_in_order (inner_lengths header v))
+    all_places = grind (arith, nat_tests, map_same, place header v, place_fixed header v, map_map, rows_in_order (inner_lengths header v))

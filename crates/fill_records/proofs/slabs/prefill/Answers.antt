@@ -1,5 +1,5 @@
 -- A variable more is filled.
-use Rattle.fill_records.proofs.Words.{◌≡◌, ◌∙◌, ◌≤◌, ap, length, List, arith, fold, take_all, Var, after, with_end, BothTold, IsBetween, fill_var, fixed_variables, filled_variable, variable_stores, on_err, calls_more}
+use Rattle.fill_records.proofs.Words.{◌≡◌, ◌∙◌, ◌≤◌, length, arith, take_all, after, with_end, BothTold, IsBetween, filled_variable, variable_stores, on_err, calls_more, nat_tests}
 use Rattle.fill_records.proofs.TornLaws.{variable_refused}
 use Rattle.fill_records.proofs.VariableLaws.{known_at, filled_more, fill_stores_more}
 use Rattle.fill_records.proofs.WindowLaws.{told_more, always_told}
@@ -17,19 +17,13 @@ loop-var-preserved g c =
     record {
       from = c.in_ok-fill_variable.ensures.from;
       len = c.in_ok-fill_variable.ensures.len ∙ c.loop-var.invariant.len;
-      bytes = told_more _ _ _ _ (filled_variable c.args.header.now bytes.0) _
-          (always_told (g.D.Disk.held c.args.disk.now) (λ file. filled_more c.args.header.now c.loop-var.var bytes.0 file bytes.1))
-          c.loop-var.invariant.bytes bytes.2;
+      bytes = grind (arith, nat_tests, told_more, always_told, filled_more, c.loop-var.invariant.bytes);
       calls = calls_more _ _ _ _ _ _ (fill_stores_more c.args.size c.args.header.now c.loop-var.var calls.0 calls.1) c.loop-var.invariant.calls calls.2;
       faults = omega arith;
     }
 
 pub returns-clause-bytes : goal.returns-clause-bytes
-returns-clause-bytes g c =
-    let all : length c.args.header.now.vars ≤ c.loop-var.var = omega arith in
-    c.loop-var.invariant.bytes
-    ∙ ap (λ (vars : List Var). after (λ file. fold (fill_var c.args.header.now) file (fixed_variables c.args.header.now vars)) (g.D.Disk.held c.args.disk.now))
-    (take_all c.loop-var.var c.args.header.now.vars all)
+returns-clause-bytes g c = grind (arith, nat_tests, take_all, c.loop-var.invariant.bytes)
 
 pub returns-in_err-fill_variable-clause-refused : goal.returns-in_err-fill_variable-clause-refused
 returns-in_err-fill_variable-clause-refused g c =

@@ -1,19 +1,17 @@
 -- Each window goes on where the one before it ended.
-use Rattle.fill_records.proofs.Words.{◌≡◌, ◌∙◌, ◌+◌, ◌-◌, ◌*◌, ◌<◌, min, sym, ap, refl, length, List, ℕ, arith, after, written, repeated, on_err, calls_more, window_inside, windows_reach, stores_more}
+use Rattle.fill_records.proofs.Words.{◌≡◌, ◌∙◌, ◌+◌, ◌-◌, ◌*◌, ◌<◌, min, ap, refl, length, List, ℕ, arith, written, on_err, calls_more, window_inside, windows_reach, stores_more, nat_tests}
 use Rattle.fill_records.proofs.TornLaws.{part_refused}
 use Rattle.fill_records.proofs.WindowLaws.{stores_all, told_more, for_told, window_written}
 use Rattle.fill_records.proofs.slabs.write_value.Goals as goal
 
 pub window_of-window-requires-clause-copies : goal.window_of-window-requires-clause-copies
-window_of-window-requires-clause-copies g c =
-    c.deref.ensures.value ∙ c.in_ok-copies.ensures.bytes ∙ ap (λ (b : List ℕ). repeated c.args.value.now 0 (length b)) (sym c.deref.ensures.value)
+window_of-window-requires-clause-copies g c = grind (arith, nat_tests, c.deref.ensures.value, c.in_ok-copies.ensures.bytes)
 
 pub window_of-window-requires-clause-room : goal.window_of-window-requires-clause-room
 window_of-window-requires-clause-room g c = omega (arith, c.in_ok-copies.ensures.len, ap (λ (b : List ℕ). length b) c.deref.ensures.value, c.min.ensures)
 
 pub window_of-window-requires-clause-inside : goal.window_of-window-requires-clause-inside
-window_of-window-requires-clause-inside g c =
-    window_inside c.args.size c.args.len c.loop-number.number c.div_ceil-number-end.result c.requires.some c.div_ceil-number-end.ensures c.loop-number-test.true
+window_of-window-requires-clause-inside g c = grind (arith, nat_tests, window_inside, c.div_ceil-number-end.ensures, c.loop-number-test.true)
 
 pub loop-number-preserved : goal.loop-number-preserved
 loop-number-preserved g c =
@@ -26,21 +24,13 @@ loop-number-preserved g c =
     record {
       from = c.in_ok-write_at.ensures.from ∙ c.loop-number.invariant.from;
       len = c.in_ok-write_at.ensures.len ∙ c.loop-number.invariant.len;
-      bytes = told_more _ _ _ _ _ _
-          (for_told (g.D.Disk.held c.args.disk.now) (λ file e.
-          let room = c.requires.long in
-          window_written _ _ file _ _ _ _ _ _ _ (omega arith) inside refl window.bytes c.loop-number.invariant.from place) (g.D.Disk.told c.args.disk.now))
-          c.loop-number.invariant.bytes c.in_ok-write_at.ensures.bytes;
+      bytes = grind (arith, nat_tests, told_more, for_told, window_written, c.requires.long, c.loop-number.invariant.from, g.D.Disk.told, c.loop-number.invariant.bytes, c.in_ok-write_at.ensures.bytes);
       calls = calls_more _ _ _ _ _ _ (stores_more _ _ _ _ _ _ _ place refl window.long) c.loop-number.invariant.calls c.in_ok-write_at.ensures.calls;
       faults = omega arith;
     }
 
 pub returns-clause-bytes : goal.returns-clause-bytes
-returns-clause-bytes g c =
-    let all : c.loop-number.number ≡ c.div_ceil-number-end.result = omega arith in
-    let reached = windows_reach c.args.size c.args.len c.div_ceil-number-end.result c.requires.some c.div_ceil-number-end.ensures in
-    let whole : min c.args.len (c.loop-number.number * c.args.size) ≡ c.args.len = omega (arith, reached, ap (λ (n : ℕ). n * c.args.size) all) in
-    c.loop-number.invariant.bytes ∙ ap (λ (n : ℕ). after (λ file. written file c.args.begin (repeated c.args.value.now 0 n)) (g.D.Disk.held c.args.disk.now)) whole
+returns-clause-bytes g c = grind (arith, nat_tests, windows_reach, written, c.div_ceil-number-end.ensures, c.loop-number.invariant.bytes)
 
 pub returns-clause-calls : goal.returns-clause-calls
 returns-clause-calls g c =

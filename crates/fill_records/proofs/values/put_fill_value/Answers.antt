@@ -1,5 +1,5 @@
 -- The first attribute that has the fill value.
-use Rattle.fill_records.proofs.Words.{◌∙◌, sym, ap, List, ℕ, Option, Some, None, find, Attr, ext, default_fill, is_fill_value}
+use Rattle.fill_records.proofs.Words.{◌∙◌, sym, is_fill_value, arith, nat_tests}
 use Rattle.fill_records.proofs.Searches.{find_stops, find_goes_on}
 use Rattle.fill_records.proofs.values.put_fill_value.Goals as goal
 
@@ -7,13 +7,10 @@ pub returns-then-is_fill_value : goal.returns-then-is_fill_value
 returns-then-is_fill_value c =
     let own = find_stops (is_fill_value c.args.var.now.kind) c.as_slice-attr-items.result.now c.loop-attr.attr-index c.attr-item.result
     c.loop-attr-test.true c.attr-item.is c.loop-attr.invariant.none (sym c.is_fill_value.ensures ∙ c.if-is_fill_value.true) in
-    c.copy_from_slice.ensures.after ∙ c.as_slice.ensures
-    ∙ sym (ap (λ (o : Option Attr). elim o as (λ p. List ℕ) [ None ↦ ext c.args.var.now.kind (default_fill c.args.var.now.kind) | Some a ↦ a.bytes ])
-    (ap (λ (attrs : List Attr). find (is_fill_value c.args.var.now.kind) attrs) (sym c.as_slice-attr-items.ensures) ∙ own))
+    grind (arith, nat_tests, c.copy_from_slice.ensures.after, c.as_slice.ensures, c.as_slice-attr-items.ensures)
 
 pub loop-attr-preserved : goal.loop-attr-preserved
 loop-attr-preserved c = record {
-  none = find_goes_on (is_fill_value c.args.var.now.kind) c.as_slice-attr-items.result.now c.loop-attr.attr-index c.attr-item.result
-      c.loop-attr-test.true c.attr-item.is c.loop-attr.invariant.none (sym c.is_fill_value.ensures ∙ c.if-is_fill_value.false);
+  none = grind (arith, nat_tests, find_goes_on, c.loop-attr-test.true, c.attr-item.is, c.loop-attr.invariant.none, c.is_fill_value.ensures, c.if-is_fill_value.false);
   long = c.loop-attr.invariant.long;
 }
