@@ -1,5 +1,5 @@
 -- The made script is lawful.
-use Rattle.generated_run.proofs.Words.{◌≡◌, ℕ, ◌≤◌, List, [], length, map, sum, true, refl, subst, le-leb, bytes_eq, arith, enumerate_from, list_all, range_with_len, bytes_eq-Decides, and_from, Call, agree, are_different, is_lawful, is_lawful_call, most_calls, most_values, posted_ids, values_in_script, has_counts, is_counted, made_header, made_script, calls_of_rank, nat_tests}
+use Rattle.generated_run.proofs.Words.{◌≡◌, ℕ, ◌≤◌, List, [], map, sum, true, refl, subst, le-leb, bytes_eq, arith, enumerate_from, list_all, range_with_len, bytes_eq-Decides, and_from, Call, agree, are_different, is_lawful, is_lawful_call, posted_ids, has_counts, made_header, made_script, calls_of_rank, nat_tests}
 use Rattle.nc_base.specs.declared.script.Script as script_type
 use Rattle.generated_run.proofs.MadeLaws.{scripted, script_is}
 use Rattle.generated_run.proofs.Ranges.{numbered_pass, range_passes, sum_within}
@@ -13,26 +13,16 @@ agreed : (seed size : ℕ) → agree (calls_of seed size 0 8) ≡ true
 agreed seed size = grind (arith, nat_tests, range_passes, bytes_eq, bytes_eq-Decides, rank_kinds)
 
 lawful_calls : (seed size : ℕ) → size ≤ 64 → list_all (λ own. list_all (λ c. is_lawful_call 8 own.0 c) own.1) (enumerate_from 0 (calls_of seed size 0 8)) ≡ true
-lawful_calls seed size s =
-    numbered_pass (λ (own : ℕ × List Call). list_all (λ c. is_lawful_call 8 own.0 c) own.1) (λ r. calls_of_rank seed size r) 0 8 (λ r b. rank_lawful seed size r s (omega arith))
+lawful_calls seed size s = grind (arith, nat_tests, numbered_pass, rank_lawful seed size)
 
 different_ids : (seed size : ℕ) → list_all (λ own. are_different (posted_ids own)) (calls_of seed size 0 8) ≡ true
 different_ids seed size = range_passes (λ (own : List Call). are_different (posted_ids own)) (λ r. calls_of_rank seed size r) 0 8 (λ r b. rank_ids seed size r)
-
-few_calls : (seed size : ℕ) → size ≤ 64 → sum (map (λ own. length own) (calls_of seed size 0 8)) ≤ most_calls
-few_calls seed size s = grind (arith, nat_tests, sum_within, rank_long)
-
-few_values : (seed size : ℕ) → size ≤ 64 → values_in_script (scripted made_header [] (calls_of seed size 0 8)) ≤ most_values
-unfolding scripted
-few_values seed size s = grind (arith, nat_tests, sum_within, sum, rank_values)
 
 lawful : (seed size : ℕ) → size ≤ 64 → is_lawful (scripted made_header [] (calls_of seed size 0 8)) ≡ true
 unfolding scripted
 lawful seed size s =
     let calls = and_from _ _ (lawful_calls seed size s) (different_ids seed size) in
-    let few = and_from _ _ calls (le-leb (sum (map (λ own. length own) (calls_of seed size 0 8))) most_calls (few_calls seed size s)) in
-    let values = and_from _ _ few (le-leb (values_in_script (scripted made_header [] (calls_of seed size 0 8))) most_values (few_values seed size s)) in
-    and_from _ _ values (agreed seed size)
+    grind (arith, nat_tests, sum_within, rank_long, le-leb, rank_values, sum, agreed, calls_of)
 
 pub made_lawful : (seed size : ℕ) → size ≤ 64 → is_lawful (made_script seed size) ≡ true
 unfolding scripted
@@ -41,6 +31,4 @@ made_lawful seed size s = subst (λ (script : script_type.Script). is_lawful scr
 -- its regions give their counts
 pub made_counted : (seed size : ℕ) → has_counts (made_script seed size) ≡ true
 unfolding scripted
-made_counted seed size =
-    subst (λ (script : script_type.Script). has_counts script ≡ true) (script_is seed size made_header [] (calls_of seed size 0 8) refl refl refl)
-    (range_passes (λ (own : List Call). list_all is_counted own) (λ r. calls_of_rank seed size r) 0 8 (λ r b. rank_counted seed size r))
+made_counted seed size = grind (arith, nat_tests, script_is seed size made_header [] (calls_of seed size 0 8), range_passes, rank_counted seed size)

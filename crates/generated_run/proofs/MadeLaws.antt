@@ -6,7 +6,7 @@ use Rattle.nc_base.specs.declared.script.Script as script_type
 unfoldable pub scripted : head.Header → List Extra → List (List Call) → script_type.Script
 scripted header extra calls = record { fresh = true; header = header; ranks = 8; hints = default_hints; filled = false; extra = extra; calls = calls }
 
-pub all_calls_are : (seed size n : ℕ) → map (λ r. calls_of_rank seed size r) (range_with_len 0 n) ≡ map (made_calls seed size) (range_with_len 0 n)
+all_calls_are : (seed size n : ℕ) → map (λ r. calls_of_rank seed size r) (range_with_len 0 n) ≡ map (made_calls seed size) (range_with_len 0 n)
 unfolding calls_of_rank
 all_calls_are seed size n = refl
 

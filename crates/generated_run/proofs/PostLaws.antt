@@ -1,6 +1,6 @@
 -- The regions that a rank posts.
-use Rattle.generated_run.proofs.Words.{◌≡◌, ℕ, List, [], ◌∷◌, Bool, true, false, cond, Option, Some, None, ◌==◌, refl, sym, ap, ◌∙◌, option_map, option_copied, Bor, Call, Given, FindsGiven, elements_given, posted_elements, posted_given, arith, nat_tests}
-use Rattle.std.specs.HashMap.{HashMap, IsEmpty, Updates, get}
+use Rattle.generated_run.proofs.Words.{◌≡◌, ℕ, List, [], ◌∷◌, Bool, cond, Option, Some, None, ◌==◌, refl, ap, option_map, option_copied, Bor, Call, Given, FindsGiven, elements_given, posted_elements, posted_given, arith, nat_tests}
+use Rattle.std.specs.HashMap.{HashMap, IsEmpty, Updates}
 use Rattle.std.specs.Map.{lookup}
 use Rattle.std.specs.Prelude.{nat_eq}
 use Rattle.std.specs.declared.hash.FoldHasher.{FoldHasher}
@@ -29,19 +29,10 @@ found_are calls id found kept e f = grind (arith, nat_tests, posted_are)
 
 -- ---- an index of posts
 
-first_region : {A B : Type 0} (f : A → B) (t : Bool) (x : A) (o : Option A) → option_map f (cond t (Some x) o) ≡ cond t (Some (f x)) (option_map f o)
-first_region f true x o = refl
-first_region f false x o = refl
-
 pub posts_none : (index : HashMap ℕ (Bor Given) (BuildHasherDefault FoldHasher)) → IsEmpty index → FindsGiven [] index
 posts_none index none q = ap (λ (es : List (ℕ × Bor Given)). option_map (λ (g : Bor Given). g.now) (lookup (nat_eq q) es)) none
 
 pub post_put : (c : Call) (own : ℕ) (kind : PostKind) (name : List ℕ) (given : Given) (values : Values) (old new : HashMap ℕ (Bor Given) (BuildHasherDefault FoldHasher)) (lent : Bor Given)
     → c ≡ call.Post own kind name given values → lent.now ≡ given
     → Updates nat_eq old new own (Some lent) → (calls : List Call) → FindsGiven calls old → FindsGiven (c ∷ calls) new
-post_put c own kind name given values old new lent is told updates calls known q =
-    ap (λ (o : Option (Bor Given)). option_map (λ (g : Bor Given). g.now) o) (updates.0 q)
-    ∙ first_region (λ (g : Bor Given). g.now) (nat_eq own q) lent (get nat_eq old q)
-    ∙ ap (λ (r : Given). cond (nat_eq own q) (Some r) (option_map (λ (g : Bor Given). g.now) (get nat_eq old q))) told
-    ∙ ap (λ (o : Option Given). cond (nat_eq own q) (Some given) o) (known q)
-    ∙ ap (λ (w : Call). posted_given (w ∷ calls) q) (sym is)
+post_put c own kind name given values old new lent is told updates calls known q = grind (arith, nat_tests)

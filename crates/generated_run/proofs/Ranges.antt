@@ -40,10 +40,7 @@ numbered_pass p f a (suc n) h = and_from _ _ (h a (omega arith)) (numbered_pass 
 
 pub sum_within : {A : Type 0} (g : A → ℕ) (f : ℕ → A) (m a n : ℕ) → ((k : ℕ) → k < a + n → g (f k) ≤ m) → sum (map g (map f (range_with_len a n))) ≤ n * m
 sum_within g f m a zero h = omega arith
-sum_within g f m a (suc n) h =
-    let first = h a (omega arith) in
-    let rest = sum_within g f m (a + 1) n (λ k b. h k (omega arith)) in
-    omega (arith, sum_cons g (f a) (map f (range_with_len (a + 1) n)))
+sum_within g f m a (suc n) h = grind (arith, nat_tests, sum_within g f m (a + 1) n, sum_cons, sum, range_with_len)
 
 -- ---- the numbers differ
 

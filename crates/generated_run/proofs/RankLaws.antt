@@ -64,11 +64,8 @@ whole_is seed size r = refl
 
 -- ---- what they keep
 
-lawful_record : (seed r t : ℕ) → r < 8 → t < 64 → list_all (λ c. is_lawful_call 8 r c) (record_of seed r t) ≡ true
-lawful_record seed r t h l = grind (arith, nat_tests, given_band, le-leb, few_temps, few_precips, and_from, small_precips)
-
 pub rank_lawful : (seed size r : ℕ) → size ≤ 64 → r < 8 → list_all (λ c. is_lawful_call 8 r c) (calls_of_rank seed size r) ≡ true
-rank_lawful seed size r s h = grind (arith, nat_tests, whole_is seed size r, list_all-append, and_from, pieces_pass, lawful_record, given_columns)
+rank_lawful seed size r s h = grind (arith, nat_tests, whole_is seed size r, list_all-append, and_from, pieces_pass, given_band, le-leb, few_temps, few_precips, small_precips, given_columns)
 
 counted_record : (seed r t : ℕ) → list_all is_counted (record_of seed r t) ≡ true
 unfolding region_of_band
@@ -114,14 +111,10 @@ values_of seed r others t (suc n) h =
     let wait : Call = call.Wait true Every in
     let temp : Call = call.Post (2 * t) Bput (codes "temp") (region_of_band r t) (Bits (temp_band seed r t)) in
     let precip : Call = call.Post (2 * t + 1) Bput (codes "precip") (region_of_band r t) (Numbers (precip_band seed r t)) in
-    let a = sum_cons values_in_call temp (precip ∷ wait ∷ later) in
-    let b = sum_cons values_in_call precip (wait ∷ later) in
-    grind (arith, nat_tests, later, wait, temp, precip, a, b, values_of seed r others (t + 1) n h, sum_cons, few_temps, few_precips)
+    grind (arith, nat_tests, sum_cons values_in_call temp (precip ∷ wait ∷ later), sum_cons values_in_call precip (wait ∷ later), values_of seed r others (t + 1) n h, few_temps, few_precips)
 
 pub rank_values : (seed size r : ℕ) → size ≤ 64 → r < 8 → sum (map values_in_call (calls_of_rank seed size r)) ≤ 1059840
 rank_values seed size r s h =
     subst (λ (calls : List Call). sum (map values_in_call calls) ≤ 1059840) (whole_is seed size r) (
-    let first = sum_cons values_in_call (call.Attach 65536) (records_of seed r 0 size ++ reads_of size r) in
-    let last : sum (map values_in_call (reads_of size r)) ≡ 0 = refl in
-    omega (arith, first, last, values_of seed r (reads_of size r) 0 size h)
+    grind (arith, nat_tests, values_of)
     )
