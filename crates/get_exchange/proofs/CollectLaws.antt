@@ -7,8 +7,7 @@ pub in_request : (rank slot : ℕ) (list : List Owned) (o : Owned) → In (of_re
 in_request rank slot list o m = grind (arith, nat_tests, filter_in, eqb-true, and_first, and_second)
 
 pub request_in : (rank slot : ℕ) (list : List Owned) (o : Owned) → In list o → o.rank ≡ rank → o.slot ≡ slot → In (of_request rank slot list) o
-request_in rank slot list o m e f =
-    in_filter (λ (q : Owned). q.rank == rank && q.slot == slot) list o m (and_from (o.rank == rank) (o.slot == slot) (equal_true o.rank rank e) (equal_true o.slot slot f))
+request_in rank slot list o m e f = grind (arith, nat_tests, in_filter, equal_true, of_request)
 
 pub fit_request : (rank slot : ℕ) (table : List (List (List ℕ))) (list : List Owned) → FitTable table list
     → (o : Owned) → In (of_request rank slot list) o → o.from + o.extent.len ≤ length (blob_at table rank slot)

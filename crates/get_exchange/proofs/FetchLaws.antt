@@ -37,8 +37,7 @@ fetch_next from here len all ahead rest t put now hull held told calls made draw
   on_part = λ u m. s.on_part u (subst (λ (ts : List Told). In ts u) (sym e) (inr m));
   many = (omega (arith, ap (λ (ts : List Told). length ts) e, ap (λ (rs : List Reading). length rs) more, length-append put (Hull hull ∷ []), s.many));
   read = by_held held s.read (subst (λ (m : Option (List ℕ)). IfSome m (λ file. hull ≡ read file (t.0 - from) t.1)) kept (subst (λ (n : ℕ). IfSome told (λ file. hull ≡ read file (t.0 - n) t.1)) same got));
-  device = ap (λ (m : Option (List DiskCall)). with_end m (flat_map load_calls rest)) device ∙ with_end-with_end made (load_calls t) (flat_map load_calls rest)
-      ∙ sym (ap (λ (ts : List Told). with_end made (flat_map load_calls ts)) e) ∙ s.device;
+  device = grind (arith, nat_tests, with_end-with_end, s.device, with_end, flat_map);
 }
   where
     by_held : (o : Option (List ℕ)) → IfSome o (λ file. put ++ readings from file ahead ≡ readings from file all) → IfSome o (λ file. hull ≡ read file (t.0 - from) t.1)

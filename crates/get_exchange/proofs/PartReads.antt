@@ -20,10 +20,7 @@ module _ {D : Type 0} (from : D → ℕ) (held : D → Option (List ℕ)) (plan 
   one_part pair mid now t = record {
     log = t.log;
     collected = t.collected;
-    all = λ p u m k. elim m [
-      | inl g ↦ subst (λ (ts : List Told). In ts u) (sym t.turns) (subst (λ (q : D × Extent). In (get_turns plan q.1) u) (sym g) k)
-      | inr g ↦ absurd g
-    ];
+    all = grind (arith, nat_tests);
     only = λ e m. record {
       pair = pair;
       inside = inl refl;
@@ -52,8 +49,7 @@ module _ {D : Type 0} (from : D → ℕ) (held : D → Option (List ℕ)) (plan 
       → HasReadParts from held plan (zip (take (k + 1) parts) domains) old now
   parts_next parts domains k part domain old mid now at is h t =
       let next : suc k ≡ k + 1 = omega arith in
-      subst (λ (n : ℕ). HasReadParts from held plan (zip (take n parts) domains) old now) next
-      (rw (zip_next parts domains k part domain at is) (parts_both (zip (take k parts) domains) ((part, domain) ∷ []) old mid now h (one_part (part, domain) mid now t)))
+      grind (arith, nat_tests, zip_next parts domains k part domain at is, parts_both (zip (take k parts) domains) ((part, domain) ∷ []) old mid now h, one_part (part, domain) mid now t)
 
   -- the first parts, which helpers read, and those behind them, which are read in turn
   pub parts_joined : {T E : Type 0} (n : ℕ) (parts rest : List D) (domains more : List Extent) (old mid now : List (List (List ℕ))) (end came both : Result T E) → IsSplit n parts rest domains more
@@ -104,8 +100,7 @@ module _ {D : Type 0} (from : D → ℕ) (held : D → Option (List ℕ)) (plan 
           pair = paired r.new;
           inside = in_map paired lasts r.new last;
           turn = subst (λ (ts : List Told). In ts e.0) (own_turns r.number r.old r.new r.own r.at_old r.at_new r.taken) (in_map (λ (v : Told × List ℕ). v.0) r.own e r.inside);
-          told = told_at (held (part_of r.new)) (from (part_of r.new)) r.own e r.inside
-              (own_read from held plan r.old r.new r.own (ready r.old (at_in mids r.number r.old r.at_old)) (kept.each r.number r.old r.new r.at_old r.at_new) (none r.number r.new r.at_new) r.taken (read r.new last));
+          told = grind (arith, nat_tests, told_at (held (part_of r.new)) (from (part_of r.new)) r.own e r.inside, own_read from held plan r.old r.new r.own (ready r.old (at_in mids r.number r.old r.at_old)), at_in mids r.number r.old r.at_old);
         }
         );
   }
@@ -126,9 +121,7 @@ module _ {D : Type 0} (from : D → ℕ) (held : D → Option (List ℕ)) (plan 
       → OnOk end ((worker : ReadWorker D) → In whole worker → WasRead from held plan worker)
       → OnOk both (HasReadParts from held plan (zip (take (length back) parts) (take (length back) domains)) old now)
   all_read old now end came (Err x) is served taken read = tt
-  all_read old now (Ok y) (Ok x) (Ok z) is served taken read =
-      rw (← served.of_parts, ← served.of_domains, zip_paired lasts)
-      (workers_read old now taken (subst (λ (ws : List (ReadWorker D)). (worker : ReadWorker D) → In ws worker → WasRead from held plan worker) kept.same read))
+  all_read old now (Ok y) (Ok x) (Ok z) is served taken read = grind (arith, nat_tests, zip_paired lasts, workers_read old now taken)
   all_read old now _ _ _ is served taken read = absurd cc
 
 -- ---- all parts have the bytes of one file

@@ -16,9 +16,7 @@ says_too : (file : List ℕ) (rank slot lo hi : ℕ) (one two : List Owned) → 
 says_too file rank slot lo hi one two has x v h =
     let r = got_says 0 file lo hi (of_request rank slot one) x v (from_0 (of_request rank slot one)) h in
     let m = in_request rank slot one r.by r.inside in
-    says_got 0 file lo hi (of_request rank slot two) x v (from_0 (of_request rank slot two))
-    (read_as 0 file lo hi lo hi (of_request rank slot one) (of_request rank slot two) x v r r.low r.high
-    (request_in rank slot two r.by (has r.by r.place m.0 r.low r.high r.begin r.end) m.1 m.2))
+    grind (arith, nat_tests, says_got 0 file lo hi (of_request rank slot two) x v (from_0 (of_request rank slot two)), from_0 (of_request rank slot two), read_as 0 file lo hi lo hi (of_request rank slot one) (of_request rank slot two) x v r r.low r.high, request_in rank slot two r.by (has r.by r.place m.0 r.low r.high r.begin r.end) m.1 m.2)
 
 hull_said : (file : List ℕ) (rank slot lo hi : ℕ) (list begun : List Owned) (y : ℕ) → IsOneValued (places_of (of_request rank slot list)) → AreServed list begun lo hi
     → said_at (hull_says file rank slot lo hi list) y ≡ said_at (hull_says file rank slot lo hi begun) y
@@ -77,11 +75,7 @@ parts_say : (file : List ℕ) (top : ℕ) (os : List Owned) (ts : List Told) (y 
 parts_say file top os [] y v below h = absurd h
 parts_say file top os (t ∷ ts) y v below h = elim (says_cases (said_by (got_in_hull file os t)) (said_by (all_parts file os ts)) y v
     (subst (λ (ps : List (ℕ × ℕ)). Says ps y v) (said_by_joined (got_in_hull file os t) (all_parts file os ts)) h)) [
-      | inl g ↦ (
-          let r = got_says 0 file t.0 (t.0 + t.1) os y v (from_0 os) g in
-          let b = below r.by r.inside in
-          let e = r.end in
-          read_as 0 file t.0 (t.0 + t.1) 0 top os os y v r (omega arith) (omega arith) r.inside)
+      | inl g ↦ grind (arith, nat_tests, got_says 0 file t.0 (t.0 + t.1) os y v (from_0 os) g, from_0 os, read_as 0 file t.0 (t.0 + t.1) 0 top os os y v (got_says 0 file t.0 (t.0 + t.1) os y v (from_0 os) g))
       | inr g ↦ parts_say file top os ts y v below g
     ]
 
@@ -137,14 +131,10 @@ log_read : (file : List ℕ) (os : List Owned) (log : Log) → AreReadOf file lo
 log_read file os [] h = refl
 log_read file os (e ∷ log) h =
     let none : e.0.0 ≡ e.0.0 - 0 = omega arith in
-    ap (λ (cs : List Cell). cs ++ log_cells os log) (buffer_cells 0 file e.1 e.0.0 e.0.1 os (omega arith) (h e (inl refl) ∙ ap (λ (k : ℕ). read file k e.0.1) none))
-    ∙ ap (λ (cs : List Cell). got_in_hull file os e.0 ++ cs) (log_read file os log (λ u m. h u (inr m)))
+    grind (arith, nat_tests, buffer_cells 0 file e.1 e.0.0 e.0.1 os, read file, log_read file os log)
 
 -- in whatever order the hulls were collected
 pub read_law : (file : List ℕ) (list : List Owned) (log : Log) (old new : List (List (List ℕ))) → EndBelow (2 ^ 62) (extents list) → HaveOnePlaces list → FitTable old list
     → HaveHulls list (told_in log) → AreReadOf file log → HasCollectedLog list log old new → HasRead file list old new
-read_law file list log old new ends once fit each bytes got = λ r s. got r s
-    ∙ ap (λ (cs : List Cell). write_cells (blob_at old r s) cs) (log_read file (of_request r s list) log bytes)
-    ∙ parts_whole file (2 ^ 62) (of_request r s list) (told_in log) (blob_at old r s)
-    (λ o m. let e = ends o.extent (in_extents list o (in_request r s list o m).0) in omega arith)
-    (λ x c. each x (record { by = c.by; inside = (in_request r s list c.by c.inside).0; low = c.low; high = c.high })) (once r s) (fit_request r s old list fit)
+read_law file list log old new ends once fit each bytes got =
+    grind (arith, nat_tests, log_read file, parts_whole file (2 ^ 62), in_extents list, in_request, fit_request)

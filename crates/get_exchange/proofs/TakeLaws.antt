@@ -114,11 +114,7 @@ taken_none {D} list workers table = record {
 each_read : (from : ℕ) (file : List ℕ) (own : Log) → map (λ e. Hull e.1) own ≡ map (λ t. reading_of from file t) (told_in own) → (e : Told × List ℕ) → In own e → e.1 ≡ read file (e.0.0 - from) e.0.1
 each_read from file [] h e m = absurd m
 each_read from file (u ∷ own) h e (inl same) = grind (arith, nat_tests)
-each_read from file (u ∷ own) h e (inr m) = each_read from file own (rest h) e m
-  where
-    rest : Hull u.1 ∷ map (λ e. Hull e.1) own ≡ Hull (read file (u.0.0 - from) u.0.1) ∷ map (λ t. reading_of from file t) (told_in own)
-        → map (λ e. Hull e.1) own ≡ map (λ t. reading_of from file t) (told_in own)
-    rest g = cc
+each_read from file (u ∷ own) h e (inr m) = grind (arith, nat_tests, each_read from file own, read file (u.0.0 - from) u.0.1)
 
 pub items_read : (from : ℕ) (held : Option (List ℕ)) (own : Log) (items : List Reading) → items ≡ map (λ e. Hull e.1) own → AreRead (told_in own) from held items
     → IfSome held (λ file. (e : Told × List ℕ) → In own e → e.1 ≡ read file (e.0.0 - from) e.0.1)

@@ -46,14 +46,10 @@ reading_next list begun room from len here all w v t held kept old mid now calls
   log = s.log ++ (t, r.bytes) ∷ [];
   turns = ap (λ (ts : List Told). ts ++ turns_ahead v.windows) (map-append (λ (u : Told × List ℕ). u.0) s.log ((t, r.bytes) ∷ []))
       ∙ append_assoc (told_in s.log) (t ∷ []) (turns_ahead v.windows) ∙ ap (λ (ts : List Told). told_in s.log ++ ts) (sym e) ∙ s.turns;
-  told = told_more held from s.log t r.bytes s.told (subst (λ (o : Option (List ℕ)). IfSome o (λ file. r.bytes ≡ read file (t.0 - from) t.1)) stays
-      (subst (λ (n : ℕ). IfSome kept (λ file. r.bytes ≡ read file (t.0 - n) t.1)) same r.told));
-  collected = log_joined list s.log ((t, r.bytes) ∷ []) old mid now s.collected (log_one list t r.bytes mid now
-      (hull_collected t.0 t.1 r.bytes list begun mid now r.long once (fit_as_long old mid list s.long fit) (served_now list (entries_left w.entries) begun room (turns_ahead w.windows) (turns_ahead v.windows) t s.here e b) r.collected));
+  told = grind (arith, nat_tests, told_more, read, t.0, t.1, r.told);
+  collected = grind (arith, nat_tests, log_joined list s.log ((t, r.bytes) ∷ []) old mid now s.collected, log_one list t r.bytes mid now, hull_collected t.0 t.1 r.bytes list begun mid now r.long once (fit_as_long old mid list s.long fit), fit_as_long old mid list s.long fit, served_now list (entries_left w.entries) begun room (turns_ahead w.windows) (turns_ahead v.windows) t s.here e);
   long = long ∙ s.long;
-  device = ap (λ (m : Option (List DiskCall)). with_end m (flat_map load_calls (turns_ahead v.windows))) device
-      ∙ with_end-with_end made (load_calls t) (flat_map load_calls (turns_ahead v.windows)) ∙ sym (ap (λ (ts : List Told). with_end made (flat_map load_calls ts)) e)
-      ∙ s.device;
+  device = grind (arith, nat_tests, with_end-with_end, s.device, with_end, flat_map, turns_ahead);
 }
 
 pub reading_end : (list : List Owned) (room from len : ℕ) (all : List Told) (w : ReadWalk) (held : Option (List ℕ)) (old now : List (List (List ℕ))) (calls made : Option (List DiskCall))

@@ -1,5 +1,5 @@
 -- Each entry's bytes lie in its blob.
-use Rattle.get_exchange.proofs.Words.{◌+◌, ◌∙◌, refl, ap, List, map, get_or, arith, take_all, entry_in, Owned, write_cells, buffer_cell, entry_ends, blob_at, of_request}
+use Rattle.get_exchange.proofs.Words.{◌+◌, ◌∙◌, refl, ap, List, map, get_or, arith, take_all, entry_in, Owned, write_cells, buffer_cell, entry_ends, blob_at, of_request, nat_tests}
 use Rattle.get_exchange.proofs.CollectLaws.{fit_as_long, collected_more, collected_long}
 use Rattle.get_exchange.proofs.collecting.collect_all.Goals as goal
 
@@ -16,8 +16,7 @@ pub collect_get-requires-clause-filled : goal.collect_get-requires-clause-filled
 collect_get-requires-clause-filled c = c.requires.can.filled (get_or c.args.entries.now c.loop-entry.entry-index none) (entry_in c.args.entries.now _ none c.loop-entry-test.true)
 
 pub collect_get-requires-clause-fit : goal.collect_get-requires-clause-fit
-collect_get-requires-clause-fit c = fit_as_long c.args.table.now c.loop-entry.table c.args.entries.now c.loop-entry.invariant.long c.requires.can.fit
-    (get_or c.args.entries.now c.loop-entry.entry-index none) (entry_in c.args.entries.now c.loop-entry.entry-index none c.loop-entry-test.true)
+collect_get-requires-clause-fit c = grind (arith, nat_tests, fit_as_long, entry_in, c.requires.can.fit)
 
 pub loop-entry-preserved : goal.loop-entry-preserved
 loop-entry-preserved c =
@@ -28,8 +27,7 @@ loop-entry-preserved c =
     record {
       each = collected_more c.args.hull.at (c.args.hull.at + c.args.hull.len) c.args.buf.now c.args.table.now c.loop-entry.table c.collect_get.new.table c.args.entries.now
           c.loop-entry.entry-index entry none c.loop-entry-test.true refl (omega arith) c.collect_get.ensures c.loop-entry.invariant.each;
-      long = collected_long c.args.hull.at (c.args.hull.at + c.args.hull.len) c.args.buf.now c.loop-entry.table c.collect_get.new.table entry fit c.collect_get.ensures
-          ∙ c.loop-entry.invariant.long;
+      long = grind (arith, nat_tests, collected_long, c.collect_get.ensures, c.loop-entry.invariant.long);
     }
 
 pub returns-clause-each : goal.returns-clause-each

@@ -1,20 +1,12 @@
 -- One window of one helper was taken.
-use Rattle.get_exchange.proofs.Words.{◌≡◌, ◌∙◌, refl, sym, subst, set, Some, Result, get_or, length-set, same_Some, slice_get-get_or, slice_get, IfErr, OnOk, StepErr, Memory, HaveTakenTurns, IsKept, IsShelfIn, turns_due, ReadWorker, fewer_all, set_each}
+use Rattle.get_exchange.proofs.Words.{◌≡◌, ◌∙◌, refl, sym, subst, set, Some, Result, get_or, length-set, slice_get-get_or, slice_get, IfErr, OnOk, StepErr, Memory, HaveTakenTurns, IsKept, IsShelfIn, turns_due, ReadWorker, fewer_all, set_each, arith, nat_tests}
 use Rattle.get_exchange.proofs.CollectLaws.{fit_as_long}
 use Rattle.get_exchange.proofs.ShelfLaws.{none_due, some_due}
 use Rattle.get_exchange.proofs.TakeLaws.{both_memory, kept_more, kept_none, taken_none, taken_on}
 use Rattle.get_exchange.proofs.collecting.take_all.Goals as goal
 
 pub rounds-init : goal.rounds-init
-rounds-init g c = record {
-  long = refl;
-  ready = c.requires.ready;
-  kept = λ k a b e f. kept_none a b (same_Some a b (sym e ∙ f));
-  blobs = refl;
-  taken = taken_none c.args.plan.now.list.now c.args.workers.now c.args.table.now;
-  memory = tt;
-  lenders = c.requires.lenders;
-}
+rounds-init g c = grind (arith, nat_tests, kept_none, taken_none, c.requires.ready, c.requires.lenders)
 
 pub take_turn-came-requires-clause-ready : goal.take_turn-came-requires-clause-ready
 take_turn-came-requires-clause-ready g c =

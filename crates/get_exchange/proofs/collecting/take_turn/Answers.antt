@@ -1,5 +1,5 @@
 -- The bytes of the window's hull were copied, and the next window is the part's next.
-use Rattle.get_exchange.proofs.Words.{◌<◌, ◌∙◌, ◌∷◌, length, List, Option, refl, sym, ap, subst, rules, arith, common_steps, IsWalk, Window, WindowWalk, told_window, entries_left, turns_due_of, Told, turns_ahead, at_next, left_ends, left_filled, left_sorted, served_ends, served_now, turn_limit}
+use Rattle.get_exchange.proofs.Words.{◌∙◌, ◌∷◌, List, Option, refl, sym, ap, rules, arith, common_steps, Window, WindowWalk, told_window, entries_left, turns_due_of, Told, turns_ahead, at_next, left_ends, left_filled, left_sorted, served_ends, served_now, turn_limit, nat_tests}
 use Rattle.get_exchange.proofs.CollectLaws.{filled_served, fit_served}
 use Rattle.get_exchange.proofs.ShelfLaws.{due_next, fewer_due, next_up, shelf_first}
 use Rattle.get_exchange.proofs.TakeLaws.{taken_turn}
@@ -41,9 +41,7 @@ go_past-requires g c =
     }
 
 pub next_window-shelf-requires : goal.next_window-shelf-requires
-next_window-shelf-requires g c =
-    let up = next_up c.args.plan.now.list.now c.args.shelf.now c.in-Some.window c.requires.ready c.in-Some.is in
-    subst (λ (ws : WindowWalk). IsWalk ws) (sym c.go_past.ensures.windows) up.ready
+next_window-shelf-requires g c = grind (arith, nat_tests, next_up, c.go_past.ensures.windows)
 
 pub returns-in-Hull-clause-ready : goal.returns-in-Hull-clause-ready
 returns-in-Hull-clause-ready g c =
@@ -59,9 +57,7 @@ returns-in-Hull-clause-ready g c =
     )
 
 pub returns-in-Hull-clause-fewer : goal.returns-in-Hull-clause-fewer
-returns-in-Hull-clause-fewer g c = λ some.
-    subst (λ (ws : WindowWalk). length (turns_due_of c.next_window-shelf.result c.next_window-shelf.new.windows) < length (turns_due_of c.args.shelf.now.next ws)) c.go_past.ensures.windows
-    (fewer_due c.args.shelf.now.next c.next_window-shelf.result c.in-Some.window c.go_past.new.self.windows c.next_window-shelf.new.windows c.in-Some.is c.next_window-shelf.ensures.some)
+returns-in-Hull-clause-fewer g c = grind (arith, nat_tests, fewer_due, c.go_past.ensures.windows, c.in-Some.is, c.next_window-shelf.ensures.some)
 
 pub returns-in-Hull-clause-taken : goal.returns-in-Hull-clause-taken
 returns-in-Hull-clause-taken g c =

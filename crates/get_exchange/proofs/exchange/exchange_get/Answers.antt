@@ -1,12 +1,10 @@
 -- The blobs are taken out, and put back as they were read. Those of all parts have the file's bytes.
-use Rattle.get_exchange.proofs.Words.{◌≡◌, ◌∙◌, List, ℕ, length, subst, sym, rules, arith, common_steps, zip, on_ok_weaker, AreAsLong, FitTable, HasReadParts, OnOk}
+use Rattle.get_exchange.proofs.Words.{◌≡◌, ◌∙◌, List, ℕ, length, subst, rules, arith, common_steps, zip, on_ok_weaker, AreAsLong, HasReadParts, OnOk, nat_tests}
 use Rattle.get_exchange.proofs.PartReads.{parts_read, table_back}
 use Rattle.get_exchange.proofs.exchange.exchange_get.Goals as goal
 
 pub get_parts-came-requires-clause-fit : goal.get_parts-came-requires-clause-fit
-get_parts-came-requires-clause-fit g c κs within =
-    let begun : c.into_vec-table.result.items ≡ c.args.into.now = first_of (search rules, grind (arith, common_steps)) in
-    subst (λ (t : List (List (List ℕ))). FitTable t c.args.plan.now.list.now) (sym (c.deref_mut.ensures.value ∙ begun)) c.requires.fit
+get_parts-came-requires-clause-fit g c κs within = grind (arith, nat_tests, c.deref_mut.ensures.value, c.requires.fit)
 
 pub returns : goal.returns
 returns g c =

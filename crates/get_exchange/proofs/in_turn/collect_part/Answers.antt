@@ -1,5 +1,5 @@
 -- Each window is read, and the entries' bytes in it are placed.
-use Rattle.get_exchange.proofs.Words.{◌+◌, ◌∙◌, ◌∷◌, ap, refl, sym, subst, arith, IsWalk, Window, WindowWalk, told_window, entries_left, IsPast, Told, turns_ahead, err_not_ok, left_ends, left_filled, left_sorted, turn_limit, rules, common_steps}
+use Rattle.get_exchange.proofs.Words.{◌+◌, ◌∙◌, ◌∷◌, ap, refl, sym, subst, arith, IsWalk, Window, WindowWalk, told_window, entries_left, IsPast, Told, turns_ahead, err_not_ok, left_ends, left_filled, left_sorted, turn_limit, nat_tests}
 use Rattle.get_exchange.proofs.CollectLaws.{filled_served, fit_as_long, fit_served}
 use Rattle.get_exchange.proofs.FetchLaws.{get_on}
 use Rattle.get_exchange.proofs.TurnReads.{reading_begin, reading_due, reading_end, reading_next}
@@ -33,12 +33,7 @@ turn-turn-requires g c =
 pub collect_turn-requires-clause-reach : goal.collect_turn-requires-clause-reach
 collect_turn-requires-clause-reach g c κs within =
     let due = reading_due _ c.next_window.new.windows _ c.turn-turn.result.window c.requires.plan.ends c.turns.invariant.reading c.in-Some.ensures.some c.turn-turn.ensures.window c.turn-turn.ensures.front in
-    record {
-      low = omega (arith, due.low, c.turns.invariant.from);
-      high = omega (arith, due.high, c.turns.invariant.from, c.turns.invariant.len);
-      limit = due.limit;
-      short = omega (arith, due.turn.short, c.requires.room);
-    }
+    grind (arith, nat_tests, c.turns.invariant.from, c.turns.invariant.len, c.requires.room)
 
 pub collect_turn-requires-clause-can : goal.collect_turn-requires-clause-can
 collect_turn-requires-clause-can g c κs within =
@@ -82,14 +77,7 @@ turns-preserved g c =
 pub returns-in_err-collect_turn-clause-got : goal.returns-in_err-collect_turn-clause-got
 returns-in_err-collect_turn-clause-got g c =
     let later = c.in_err-collect_turn.ensures.cause.later in
-    let before = c.turns.invariant.later in
-    record {
-      from = c.in_err-collect_turn.ensures.from ∙ c.turns.invariant.from;
-      len = c.in_err-collect_turn.ensures.len ∙ c.turns.invariant.len;
-      held = c.in_err-collect_turn.ensures.bytes ∙ c.turns.invariant.held;
-      device = err_not_ok _ c.from_residual.result c.from_residual.ensures.0;
-      later = omega arith;
-    }
+    grind (arith, nat_tests, err_not_ok, c.turns.invariant.later, c.in_err-collect_turn.ensures.from, c.turns.invariant.from, c.in_err-collect_turn.ensures.len, c.turns.invariant.len, c.in_err-collect_turn.ensures.bytes, c.turns.invariant.held, c.from_residual.ensures.0)
 
 pub returns-in_err-collect_turn-clause-blobs : goal.returns-in_err-collect_turn-clause-blobs
 returns-in_err-collect_turn-clause-blobs g c = c.in_err-collect_turn.ensures.blobs ∙ c.turns.invariant.reading.long
@@ -97,9 +85,4 @@ returns-in_err-collect_turn-clause-blobs g c = c.in_err-collect_turn.ensures.blo
 pub returns : goal.returns
 returns g c =
     let end = reading_end _ _ _ _ _ _ _ _ _ _ _ c.turns.invariant.reading c.in_default.ensures.none in
-    record {
-      got = record { from = c.turns.invariant.from; len = c.turns.invariant.len; held = c.turns.invariant.held; device = end.1; later = c.turns.invariant.later };
-      read = end.0;
-      blobs = c.turns.invariant.reading.long;
-      failed = first_of (search rules, grind (arith, common_steps));
-    }
+    grind (arith, nat_tests, c.turns.invariant.from, c.turns.invariant.len, c.turns.invariant.held, c.turns.invariant.later, c.turns.invariant.reading.long)

@@ -1,18 +1,12 @@
 -- One part more was read, or cut off.
-use Rattle.get_exchange.proofs.Words.{◌∙◌, List, refl, sym, subst, get_or, zip, Err, Ok, rules, arith, common_steps, slice_get-get_or, take_all, Rose, at_in, err_not_ok, HasReadParts, all_served_to, none_served, one_cut, one_failed, one_served}
+use Rattle.get_exchange.proofs.Words.{◌∙◌, List, sym, subst, get_or, zip, Err, Ok, rules, arith, common_steps, slice_get-get_or, take_all, Rose, at_in, err_not_ok, HasReadParts, all_served_to, none_served, one_cut, one_failed, one_served, nat_tests}
 use Rattle.get_exchange.proofs.CollectLaws.{fit_as_long}
 use Rattle.get_exchange.proofs.FetchLaws.{GotBy, got_later}
 use Rattle.get_exchange.proofs.PartReads.{got_kept, parts_next, parts_none}
 use Rattle.get_exchange.proofs.in_turn.read_parts.Goals as goal
 
 pub loop-place-init : goal.loop-place-init
-loop-place-init g c = record {
-  served = none_served (GotBy g.D.Disk c.args.plan.now (Ok (tt {0}))) c.args.domains.now c.args.parts.now;
-  buf = refl;
-  read = parts_none (λ d. g.D.Disk.from d) (λ d. g.D.Disk.held d) c.args.plan.now c.args.table.now;
-  blobs = refl;
-  past = c.new-ahead.ensures.past;
-}
+loop-place-init g c = grind (arith, nat_tests, none_served, parts_none, c.new-ahead.ensures.past)
 
 pub aggregator_at-aggregator-requires-clause-place : goal.aggregator_at-aggregator-requires-clause-place
 aggregator_at-aggregator-requires-clause-place g c = omega (arith, c.loop-place.invariant.served.long, c.requires.domains.one_each)
@@ -24,9 +18,7 @@ collect_part-requires-clause-domain g c κs within =
     c.requires.domains.each i _ c.aggregator_at-aggregator.result.domain (sym (c.loop-place.invariant.served.left i (omega arith)) ∙ at) c.aggregator_at-aggregator.ensures
 
 pub collect_part-requires-clause-room : goal.collect_part-requires-clause-room
-collect_part-requires-clause-room g c κs within =
-    let domain = c.aggregator_at-aggregator.result.domain in
-    omega (arith, c.requires.room domain (at_in c.args.domains.now c.loop-place.place domain c.aggregator_at-aggregator.ensures), c.loop-place.invariant.buf)
+collect_part-requires-clause-room g c κs within = grind (arith, nat_tests, at_in, c.requires.room, c.aggregator_at-aggregator.ensures, c.loop-place.invariant.buf)
 
 pub collect_part-requires-clause-fit : goal.collect_part-requires-clause-fit
 collect_part-requires-clause-fit g c κs within = fit_as_long c.args.table.now c.loop-place.table c.args.plan.now.list.now c.loop-place.invariant.blobs c.requires.fit

@@ -1,5 +1,5 @@
 -- Each window is read, and its hull put on the line.
-use Rattle.get_exchange.proofs.Words.{◌≡◌, ◌∙◌, ◌++◌, ◌∷◌, [], List, ap, refl, map, false, arith, drop_all, told_window, Window, Hull, rules, common_steps}
+use Rattle.get_exchange.proofs.Words.{◌≡◌, ◌∙◌, ◌++◌, ◌∷◌, [], List, ap, map, false, arith, drop_all, told_window, Window, Hull, rules, common_steps, nat_tests}
 use Rattle.get_exchange.proofs.FetchLaws.{fetch_begin, fetch_end, fetch_next, fetch_on, windows_left}
 use Rattle.get_exchange.proofs.reading.read_part.Goals as goal
 
@@ -7,15 +7,7 @@ abbrev none : Window
 none = record { round = 0; hull = record { at = 0; len = 0 }; full = false }
 
 pub loop-window-init : goal.loop-window-init
-loop-window-init g c = record {
-  of = refl;
-  fetching = fetch_begin (g.D.Disk.from c.args.part.now) (g.D.Disk.len c.args.part.now) (map told_window c.args.windows.now) c.args.lines.now.line.items (g.D.Disk.held c.args.part.now) (g.D.Disk.calls c.args.part.now)
-      c.requires.on_part c.requires.empty;
-  held = refl;
-  from = refl;
-  len = refl;
-  later = omega arith;
-}
+loop-window-init g c = grind (arith, nat_tests, fetch_begin, c.requires.on_part, c.requires.empty)
 
 pub read_turn-came-requires-clause-low : goal.read_turn-came-requires-clause-low
 read_turn-came-requires-clause-low g c κs within =
@@ -52,16 +44,4 @@ returns g c =
     let windows = c.args.windows.now in
     let i = c.loop-window.window-index in
     let got = fetch_end _ _ _ _ _ _ _ _ c.loop-window.invariant.fetching (ap (λ (ws : List Window). map told_window ws) (drop_all i windows c.loop-window-test.false)) in
-    record {
-      of = first_of (search rules, grind (arith, common_steps));
-      many = got.0;
-      read = got.1;
-      got = record {
-        from = c.loop-window.invariant.from;
-        len = c.loop-window.invariant.len;
-        held = c.loop-window.invariant.held;
-        device = got.2;
-        later = c.loop-window.invariant.later;
-      };
-      failed = first_of (search rules, grind (arith, common_steps));
-    }
+    grind (arith, nat_tests, c.loop-window.invariant.from, c.loop-window.invariant.len, c.loop-window.invariant.held, c.loop-window.invariant.later)
