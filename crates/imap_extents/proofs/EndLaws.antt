@@ -1,5 +1,5 @@
 -- Whether values of equal steps are in a type's range is seen at their ends.
-use Rattle.imap_extents.proofs.Cited.{◌≡◌, ℕ, zero, suc, ◌+◌, ◌*◌, ◌^◌, ◌<◌, ◌≤◌, refl, ◌∙◌, ap, map, ◌||◌, Bool, true, false, not, arith, pos, negsuc, ◌≤ℤ◌, ◌+ℤ◌, ◌*ℤ◌, ◌%◌, list_any, range_with_len, not-false, not_from_true, nat_tests, ints, neg_ℤ, mul-le-mul_left, NcType, Value, Class, Signed, Unsigned, class_of, size_of, fits_in, fits}
+use Rattle.imap_extents.proofs.Cited.{◌≡◌, ℕ, zero, suc, ◌+◌, ◌*◌, ◌^◌, ◌<◌, ◌≤◌, refl, ◌∙◌, ap, map, Bool, true, false, not, arith, pos, negsuc, ◌≤ℤ◌, ◌+ℤ◌, ◌*ℤ◌, ◌%◌, list_any, range_with_len, not-false, not_from_true, nat_tests, ints, neg_ℤ, mul-le-mul_left, NcType, Value, Class, class_of, size_of, fits_in, fits}
 use Rattle.std.proofs.Common.{ℤ}
 use Rattle.nc_base.specs.declared.request.Value.TheVariants as value
 use Rattle.type_external.proofs.PatternLaws.{bits_in}
@@ -7,14 +7,10 @@ use Rattle.imap_extents.proofs.RunLaws.{step_hit}
 
 none_hit : (test : Value → Bool) (at : ℕ → Value) (s n : ℕ) → ((k : ℕ) → s ≤ k → k < s + n → test (at k) ≡ false) → list_any test (map at (range_with_len s n)) ≡ false
 none_hit test at s zero h = refl
-none_hit test at s (suc n) h =
-    ap (λ (b : Bool). b || list_any test (map at (range_with_len (s + 1) n))) (h s (omega arith) (omega arith))
-    ∙ none_hit test at (s + 1) n (λ k low high. h k (omega (arith, low)) (omega (arith, high)))
+none_hit test at s (suc n) h = grind (arith, nat_tests, none_hit test at (s + 1) n)
 
 pub hit_at : (test : Value → Bool) (at : ℕ → Value) (n k : ℕ) → k < n → test (at k) ≡ true → list_any test (map at (range_with_len 0 n)) ≡ true
-hit_at test at n k h hit =
-    let here : 0 + k ≡ k = omega arith in
-    step_hit test at 0 n k h (ap (λ (j : ℕ). test (at j)) here ∙ hit)
+hit_at test at n k h hit = grind (arith, nat_tests, step_hit test at 0 n k h)
 
 by_value : (test : Value → Bool) (at : ℕ → Value) (n m : ℕ) (b : Bool) → n ≡ m + 1 → test (at m) ≡ b → ((k : ℕ) → k ≤ m → test (at m) ≡ false → test (at k) ≡ false)
     → list_any test (map at (range_with_len 0 n)) ≡ b
@@ -27,14 +23,9 @@ pub by_last : (test : Value → Bool) (at : ℕ → Value) (n m : ℕ) → n ≡
 by_last test at n m count h = by_value test at n m (test (at m)) count refl h
 
 -- ---- numbers
-signed_between : (size : ℕ) (x y z : ℤ) → x ≤ℤ y → y ≤ℤ z → fits_in Signed size (value.Number x) ≡ true → fits_in Signed size (value.Number z) ≡ true → fits_in Signed size (value.Number y) ≡ true
-signed_between size x y z low high a b = grind (arith, nat_tests)
-
-unsigned_between : (size : ℕ) (x y z : ℤ) → x ≤ℤ y → y ≤ℤ z → fits_in Unsigned size (value.Number x) ≡ true → fits_in Unsigned size (value.Number z) ≡ true → fits_in Unsigned size (value.Number y) ≡ true
-unsigned_between size x y z low high a b = grind (arith, nat_tests)
 
 between : (class : Class) (size : ℕ) (x y z : ℤ) → x ≤ℤ y → y ≤ℤ z → fits_in class size (value.Number x) ≡ true → fits_in class size (value.Number z) ≡ true → fits_in class size (value.Number y) ≡ true
-between class size x y z low high a b = grind (arith, nat_tests, signed_between, unsigned_between)
+between class size x y z low high a b = grind (arith, nat_tests)
 
 rising : (a : ℤ) (p q : ℕ) → p ≤ q → (a +ℤ pos p) ≤ℤ (a +ℤ pos q)
 rising a p q h = omega (arith, ints, h)

@@ -1,6 +1,5 @@
 -- The first values of runs, one run more of them.
-use Rattle.std.proofs.lemmas.Bool.Decides.{nat_tests}
-use Rattle.imap_extents.proofs.Cited.{◌≡◌, ℕ, zero, suc, ◌+◌, ◌-◌, ◌<◌, refl, ◌∙◌, ap, sym, arith, List, [], ◌∷◌, ◌++◌, length, map, take, drop, get_or, append-nil, append_assoc, length-append, Bool, true, false, flat_map, min, ◌*ℤ◌, ◌%◌, list_any, range_with_len, or_right, take_more, map-append, take-append-drop, take-map, flat_map-append, flat_map-map, list_any-append, length-map-range_with_len, map-range_with_len_more, any_map, map_map, BitRun, NumberRun, Value, numbers_of_runs, bits_of_runs}
+use Rattle.imap_extents.proofs.Cited.{◌≡◌, ℕ, zero, suc, ◌+◌, ◌-◌, ◌<◌, refl, ◌∙◌, ap, sym, arith, List, [], ◌∷◌, ◌++◌, length, map, take, drop, get_or, append-nil, append_assoc, length-append, Bool, true, false, flat_map, min, ◌*ℤ◌, ◌%◌, list_any, range_with_len, or_right, take_more, map-append, take-append-drop, take-map, flat_map-append, flat_map-map, list_any-append, length-map-range_with_len, map-range_with_len_more, any_map, map_map, BitRun, NumberRun, Value, numbers_of_runs, bits_of_runs, nat_tests}
 use Rattle.std.specs.Prelude.{pos, ◌+ℤ◌, ◌*◌, ◌^◌}
 use Rattle.nc_base.specs.declared.request.Value.TheVariants as value
 
@@ -9,16 +8,14 @@ abbrev pub told : {R : Type 0} (at : R → ℕ → Value) (size : R → ℕ) →
 told at size rs = flat_map (λ r. map (at r) (range_with_len 0 (size r))) rs
 
 pub none_first : {A : Type 0} (n : ℕ) → take {A = A} n [] ≡ []
-none_first zero = refl
-none_first (suc n) = refl
+none_first n = grind (arith, nat_tests)
 
 first_range : {A : Type 0} (f : ℕ → A) (s n m k : ℕ) → k ≡ min n m → take m (map f (range_with_len s n)) ≡ map f (range_with_len s k)
 first_range {A} f s zero m k e = let none : 0 ≡ k = omega (arith, e) in none_first m ∙ ap (λ (j : ℕ). map f (range_with_len s j)) none
 first_range {A} f s (suc n) zero k e = let none : 0 ≡ k = omega (arith, e) in ap (λ (j : ℕ). map f (range_with_len s j)) none
 first_range {A} f s (suc n) (suc m) k e =
     let more : suc (min n m) ≡ k = omega (arith, e) in
-    ap (λ (l : List A). f s ∷ l) (first_range f (s + 1) n m (min n m) refl)
-    ∙ ap (λ (j : ℕ). map f (range_with_len s j)) more
+    grind (arith, nat_tests, first_range f (s + 1) n m (min n m), range_with_len)
 
 first_of_both : {A : Type 0} (xs ys : List A) (n : ℕ) → take n (xs ++ ys) ≡ take n xs ++ take (n - length xs) ys
 first_of_both [] ys zero = refl
@@ -40,11 +37,7 @@ module _ {R : Type 0} (at : R → ℕ → Value) (size : R → ℕ) (rs : List R
   first_more : take count (told at size (take (i + 1) rs)) ≡ take count (told at size (take i rs)) ++ map (at (get_or rs i d)) (range_with_len 0 here)
   first_more =
       let r = get_or rs i d in
-      let front = told at size (take i rs) in
-      ap (λ (l : List Value). take count l) (one_run at size rs i d h)
-      ∙ first_of_both front (map (at r) (range_with_len 0 (size r))) count
-      ∙ ap (λ (n : ℕ). take count front ++ take n (map (at r) (range_with_len 0 (size r)))) (sym rest)
-      ∙ ap (λ (l : List Value). take count front ++ l) (first_range (at r) 0 (size r) left here part)
+      grind (arith, nat_tests, one_run at size rs i d h, first_of_both (told at size (take i rs)) (map (at r) (range_with_len 0 (size r))) count, first_range (at r) 0 (size r) left here part, take, told, range_with_len)
 
   pub forms_more : (f : Value → List ℕ) (old now new : List ℕ) → now ≡ old ++ flat_map f (take count (told at size (take i rs)))
       → new ≡ now ++ flat_map f (map (at (get_or rs i d)) (range_with_len 0 here)) → new ≡ old ++ flat_map f (take count (told at size (take (i + 1) rs)))
@@ -82,9 +75,7 @@ step_fits test at k before now = rw (map-range_with_len_more at 0 k k (omega ari
 pub step_hit : (test : Value → Bool) (at : ℕ → Value) (s n k : ℕ) → k < n → test (at (s + k)) ≡ true → list_any test (map at (range_with_len s n)) ≡ true
 step_hit test at s zero k h hit = absurd (omega arith)
 step_hit test at s (suc n) zero h hit = grind (arith, nat_tests)
-step_hit test at s (suc n) (suc k) h hit =
-    let here : s + 1 + k ≡ s + suc k = omega arith in
-    or_right (test (at s)) (list_any test (map at (range_with_len (s + 1) n))) (step_hit test at (s + 1) n k (omega (arith, h)) (ap (λ (m : ℕ). test (at m)) here ∙ hit))
+step_hit test at s (suc n) (suc k) h hit = grind (arith, nat_tests, step_hit test at (s + 1) n k)
 
 -- values of one kind
 told_as : {R A : Type 0} (f : A → Value) (at : R → ℕ → A) (size : R → ℕ) (rs : List R)

@@ -1,4 +1,4 @@
-use Rattle.imap_extents.proofs.Cited.{◌≡◌, refl, arith, nat_tests, Byte, Short, Int, UByte, UShort, UInt, Int64, UInt64}
+use Rattle.imap_extents.proofs.Cited.{refl, arith, nat_tests, Byte, Short, Int, UByte, UShort, UInt, Int64, UInt64}
 use Rattle.imap_extents.proofs.OrderLaws.{known_numbers}
 use Rattle.imap_extents.proofs.unpacking.whole_numbers.Goals as goal
 
@@ -24,6 +24,4 @@ pub returns-in-Int64 : goal.returns-in-Int64
 returns-in-Int64 c = known_numbers c.args.kind Int64 c.args.bytes.now c.wide_numbers-in-Int64.result c.in-Int64.is (λ l. refl) c.wide_numbers-in-Int64.ensures
 
 pub returns-in_default : goal.returns-in_default
-returns-in_default c =
-    let last : c.args.kind ≡ UInt64 = grind (arith, nat_tests) in
-    known_numbers c.args.kind UInt64 c.args.bytes.now c.decode_numbers.result last (λ l. refl) c.decode_numbers.ensures
+returns-in_default c = grind (arith, nat_tests, known_numbers c.args.kind UInt64 c.args.bytes.now c.decode_numbers.result, c.decode_numbers.ensures)

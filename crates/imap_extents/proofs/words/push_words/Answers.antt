@@ -1,4 +1,4 @@
-use Rattle.imap_extents.proofs.Cited.{◌≡◌, ◌++◌, ◌∙◌, ap, sym, subst, not, false, Bool, List, get_or, flat_map, list_any, take_all, Value, ext, fits}
+use Rattle.imap_extents.proofs.Cited.{◌≡◌, ◌++◌, ◌∙◌, ap, sym, not, false, Bool, get_or, take_all, Value, ext, fits, arith, nat_tests}
 use Rattle.imap_extents.proofs.EachLaws.{forms_added, fits_added}
 use Rattle.imap_extents.proofs.words.push_words.Goals as goal
 
@@ -20,8 +20,4 @@ pub returns : goal.returns
 returns g c =
     let told = g.W.Word.told in
     let all = take_all c.loop-word.word-index c.args.words.now c.loop-word-test.false in
-    record {
-      ok = c.loop-word.invariant.0 ∙ ap (λ (ws : List g.row.W.Denot). c.args.bytes.now.items ++ flat_map (λ w. ext c.args.kind (told w)) ws) all;
-      right = subst (λ (ws : List g.row.W.Denot). list_any (λ w. not (fits c.args.kind (told w))) ws ≡ false) all c.loop-word.invariant.1;
-      refused = tt;
-    }
+    grind (arith, nat_tests, fits, c.loop-word.invariant.0, c.loop-word.invariant.1)
