@@ -1,5 +1,5 @@
 -- The values that gets gave do not show in a blank answer.
-use Rattle.join_laws.proofs.Words.{◌≡◌, ℕ, refl, ap, List, [], ◌∷◌, length, map, Bool, true, false, cond, Option, Some, None, map-append, zip, ℤ, pos, option_map, cons_option, Answer, Item, Header, NcType, Post, Region, Value, Values, Numbers, Text, Bits, Class, Open, Rank, got_values, hear_open, kind_at, values_for, with_its_values, with_more, code_in, gathered, number_in, spread, TellAlike, blank, blank_item, blank_values, arith, nat_tests}
+use Rattle.join_laws.proofs.Words.{◌≡◌, ℕ, refl, ap, List, [], ◌∷◌, length, map, Bool, true, false, cond, Option, Some, None, map-append, zip, ℤ, pos, option_map, cons_option, Answer, Item, Header, NcType, Post, Region, Value, Values, Numbers, Text, Bits, Class, Open, Rank, got_values, hear_open, kind_at, values_for, with_its_values, code_in, gathered, number_in, spread, TellAlike, blank, blank_item, blank_values, arith, nat_tests}
 use Rattle.nc_base.specs.declared.step.Reply as reply
 use Rattle.serial_spec.specs.ExternalForm as form
 
@@ -35,12 +35,9 @@ found_blank header (p ∷ gets) (b ∷ one) (c ∷ other) e = by (kind_at header
     by (Some kind) again = let v = blank_spread kind p.region b c in λ i. (p.id, v i) ∷ again i
 found_blank header xs one other e = refl
 
-more_blank : (a b : Values) → blank_values (with_more a b) ≡ with_more (blank_values a) (blank_values b)
-more_blank a b = grind (arith, nat_tests, map-append)
-
 for_blank : (found : List (ℕ × Values)) (id : ℕ) → option_map blank_values (values_for found id) ≡ values_for (map blank_found found) id
 for_blank [] id = refl
-for_blank (v ∷ found) id = grind (arith, nat_tests, for_blank found id, more_blank)
+for_blank (v ∷ found) id = grind (arith, nat_tests, for_blank found id, map-append)
 
 -- values that are kept where a test holds
 kept_blank : (t : Bool) (found : List (ℕ × Values)) (id : ℕ) → option_map blank_values (cond t (values_for found id) None) ≡ cond t (values_for (map blank_found found) id) None

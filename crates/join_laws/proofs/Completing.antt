@@ -1,6 +1,5 @@
 -- An order that a script's ranks have begun can be gone on with to one of its histories: the ranks meet as often, one as the other.
 use Rattle.join_laws.proofs.Words.{and_from, ◌≡◌, ℕ, zero, suc, ◌+◌, ◌-◌, ◌<◌, ◌≤◌, refl, sym, ◌∙◌, ap, inl, inr, ◌⊎◌, subst, eqb_tells, List, [], ◌∷◌, ◌++◌, length, Bool, true, false, cond, ◌&&◌, Option, Some, None, arith, append_assoc, filter-append, sum_by-cons, nat_tests, ◌==◌, filter, is_some, nat_lt, list_all, cons_option, Call, Script, Mark, Meet, Solo, MeetKind, kinds, marks, marks_from, concerns, is_of_rank_below, kind_of_call, mode_after, is_collective, is_data, IsLegal, is_meeting, is_lawful, is_solo_of, meetings, kinds_of, own_lawful, ranks_lawful, and_first, and_second, equal_itself, others_filter, all_joined, append-nil, entry_below, ltb-true, ltb-false, eqb-true}
-use Rattle.list_laws.proofs.Truth.{either}
 
 -- ---- what is left to a rank: its own steps, and n meetings from the k-th on
 
@@ -66,19 +65,8 @@ rest_after (m ∷ p) rest r k (suc n) h =
     by_front : (solos : List Mark) → m ∷ (p ++ rest) ≡ solos ++ Meet k ∷ h.1 → list_all (is_solo_of r) solos ≡ true
         → (IsRest r (suc k) n (p ++ rest) → Left r (suc k) n (meetings p) rest) → (IsRest r k (suc n) (p ++ rest) → Left r k (suc n) (meetings p) rest)
         → Left r k (suc n) (meetings (m ∷ p)) rest
-    by_front [] e all met own =
-        let first : m ≡ Meet k = cc in
-        let tail : h.1 ≡ p ++ rest = cc in
-        let l = met (subst (λ (xs : List Mark). IsRest r (suc k) n xs) tail h.4) in
-        let count : meetings (m ∷ p) ≡ 1 + meetings p = ap (λ (x : Mark). meetings (x ∷ p)) first ∙ meetings_meet k p in
-        let sum = l.1 in
-        let place : suc k + meetings p ≡ k + meetings (m ∷ p) = omega arith in
-        (l.0, omega arith, subst (λ (j : ℕ). IsRest r j l.0 rest) place l.2)
-    by_front (s ∷ solos) e all met own =
-        let first : s ≡ m = cc in
-        let tail : p ++ rest ≡ solos ++ Meet k ∷ h.1 = cc in
-        let count : meetings (m ∷ p) ≡ meetings p = meetings_solo r m p (ap (λ (x : Mark). is_solo_of r x) (sym first) ∙ and_first _ _ all) in
-        subst (λ (j : ℕ). Left r k (suc n) j rest) (sym count) (own (solos, h.1, tail, and_second (is_solo_of r s) _ all, h.4))
+    by_front [] e all met own = grind (arith, nat_tests, meetings_meet k p)
+    by_front (s ∷ solos) e all met own = grind (arith, nat_tests, meetings_solo r m p, and_first, and_second (is_solo_of r s))
 
 -- ---- the ranks' own steps, one rank after another
 
@@ -142,9 +130,7 @@ last_of (suc n) k ranks rests h =
 meetings_kept : (r : ℕ) (order : List Mark) → meetings (filter (concerns r) order) ≡ meetings order
 meetings_kept r [] = refl
 meetings_kept r (Meet k ∷ order) = meetings_meet k (filter (concerns r) order) ∙ ap (λ (n : ℕ). 1 + n) (meetings_kept r order) ∙ sym (meetings_meet k order)
-meetings_kept r (Solo q c ∷ order) =
-    either (λ (u : List Mark). meetings u ≡ meetings (filter (concerns r) order)) (q == r) (Solo q c ∷ filter (concerns r) order) (filter (concerns r) order) (λ e. refl) (λ e. refl)
-    ∙ meetings_kept r order
+meetings_kept r (Solo q c ∷ order) = grind (arith, nat_tests, meetings_kept r order)
 
 -- as many meetings, and nothing else
 filler : ℕ → ℕ → List Mark

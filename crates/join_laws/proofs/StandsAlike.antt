@@ -1,5 +1,5 @@
 -- Runs over files that differ in their bytes, step by step: ranks beside one another, and ends that are alike.
-use Rattle.join_laws.proofs.Words.{◌≡◌, ℕ, zero, suc, ◌+◌, refl, sym, ◌∙◌, ap, subst, List, [], ◌∷◌, map, set, Option, Some, None, slice_get, fold, take, zip, Header, Call, Script, Mark, Meet, Solo, Offer, Setting, Counted, meeting, solo, pending, told_of, Going, End, advance, close_by, count_after, first_state, hears, offers_of, serial_from, setting_of, state_after, Arrived, Stand, ended_from, first_stand, heard, solo_to, step_to, arrival_steps, first_up, gone_up, serial_of_arrivals, blank, AllBeside, AreAlikeEnds, AreBeside, AreNear, IsLike, Rank, TellAlike, arith, nat_tests}
+use Rattle.join_laws.proofs.Words.{◌≡◌, ℕ, zero, suc, ◌+◌, refl, sym, ◌∙◌, ap, subst, List, [], ◌∷◌, map, set, Option, Some, None, slice_get, fold, take, zip, Header, Call, Script, Mark, Meet, Solo, Offer, Setting, Counted, meeting, solo, told_of, Going, advance, close_by, count_after, first_state, hears, offers_of, serial_from, setting_of, state_after, Arrived, Stand, ended_from, first_stand, heard, solo_to, step_to, arrival_steps, first_up, gone_up, serial_of_arrivals, AllBeside, AreAlikeEnds, AreBeside, AreNear, IsLike, TellAlike, arith, nat_tests}
 use Rattle.nc_base.specs.declared.step.Reply as reply
 use Rattle.join_laws.proofs.AlikeLaws.{advance_beside, hears_near, same_near}
 pub use Rattle.join_laws.proofs.OwnerAlikeLaws.{AllTell}
@@ -12,18 +12,9 @@ pub same_beside : (ranks : List Arrived) → AllBeside ranks ranks
 same_beside [] = tt
 same_beside (p ∷ ranks) = ((same_near p.0, refl), same_beside ranks)
 
--- an offer, if there is one, before others
-abbrev before_others : Option Offer → List Offer → List Offer
-before_others None others = others
-before_others (Some o) others = o ∷ others
-
-offers_first : (p : Arrived) (ranks : List Arrived) → offers_of (p ∷ ranks) ≡ before_others p.1 (offers_of ranks)
-offers_first (g, None) ranks = refl
-offers_first (g, Some o) ranks = refl
-
 pub offers_beside : (one other : List Arrived) → AllBeside one other → offers_of one ≡ offers_of other
 offers_beside [] [] w = refl
-offers_beside (p ∷ one) (q ∷ other) w = grind (arith, nat_tests, offers_beside one other w.1, offers_first)
+offers_beside (p ∷ one) (q ∷ other) w = grind (arith, nat_tests, offers_beside one other w.1)
 offers_beside xs ys w = absurd w
 
 abbrev BesideAt : Option Arrived → Option Arrived → Type 0
@@ -95,21 +86,8 @@ step_alike : (s : Setting) (x y : Stand) (m : Mark) → AreLike x y → AreLike 
 step_alike s x y (Meet k) w =
     meets_like s x k y.0.records (meeting s (offers_of y.1) y.0).0.records y.1 (meeting s (offers_of y.1) y.0).1 w
     (meeting_records s (offers_of y.1) x.0 y.0 w.records) (meeting_tells s (offers_of y.1) x.0 y.0 w.records)
-step_alike s x y (Solo r k) w = by (slice_get y.1 r) refl
-  where
-    stays : (m : Option Arrived) (g : Going) → BesideAt m (Some (g, None)) → AreLike (elim m [ None ↦ x | Some a ↦ solo_to s r x.0 x.1 a ]) (solo_to s r y.0 y.1 (g, None))
-    stays None g v = absurd v
-    stays (Some (h, None)) g v = record { records = w.records; beside = set_beside x.1 y.1 r _ _ w.beside (advance_beside s.header h g v.0) }
-    stays (Some (h, Some p)) g v = absurd (let e : Some p ≡ None = v.1 in cc)
-
-    none : (m : Option Arrived) → BesideAt m None → AreLike (elim m [ None ↦ x | Some a ↦ solo_to s r x.0 x.1 a ]) y
-    none None v = w
-    none (Some p) v = absurd v
-
-    by : (m : Option Arrived) → slice_get y.1 r ≡ m → AreLike (step_to s x (Solo r k)) (elim m [ None ↦ y | Some a ↦ solo_to s r y.0 y.1 a ])
-    by None e = none (slice_get x.1 r) (subst (λ (m : Option Arrived). BesideAt (slice_get x.1 r) m) e (at_beside x.1 y.1 r w.beside))
-    by (Some (g, None)) e = stays (slice_get x.1 r) g (subst (λ (m : Option Arrived). BesideAt (slice_get x.1 r) m) e (at_beside x.1 y.1 r w.beside))
-    by (Some (g, Some o)) e = solo_like s x r k y.0.records y.1 g o (solo s r o y.0).1 w e (solo_alike s r o x.0 y.0)
+step_alike s x y (Solo r k) w =
+    grind (arith, nat_tests, set_beside x.1 y.1 r, advance_beside s.header, at_beside x.1 y.1 r w.beside, solo_like s x r k y.0.records y.1, solo_alike s r)
 
 pub steps_alike : (s : Setting) (x y : Stand) (order : List Mark) → AreLike x y → AreLike (fold (step_to s) x order) (fold (step_to s) y order)
 steps_alike s x y [] w = w
@@ -129,22 +107,14 @@ each_beside f same xs ys w = absurd w
 
 pub close_alike : (s : Setting) (x : Stand) (c : Counted) (ranks : List Arrived) → IsLike x c.records ranks
     → AreAlikeEnds (close_by s x.0 (map (λ (a : Arrived). a.0) x.1)) (close_by s c (map (λ (a : Arrived). a.0) ranks))
-close_alike s x c ranks w =
-    let answers = each_beside (λ g. map blank g.answers) (λ g h n. n.answers) x.1 ranks w.beside in
-    let pendings = each_beside (λ g. pending g.rank) (λ g h n. ap pending n.rank) x.1 ranks w.beside in
-    grind (arith, nat_tests, raised_records, map_map, answers, pendings, each_beside (λ g. g.rank.known) (λ g h n. ap (λ (r : Rank). r.known) n.rank) x.1 ranks w.beside)
+close_alike s x c ranks w = grind (arith, nat_tests, each_beside, raised_records, map_map)
 
 -- ---- a run
 
 pub ends_alike : (script : Script) (header : Header) (file other : List ℕ) (order : List Mark) → AreAlikeEnds (serial_from script header file order) (serial_from script header other order)
 ends_alike script header file other order =
     let s = setting_of script header in
-    let one = first_stand header file script.calls in
-    let two = first_stand header other script.calls in
-    let last = fold (step_to s) two order in
-    let alike = close_alike s (fold (step_to s) one order) last.0 last.1 (steps_alike s one two order (first_alike header file other script.calls)) in
-    subst (λ (e : End). AreAlikeEnds e (serial_from script header other order)) (sym (serial_of_arrivals script header file order))
-    (subst (λ (e : End). AreAlikeEnds (ended_from s one order) e) (sym (serial_of_arrivals script header other order)) alike)
+    grind (arith, nat_tests, close_alike s (fold (step_to s) (first_stand header file script.calls) order), steps_alike s (first_stand header file script.calls) (first_stand header other script.calls) order, first_alike header file other script.calls, serial_of_arrivals script header file order, serial_of_arrivals script header other order, ended_from, first_stand)
 
 stand_after : (script : Script) (header : Header) (file : List ℕ) (order : List Mark)
     → fold (step_to (setting_of script header)) (first_stand header file script.calls) order ≡ gone_up (setting_of script header) (state_after script header file order)
@@ -155,9 +125,7 @@ stand_after script header file order =
 pub count_alike : (script : Script) (header : Header) (file other : List ℕ) (order : List Mark) (k : ℕ) → count_after script header file order k ≡ count_after script header other order k
 count_alike script header file other order k =
     let s = setting_of script header in
-    ap (λ (stand : Stand). stand.0.records) (sym (stand_after script header file (take k order)))
-    ∙ (steps_alike s (first_stand header file script.calls) (first_stand header other script.calls) (take k order) (first_alike header file other script.calls)).records
-    ∙ ap (λ (stand : Stand). stand.0.records) (stand_after script header other (take k order))
+    grind (arith, nat_tests, stand_after script header file (take k order), steps_alike s (first_stand header file script.calls) (first_stand header other script.calls) (take k order), first_alike header file other script.calls, stand_after script header other (take k order), take)
 
 -- a mark with its number, told with the count after it
 abbrev told_with : (ℕ → ℕ) → ℕ × Mark → Mark × ℕ
