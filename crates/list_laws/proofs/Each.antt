@@ -1,5 +1,5 @@
 -- What holds of each entry of a list, and the tests that tell it.
-use Rattle.list_laws.proofs.Words.{◌≡◌, ℕ, zero, suc, List, [], ◌∷◌, ◌++◌, drop, map, Bool, true, false, refl, subst, Some, ◌||◌, inl, inr, ◌⊎◌, ◌∙◌, AllByRecursion, AllZip, list_any, list_all, flat_map, and_from, or_from, list_all-append}
+use Rattle.list_laws.proofs.Words.{◌≡◌, ℕ, zero, suc, List, [], ◌∷◌, ◌++◌, drop, map, Bool, true, false, refl, subst, Some, ◌||◌, inl, inr, ◌⊎◌, ◌∙◌, AllByRecursion, AllZip, list_any, list_all, flat_map, and_from, or_from, list_all-append, arith, nat_tests}
 use Rattle.std.proofs.Common.{slice_get}
 use Rattle.list_laws.proofs.Truth.{holds_or_not, and_first, and_second, or_first_false, or_second_false}
 
@@ -24,8 +24,7 @@ each_flat_map P f [] h = tt
 each_flat_map P f (x ∷ xs) h = each_append P (f x) (flat_map f xs) h.0 (each_flat_map P f xs h.1)
 
 pub each_later : {A : Type 0} (P : A → Type 0) (xs : List A) → AllByRecursion P xs → AllByRecursion P (drop 1 xs)
-each_later P [] h = tt
-each_later P (x ∷ xs) h = h.1
+each_later P ys h = grind (arith, nat_tests)
 
 pub each_at : {A : Type 0} (P : A → Type 0) (xs : List A) (k : ℕ) (x : A) → AllByRecursion P xs → slice_get xs k ≡ Some x → P x
 each_at P [] k x h e = absurd cc

@@ -1,14 +1,11 @@
 -- Beginnings of lists.
-use Rattle.list_laws.proofs.Words.{◌≡◌, refl, List, [], ◌∷◌, length, take, ◌≤◌, arith, inl, inr, ◌⊎◌, ◌++◌}
+use Rattle.list_laws.proofs.Words.{◌≡◌, refl, List, [], ◌∷◌, length, take, ◌≤◌, arith, inl, inr, ◌⊎◌, ◌++◌, nat_tests}
 use mathlib.Core.List.{IsPrefix}
 
 pub first_of : {X : Type 0} (xs ys : List X) → IsPrefix xs ys → xs ≡ take (length xs) ys
 first_of [] ys e = refl
 first_of (x ∷ xs) [] e = cc
-first_of (x ∷ xs) (y ∷ ys) (more, e) =
-    let a : x ≡ y = cc in
-    let b = first_of xs ys (more, cc) in
-    λ i. a i ∷ b i
+first_of (x ∷ xs) (y ∷ ys) (more, e) = grind (arith, nat_tests, first_of xs ys (more, cc))
 
 pub prefix_long : {X : Type 0} (xs ys : List X) → IsPrefix xs ys → length xs ≤ length ys
 prefix_long [] ys e = omega arith
@@ -20,6 +17,4 @@ pub front_or_all : {X : Type 0} (xs ys : List X) (z : X) → IsPrefix xs (ys ++ 
 front_or_all [] ys z e = inl (ys, refl)
 front_or_all (x ∷ []) [] z (more, e) = inr (let a : x ≡ z = cc in λ i. a i ∷ [])
 front_or_all (x ∷ y ∷ xs) [] z (more, e) = absurd cc
-front_or_all (x ∷ xs) (y ∷ ys) z (more, e) =
-    let a : x ≡ y = cc in
-    elim (front_or_all xs ys z (more, cc)) [ inl r ↦ inl (r.0, λ i. a i ∷ r.1 i) | inr f ↦ inr (λ i. a i ∷ f i) ]
+front_or_all (x ∷ xs) (y ∷ ys) z (more, e) = grind (arith, nat_tests, front_or_all xs ys z (more, cc))

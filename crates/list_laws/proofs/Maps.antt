@@ -1,7 +1,6 @@
 -- Lists that are mapped, searched or filtered.
-use Rattle.list_laws.proofs.Words.{◌≡◌, ◌≤◌, refl, sym, ◌∙◌, ap, List, [], ◌∷◌, length, map, Bool, Option, true, not, ◌||◌, Some, arith, ℕ, zero, suc, None, ◌+◌, ◌<◌, ◌++◌, take, get_or, drop, filter, slice_get, flat_map, list_any, position, prefix_len, find, enumerate_from, length-map, drop_more}
+use Rattle.list_laws.proofs.Words.{◌≡◌, ◌≤◌, refl, sym, ◌∙◌, ap, List, [], ◌∷◌, length, map, Bool, true, not, ◌||◌, Some, arith, ℕ, zero, suc, None, ◌+◌, ◌<◌, ◌++◌, take, get_or, drop, filter, slice_get, flat_map, list_any, position, prefix_len, find, enumerate_from, length-map, drop_more, nat_tests}
 use Rattle.std.proofs.lemmas.List.{append_assoc}
-use Rattle.list_laws.proofs.Truth.{either}
 
 pub map_map : {A B C : Type 0} (f : B → C) (g : A → B) (xs : List A) → map f (map g xs) ≡ map (λ x. f (g x)) xs
 map_map f g [] = refl
@@ -20,14 +19,11 @@ position_map p f xs = rw (prefix_map (λ y. not (p y)) f xs, length-map xs f) re
 
 pub filter_at_most : {A : Type 0} (test : A → Bool) (xs : List A) → length (filter test xs) ≤ length xs
 filter_at_most test [] = omega arith
-filter_at_most {A} test (x ∷ xs) =
-    let h = filter_at_most test xs in
-    either (λ (ys : List A). length ys ≤ length (x ∷ xs)) (test x) _ _ (λ e. omega arith) (λ e. omega arith)
+filter_at_most {A} test (x ∷ xs) = grind (arith, nat_tests, filter_at_most test xs)
 
 pub found_passes : {A : Type 0} (p : A → Bool) (xs : List A) (x : A) → find p xs ≡ Some x → p x ≡ true
 found_passes p [] x e = cc
-found_passes {A} p (y ∷ ys) x e =
-    either (λ (o : Option A). o ≡ Some x → p x ≡ true) (p y) _ _ (λ h g. let same : y ≡ x = cc in ap p (sym same) ∙ h) (λ h g. found_passes p ys x g) e
+found_passes {A} p (y ∷ ys) x e = grind (arith, nat_tests, found_passes p ys x)
 
 pub entry_map : {A B : Type 0} (f : A → B) (xs : List A) (k : ℕ) (x : A) → slice_get xs k ≡ Some x → slice_get (map f xs) k ≡ Some (f x)
 entry_map f [] k x h = cc
@@ -48,8 +44,7 @@ mapped_entry f (x ∷ xs) (suc r) y e = mapped_entry f xs r y e
 pub map_more : {X Y : Type 0} (f : X → Y) (xs : List X) (i : ℕ) (x : X) → i < length xs → x ≡ get_or xs i x → map f (take (i + 1) xs) ≡ map f (take i xs) ++ f x ∷ []
 map_more f [] i x h e = absurd (omega arith)
 map_more f (z ∷ xs) zero x h e = let a : x ≡ z = e in ap (λ (y : _). f y ∷ []) (sym a)
-map_more f (z ∷ xs) (suc i) x h e = let k : suc i + 1 ≡ suc (i + 1) = omega arith in
-    ap (λ (n : ℕ). map f (take n (z ∷ xs))) k ∙ ap (λ (ys : List _). f z ∷ ys) (map_more f xs i x (omega arith) e)
+map_more f (z ∷ xs) (suc i) x h e = grind (arith, nat_tests, map_more f xs i x)
 
 pub rows_same : {A B X : Type 0} (f : A → X) (h : ℕ × B → X) (xs : List A) (ys : List B) (from : ℕ) → length xs ≡ length ys
     → ((r : ℕ) (a : A) (b : B) → slice_get xs r ≡ Some a → slice_get ys r ≡ Some b → f a ≡ h (from + r, b)) → map f xs ≡ map h (enumerate_from from ys)
@@ -65,13 +60,7 @@ rows_same f h n m from l e = absurd (omega arith)
 pub next_numbered : {X Y : Type 0} (f : ℕ × X → List Y) (xs : List X) (i m next : ℕ) (x d : X) (done now whole : List Y) → i < length xs → get_or xs i d ≡ x → next ≡ m + 1
     → now ≡ done ++ f (m, x) → done ++ flat_map f (enumerate_from m (drop i xs)) ≡ whole
     → now ++ flat_map f (enumerate_from next (drop (i + 1) xs)) ≡ whole
-next_numbered {X} {Y} f xs i m next x d done now whole there is more step all =
-    ap (λ (ys : List Y). ys ++ flat_map f (enumerate_from next (drop (i + 1) xs))) step
-    ∙ ap (λ (n : ℕ). (done ++ f (m, x)) ++ flat_map f (enumerate_from n (drop (i + 1) xs))) more
-    ∙ append_assoc done (f (m, x)) (flat_map f (enumerate_from (m + 1) (drop (i + 1) xs)))
-    ∙ ap (λ (y : X). done ++ flat_map f (enumerate_from m (y ∷ drop (i + 1) xs))) (sym is)
-    ∙ ap (λ (ys : List X). done ++ flat_map f (enumerate_from m ys)) (sym (drop_more xs i d there))
-    ∙ all
+next_numbered {X} {Y} f xs i m next x d done now whole there is more step all = grind (arith, nat_tests, append_assoc, drop_more, flat_map, enumerate_from, drop)
 
 pub flat_same : {A B : Type 0} (f g : A → List B) → ((x : A) → f x ≡ g x) → (xs : List A) → flat_map f xs ≡ flat_map g xs
 flat_same f g h [] = refl

@@ -1,5 +1,5 @@
 -- Optional values: what is there, what is not, the first of two.
-use Rattle.list_laws.proofs.Words.{◌≡◌, Bool, true, false, cond, Option, Some, None, refl, sym, subst, inl, inr, ◌⊎◌, IfSome, is_some, is_none, option_map, option_or}
+use Rattle.list_laws.proofs.Words.{◌≡◌, Bool, true, false, cond, Option, Some, None, refl, inl, inr, ◌⊎◌, IfSome, is_some, is_none, option_map, option_or, arith, nat_tests}
 
 pub no_none_some : {A B : Type 0} (a : A) → None ≡ Some a → B
 no_none_some a h = absurd cc
@@ -13,64 +13,50 @@ value_of_some None h = absurd cc
 value_of_some (Some x) h = (x, refl)
 
 pub none_of_test : {A : Type 0} (o : Option A) → is_none o ≡ true → o ≡ None
-none_of_test None h = refl
-none_of_test (Some x) h = cc
+none_of_test o h = grind (arith, nat_tests)
 
 pub none_before_map : {A B : Type 0} (f : A → B) (o : Option A) → option_map f o ≡ None → o ≡ None
-none_before_map f None h = refl
-none_before_map f (Some x) h = cc
+none_before_map f o h = grind (arith, nat_tests)
 
 -- a value that is told under a test, and none where the test fails
 pub untold : {A : Type 0} (t : Bool) (x : A) → cond t (Some x) None ≡ None → t ≡ false
-untold true x h = cc
-untold false x h = refl
+untold t x h = grind (arith, nat_tests)
 
 pub told_else : {A : Type 0} (t : Bool) (x : A) (o : Option A) → cond t (Some x) o ≡ None → (t ≡ false) × (o ≡ None)
-told_else true x o h = cc
-told_else false x o h = (refl, h)
+told_else t x o h = grind (arith, nat_tests)
 
 pub told_unless : {A : Type 0} (t : Bool) (o : Option A) (x : A) → cond t o (Some x) ≡ None → (t ≡ true) × (o ≡ None)
-told_unless true o x h = (refl, h)
-told_unless false o x h = cc
+told_unless t o x h = grind (arith, nat_tests)
 
 pub if_some_at : {A : Type 0} (P : A → Type 0) (o : Option A) (x : A) → o ≡ Some x → IfSome o P → P x
-if_some_at P None x e h = absurd cc
-if_some_at P (Some y) x e h = let same : y ≡ x = cc in subst P same h
+if_some_at P o x e h = grind (arith, nat_tests)
 
 -- ---- the first of two
 
 pub neither_some : {A : Type 0} (o q : Option A) → o ≡ None → q ≡ None → option_or o q ≡ None
-neither_some None q h k = k
-neither_some (Some a) q h k = h
+neither_some o q h k = grind (arith, nat_tests)
 
 pub both_none : {A : Type 0} (o q : Option A) → option_or o q ≡ None → (o ≡ None) × (q ≡ None)
-both_none None q h = (refl, h)
-both_none (Some x) q h = cc
+both_none o q h = grind (arith, nat_tests)
 
 pub second_counts : {A : Type 0} (o q : Option A) → o ≡ None → option_or o q ≡ q
-second_counts None q h = refl
-second_counts (Some a) q h = no_none_some a (sym h)
+second_counts o q h = grind (arith, nat_tests)
 
 pub first_counts : {A : Type 0} (o q : Option A) (a : A) → o ≡ Some a → option_or o q ≡ Some a
-first_counts None q a h = no_none_some a h
-first_counts (Some b) q a h = h
+first_counts o q a h = grind (arith, nat_tests)
 
 pub option_or_assoc : {A : Type 0} (o q r : Option A) → option_or (option_or o q) r ≡ option_or o (option_or q r)
-option_or_assoc None q r = refl
-option_or_assoc (Some a) q r = refl
+option_or_assoc o q r = grind (arith, nat_tests)
 
 pub none_last : {A : Type 0} (o : Option A) → o ≡ option_or o None
-none_last None = refl
-none_last (Some a) = refl
+none_last o = grind (arith, nat_tests)
 
 pub not_some : {A : Type 0} (o : Option A) → is_some o ≡ false → o ≡ None
-not_some None h = refl
-not_some (Some x) h = absurd (cc)
+not_some o h = grind (arith, nat_tests)
 
 pub some_of_map : {A B : Type 0} (g : A → B) (o : Option A) (y : B) → option_map g o ≡ Some y → (x : A) × (o ≡ Some x) × (g x ≡ y)
 some_of_map g None y h = absurd (cc)
 some_of_map g (Some x) y h = let same : g x ≡ y = cc in (x, refl, same)
 
 pub some_not_none : {A : Type 0} (x : A) (o : Option A) → o ≡ Some x → o ≡ None → ⊥
-some_not_none x None e f = cc
-some_not_none x (Some y) e f = cc
+some_not_none x o e f = grind (arith, nat_tests)

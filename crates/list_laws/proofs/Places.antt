@@ -1,5 +1,5 @@
 -- The entries of a list by their places.
-use Rattle.list_laws.proofs.Words.{◌≡◌, ℕ, zero, suc, ◌<◌, ◌≤◌, refl, ap, List, [], ◌∷◌, length, take, set, Some, arith, Bool, subst, nat_lt, drop, replicate, sym, get_or, ◌+◌, ◌∙◌, ◌++◌, position_or_len, enumerate_from, slice_get, zip, ltb-true, cond_some, same_Some, cases_eq, inl, inr}
+use Rattle.list_laws.proofs.Words.{◌≡◌, ℕ, zero, suc, ◌<◌, ◌≤◌, refl, ap, List, [], ◌∷◌, length, take, set, Some, arith, Bool, nat_lt, drop, replicate, sym, get_or, ◌+◌, ◌∙◌, ◌++◌, position_or_len, enumerate_from, slice_get, zip, ltb-true, cond_some, same_Some, cases_eq, nat_tests}
 use Rattle.std.proofs.Common.{position}
 pub use Rattle.nc_base.proofs.ListPlaces.{get_left, get_right, take_next}
 
@@ -24,9 +24,7 @@ take_at_most (suc n) (x ∷ xs) = let rest = take_at_most n xs in omega arith
 take_at_most ys xs = omega arith
 
 pub position_below : {A : Type 0} (p : A → Bool) (xs : List A) (n : ℕ) → position p xs ≡ Some n → n < length xs
-position_below p xs n e =
-    let k = cond_some (nat_lt (position_or_len p xs) (length xs)) (position_or_len p xs) n e in
-    subst (λ (m : ℕ). m < length xs) k.1 (ltb-true _ _ k.0)
+position_below p xs n e = grind (arith, nat_tests, cond_some, nat_lt, ltb-true, position_or_len)
 
 pub drop_at : {A : Type 0} (xs : List A) (k : ℕ) (x : A) → slice_get xs k ≡ Some x → drop k xs ≡ x ∷ drop (suc k) xs
 drop_at [] k x h = cc
@@ -59,13 +57,7 @@ left_more old now i y left r l = entry_set_other now i r y (λ e. absurd (omega 
 pub each_more : {X : Type 0} (P : ℕ → X → X → Type 0) (old now : List X) (i : ℕ) (x y : X) → slice_get old i ≡ Some x → slice_get now i ≡ Some x → P i x y
     → ((r : ℕ) (a b : X) → r < i → slice_get old r ≡ Some a → slice_get now r ≡ Some b → P r a b)
     → (r : ℕ) (a b : X) → r < i + 1 → slice_get old r ≡ Some a → slice_get (set now i y) r ≡ Some b → P r a b
-each_more {X} P old now i x y e f p each r a b l g h = elim (cases_eq r i) [
-  | inr n ↦ each r a b (omega arith) g (sym (entry_set_other now i r y n) ∙ h)
-  | inl s ↦
-      (let first : x ≡ a = same_Some x a (sym e ∙ ap (slice_get old) (sym s) ∙ g) in
-      let second : y ≡ b = same_Some y b (sym (entry_set now i x y f) ∙ ap (slice_get (set now i y)) (sym s) ∙ h) in
-      subst (λ (k : ℕ). P k a b) (sym s) (subst (λ (c : X). P i c b) first (subst (λ (d : X). P i x d) second p)))
-]
+each_more {X} P old now i x y e f p each r a b l g h = grind (arith, nat_tests, cases_eq, entry_set_other, same_Some, entry_set, set)
 
 -- an entry of one of two lists that are as long has its like in the other
 pub entry_beside : {X Y : Type 0} (xs : List X) (ys : List Y) (q : ℕ) (x : X) → length xs ≡ length ys → slice_get xs q ≡ Some x
@@ -84,13 +76,8 @@ entry_zip n ys q x y e f = cc
 -- the entry of a numbered list
 pub entry_numbered : {X : Type 0} (n : ℕ) (xs : List X) (k : ℕ) (x : X) → slice_get xs k ≡ Some x → slice_get (enumerate_from n xs) k ≡ Some (n + k, x)
 entry_numbered n [] k x h = absurd cc
-entry_numbered n (y ∷ xs) zero x h =
-    let same : y ≡ x = cc in
-    let plain : n ≡ n + 0 = omega arith in
-    λ t. Some (plain t, same t)
-entry_numbered n (y ∷ xs) (suc k) x h =
-    let next : n + 1 + k ≡ n + suc k = omega arith in
-    entry_numbered (n + 1) xs k x h ∙ (λ t. Some (next t, x))
+entry_numbered n (y ∷ xs) zero x h = grind (arith, nat_tests)
+entry_numbered n (y ∷ xs) (suc k) x h = grind (arith, nat_tests, entry_numbered (n + 1) xs k x h)
 
 pub middle_at : {A : Type 0} (xs rest whole : List A) (x : A) → xs ++ x ∷ rest ≡ whole → slice_get whole (length xs) ≡ Some x
 middle_at {A} xs rest whole x e = ap (λ (v : List A). slice_get v (length xs)) (sym e) ∙ here xs

@@ -1,16 +1,12 @@
 -- Numbers one after another.
-use Rattle.list_laws.proofs.Words.{◌≡◌, ℕ, zero, suc, ◌+◌, ◌*◌, ◌∙◌, ap, refl, List, ◌∷◌, ◌++◌, length, arith, [], ◌<◌, ◌≤◌, Some, Bool, ◌||◌, false, leb, flat_map, slice_get, list_any, range_with_len, or_from, lt-leb, length-range_with_len}
+use Rattle.list_laws.proofs.Words.{◌≡◌, ℕ, zero, suc, ◌+◌, ◌*◌, ◌∙◌, ap, refl, List, ◌∷◌, ◌++◌, length, arith, [], ◌<◌, ◌≤◌, Some, Bool, ◌||◌, false, leb, flat_map, slice_get, list_any, range_with_len, or_from, lt-leb, length-range_with_len, nat_tests}
 use Rattle.std.proofs.lemmas.List.{length-append}
 
 pub range_append : (a m n : ℕ) → range_with_len a (m + n) ≡ range_with_len a m ++ range_with_len (a + m) n
-range_append a zero n =
-    let none : 0 + n ≡ n = omega arith in
-    let start : a ≡ a + 0 = omega arith in
-    ap (λ (k : ℕ). range_with_len a k) none ∙ ap (λ (b : ℕ). range_with_len b n) start
+range_append a zero n = grind (arith, nat_tests)
 range_append a (suc m) n =
     let more : suc m + n ≡ suc (m + n) = omega arith in
-    let next : a + 1 + m ≡ a + suc m = omega arith in
-    ap (λ (k : ℕ). range_with_len a k) more ∙ ap (λ (ys : List ℕ). a ∷ ys) (range_append (a + 1) m n ∙ ap (λ (b : ℕ). range_with_len (a + 1) m ++ range_with_len b n) next)
+    grind (arith, nat_tests, range_append (a + 1) m n, range_with_len)
 
 -- as many from each number
 pub pieces_long : {A : Type 0} (f : ℕ → List A) (m : ℕ) → ((k : ℕ) → length (f k) ≡ m) → (a n : ℕ) → length (flat_map f (range_with_len a n)) ≡ n * m
@@ -26,8 +22,7 @@ range_next n = let next : n + 1 ≡ suc n = omega arith in ap (λ (k : ℕ). ran
 
 pub spans_long : (size : ℕ) (xs : List ℕ) → length (flat_map (λ x. range_with_len x size) xs) ≡ length xs * size
 spans_long size [] = omega arith
-spans_long size (x ∷ xs) =
-    omega (arith, spans_long size xs, length-append (range_with_len x size) (flat_map (λ x. range_with_len x size) xs), length-range_with_len x size)
+spans_long size (x ∷ xs) = grind (arith, nat_tests, spans_long size xs, length-append, length-range_with_len)
 
 pub range_first : (a n : ℕ) (ys : List ℕ) (i : ℕ) → i < n → slice_get (range_with_len a n ++ ys) i ≡ Some (a + i)
 range_first a zero ys i h = absurd (omega arith)
@@ -36,9 +31,7 @@ range_first a (suc n) ys (suc i) h = let next : a + 1 + i ≡ a + suc i = omega 
 
 pub range_rest : (a n : ℕ) (ys : List ℕ) (j x : ℕ) → slice_get ys j ≡ Some x → slice_get (range_with_len a n ++ ys) (n + j) ≡ Some x
 range_rest a zero ys j x h = let same : 0 + j ≡ j = omega arith in ap (λ (k : ℕ). slice_get ys k) same ∙ h
-range_rest a (suc n) ys j x h =
-    let next : suc n + j ≡ suc (n + j) = omega arith in
-    ap (λ (k : ℕ). slice_get (a ∷ (range_with_len (a + 1) n ++ ys)) k) next ∙ range_rest (a + 1) n ys j x h
+range_rest a (suc n) ys j x h = grind (arith, nat_tests, range_rest (a + 1) n ys j x h)
 
 -- none of these reaches the bound
 pub all_below : (c k n : ℕ) → k + n ≤ c → list_any (λ m. leb c m) (range_with_len k n) ≡ false
