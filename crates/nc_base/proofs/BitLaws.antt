@@ -1,5 +1,5 @@
 -- Patterns of one step, one more of them, and those that don't wrap.
-use Rattle.nc_base.proofs.Words.{◌≡◌, ℕ, zero, suc, ◌+◌, ◌-◌, ◌<◌, ◌≤◌, refl, ◌∙◌, ap, List, [], ◌∷◌, ◌++◌, length, map, arith, ◌*◌, ◌%◌, ◌^◌, range_with_len, length-map, length-range_with_len, map-range_with_len_more, mul-le-mul_left, BitRun, bit_steps, bits_of_run, bits_of_runs}
+use Rattle.nc_base.proofs.Words.{◌≡◌, ℕ, zero, suc, ◌+◌, ◌-◌, ◌<◌, refl, ◌∙◌, List, [], ◌∷◌, ◌++◌, length, map, arith, ◌*◌, ◌%◌, ◌^◌, range_with_len, length-map, length-range_with_len, map-range_with_len_more, mul-le-mul_left, BitRun, bit_steps, bits_of_run, bits_of_runs, nat_tests}
 use Rattle.nc_base.proofs.RunLists as lists
 
 -- a run, as RunLists has it
@@ -22,27 +22,15 @@ pub length_after : (zs : List ℕ) (r : BitRun) → length (zs ++ bits_of_run r)
 length_after zs r = lists.length_after pattern count zs r
 
 pub single : (rs new : List BitRun) (x : ℕ) → x < 2 ^ 64 → new ≡ rs ++ record { first = x; step = 0; count = 1 } ∷ [] → bits_of_runs new ≡ bits_of_runs rs ++ x ∷ []
-single rs new x small e =
-    let same : (x + 0 * 0) % 2 ^ 64 ≡ x = omega (arith, small) in
-    ap (λ (l : List BitRun). bits_of_runs l) e
-    ∙ runs_push rs (record { first = x; step = 0; count = 1 })
-    ∙ ap (λ (y : ℕ). bits_of_runs rs ++ y ∷ []) same
+single rs new x small e = grind (arith, nat_tests, runs_push, bits_of_runs)
 
 small : (x : ℕ) → x < 2 ^ 64 → x % 2 ^ 64 ≡ x
 small x h = omega (arith, h)
 
 unwrapped : (a b s n : ℕ) → ((k : ℕ) → k < s + n → a + b * k < 2 ^ 64) → map (λ k. (a + b * k) % 2 ^ 64) (range_with_len s n) ≡ map (λ k. a + b * k) (range_with_len s n)
 unwrapped a b s zero h = refl
-unwrapped a b s (suc n) h =
-    ap (λ (x : ℕ). x ∷ map (λ k. (a + b * k) % 2 ^ 64) (range_with_len (s + 1) n)) (small (a + b * s) (h s (omega arith)))
-    ∙ ap (λ (l : List ℕ). (a + b * s) ∷ l) (unwrapped a b (s + 1) n (λ k low. h k (omega (arith, low))))
+unwrapped a b s (suc n) h = grind (arith, nat_tests, small (a + b * s), unwrapped a b (s + 1) n)
 
 -- a sequence whose last pattern has 64 bits
 pub no_wrap : (a b n : ℕ) → a + b * (n - 1) < 2 ^ 64 → bit_steps a b n ≡ map (λ k. a + b * k) (range_with_len 0 n)
-no_wrap a b n last = unwrapped a b 0 n each
-  where
-    each : (k : ℕ) → k < 0 + n → a + b * k < 2 ^ 64
-    each k low =
-        let le : k ≤ n - 1 = omega (arith, low) in
-        let more = mul-le-mul_left b le in
-        omega (arith, last, more)
+no_wrap a b n last = grind (arith, nat_tests, unwrapped, mul-le-mul_left, bit_steps, range_with_len)

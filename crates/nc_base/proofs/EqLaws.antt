@@ -1,5 +1,5 @@
 -- Lists that are the same at each place, and lists that are not.
-use Rattle.nc_base.proofs.Words.{◌≡◌, ℕ, suc, ◌+◌, ◌<◌, refl, ◌∙◌, ap, sym, List, [], ◌∷◌, ◌++◌, append_assoc, take, length, true, false, Some, arith, ℤ, slice_get, nat_eq, int_eq, pointwise, bytes_decides, signed_items, same_Some, false_from_ne_true}
+use Rattle.nc_base.proofs.Words.{◌≡◌, ℕ, suc, ◌+◌, ◌<◌, refl, ◌∙◌, ap, sym, List, [], ◌∷◌, ◌++◌, append_assoc, take, length, true, false, Some, arith, ℤ, slice_get, nat_eq, int_eq, pointwise, bytes_decides, signed_items, same_Some, false_from_ne_true, nat_tests}
 use Rattle.nc_base.proofs.ListPlaces.{take_next}
 
 same_lists : {A : Type 0} (xs ys : List A) → length xs ≡ length ys → ((k : ℕ) → k < length xs → slice_get xs k ≡ slice_get ys k) → xs ≡ ys
@@ -20,8 +20,4 @@ pub equal_bits : (xs ys : List ℕ) → length xs ≡ length ys → ((k : ℕ) �
 equal_bits xs ys h each = sym ((bytes_decides xs ys).1 (same_lists xs ys h each))
 
 pub after_some : {A : Type 0} (first old new xs : List A) (k : ℕ) (x : A) → slice_get xs k ≡ Some x → old ≡ first ++ take k xs → new ≡ old ++ x ∷ [] → new ≡ first ++ take (k + 1) xs
-after_some {A} first old new xs k x there before added =
-    added
-    ∙ ap (λ (l : List A). l ++ x ∷ []) before
-    ∙ append_assoc first (take k xs) (x ∷ [])
-    ∙ ap (λ (l : List A). first ++ l) (sym (take_next xs k x there))
+after_some {A} first old new xs k x there before added = grind (arith, nat_tests, append_assoc, take_next, take)

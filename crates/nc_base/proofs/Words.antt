@@ -17,3 +17,4 @@ pub use Rattle.nc_base.specs.BitForms.{bit_steps, bits_of_run, bits_of_runs}
 pub use Rattle.nc_base.specs.NumberForms.{numbers_of_form, numbers_of_run, numbers_of_runs, steps}
 pub use Rattle.nc_base.specs.declared.bits.BitRun.{BitRun}
 pub use Rattle.nc_base.specs.declared.numbers.NumberRun.{NumberRun}
+pub use Rattle.std.proofs.lemmas.Bool.Decides.{nat_tests}

@@ -1,4 +1,4 @@
-use Rattle.nc_base.proofs.Words.{◌∙◌, ap, List, length, take_all, BitRun, bits_of_runs}
+use Rattle.nc_base.proofs.Words.{take_all, arith, nat_tests}
 use Rattle.nc_base.proofs.BitLaws.{count, pattern}
 use Rattle.nc_base.proofs.RunLists.{counted}
 use Rattle.nc_base.proofs.bits.count_of_runs.Goals as goal
@@ -7,6 +7,4 @@ pub loop-run-preserved : goal.loop-run-preserved
 loop-run-preserved c = counted pattern count c.args.runs.now c.loop-run.run-index _ _ _ c.loop-run-test.true c.loop-run.invariant c.in_ok-count.ensures.1
 
 pub returns : goal.returns
-returns c =
-    c.loop-run.invariant
-    ∙ ap (λ (l : List BitRun). length (bits_of_runs l)) (take_all c.loop-run.run-index c.args.runs.now c.loop-run-test.false)
+returns c = grind (arith, nat_tests, take_all, c.loop-run.invariant)

@@ -1,6 +1,4 @@
-use Rattle.nc_base.proofs.Words.{List, ◌≡◌, ◌∙◌, sym, ap, ℕ, Some, arith, ℤ, pos, to_z-of_z, BitRun, slice_get, at_drop_all, bits_of_runs}
-use mir.Syntax.{w128}
-use mir.Val.{to_z, of_z}
+use Rattle.nc_base.proofs.Words.{List, ◌∙◌, sym, ap, ℕ, Some, arith, BitRun, slice_get, at_drop_all, bits_of_runs, nat_tests}
 use Rattle.nc_base.proofs.BitLaws.{count, pattern}
 use Rattle.nc_base.proofs.RunLists.{found, skipped}
 use Rattle.nc_base.proofs.bits.pattern_in_runs.Goals as goal
@@ -13,8 +11,7 @@ returns-then-left-run c =
 
 pub loop-run-preserved : goal.loop-run-preserved
 loop-run-preserved c =
-    sym (skipped pattern count c.args.runs.now c.loop-run.run-index c.loop-run.left _ (record { first = 0; step = 0; count = 0 }) c.loop-run-test.true (omega (arith, c.if-left-run.false)))
-    ∙ c.loop-run.invariant
+    grind (arith, nat_tests, skipped pattern count c.args.runs.now c.loop-run.run-index c.loop-run.left, c.loop-run-test.true, c.if-left-run.false, c.loop-run.invariant)
 
 pub returns : goal.returns
 returns c =
