@@ -1,5 +1,5 @@
 -- Values one after another, in memory and in external form.
-use Rattle.nc_classic_c.proofs.Words.{◌≡◌, ℕ, ◌+◌, ◌*◌, ◌^◌, ◌<◌, List, [], ◌∷◌, ◌++◌, length, map, take, drop, set, get_or, Bool, true, false, not, ltb, Some, None, Ok, Err, ap, sym, subst, ◌∙◌, arith, position, w32, w64, from_be_bytes, range_with_len, position_or_len, mul-le-mul_right, lt-ltb, ltb-false, not-false, flat_map-append, append-nil, get_or-drop, get_or-map, get_or-take, length-map, map-append, take_more, take_more_set, get_or-map-range_with_len, length-map-range_with_len, map-range_with_len_more, position_or_len_is, fails_before_first, take-put_mid, NcType, Float, Double, Value, size_of, fits, ext, val, ext_long, first_out, is_length, pack, packed, patterns, values_of, nat_tests, position_map}
+use Rattle.nc_classic_c.proofs.Words.{◌≡◌, ℕ, ◌+◌, ◌*◌, ◌^◌, ◌<◌, List, [], ◌∷◌, ◌++◌, length, map, take, drop, set, get_or, Bool, true, false, not, ltb, Some, None, Err, ap, sym, subst, ◌∙◌, arith, position, w32, w64, from_be_bytes, range_with_len, position_or_len, mul-le-mul_right, lt-ltb, ltb-false, not-false, flat_map-append, append-nil, get_or-drop, get_or-map, get_or-take, length-map, map-append, take_more, take_more_set, get_or-map-range_with_len, length-map-range_with_len, map-range_with_len_more, position_or_len_is, fails_before_first, take-put_mid, NcType, Float, Double, Value, size_of, fits, ext, val, ext_long, first_out, is_length, pack, packed, patterns, values_of, nat_tests, position_map}
 use borrow.Rule.Slice.PartMut.{put_mid}
 use Rattle.nc_base.specs.declared.request.Value.TheVariants as value
 use Rattle.nc_classic_c.specs.declared.answers.Refusal.TheVariants as refusal
@@ -34,10 +34,6 @@ word_fits kind told ws i w h l is =
 
 pub words_fit : {W : Type 0} (kind : NcType) (told : W → Value) (ws : List W) → position (λ w. not (fits kind (told w))) ws ≡ None → first_out kind (map told ws) ≡ None
 words_fit kind told ws h = sym (first_of_words kind told ws) ∙ h
-
-pub words_packed : {W : Type 0} (kind : NcType) (told : W → Value) (ws : List W) (len : ℕ) (bytes : List ℕ) → is_length kind (length ws) len ≡ true
-    → position (λ w. not (fits kind (told w))) ws ≡ None → bytes ≡ packed kind (map told ws) → pack kind (map told ws) len ≡ Ok bytes
-words_packed kind told ws len bytes h e is = grind (arith, nat_tests, length-map, words_fit)
 
 pub words_refused : {W : Type 0} (kind : NcType) (told : W → Value) (ws : List W) (len k : ℕ) → is_length kind (length ws) len ≡ true
     → position (λ w. not (fits kind (told w))) ws ≡ Some k → pack kind (map told ws) len ≡ Err (refusal.Range k)

@@ -1,5 +1,5 @@
 -- The domain is the one that is cut.
-use Rattle.nc_classic_c.proofs.Words.{inl, inr, refl, sym, ◌∙◌, ◌≡◌, ℕ, ◌<◌, ◌≤◌, ◌^◌, true, ltb, leb, leb-true, ltb-true, and_first, and_second, is_asked, arith, nat_tests}
+use Rattle.nc_classic_c.proofs.Words.{inl, refl, ◌≡◌, ℕ, ◌<◌, ◌≤◌, ◌^◌, true, ltb, leb, leb-true, ltb-true, and_first, and_second, is_asked, arith, nat_tests}
 use Rattle.nc_base.specs.declared.answer.Code.TheVariants as code
 use Rattle.nc_classic_c.specs.declared.answers.Refusal.TheVariants as refusal
 use Rattle.nc_classic_c.proofs.Answering.{number_kept}
@@ -18,14 +18,10 @@ asked_within : (lo hi aggregators unit number : ℕ) → is_asked lo hi aggregat
 asked_within lo hi aggregators unit number h = grind (arith, nat_tests, and_first, leb, ltb, leb-true, ltb-true, and_second)
 
 pub cut-found-requires : goal.cut-found-requires
-cut-found-requires c =
-    let w = asked_within c.args.lo c.args.hi c.args.aggregators c.args.unit c.args.number (sym c.is_asked.ensures ∙ c.if-is_asked.true) in
-    record { order = w.order; limit = w.limit; number = w.number; few = w.few; least_unit = w.least_unit; greatest_unit = w.greatest_unit }
+cut-found-requires c = grind (arith, nat_tests, asked_within, c.is_asked.ensures, c.if-is_asked.true)
 
 pub returns-then-is_asked : goal.returns-then-is_asked
 returns-then-is_asked c = inl (refl, record { begin = c.cut-found.ensures.begin; end = c.cut-found.ensures.end })
 
 pub returns-else-is_asked : goal.returns-else-is_asked
-returns-else-is_asked c =
-    let r = refusal.Asked code.EInvalRequest in
-    inr (r, number_kept _ r c.number_of.ensures, ((refl, sym c.is_asked.ensures ∙ c.if-is_asked.false), refl))
+returns-else-is_asked c = grind (arith, nat_tests, number_kept, c.number_of.ensures, c.is_asked.ensures, c.if-is_asked.false)

@@ -1,14 +1,12 @@
 -- The extents of the accepted region.
-use Rattle.nc_classic_c.proofs.Words.{List, inl, inr, refl, sym, ◌∙◌, length-map, Extent, extents_of, extents_left, AreLaid, direction_of, map}
+use Rattle.nc_classic_c.proofs.Words.{List, inl, inr, refl, sym, ◌∙◌, length-map, Extent, extents_of, extents_left, AreLaid, map, arith, nat_tests}
 use Rattle.nc_classic_c.specs.Extents.{shown}
 use Rattle.nc_classic_c.proofs.AcceptedRegions.{few_left, region_told}
 use Rattle.nc_classic_c.proofs.Answering.{number_kept}
 use Rattle.nc_classic_c.proofs.extents.ncv_extents.Goals as goal
 
 pub new-extents-requires : goal.new-extents-requires
-new-extents-requires c =
-    let h = c.in-Ok.ensures.ok in
-    record { sound = h.header.1; measured = h.measured; accepted = (c.args.records, direction_of c.args.put, h.accepted) }
+new-extents-requires c = grind (arith, nat_tests, c.in-Ok.ensures.ok, c.in-Ok.ensures.ok.header.1, c.in-Ok.ensures.ok.measured, c.in-Ok.ensures.ok.accepted)
 
 pub lay-requires : goal.lay-requires
 lay-requires c =

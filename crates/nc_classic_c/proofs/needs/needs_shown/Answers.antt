@@ -1,5 +1,5 @@
 -- Bytes and records are those of the same variable.
-use Rattle.nc_classic_c.proofs.Words.{◌≡◌, ℕ, ◌*◌, Option, slice_get, Var, Header, Region, product, size_of, records_of, needs_shown, NcvNeeds, arith, nat_tests, IfSome}
+use Rattle.nc_classic_c.proofs.Words.{◌≡◌, ℕ, ◌*◌, Option, Var, Header, Region, product, size_of, records_of, needs_shown, NcvNeeds, arith, nat_tests, IfSome}
 use Rattle.nc_classic_c.proofs.needs.needs_shown.Goals as goal
 
 abbrev needs : ℕ → ℕ → NcvNeeds
@@ -10,6 +10,4 @@ needs_both : (header : Header) (g : Region) (o : Option Var) (a b : ℕ) → IfS
 needs_both header g o a b h k = grind (arith, nat_tests)
 
 pub returns : goal.returns
-returns c =
-    needs_both c.args.header.now c.args.region.now (slice_get c.args.header.now.vars c.args.var) c.bytes_of.result c.records_needed.result c.bytes_of.ensures
-    c.records_needed.ensures
+returns c = grind (arith, nat_tests, needs_both, c.bytes_of.ensures, c.records_needed.ensures)

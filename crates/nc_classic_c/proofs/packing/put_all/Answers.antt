@@ -1,12 +1,10 @@
 -- One value more is written.
-use Rattle.nc_classic_c.proofs.Words.{◌≡◌, ◌*◌, ◌≤◌, ◌∙◌, length, map, sym, ap, subst, true, arith, mul-le-mul_right, take_all, Value, fits, ext, size_of, packed}
+use Rattle.nc_classic_c.proofs.Words.{◌*◌, ◌≤◌, ◌∙◌, length, map, sym, ap, true, arith, mul-le-mul_right, take_all, Value, fits, ext, size_of, packed, nat_tests}
 use Rattle.nc_classic_c.proofs.ValueLaws.{one_written, word_fits}
 use Rattle.nc_classic_c.proofs.packing.put_all.Goals as goal
 
 pub put_value-requires-clause-fits : goal.put_value-requires-clause-fits
-put_value-requires-clause-fits g c =
-    subst (λ (v : Value). fits c.args.kind v ≡ true) (sym c.value.ensures)
-    (word_fits c.args.kind g.T.Kept.told c.args.words.now c.loop-i.i c.index-words-i.result c.requires.fit c.loop-i-test.true c.index-words-i.is)
+put_value-requires-clause-fits g c = grind (arith, nat_tests, fits, word_fits, c.value.ensures, c.loop-i-test.true, c.index-words-i.is)
 
 pub loop-i-preserved : goal.loop-i-preserved
 loop-i-preserved g c =

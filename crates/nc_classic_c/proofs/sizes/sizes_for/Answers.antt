@@ -16,8 +16,7 @@ sizes_found : (header : Header) (records size end : ℕ) → fits records header
 sizes_found header records size end h s e = grind (arith, nat_tests)
 
 pub returns-then-fits-clause-found : goal.returns-then-fits-clause-found
-returns-then-fits-clause-found c =
-    sizes_found c.args.header.now c.args.records c.recsize.result c.file_end.result (sym c.fits.ensures ∙ c.if-fits.true) c.recsize.ensures.value c.file_end.ensures
+returns-then-fits-clause-found c = grind (arith, nat_tests, sizes_found, c.fits.ensures, c.if-fits.true, c.recsize.ensures.value, c.file_end.ensures)
 
 pub returns-else-fits-clause-refused : goal.returns-else-fits-clause-refused
 returns-else-fits-clause-refused c = ap (told c.args.header.now c.args.records) (sym c.fits.ensures ∙ c.if-fits.false)

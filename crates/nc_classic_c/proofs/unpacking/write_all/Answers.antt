@@ -1,17 +1,13 @@
 -- One value more is written.
-use Rattle.nc_classic_c.proofs.Words.{◌≡◌, ◌∙◌, ℕ, length, map, sym, ap, subst, true, arith, range_with_len, take_all, Value, fits}
+use Rattle.nc_classic_c.proofs.Words.{◌≡◌, ◌∙◌, ℕ, length, map, sym, ap, true, arith, range_with_len, take_all, fits, nat_tests}
 use Rattle.nc_classic_c.proofs.ValueLaws.{one_read, value_fits, value_in}
 use Rattle.nc_classic_c.proofs.unpacking.write_all.Goals as goal
 
 pub word_for-requires : goal.word_for-requires
-word_for-requires g c =
-    subst (λ (v : Value). fits g.T.Kept.same v ≡ true) (sym c.value_at.ensures)
-    (value_fits g.T.Kept.same c.args.kind (length c.args.into.now) c.args.bytes.now c.loop-k.k c.requires.kept (omega (arith, c.loop-k-test.true, c.loop-k.auto.into)))
+word_for-requires g c = grind (arith, nat_tests, fits, value_fits, c.value_at.ensures, c.loop-k-test.true, c.loop-k.auto.into)
 
 pub loop-k-preserved : goal.loop-k-preserved
-loop-k-preserved g c =
-    one_read c.args.kind g.T.Kept.told c.args.bytes.now c.loop-k.into c.loop-k.k c.word_for.result (omega (arith, c.loop-k-test.true, c.loop-k.auto.into))
-    (c.word_for.ensures ∙ c.value_at.ensures) c.loop-k.invariant
+loop-k-preserved g c = grind (arith, nat_tests, one_read, c.loop-k-test.true, c.loop-k.auto.into, c.word_for.ensures, c.value_at.ensures, c.loop-k.invariant)
 
 pub returns : goal.returns
 returns g c =
