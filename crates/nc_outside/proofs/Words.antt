@@ -11,3 +11,4 @@ pub use Rattle.nc_outside.specs.Chains.{items, passed, spread}
 pub use Rattle.nc_outside.specs.Told.{BothTold, after, with_end}
 pub use Rattle.nc_outside.specs.declared.chain.Chain.{Chain}
 pub use Rattle.serial_spec.proofs.Common.{written, written-inside}
+pub use Rattle.std.proofs.lemmas.Bool.Decides.{nat_tests}
