@@ -1,5 +1,5 @@
 -- Every form ends as the words ask for.
-use Rattle.ncmpi_cli.proofs.Words.{◌≡◌, ℕ, List, [], Option, Some, None, inl, inr, refl, subst, sym, arith, nat_tests, Mark, EndsAs, IsOfReadHeader, Seen, Asked, run, offsets, generate, most_taken, TakesAtMost}
+use Rattle.ncmpi_cli.proofs.Words.{◌≡◌, ℕ, List, [], Option, Some, None, inr, refl, subst, arith, nat_tests, Mark, EndsAs, IsOfReadHeader, Seen, Asked, run, offsets, generate, most_taken, TakesAtMost}
 use Rattle.ncmpi_cli.proofs.CutOff.{made_unready}
 use Rattle.ncmpi_cli.proofs.Made.{made_begins_none}
 
@@ -20,40 +20,7 @@ not_read status e s = grind (arith, nat_tests)
 pub wanting : (form : Option Asked) (before now : Seen) (Untouched : Type 0) (status : ℕ) (order : List Mark) (readings : List (List ℕ)) → now.left ≡ before.left
     → now.output.held ≡ before.output.held → Untouched → status ≡ 8 → order ≡ [] → EndsAs form before now Untouched status order readings
 wanting None before now Untouched status order readings l h u e o = (inr e, o)
-wanting (Some (run watchers name)) before now Untouched status order readings l h u e o = record {
-  well = λ s. absurd (omega (arith, e, s));
-  cut = λ s. absurd (omega (arith, e, s));
-  taken = subst (λ (now_left : Option (List ℕ)). TakesAtMost most_taken before.left now_left) (sym l) (takes_none before.left);
-  script = λ s. absurd (omega (arith, e, s));
-  dataset = λ s. absurd (omega (arith, e, s));
-  refused = λ _ _. inr e;
-  mislaid = λ _ _. inr e;
-  unlaid = λ _. u;
-  faulty = λ _ _ _. inr e;
-  complete = λ _ _ _ _. inr e;
-  began = inl o;
-  unread = λ _. o;
-  unfit = λ _. o;
-  torn = λ s. absurd (omega (arith, e, s));
-  wanting = λ _. inl (inl (o, inl h));
-}
-wanting (Some (offsets name)) before now Untouched status order readings l h u e o = record {
-  statuses = inr (inr (inr (inr e)));
-  whole = λ s. absurd (omega (arith, e, s));
-  cut = λ s. absurd (omega (arith, e, s));
-  dataset = λ s. absurd (omega (arith, e, s));
-  faulty = λ _ _. inr e;
-  complete = λ _ _ _. inr e;
-  unchanged = h;
-  steps = o;
-  calls = λ s. absurd (not_read status e s);
-}
-wanting (Some (generate seed size name)) before now Untouched status order readings l h u e o = record {
-  statuses = inr (inr (inr e));
-  well = λ s. absurd (omega (arith, e, s));
-  cut = λ s. absurd (omega (arith, e, s));
-  complete = λ _ _. inr e;
-  steps = made_begins_none seed size order o;
-  torn = λ s. absurd (omega (arith, e, s));
-  wanting = λ _. inl (inl (o, made_unready seed size before.output.held now.output.held h));
-}
+wanting (Some (run watchers name)) before now Untouched status order readings l h u e o = grind (arith, nat_tests, takes_none before.left)
+wanting (Some (offsets name)) before now Untouched status order readings l h u e o = grind (arith, nat_tests, not_read)
+wanting (Some (generate seed size name)) before now Untouched status order readings l h u e o =
+    grind (arith, nat_tests, made_begins_none seed size order o, made_unready seed size before.output.held now.output.held h)

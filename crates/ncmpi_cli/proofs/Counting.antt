@@ -1,5 +1,5 @@
 -- The counts after the steps of a run are those that its watchers' lines tell.
-use Rattle.ncmpi_cli.proofs.Words.{◌≡◌, ℕ, zero, suc, ◌+◌, ◌<◌, ◌≤◌, List, [], ◌∷◌, length, map, refl, ap, ap₂, ◌∙◌, arith, All-from_get_or, All-head, All-tail, All-weaker, get_or, IfSome, enumerate_from, Header, Script, Mark, told_of, count_after, with_counts, AreCounted, count_at, counted, pairs_of, readings_of, AreReadings, seen_counts, RunReadings, WatchedRun, All, Option, Some, None}
+use Rattle.ncmpi_cli.proofs.Words.{◌≡◌, ℕ, zero, suc, ◌+◌, ◌<◌, ◌≤◌, List, [], ◌∷◌, length, map, refl, ap, ap₂, ◌∙◌, arith, All-from_get_or, All-head, All-tail, All-weaker, get_or, IfSome, enumerate_from, Header, Script, Mark, told_of, count_after, with_counts, AreCounted, count_at, counted, AreReadings, seen_counts, WatchedRun, All, Option, Some, None, nat_tests}
 
 -- the k-th of the numbers that a function gives for the places of a list
 place : {A : Type 0} (count : ℕ → ℕ) (xs : List A) (n k d : ℕ) → k < length xs
@@ -50,10 +50,4 @@ pub are_counted : (script : Script) (header : Header) (held : Option (List ℕ))
     → IfSome run.seen (λ seen. (length seen.readings ≡ watchers) × All (AreReadings (length run.end.order)) seen.readings)
     → IfSome run.seen (λ seen. IfSome held (λ file. seen.counts ≡ seen_counts (told_of script header file run.end.order))) → IfSome held (AreCounted script header run)
 are_counted script header None watchers run r c = tt
-are_counted script header (Some file) watchers run r c = by_seen run.seen r c
-  where
-    by_seen : (seen : Option RunReadings) → IfSome seen (λ s. (length s.readings ≡ watchers) × All (AreReadings (length run.end.order)) s.readings)
-        → IfSome seen (λ s. s.counts ≡ seen_counts (told_of script header file run.end.order))
-        → pairs_of header.records seen ≡ map (with_counts script header file run.end.order) (readings_of seen)
-    by_seen None r c = refl
-    by_seen (Some seen) r c = ap (λ (counts : List ℕ). map (counted header.records counts) seen.readings) c ∙ same_readings script header file run.end.order seen.readings r.1
+are_counted script header (Some file) watchers run r c = grind (arith, nat_tests, same_readings script header file run.end.order)

@@ -1,5 +1,5 @@
 -- A run that a fault cut off.
-use Rattle.ncmpi_cli.proofs.Words.{◌≡◌, ℕ, ◌==◌, true, List, [], length, Option, Some, None, inl, inr, sym, ap, subst, ◌∙◌, IfSome, Header, RunEnd, Script, DiskCall, Mark, StepErr, after, BothTold, IsCutRun, HasBegun, HasCut, IsCutFile, IsMadeUnready, MadeCutOff, WasCutOff, script_made, file_at_start, Output, Seen, Asks, created_header, IsNotReady, IsReady, IsUnready, not_laid, header-kept}
+use Rattle.ncmpi_cli.proofs.Words.{◌≡◌, ℕ, ◌==◌, true, List, [], length, Option, Some, None, inl, inr, sym, ap, subst, ◌∙◌, IfSome, Header, RunEnd, Script, DiskCall, Mark, StepErr, after, BothTold, IsCutRun, HasBegun, HasCut, IsCutFile, IsMadeUnready, MadeCutOff, WasCutOff, script_made, file_at_start, Output, Seen, Asks, IsNotReady, IsReady, IsUnready, not_laid, header-kept, arith, nat_tests}
 use Rattle.ncmpi_cli.proofs.Made.{made_alone, made_fresh}
 use Rattle.ncmpi_cli.proofs.Ran.{at_start, have_begun}
 
@@ -38,8 +38,7 @@ cut_off fault script header before now held_mid calls_mid order count end asks r
 module _ (seed size : ℕ) where
   -- nothing was done
   pub made_unready : (held now : Option (List ℕ)) → now ≡ held → IsMadeUnready seed size held now
-  made_unready held now e =
-      subst (λ (m : Option (List ℕ)). BothTold (IsNotReady (script_made seed size)) held m) (sym e) (not_laid (script_made seed size) held (made_fresh seed size))
+  made_unready held now e = grind (arith, nat_tests, not_laid, made_fresh, script_made)
 
   pub unready_made : (script : Script) (held now : Option (List ℕ)) → script ≡ script_made seed size → IsUnready script held now → IsMadeUnready seed size held now
   unready_made script held now is (inl e) = made_unready held now e
@@ -50,9 +49,4 @@ module _ (seed size : ℕ) where
       → order ≡ end.order → end.fault ≡ Some fault → HasCut script header held_mid now.held count end → MadeCutOff seed size fault before now order
   made_cut fault script header before now held_mid calls_mid order count end is ready same failed cut =
       let alone : (length script.extra == 0) ≡ true = ap (λ (s : Script). length s.extra == 0) is ∙ made_alone seed size in
-      let old_is : ready.old ≡ created_header script = ready.heads.created (ap (λ (s : Script). s.fresh) is ∙ made_fresh seed size) in
-      let header_is : header ≡ created_header script = ready.heads.made ∙ header-kept script ready.old alone ∙ old_is in
-      subst (λ (s : Script). IfSome before.held (λ file. IsCutFile s (created_header s) fault (file_at_start s (created_header s) (created_header s) file) now.held order)) is
-      (subst (λ (h : Header). IfSome before.held (λ file. IsCutFile script h fault (file_at_start script (created_header script) h file) now.held order)) header_is
-      (subst (λ (h : Header). IfSome before.held (λ file. IsCutFile script header fault (file_at_start script h header file) now.held order)) old_is
-      (cut_file fault script header before.held held_mid now.held before.calls calls_mid order count end ready same failed cut)))
+      grind (arith, nat_tests, made_fresh seed size, header-kept script ready.old alone, cut_file fault script header before.held held_mid now.held before.calls calls_mid order count end ready same)

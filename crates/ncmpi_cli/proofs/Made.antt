@@ -1,5 +1,5 @@
 -- A run of a made script.
-use Rattle.ncmpi_cli.proofs.Words.{◌≡◌, ℕ, ◌≤◌, true, List, [], length, Option, Some, None, inr, ◌⊎◌, refl, sym, ap, ap₂, subst, ◌∙◌, arith, nat_tests, IfSome_then, IfSome, some_not_none, Result, Ok, Err, IfErr, IsErrAnd, Answer, Header, RunEnd, Script, DiskCall, Mark, after, with_end, all_calls, run_calls, IsLegal, layout_fault, End, serial, serial_from, AreAlikeEnds, HasBegun, IsRun, seen, has_counts, made_script, summary_text, header_line, layout_line, redef_line, made_counted, made_lawful, made_laid, IsMadeStatus, new_end, RanMade, script_made, summed, end_of_run, file_at_start, Output, align_of, created_header, IsKept, TellsDataset, IsReady, IsOfDataset, line_of, status_of, Stop, file-kept, header-kept, ◌==◌}
+use Rattle.ncmpi_cli.proofs.Words.{◌≡◌, ℕ, ◌≤◌, true, List, [], length, Option, Some, None, ◌⊎◌, refl, sym, ap, ap₂, subst, ◌∙◌, arith, nat_tests, IfSome_then, IfSome, some_not_none, Header, RunEnd, Script, DiskCall, Mark, after, with_end, all_calls, run_calls, IsLegal, layout_fault, End, serial_from, HasBegun, IsRun, seen, has_counts, made_script, summary_text, header_line, layout_line, redef_line, made_counted, made_lawful, made_laid, new_end, RanMade, script_made, summed, end_of_run, file_at_start, Output, align_of, created_header, IsKept, TellsDataset, IsReady, IsOfDataset, line_of, status_of, Stop, file-kept, header-kept, ◌==◌}
 use Rattle.dataset_start.specs.declared.stop.Stop.TheVariants as stops
 use Rattle.ncmpi_cli.proofs.Statuses.{by_cause, IsTold}
 use Rattle.ncmpi_cli.proofs.Ran.{all_told, any_end, at_start, if_any, told_end}
@@ -54,15 +54,12 @@ told_sums : (seed size : ℕ) (script : Script) (header : Header) (held : Option
     → IfSome held (λ file. end.answers ≡ (serial_from script header file end.order).answers)
     → IfSome held (λ file. summary_text seed size script (record header { records = records }) end.order end.answers ≡ sums seed size script header end.order (serial_from script header file end.order))
 told_sums seed size script header None records end r a = tt
-told_sums seed size script header (Some file) records end r a =
-    ap₂ (λ (n : ℕ) (x : List (List Answer)). summary_text seed size script (record header { records = n }) end.order x) r a
+told_sums seed size script header (Some file) records end r a = grind (arith, nat_tests)
 
 -- the headers of a created dataset to which nothing is added are its first one
 one_end : (script : Script) (old header : Header) (order : List Mark) → (length script.extra == 0) ≡ true → old ≡ created_header script → header ≡ created_header script
     → (file : List ℕ) → end_of_run script old header file order ≡ new_end script file order
-one_end script old header order alone old_is header_is file =
-    let own : Header = created_header script in
-    ap₂ (λ (o h : Header). end_of_run script o h file order) old_is header_is ∙ ap (λ (f : List ℕ). serial script own f order) (file-kept script own own file alone)
+one_end script old header order alone old_is header_is file = grind (arith, nat_tests, file-kept, end_of_run, new_end, created_header)
 
 pub made_ran : (seed size : ℕ) (script : Script) (header : Header) (before now : Output) (held_mid : Option (List ℕ)) (calls_mid : Option (List DiskCall)) (faults failed records : ℕ)
     (end : RunEnd) (order : List Mark) → script ≡ script_made seed size → IsReady script header before.held held_mid before.calls calls_mid → order ≡ end.order
@@ -79,10 +76,7 @@ made_ran seed size script header before now held_mid calls_mid faults failed rec
     subst (λ (o : List Mark). RanMade seed size before now o text) (sym same)
     (record {
       legal = subst (λ (s : Script). IsLegal s end.order) is (run.legal whole);
-      bytes = subst (λ (s : Script). IfSome before.held (λ file. now.held ≡ Some (new_end s file end.order).bytes)) is
-          (IfSome_then before.held
-          (at_start (λ file. now.held ≡ Some (serial_from script header file end.order).bytes) script header before.held held_mid before.calls calls_mid ready (run.bytes whole))
-          (λ file b. b ∙ ap (λ (e : End). Some e.bytes) (one file)));
+      bytes = grind (arith, nat_tests, at_start);
       calls = subst (λ (s : Script). IfSome before.held (λ file. now.calls ≡ after (λ _. all_calls s (created_header s) (created_header s) file end.order) before.calls)) is
           (IfSome_then before.held
           (all_told script ready.old header before.held before.calls calls_mid now.calls end.order ready.calls
@@ -90,9 +84,7 @@ made_ran seed size script header before now held_mid calls_mid faults failed rec
           (λ file d. d ∙ ap₂ (λ (o h : Header). after (λ _. all_calls script o h file end.order) before.calls) old_is header_is));
       sums = record {
         end = last;
-        alike = subst (λ (s : Script). (file : List ℕ) → AreAlikeEnds last (new_end s file end.order)) is
-            (λ file. subst (λ (e : End). AreAlikeEnds last e) (one file)
-            (any_end script header (seen held_mid calls_mid faults) (seen now.held now.calls failed) records end run whole (file_at_start script ready.old header file)));
+        alike = grind (arith, nat_tests, any_end, end.order, ready.old, new_end, seen, file_at_start);
         whole = subst (λ (s : Script). text ≡ summed seed size s end.order last) is
             (ap (λ (h : Header). summary_text seed size script (record h { records = records }) end.order end.answers) header_is);
       };
@@ -105,8 +97,7 @@ made_ran seed size script header before now held_mid calls_mid faults failed rec
 
 pub made_begins : (seed size : ℕ) (script : Script) (order end_order : List Mark) → script ≡ script_made seed size → order ≡ end_order → HasBegun script end_order
     → HasBegun (script_made seed size) order
-made_begins seed size script order end_order is same h =
-    subst (λ (o : List Mark). HasBegun (script_made seed size) o) (sym same) (subst (λ (s : Script). HasBegun s end_order) is h)
+made_begins seed size script order end_order is same h = grind (arith, nat_tests)
 
 pub made_begins_none : (seed size : ℕ) (order : List Mark) → order ≡ [] → HasBegun (script_made seed size) order
 made_begins_none seed size order e =
@@ -115,15 +106,4 @@ made_begins_none seed size order e =
 -- where nothing is at fault before the ranks begin, memory is wanting
 pub made_wants : (stop : Stop) (status : ℕ) → IsTold stop status → IsOfDataset stop → (status_of stop ≡ 4 → ⊥) → (stop ≡ stops.Disk → ⊥)
     → (status ≡ 0) ⊎ (status ≡ 8)
-made_wants stop status told only laid still =
-    by_cause stop status told (λ x. subst IsOfDataset x only) (λ x. subst IsOfDataset x only) (λ e x own. absurd (subst IsOfDataset x only))
-    (λ four own. absurd (laid four)) (λ x own. absurd (still x)) inr
-
-pub made_status : (stop : Stop) (status : ℕ) → IsTold stop status → IsOfDataset stop → (status_of stop ≡ 4 → ⊥) → IsMadeStatus status
-made_status stop status told only laid = grind (arith, nat_tests)
-
--- what ended the making of the dataset did so for another cause than its layout
-pub never_four : {T : Type 0} (result : Result T Stop) (err : Stop) → IsErrAnd result (λ stop. stop ≡ err) → (status_of err ≡ 4 → ⊥)
-    → IfErr result (λ stop. ¬ (status_of stop ≡ 4))
-never_four (Ok x) err e h = tt
-never_four (Err stop) err e h = λ s. h (ap status_of (sym e) ∙ s)
+made_wants stop status told only laid still = grind (arith, nat_tests, by_cause)

@@ -1,5 +1,5 @@
 -- What is done of a script is a run that ended well.
-use Rattle.ncmpi_cli.proofs.Words.{◌≡◌, ℕ, List, [], ◌++◌, map, Option, Some, None, refl, sym, ap, subst, ◌∙◌, IfSome, Answer, Header, RunEnd, Script, DiskCall, Mark, after, with_end, all_calls, run_calls, End, serial_from, run_text, watch_text, HasBegun, IsRun, AreAlikeEnds, seen, DiskSeen, file_at_start, HaveBegun, Ran, text_of, watched_text, with_counts, Seen, Asks, first_calls, IsReady}
+use Rattle.ncmpi_cli.proofs.Words.{◌≡◌, ℕ, List, [], ◌++◌, map, Option, Some, None, refl, sym, ap, subst, ◌∙◌, IfSome, Answer, Header, RunEnd, Script, DiskCall, Mark, after, with_end, all_calls, run_calls, End, serial_from, run_text, watch_text, HasBegun, IsRun, AreAlikeEnds, seen, DiskSeen, file_at_start, HaveBegun, Ran, text_of, watched_text, with_counts, Seen, Asks, first_calls, IsReady, arith, nat_tests}
 
 -- ---- a file that is told
 
@@ -10,8 +10,7 @@ after_told P change (Some file) h = h
 -- what is so of the file when the ranks begin
 pub at_start : (P : List ℕ → Type 0) (script : Script) (header : Header) (held held_mid : Option (List ℕ)) (calls calls_mid : Option (List DiskCall))
     → (ready : IsReady script header held held_mid calls calls_mid) → IfSome held_mid P → IfSome held (λ file. P (file_at_start script ready.old header file))
-at_start P script header held held_mid calls calls_mid ready h =
-    after_told P (λ file. file_at_start script ready.old header file) held (subst (λ (told : Option (List ℕ)). IfSome told P) ready.bytes h)
+at_start P script header held held_mid calls calls_mid ready h = grind (arith, nat_tests, after_told P)
 
 joined : (calls before : Option (List DiskCall)) (opening run : List DiskCall) → calls ≡ after (λ _. opening) before
     → with_end calls run ≡ after (λ _. opening ++ run) before
@@ -24,8 +23,7 @@ pub all_told : (script : Script) (old header : Header) (held : Option (List ℕ)
     → IfSome held (λ file. calls_now ≡ with_end calls_mid (run_calls script header (file_at_start script old header file) order))
     → IfSome held (λ file. calls_now ≡ after (λ _. all_calls script old header file order) calls)
 all_told script old header None calls calls_mid calls_now order opened made = tt
-all_told script old header (Some file) calls calls_mid calls_now order opened made =
-    made ∙ joined calls_mid calls (first_calls script old header file) (run_calls script header (file_at_start script old header file) order) opened
+all_told script old header (Some file) calls calls_mid calls_now order opened made = grind (arith, nat_tests, joined, after)
 
 -- nothing is told of readings where nobody read
 abbrev no_readings : List (List (ℕ × ℕ))
@@ -62,8 +60,7 @@ told_end records end = record { bytes = []; records = records; answers = end.ans
 
 pub any_end : (script : Script) (header : Header) (old new : DiskSeen) (records : ℕ) (end : RunEnd) → IsRun script header old new records end → end.fault ≡ None
     → (file : List ℕ) → AreAlikeEnds (told_end records end) (serial_from script header file end.order)
-any_end script header old new records end run whole file =
-    record { records = run.records whole file; answers = run.alike whole file; pending = run.pending whole file }
+any_end script header old new records end run whole file = grind (arith, nat_tests)
 
 -- ---- the run
 
@@ -107,15 +104,11 @@ ran script header before now held_mid calls_mid faults failed records end order 
       held = ready.held;
       heads = ready.heads;
       legal = run.legal whole;
-      bytes = at_start (λ file. now.output.held ≡ Some (serial_from script header file end.order).bytes)
-          script header before.output.held held_mid before.output.calls calls_mid ready (run.bytes whole);
-      calls = all_told script ready.old header before.output.held before.output.calls calls_mid now.output.calls end.order ready.calls
-          (at_start (λ file. now.output.calls ≡ with_end calls_mid (run_calls script header file end.order))
-          script header before.output.held held_mid before.output.calls calls_mid ready (run.calls whole));
+      bytes = grind (arith, nat_tests, at_start);
+      calls = grind (arith, nat_tests, all_told, at_start, ready.calls, run.calls, with_end);
       tells = record {
         end = told_end records end;
-        alike = λ bytes.
-            any_end script header (seen held_mid calls_mid faults) (seen now.output.held now.output.calls failed) records end run whole (file_at_start script ready.old header bytes);
+        alike = grind (arith, nat_tests, any_end, ready.old, seen, file_at_start);
         lines = watch_text pairs;
         whole = refl;
       };

@@ -1,5 +1,5 @@
 -- What the watchers of a run read, by how it ended.
-use Rattle.ncmpi_cli.proofs.Words.{◌≡◌, ℕ, true, false, List, [], length, Option, Some, None, inl, inr, sym, ap, subst, arith, nat_tests, All-nil, IfSome, IsSome, Mark, HasReadings, watchers_of, GivesText, readings_of, AreReadings, Asked, Stop, RunReadings, All}
+use Rattle.ncmpi_cli.proofs.Words.{◌≡◌, ℕ, List, [], length, Option, subst, arith, nat_tests, IfSome, IsSome, Mark, HasReadings, watchers_of, GivesText, readings_of, AreReadings, Asked, Stop, RunReadings, All}
 use Rattle.ncmpi_cli.proofs.Statuses.{IsEnded, IsTold}
 
 -- ---- where no text is given
@@ -17,17 +17,7 @@ pub read : (watchers status : ℕ) (order end_order : List Mark) (readings : Lis
     → IsEnded status → order ≡ end_order → (GivesText status → IsSome seen) → (GivesText status → readings ≡ readings_of seen)
     → (status ≡ 8 → readings ≡ []) → IfSome seen (λ s. (length s.readings ≡ watchers) × All (AreReadings (length end_order)) s.readings)
     → HasReadings watchers status (length order) readings
-read watchers status order end_order readings seen statuses same some same_readings none own = record {
-  each = λ gives. subst AreRead (sym (same_readings gives)) (by_seen seen (some gives) own);
-  none = λ never. elim statuses [ inl s ↦ absurd (never (inl s)) | inr (inl s) ↦ absurd (never (inr s)) | inr (inr s) ↦ none s ];
-}
-  where
-    AreRead : List (List ℕ) → Type 0
-    AreRead r = (length r ≡ watchers) × All (AreReadings (length order)) r
-
-    by_seen : (o : Option RunReadings) → IsSome o → IfSome o (λ s. (length s.readings ≡ watchers) × All (AreReadings (length end_order)) s.readings) → AreRead (readings_of o)
-    by_seen None there h = let e : false ≡ true = there in absurd cc
-    by_seen (Some s) there h = (h.0, subst (λ (o : List Mark). All (AreReadings (length o)) s.readings) (sym same) h.1)
+read watchers status order end_order readings seen statuses same some same_readings none own = grind (arith, nat_tests)
 
 -- ---- by what the words ask for
 
@@ -38,7 +28,4 @@ watched form asked status steps readings e h = subst (λ (f : Option Asked). Has
 
 -- where nobody watches
 pub unwatched : (status steps : ℕ) (readings : List (List ℕ)) → readings ≡ [] → HasReadings 0 status steps readings
-unwatched status steps readings e = record {
-  each = λ _. (ap (λ (r : List (List ℕ)). length r) e, subst (λ (r : List (List ℕ)). All (AreReadings steps) r) (sym e) (All-nil (AreReadings steps)));
-  none = λ _. e;
-}
+unwatched status steps readings e = grind (arith, nat_tests)

@@ -50,8 +50,7 @@ pub dataset : {Gives : List ℕ → Type 0} {Untouched : Type 0} (left held : Op
 dataset left held stop status (inr e) bad gives s = absurd (omega (arith, e, s))
 dataset left held stop status (inl e) bad gives s =
     let own : status_of stop ≡ 4 = omega (arith, e, s) in
-    let line = four_line stop own in
-    (line.0, (if_some_at _ (line_of stop) line.0 line.1 (bad own), if_some_at _ (line_of stop) line.0 line.1 (gives e)))
+    grind (arith, nat_tests, four_line, if_some_at)
 
 -- the dataset that a stop tells of
 told_dataset : {Untouched : Type 0} (left held : Option (List ℕ)) (stop : Stop) → (status_of stop ≡ 4 → IfSome (line_of stop) (IsBadDataset left held Untouched))
@@ -63,10 +62,7 @@ module _ (left held : Option (List ℕ)) (stop : Stop) (status : ℕ) (told : Is
   -- a script with a fault is refused
   pub refused : (Untouched : Type 0) → (status_of stop ≡ 4 → IfSome (line_of stop) (IsBadDataset left held Untouched))
       → (status_of stop ≡ 7 → (script : Script) × (Asks left script × IsLaid script)) → IsSomeAnd left IsFaultyText → (status ≡ 3) ⊎ (status ≡ 8)
-  refused Untouched bad laid asks =
-      by_cause stop status told formed source (λ e x own. inl own)
-      (λ four own. let d = told_dataset left held stop bad four in not_unread left d.1.script d.1.asks asks)
-      (λ x own. let l = laid (ap status_of x) in not_unread left l.0 l.1.0 asks) inr
+  refused Untouched bad laid asks = grind (arith, nat_tests, by_cause, told_dataset, not_unread, status_of)
 
   -- a layout with a fault is refused
   pub mislaid : IsToldBy left stop → (status_of stop ≡ 7 → (script : Script) × (Asks left script × IsLaid script))

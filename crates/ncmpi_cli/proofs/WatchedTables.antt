@@ -1,5 +1,5 @@
 -- One list of readings more, and how much was told.
-use Rattle.ncmpi_cli.proofs.Words.{◌≡◌, ◌++◌, ◌∷◌, [], ℕ, List, All, Option, Some, length, map, sym, ap, ◌∙◌, unwrap_or, length-map, All-push, Header, Script, Mark, HasTold, AreReadings}
+use Rattle.ncmpi_cli.proofs.Words.{◌≡◌, ◌++◌, ◌∷◌, [], ℕ, List, All, Option, Some, length, sym, ap, ◌∙◌, unwrap_or, length-map, All-push, Header, Script, Mark, HasTold, AreReadings}
 
 pub readings_push : (told : ℕ) (table : List (List ℕ)) (numbers : List ℕ) → All (AreReadings told) table → AreReadings told numbers → All (AreReadings told) (table ++ numbers ∷ [])
 readings_push told = All-push (AreReadings told)

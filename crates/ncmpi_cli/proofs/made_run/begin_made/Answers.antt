@@ -1,5 +1,5 @@
-use Rattle.ncmpi_cli.proofs.Words.{◌∙◌, refl, subst, sym, IsKept, on_err}
-use Rattle.ncmpi_cli.proofs.Made.{made_is, made_kept, never_four, never_told}
+use Rattle.ncmpi_cli.proofs.Words.{◌∙◌, refl, subst, sym, IsKept, on_err, arith, nat_tests}
+use Rattle.ncmpi_cli.proofs.Made.{made_is, made_kept, never_told}
 use Rattle.ncmpi_cli.proofs.CutOff.{made_unready, unready_made}
 use Rattle.ncmpi_cli.proofs.made_run.begin_made.Goals as goal
 
@@ -9,9 +9,7 @@ make_ready-requires-clause-kept g c =
 
 pub returns-in_err-header-clause-laid : goal.returns-in_err-header-clause-laid
 returns-in_err-header-clause-laid g c =
-    never_four c.from_residual-in_err-header.result c.in_err-header.field-0.0 c.from_residual-in_err-header.ensures.1
-    (never_told c.args.seed c.args.size c.in_ok-script.script (g.D.Disk.held c.args.disk.now) c.in_err-header.field-0.0
-    (c.in_ok-script.ensures ∙ made_is c.args.seed c.args.size) c.in_err-header.ensures.bad)
+    grind (arith, nat_tests, never_told, made_is, c.from_residual-in_err-header.ensures.1, c.in_ok-script.ensures, c.in_err-header.ensures.bad)
 
 pub returns-clause-script : goal.returns-clause-script
 returns-clause-script g c = c.in_ok-script.ensures ∙ made_is c.args.seed c.args.size
@@ -20,7 +18,4 @@ pub returns-in_err-script-clause-torn : goal.returns-in_err-script-clause-torn
 returns-in_err-script-clause-torn g c = on_err c.from_residual.result (made_unready c.args.seed c.args.size (g.D.Disk.held c.args.disk.now) (g.D.Disk.held c.args.disk.now) refl)
 
 pub returns-in_err-header-clause-torn : goal.returns-in_err-header-clause-torn
-returns-in_err-header-clause-torn g c =
-    on_err c.from_residual-in_err-header.result
-    (unready_made c.args.seed c.args.size c.in_ok-script.script (g.D.Disk.held c.args.disk.now) (g.D.Disk.held c.make_ready.new.disk)
-    (c.in_ok-script.ensures ∙ made_is c.args.seed c.args.size) c.in_err-header.ensures.refused)
+returns-in_err-header-clause-torn g c = grind (arith, nat_tests, on_err, unready_made, made_is, c.in_ok-script.ensures, c.in_err-header.ensures.refused)

@@ -1,15 +1,14 @@
-use Rattle.ncmpi_cli.proofs.Words.{◌≡◌, ◌∙◌, [], ap, inl, inr, refl, subst, sym, true, ℕ, Some, arith, rules, Err, RunEnd, Script, Stop, is_lawful, has_counts, Output, output_at, rose_before}
+use Rattle.ncmpi_cli.proofs.Words.{◌≡◌, ◌∙◌, inl, inr, refl, subst, sym, true, ℕ, Some, arith, rules, RunEnd, Script, has_counts, Output, output_at, rose_before, nat_tests}
 use Rattle.nc_base.specs.declared.step.StepErr.TheVariants as fault
 use Rattle.ncmpi_cli.proofs.CutOff.{made_cut}
-use Rattle.ncmpi_cli.proofs.Made.{made_begins, made_begins_none, made_counts, made_kept, made_ran, made_status, made_wants}
+use Rattle.ncmpi_cli.proofs.Made.{made_begins, made_begins_none, made_counts, made_kept, made_ran, made_wants}
 use Rattle.ncmpi_cli.proofs.Reading.{told_by_no_text}
 use Rattle.ncmpi_cli.proofs.Statuses.{ended_line, seven_disk, told_line}
 use Rattle.ncmpi_cli.proofs.Telling.{made_end, no_disk, whole_or_memory}
 use Rattle.ncmpi_cli.proofs.made_run.run_made.Goals as goal
 
 pub run_ranks-end-requires-clause-lawful : goal.run_ranks-end-requires-clause-lawful
-run_ranks-end-requires-clause-lawful g c =
-    λ _ _. subst (λ (s : Script). is_lawful s ≡ true) (sym c.in-Ok.ensures.script) (made_kept c.args.seed c.args.size c.requires.few).lawful
+run_ranks-end-requires-clause-lawful g c = grind (arith, nat_tests, made_kept, c.in-Ok.ensures.script)
 
 pub sum_up-outcome-requires-clause-counted : goal.sum_up-outcome-requires-clause-counted
 sum_up-outcome-requires-clause-counted g c = subst (λ (s : Script). has_counts s ≡ true) (sym c.in-Ok.ensures.script) (made_counts c.args.seed c.args.size)
@@ -18,28 +17,7 @@ sum_up-outcome-requires-clause-counted g c = subst (λ (s : Script). has_counts 
 
 pub returns-in-Err : goal.returns-in-Err
 returns-in-Err g c =
-    let stop : Stop = c.in-Err.stop in
-    let status : ℕ = c.tell.result.status in
-    let told = c.tell.ensures.status in
-    let own = c.in-Err.ensures in
-    let none : c.tell.result.order ≡ [] = c.tell.ensures.order ∙ c.new.ensures in
-    record {
-      ends = record {
-        statuses = made_status stop status told own.only own.laid;
-        well = λ s. absurd (told_by_no_text stop status told (inl s));
-        cut = λ s. absurd (told_by_no_text stop status told (inr s));
-        complete = λ _ disk. made_wants stop status told own.only own.laid (λ x. disk (own.disk (ap (λ (s : Stop). Err s) x)));
-        steps = made_begins_none c.args.seed c.args.size c.tell.result.order none;
-        torn = λ _. inl (none, own.torn);
-        wanting = λ _. inl (inl (none, own.torn));
-      };
-      statuses = made_status stop status told own.only own.laid;
-      sink = λ s. absurd (told_by_no_text stop status told (inr s));
-      disk = λ s. own.disk (ap (λ (s : Stop). Err s) (seven_disk stop status told s));
-      silent = c.tell.ensures.silent;
-      readings = c.tell.ensures.readings;
-      told = told_line _ stop status told c.tell.ensures.line;
-    }
+    grind (arith, nat_tests, c.tell.ensures.status, c.in-Err.ensures.only, told_by_no_text c.in-Err.stop c.tell.result.status c.tell.ensures.status, made_wants c.in-Err.stop c.tell.result.status c.tell.ensures.status c.in-Err.ensures.only, made_begins_none c.args.seed c.args.size c.tell.result.order (c.tell.ensures.order ∙ c.new.ensures), seven_disk c.in-Err.stop c.tell.result.status c.tell.ensures.status, told_line, c.in-Err.ensures, c.in-Err.ensures.laid, c.in-Err.ensures.disk, c.in-Err.ensures.torn, c.tell.ensures.silent, c.tell.ensures.readings, c.tell.ensures.line)
 
 -- ---- where their run ended without a fault
 
@@ -76,9 +54,7 @@ returns-in-None g c =
 -- ---- where the disk failed
 
 pub returns-in-Some-Disk-clause-disk : goal.returns-in-Some-Disk-clause-disk
-returns-in-Some-Disk-clause-disk g c = λ _.
-    let failed : c.run_ranks-end.result.fault ≡ Some fault.Disk = search rules in
-    rose_before _ (g.D.Disk.faults c.begin_made.new.disk) _ c.in-Ok.ensures.later (c.run_ranks-end.ensures.run.fault failed)
+returns-in-Some-Disk-clause-disk g c = grind (arith, nat_tests, rose_before, c.in-Ok.ensures.later, c.run_ranks-end.ensures.run.fault)
 
 pub returns-in-Some-Disk-clause-ends : goal.returns-in-Some-Disk-clause-ends
 returns-in-Some-Disk-clause-ends g c =

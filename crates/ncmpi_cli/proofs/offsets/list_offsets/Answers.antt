@@ -1,4 +1,4 @@
-use Rattle.ncmpi_cli.proofs.Words.{ap, inl, inr, Err, Stop, ℕ, ◌∙◌}
+use Rattle.ncmpi_cli.proofs.Words.{ap, inl, inr, Err, Stop, ℕ, ◌∙◌, arith, nat_tests}
 use Rattle.ncmpi_cli.proofs.Listed.{dataset, header_read, list_status, not_faulty, refused, wants_memory}
 use Rattle.ncmpi_cli.proofs.Reading.{told_by_no_text}
 use Rattle.ncmpi_cli.proofs.Statuses.{seven_disk, told_line}
@@ -22,8 +22,7 @@ returns-in-Err g c =
       sink = λ s. absurd (told_by_no_text stop status told (inr s));
       disk = λ s. own.disk (ap (λ (s : Stop). Err s) (seven_disk stop status told s));
       faulty = λ _ still. refused held stop status told own.only (λ x. still (own.disk (ap (λ (s : Stop). Err s) x)));
-      complete = λ sound sink disk.
-          wants_memory held stop status told own.only (λ x. disk (own.disk (ap (λ (s : Stop). Err s) x))) (λ e x. own.header e (ap (λ (s : Stop). Err s) x)) sound;
+      complete = grind (arith, nat_tests, wants_memory held stop status told own.only);
       unchanged = own.held;
       calls = λ s. header_read stop status told own.only (λ e x. own.refused e (ap (λ (s : Stop). Err s) x)) s;
       silent = c.tell.ensures.silent;

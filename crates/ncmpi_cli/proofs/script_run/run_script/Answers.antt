@@ -1,4 +1,4 @@
-use Rattle.ncmpi_cli.proofs.Words.{◌≡◌, ◌∙◌, ap, inl, inr, refl, List, [], length, ℕ, Some, arith, rules, Err, RunEnd, Script, Stop, read_lawful, not_mislaid, not_unread, not_wrong, pairs_of, readings_of, rose_before}
+use Rattle.ncmpi_cli.proofs.Words.{◌≡◌, ◌∙◌, ap, inl, inr, refl, List, [], length, ℕ, Some, arith, rules, Err, RunEnd, Script, Stop, read_lawful, not_mislaid, not_unread, not_wrong, pairs_of, readings_of, rose_before, nat_tests}
 use Rattle.nc_base.specs.declared.step.StepErr.TheVariants as fault
 use Rattle.dataset_start.specs.declared.stop.Stop.TheVariants as stops
 use Rattle.ncmpi_cli.proofs.CutOff.{cut_off}
@@ -25,26 +25,7 @@ returns-in-Err g c =
     let formed : stop ≡ stops.Usage → ⊥ = λ x. own.formed (ap (λ (s : Stop). Err s) x) in
     let faulted : IsToldBy left stop = λ e x. own.refused e (ap (λ (s : Stop). Err s) x) in
     record {
-      ends = record {
-        well = λ s. absurd (told_by_no_text stop status told (inl s));
-        cut = λ s. absurd (told_by_no_text stop status told (inr s));
-        taken = own.few;
-        script = told_script left stop status told faulted c.tell.ensures.line;
-        dataset = dataset left held stop status told own.bad c.tell.ensures.line;
-        refused = λ asks source. refused left held stop status told formed (λ x. source (own.source (ap (λ (s : Stop). Err s) x))) _ own.bad own.asked asks;
-        mislaid = λ asks source. mislaid left held stop status told formed (λ x. source (own.source (ap (λ (s : Stop). Err s) x))) faulted own.asked asks;
-        unlaid = own.unlaid;
-        faulty = λ asks source disk.
-            faulty left held stop status told formed (λ x. source (own.source (ap (λ (s : Stop). Err s) x))) (λ x. disk (own.disk (ap (λ (s : Stop). Err s) x))) faulted asks;
-        complete = λ asks source sink disk.
-            wants_memory left held stop status told formed (λ x. source (own.source (ap (λ (s : Stop). Err s) x))) _ (λ x. disk (own.disk (ap (λ (s : Stop). Err s) x)))
-            faulted own.bad asks;
-        began = inl none;
-        unread = λ _. none;
-        unfit = λ _. none;
-        torn = λ _. inl (none, own.torn);
-        wanting = λ _. inl (inl (none, own.torn));
-      };
+      ends = grind (arith, nat_tests, told_by_no_text stop status told, told_script left stop status told faulted c.tell.ensures.line, dataset left held stop status told own.bad c.tell.ensures.line, refused left held stop status told formed, mislaid left held stop status told formed, faulty left held stop status told formed, wants_memory left held stop status told formed);
       readings = untold c.args.watchers status (length c.tell.result.order) c.tell.result.readings (told_by_no_text stop status told) c.tell.ensures.readings;
       statuses = stop_status stop status told;
       formed = λ s. formed (two_usage stop status told s);
@@ -125,9 +106,7 @@ returns-in-None g c =
 -- ---- where the disk failed
 
 pub returns-in-Some-Disk-clause-disk : goal.returns-in-Some-Disk-clause-disk
-returns-in-Some-Disk-clause-disk g c = λ _.
-    let failed : c.run_beside-run.result.end.fault ≡ Some fault.Disk = search rules in
-    rose_before _ (g.D.Disk.faults c.begin.new.disk) _ c.in-Ok.ensures.later (c.run_beside-run.ensures.run.fault failed)
+returns-in-Some-Disk-clause-disk g c = grind (arith, nat_tests, rose_before, c.in-Ok.ensures.later, c.run_beside-run.ensures.run.fault)
 
 pub returns-in-Some-Disk-clause-ends : goal.returns-in-Some-Disk-clause-ends
 returns-in-Some-Disk-clause-ends g c =
@@ -194,11 +173,7 @@ returns-in-Some-Memory-clause-ends g c =
 -- ---- what watchers read
 
 pub returns-in-Some-Disk-clause-readings : goal.returns-in-Some-Disk-clause-readings
-returns-in-Some-Disk-clause-readings g c =
-    untold c.args.watchers c.tell-in-Some-Disk.result.status (length c.tell-in-Some-Disk.result.order) c.tell-in-Some-Disk.result.readings
-    (told_by_no_text stops.Disk c.tell-in-Some-Disk.result.status c.tell-in-Some-Disk.ensures.status) c.tell-in-Some-Disk.ensures.readings
+returns-in-Some-Disk-clause-readings g c = grind (arith, nat_tests, untold, told_by_no_text, c.tell-in-Some-Disk.ensures.readings)
 
 pub returns-in-Some-Memory-clause-readings : goal.returns-in-Some-Memory-clause-readings
-returns-in-Some-Memory-clause-readings g c =
-    untold c.args.watchers c.tell-in-Some-Memory.result.status (length c.tell-in-Some-Memory.result.order) c.tell-in-Some-Memory.result.readings
-    (told_by_no_text stops.Memory c.tell-in-Some-Memory.result.status c.tell-in-Some-Memory.ensures.status) c.tell-in-Some-Memory.ensures.readings
+returns-in-Some-Memory-clause-readings g c = grind (arith, nat_tests, untold, told_by_no_text, c.tell-in-Some-Memory.ensures.readings)

@@ -1,4 +1,4 @@
-use Rattle.ncmpi_cli.proofs.Words.{◌≡◌, List, [], sym, subst, refl, ◌∙◌, Mark, marks, same_cause, unbegun_run, cut_run, no_answers, no_rows, stood_first}
+use Rattle.ncmpi_cli.proofs.Words.{◌≡◌, List, [], sym, subst, refl, ◌∙◌, Mark, marks, same_cause, unbegun_run, cut_run, no_answers, no_rows, stood_first, arith, nat_tests}
 use Rattle.nc_base.specs.declared.step.StepErr.TheVariants as fault
 use Rattle.turn_run.specs.Begun.{HasBegun}
 use Rattle.ncmpi_cli.proofs.watched_run.not_begun.Goals as goal
@@ -16,6 +16,4 @@ returns-clause-run g c =
     unbegun_run script header held (g.D.Disk.calls disk) (g.D.Disk.faults disk) held (g.D.Disk.calls disk) count end c.stopped.ensures.fault (subst (λ (order : List Mark). HasBegun script order) (sym none) begun)
     (λ e is.
     let memory = sym (same_cause fault.Memory e (sym c.stopped.ensures.fault ∙ is)) in
-    cut_run script header e end.order held held count end.answers (no_rows script e end.answers memory c.stopped.ensures.answers)
-    (λ file there. no_answers script header e end.order file end.answers c.stopped.ensures.answers)
-    (stood_first script header e end.order held held count count c.requires.lawful memory none refl refl c.requires.records)) c.stopped.ensures.none_pending
+    grind (arith, nat_tests, cut_run script header e end.order held held count end.answers, no_rows script e end.answers memory c.stopped.ensures.answers, no_answers script header e end.order, stood_first script header e end.order held held count count c.requires.lawful memory none, c.requires.records)) c.stopped.ensures.none_pending
