@@ -1,5 +1,5 @@
 -- A whole script is what the definitions say.
-use Rattle.ncmpi_script.proofs.Words.{◌≡◌, ◌∙◌, ℕ, List, [], ◌∷◌, Result, Err, Bool, true, false, nat_lt, ◌==◌, ◌+◌, length, take, refl, ap, utf8_valid_len, ScriptErr, Script, Line, Word, Known, Called, call_step, definition_step, script_of_lines, script_of_text, without_head, most_bytes, newlines, head_by, known_by, definition_by, called_by, call_by, definitions_by, data_part_by, finish_by, made_by, end_by, calls_by, rest_by, headed_by, lines_by, utf8_by, text_by}
+use Rattle.ncmpi_script.proofs.Words.{◌≡◌, ◌∙◌, ℕ, List, [], ◌∷◌, Err, Bool, true, false, nat_lt, ◌==◌, length, take, refl, ap, utf8_valid_len, Line, Word, Known, Called, call_step, definition_step, script_of_lines, script_of_text, without_head, most_bytes, head_by, known_by, definition_by, called_by, call_by, definitions_by, data_part_by, finish_by, made_by, end_by, calls_by, rest_by, headed_by, lines_by, utf8_by, text_by, arith, nat_tests}
 use Rattle.nc_base.specs.declared.errors.LimitName.TheVariants as limit
 use Rattle.nc_base.specs.declared.errors.ScriptKind.TheVariants as kind
 
@@ -43,8 +43,4 @@ is_pick false true x y z = refl
 
 pub text_is : (text : List ℕ) → nat_lt most_bytes (length text) ≡ false → (utf8_valid_len text == length text) ≡ true → text_by text ≡ utf8_by text
 unfolding text_by
-text_is text short valid =
-    let bad : Result Script ScriptErr = Err (record { line = newlines (take (utf8_valid_len text) text) + 1; kind = kind.NotUtf8 }) in
-    let long : Result Script ScriptErr = Err (record { line = 1; kind = kind.Limit limit.Script }) in
-    is_pick (nat_lt most_bytes (length text)) (utf8_valid_len text == length text) long bad (utf8_by text)
-    ∙ (ap (λ (a : Bool). pick a (utf8_valid_len text == length text) long bad (utf8_by text)) short ∙ ap (λ (b : Bool). pick false b long bad (utf8_by text)) valid)
+text_is text short valid = grind (arith, nat_tests, is_pick, nat_lt, text_by, utf8_by, pick, utf8_valid_len, take)
