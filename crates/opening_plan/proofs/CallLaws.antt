@@ -1,5 +1,5 @@
 -- Calls one after another: those so far, and those that are left.
-use Rattle.opening_plan.proofs.Words.{◌≡◌, ℕ, ◌+◌, ◌-◌, ◌*◌, ◌≤◌, min, sym, ◌∙◌, ap, subst, List, [], ◌∷◌, ◌++◌, map, append_assoc, arith, range_with_len, flat_map-append, append-nil, map-append, range_append, DiskCall, Store, Slab, stores, stores_before, Shift, all_calls, further, gap_calls, slab_of, AreSpaced, called_append}
+use Rattle.opening_plan.proofs.Words.{◌≡◌, ℕ, ◌+◌, ◌-◌, ◌*◌, ◌≤◌, min, sym, ◌∙◌, ap, subst, List, [], ◌∷◌, ◌++◌, map, append_assoc, arith, range_with_len, flat_map-append, append-nil, map-append, range_append, DiskCall, Store, Slab, stores, stores_before, Shift, all_calls, further, gap_calls, slab_of, AreSpaced, called_append, nat_tests}
 
 -- ---- so far
 
@@ -39,8 +39,7 @@ zeros_left whole mid now z part rest all e w n =
 
 pub one_zeros_left : (whole mid now : List DiskCall) (z : ℕ) (g : ℕ × ℕ) (rest all : List (ℕ × ℕ)) → all ≡ g ∷ rest → mid ++ gap_calls z all ≡ whole
     → now ≡ mid ++ stores z g.0 g.1 → now ++ gap_calls z rest ≡ whole
-one_zeros_left whole mid now z g rest all e w n =
-    left_over whole mid now (stores z g.0 g.1) (gap_calls z rest) (gap_calls z all) (ap (λ gs. gap_calls z gs) e) w n
+one_zeros_left whole mid now z g rest all e w n = grind (arith, nat_tests, left_over whole mid now (stores z g.0 g.1) (gap_calls z rest) (gap_calls z all))
 
 -- ---- slabs of the code
 

@@ -1,5 +1,5 @@
 -- The words of this crate's proofs, from where they stand.
-pub use Rattle.list_laws.proofs.Std.{Bool, List, [], ap, append-nil, append_assoc, arith, both_ways, drop, false, flat_map, flat_map-append, get_or, inl, inr, length, map, map-append, max, min, on_ok_weaker, range_with_len, refl, reverse, slice_get, subst, sym, take, true, ℕ, ◌*◌, ◌++◌, ◌+◌, ◌-◌, ◌<◌, ◌^◌, ◌∙◌, ◌∷◌, ◌≡◌, ◌≤◌}
+pub use Rattle.list_laws.proofs.Std.{Bool, List, [], ap, append-nil, append_assoc, arith, both_ways, drop, false, flat_map, flat_map-append, get_or, inl, inr, length, map, map-append, max, min, on_ok_weaker, range_with_len, refl, reverse, slice_get, subst, sym, take, true, ℕ, ◌*◌, ◌++◌, ◌+◌, ◌-◌, ◌<◌, ◌^◌, ◌∙◌, ◌∷◌, ◌≡◌, ◌≤◌, nat_tests}
 pub use Rattle.std.proofs.Common.{◌==◌}
 pub use Rattle.std.proofs.Math.Seq.{take_all}
 pub use Rattle.dataset_start.proofs.Keeping.{kept_created, kept_hints, kept_wr_buffer}

@@ -1,5 +1,5 @@
 -- The last of the slabs that are left is moved.
-use Rattle.opening_plan.proofs.Words.{◌≡◌, ◌+◌, ◌-◌, ◌<◌, ◌^◌, sym, subst, ap, length, List, [], ◌∷◌, ◌++◌, get_or, take, ℕ, arith, reverse, take_all, Slab, Shift, all_calls, further, slab_of, in_record, slab_first}
+use Rattle.opening_plan.proofs.Words.{◌≡◌, ◌+◌, ◌-◌, ◌<◌, ap, length, [], ◌∷◌, ◌++◌, take, ℕ, arith, reverse, take_all, Shift, all_calls, further, slab_of, in_record, slab_first, nat_tests}
 use Rattle.opening_plan.proofs.CallLaws.{moves_left, none_left, slabs_further}
 use Rattle.opening_plan.proofs.moving.push_record.Goals as goal
 
@@ -7,27 +7,15 @@ abbrev none : Shift
 none = record { from = 0; to = 0; len = 0 }
 
 pub loop-number-init : goal.loop-number-init
-loop-number-init c =
-    ap (λ (ss : List Shift). c.args.calls.now.items ++ all_calls c.args.window (reverse (slabs_further c.args.offset.old c.args.offset.new ss)))
-    (take_all (length c.args.slabs.now) c.args.slabs.now (omega arith))
+loop-number-init c = grind (arith, nat_tests, take_all)
 
 pub further-requires : goal.further-requires
-further-requires c =
-    let k : c.loop-number.number - 1 < length c.args.slabs.now = omega arith in
-    let low = c.requires.low (further c.args.offset.old c.args.offset.new (slab_of (get_or c.args.slabs.now (c.loop-number.number - 1) none)))
-    (in_record c.args.offset.old c.args.offset.new c.args.slabs.now (c.loop-number.number - 1) none k) in
-    record { old_end = omega (arith, low.0); end = omega (arith, low.1) }
+further-requires c = grind (arith, nat_tests, in_record c.args.offset.old c.args.offset.new c.args.slabs.now (c.loop-number.number - 1) none, c.requires.low)
 
 pub push_changed-requires : goal.push_changed-requires
 push_changed-requires c =
     let k : c.loop-number.number - 1 < length c.args.slabs.now = omega arith in
-    let low = c.requires.low (further c.args.offset.old c.args.offset.new (slab_of (get_or c.args.slabs.now (c.loop-number.number - 1) none)))
-    (in_record c.args.offset.old c.args.offset.new c.args.slabs.now (c.loop-number.number - 1) none k) in
-    record {
-      some = c.requires.some;
-      old_end = subst (λ (s : Slab). s.from + s.len < 2 ^ 62) (sym c.further.ensures) low.0;
-      end = subst (λ (s : Slab). s.to + s.len < 2 ^ 62) (sym c.further.ensures) low.1;
-    }
+    grind (arith, nat_tests, in_record c.args.offset.old c.args.offset.new c.args.slabs.now (c.loop-number.number - 1) none k, c.requires.low, c.requires.some, c.further.ensures)
 
 pub loop-number-preserved : goal.loop-number-preserved
 loop-number-preserved c =

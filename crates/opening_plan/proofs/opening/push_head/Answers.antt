@@ -1,5 +1,5 @@
 -- A file of no bytes has none that are read.
-use Rattle.opening_plan.proofs.Words.{◌<◌, arith}
+use Rattle.opening_plan.proofs.Words.{arith, nat_tests}
 use Rattle.opening_plan.proofs.OpeningLaws.{no_head, some_head}
 use Rattle.opening_plan.proofs.opening.push_head.Goals as goal
 
@@ -7,6 +7,4 @@ pub returns-then-size-eq0 : goal.returns-then-size-eq0
 returns-then-size-eq0 c = λ file e. no_head file c.args.size c.args.calls.now.items e (omega arith)
 
 pub returns : goal.returns
-returns c = λ file e.
-    let some : 0 < c.args.size = omega arith in
-    some_head file c.args.size c.min.result c.args.calls.now.items c.push.new.self.items e some c.min.ensures c.in_ok-push.ensures.items
+returns c = grind (arith, nat_tests, some_head, c.min.ensures)

@@ -1,5 +1,5 @@
 -- The first of the slabs that are left ends where the next gap begins.
-use Rattle.opening_plan.proofs.Words.{◌∙◌, ◌+◌, ◌-◌, ◌<◌, ◌≤◌, ◌^◌, sym, refl, ap, length, List, ◌++◌, get_or, drop, ℕ, arith, Slab, Shift, behind, further, gap_calls, gaps_before, slab_of, AreSpaced, none_after, none_behind, slabs_left, spaced_low}
+use Rattle.opening_plan.proofs.Words.{◌∙◌, ◌+◌, ◌-◌, ◌<◌, ◌≤◌, ◌^◌, sym, refl, ap, length, List, ◌++◌, get_or, drop, ℕ, arith, Slab, Shift, behind, further, gap_calls, gaps_before, slab_of, AreSpaced, none_after, none_behind, slabs_left, spaced_low, nat_tests}
 use Rattle.opening_plan.proofs.CallLaws.{none_left, one_zeros_left, slabs_further, spaced_first}
 use Rattle.opening_plan.proofs.zeros.push_gaps.Goals as goal
 
@@ -17,29 +17,19 @@ record IsNext (at a b : ℕ) (ss : List Shift) (k : ℕ) : Type 0 where
   spaced : AreSpaced ((slab_at a b ss k).to + (slab_at a b ss k).len) (2 ^ 62) (slabs_further a b (drop (k + 1) ss))
 
 next : (at a b : ℕ) (ss : List Shift) (k : ℕ) → k < length ss → AreSpaced at (2 ^ 62) (slabs_further a b (drop k ss)) → IsNext at a b ss k
-next at a b ss k more spaced =
-    let s = slab_at a b ss k in
-    let others = slabs_further a b (drop (k + 1) ss) in
-    let first = spaced_first at (2 ^ 62) s others (slabs_further a b (drop k ss)) (slabs_left a b ss k none more) spaced in
-    record { low = first.0; high = spaced_low (s.to + s.len) (2 ^ 62) others first.1; spaced = first.1 }
+next at a b ss k more spaced = grind (arith, nat_tests, spaced_first, slabs_left, spaced_low)
 
 pub overflow_add-place : goal.overflow_add-place
-overflow_add-place c =
-    let slab = next c.loop-slab.at c.args.offset.old c.args.offset.new c.args.slabs.now c.loop-slab.slab-index c.loop-slab-test.true c.loop-slab.invariant.spaced in
-    omega (arith, slab.high)
+overflow_add-place c = grind (arith, nat_tests, next, c.loop-slab-test.true, c.loop-slab.invariant.spaced)
 
 pub overflow_sub-place : goal.overflow_sub-place
 overflow_sub-place c = (next c.loop-slab.at c.args.offset.old c.args.offset.new c.args.slabs.now c.loop-slab.slab-index c.loop-slab-test.true c.loop-slab.invariant.spaced).low
 
 pub push_stores-requires-clause-low : goal.push_stores-requires-clause-low
-push_stores-requires-clause-low c =
-    let slab = next c.loop-slab.at c.args.offset.old c.args.offset.new c.args.slabs.now c.loop-slab.slab-index c.loop-slab-test.true c.loop-slab.invariant.spaced in
-    omega (arith, slab.low, slab.high)
+push_stores-requires-clause-low c = grind (arith, nat_tests, next, c.loop-slab-test.true, c.loop-slab.invariant.spaced)
 
 pub overflow_add-at : goal.overflow_add-at
-overflow_add-at c =
-    let slab = next c.loop-slab.at c.args.offset.old c.args.offset.new c.args.slabs.now c.loop-slab.slab-index c.loop-slab-test.true c.loop-slab.invariant.spaced in
-    omega (arith, slab.high)
+overflow_add-at c = grind (arith, nat_tests, next, c.loop-slab-test.true, c.loop-slab.invariant.spaced)
 
 pub loop-slab-init : goal.loop-slab-init
 loop-slab-init c = record { spaced = c.requires.spaced; place = refl; calls = refl }
@@ -65,10 +55,4 @@ loop-slab-preserved c =
 pub returns : goal.returns
 returns c =
     let all : List Slab = slabs_further c.args.offset.old c.args.offset.new c.args.slabs.now in
-    let left : List Slab = slabs_further c.args.offset.old c.args.offset.new (drop c.loop-slab.slab-index c.args.slabs.now) in
-    let over = none_after c.args.offset.old c.args.offset.new c.args.slabs.now c.loop-slab.slab-index (omega arith) in
-    record {
-      place = none_behind c.loop-slab.at (behind c.args.at all) left over c.loop-slab.invariant.place;
-      calls = none_left (c.args.calls.now.items ++ gap_calls c.args.window (gaps_before c.args.at all)) c.loop-slab.calls.items
-          (gap_calls c.args.window (gaps_before c.loop-slab.at left)) (ap (λ xs. gap_calls c.args.window (gaps_before c.loop-slab.at xs)) over) c.loop-slab.invariant.calls;
-    }
+    grind (arith, nat_tests, none_after c.args.offset.old c.args.offset.new c.args.slabs.now c.loop-slab.slab-index, none_behind c.loop-slab.at (behind c.args.at all), none_left (c.args.calls.now.items ++ gap_calls c.args.window (gaps_before c.args.at all)), c.loop-slab.invariant.place, c.loop-slab.invariant.calls)

@@ -1,14 +1,12 @@
 -- The gaps of the fixed variables come first, then those of record after record, then the last one.
-use Rattle.opening_plan.proofs.Words.{◌+◌, ◌^◌, refl, subst, List, ◌++◌, arith, gaps, Slab, gap_calls, gaps_before, listed, AreSpaced, above, fixed_first, gaps_on, next_record, spaced_front, spaced_on}
+use Rattle.opening_plan.proofs.Words.{◌+◌, refl, ◌++◌, arith, gaps, gap_calls, gaps_before, listed, above, fixed_first, gaps_on, next_record, spaced_front, spaced_on, nat_tests}
 use Rattle.opening_plan.proofs.CallLaws.{slabs_further, spaced_wider, zeros_left}
 use Rattle.opening_plan.proofs.zeros.push_zeros.Goals as goal
 
 pub push_gaps-requires-clause-spaced : goal.push_gaps-requires-clause-spaced
 push_gaps-requires-clause-spaced c =
     let split = fixed_first c.args.slabs.now c.deref.result.now 0 0 c.deref.ensures.value refl refl in
-    spaced_wider c.args.first c.args.end (2 ^ 62) (slabs_further 0 0 c.deref.result.now) (omega arith)
-    (spaced_front c.args.first c.args.end (slabs_further 0 0 c.deref.result.now) (above c.args.slabs.now 0)
-    (subst (λ (xs : List Slab). AreSpaced c.args.first c.args.end xs) split c.requires.spaced))
+    grind (arith, nat_tests, spaced_wider, spaced_front, above, c.requires.spaced)
 
 pub loop-record-init : goal.loop-record-init
 loop-record-init c =
@@ -25,13 +23,7 @@ loop-record-init c =
 
 pub push_gaps-requires-in-loop-record-clause-spaced : goal.push_gaps-requires-in-loop-record-clause-spaced
 push_gaps-requires-in-loop-record-clause-spaced c =
-    let a = c.times.result.old in
-    let b = c.times.result.new in
-    let ss = c.deref-in-loop-record.result.now in
-    let split = next_record c.args.slabs.now c.deref-in-loop-record.result.now c.loop-record.record a b c.deref-in-loop-record.ensures.value c.loop-record-test.true c.times.ensures.old c.times.ensures.new in
-    spaced_wider c.loop-record.at c.args.end (2 ^ 62) (slabs_further a b ss) (omega arith)
-    (spaced_front c.loop-record.at c.args.end (slabs_further a b ss) (above c.args.slabs.now (c.loop-record.record + 1))
-    (subst (λ (xs : List Slab). AreSpaced c.loop-record.at c.args.end xs) split c.loop-record.invariant.spaced))
+    grind (arith, nat_tests, next_record, spaced_wider, spaced_front, above, c.deref-in-loop-record.ensures.value, c.loop-record-test.true, c.loop-record.invariant.spaced)
 
 pub loop-record-preserved : goal.loop-record-preserved
 loop-record-preserved c =
