@@ -1,15 +1,11 @@
 -- The claims of a heap, as entries.
-use Rattle.overlap_report.proofs.Words.{◌≡◌, ℕ, zero, suc, ◌+◌, ◌-◌, ◌<◌, ◌≤◌, refl, sym, ◌∙◌, ap, subst, inl, inr, List, [], ◌∷◌, ◌++◌, take, drop, get_or, length, true, false, Option, Some, None, slice_get, nat_cmp, is_lt, Bor, ◌^◌, arith, nat_lt, IsHeap, IsUpperBound, PopsGreatest, IsItemAt, option_copied, IfSome, IfNone, MatchOption, IsPermutation, ordering_then, Ordering, nat_tests, Owned, In, HaveSame, same_permuted, in_map, map_in, ◌⊎◌, in_extents, Claim, IsPartOfOne, owned_of, entries_of, part_of, claim_cmp, AreFit, StandsBy, Swept, IsTop, take_all, lt-ltb, Extent, extents, IsInLine, IsByPlace, EndBelow, origins, IsOnceEach, IsResolved, same_Some}
+use Rattle.overlap_report.proofs.Words.{◌≡◌, ℕ, zero, suc, ◌+◌, ◌-◌, ◌<◌, ◌≤◌, refl, sym, ◌∙◌, ap, subst, inl, inr, List, [], ◌∷◌, ◌++◌, take, drop, get_or, length, true, false, Option, Some, None, slice_get, nat_cmp, is_lt, Bor, ◌^◌, arith, nat_lt, IsHeap, IsUpperBound, PopsGreatest, IsItemAt, option_copied, IfSome, IfNone, MatchOption, IsPermutation, ordering_then, Ordering, nat_tests, Owned, In, HaveSame, same_permuted, in_map, map_in, ◌⊎◌, in_extents, Claim, IsPartOfOne, owned_of, entries_of, part_of, claim_cmp, AreFit, StandsBy, Swept, IsTop, take_all, lt-ltb, extents, IsInLine, IsByPlace, EndBelow, origins, IsOnceEach, IsResolved, same_Some}
 use Rattle.overlap_report.proofs.SweepSteps.{swept_empty, swept_without, swept_part, swept_more}
 use Rattle.overlap_report.proofs.OriginSteps.{resolved_by}
 use Rattle.overlap_report.proofs.KeySteps.{IsNext}
 
 same_entries : (cs ds : List Claim) → IsPermutation cs ds → HaveSame (entries_of cs) (entries_of ds)
-same_entries cs ds p =
-    let same = same_permuted cs ds p in (
-      (λ o m. let r = map_in owned_of cs o m in subst (λ (z : Owned). In (entries_of ds) z) r.2 (in_map owned_of ds r.0 (same.0 r.0 r.1))),
-      (λ o m. let r = map_in owned_of ds o m in subst (λ (z : Owned). In (entries_of cs) z) r.2 (in_map owned_of cs r.0 (same.1 r.0 r.1))),
-    )
+same_entries cs ds p = grind (arith, nat_tests, same_permuted cs ds p, map_in owned_of cs, in_map owned_of ds, map_in owned_of ds, in_map owned_of cs)
 
 -- ---- the top
 
@@ -56,26 +52,21 @@ top_fit cs t p top fit = fit (owned_of t) (top_in cs t (sym top.0))
 pub served_swept : (seen out more : List Owned) (cs : List Claim) (t : Claim) (o : Owned) (p end : ℕ) → IsTop cs t → o ≡ part_of (owned_of t) p end → more ≡ out ++ o ∷ []
     → p < end → end ≤ t.at + t.len → Swept seen out (entries_of cs) p → Swept seen more (entries_of cs) end
 served_swept seen out more cs t o p end top is added room high s =
-    subst (λ (os : List Owned). Swept seen os (entries_of cs) end) (sym (added ∙ ap (λ (z : Owned). out ++ z ∷ []) is))
-    (swept_part seen out (entries_of cs) (owned_of t) p end (top_in cs t (sym top.0)) top.1 room high s)
+    grind (arith, nat_tests, swept_part seen out (entries_of cs) (owned_of t) p end (top_in cs t (sym top.0)) top.1 room high s, top_in cs t (sym top.0))
 
 pub none_swept : (seen out : List Owned) (cs : List Claim) (p stop : ℕ) → cs ≡ [] → p ≤ stop → Swept seen out (entries_of cs) p → Swept seen out (entries_of cs) stop
-none_swept seen out cs p stop e h s =
-    subst (λ (ds : List Claim). Swept seen out (entries_of ds) stop) (sym e)
-    (swept_empty seen out p stop h (subst (λ (ds : List Claim). Swept seen out (entries_of ds) p) e s))
+none_swept seen out cs p stop e h s = grind (arith, nat_tests, swept_empty seen out p stop h)
 
 -- ---- a pop and a push
 
 pub popped_heap : (cs ds : List Claim) (r : Option Claim) → IsHeap claim_cmp cs → IfSome r (λ x. PopsGreatest claim_cmp cs x ds) → IfNone r (ds ≡ cs) → IsHeap claim_cmp ds
-popped_heap cs ds None heap pops same = subst (λ (es : List Claim). IsHeap claim_cmp es) (sym same) heap
-popped_heap cs ds (Some x) heap pops same = (pops heap).0
+popped_heap cs ds r heap pops same = grind (arith, nat_tests)
 
 pub popped_rest : (cs ds : List Claim) (r : Option Claim) (n : ℕ) → IfSome r (λ x. x ≡ get_or cs 0 x) → IfSome r (λ x. IsPermutation cs (x ∷ ds)) → IfNone r (n ≡ 0) → length cs ≡ n
     → (t : Claim) → slice_get cs 0 ≡ Some t → IsPermutation cs (t ∷ ds)
 popped_rest [] ds r n top perm none long t e = cc
 popped_rest (c ∷ cs) ds None n top perm none long t e = absurd (omega arith)
-popped_rest (c ∷ cs) ds (Some x) n top perm none long t e =
-    subst (λ (z : Claim). IsPermutation (c ∷ cs) (z ∷ ds)) (top ∙ same_Some c t e) perm
+popped_rest (c ∷ cs) ds (Some x) n top perm none long t e = grind (arith, nat_tests)
 
 pub pushed_fit : (cs ds : List Claim) (t : Claim) (o : Owned) (p : ℕ) → owned_of t ≡ o → IsPermutation (t ∷ cs) ds → o.extent.at ≤ p → o.extent.at + o.extent.len < 2 ^ 62
     → o.from + o.extent.len < 2 ^ 62 → AreFit p (entries_of cs) → AreFit p (entries_of ds)
@@ -88,8 +79,7 @@ pushed_fit cs ds t o p is perm low ends found fit q m = by_one ((same_entries (t
 pub pushed_swept : (seen more out : List Owned) (cs ds : List Claim) (t : Claim) (o : Owned) → IsNext seen more o → owned_of t ≡ o → IsPermutation (t ∷ cs) ds
     → Swept seen out (entries_of cs) o.extent.at → Swept more out (entries_of ds) o.extent.at
 pushed_swept seen more out cs ds t o next is perm s =
-    swept_more seen more out (entries_of cs) (entries_of ds) o next
-    (subst (λ (z : Owned). HaveSame (z ∷ entries_of cs) (entries_of ds)) is (same_entries (t ∷ cs) ds perm)) s
+    grind (arith, nat_tests, swept_more seen more out (entries_of cs) (entries_of ds) o next, same_entries (t ∷ cs) ds perm)
 
 -- ---- the list
 
@@ -122,14 +112,8 @@ all_served list out pool top cap ends once w = record {
   parts = w.parts;
   line = w.line;
   held = λ o m. (w.low o m).1;
-  ends = λ e m.
-      let r = map_in (λ (o : Owned). o.extent) out e m in
-      let some : 1 ≤ r.0.extent.len = (w.low r.0 r.1).1 in
-      let win = w.won r.0 (r.0.extent.at + r.0.extent.len - 1) r.1 (omega arith, omega arith) in
-      let last = ends win.holder.extent (in_extents list win.holder win.is_one) in
-      subst (λ (z : Extent). z.at + z.len < 2 ^ 62) r.2 (omega (arith, win.covers.1));
+  ends = grind (arith, nat_tests, map_in, in_extents, w.low, w.won);
 }
 
 pub unchanged_items : (cs ds : List Claim) (n m : ℕ) (r : Option Claim) → IfNone r ((ds ≡ cs) × (m ≡ n)) → IfNone r (ds ≡ cs)
-unchanged_items cs ds n m None h = h.0
-unchanged_items cs ds n m (Some x) h = h
+unchanged_items cs ds n m r h = grind (arith, nat_tests)

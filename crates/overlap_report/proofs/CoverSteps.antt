@@ -1,5 +1,5 @@
 -- Extents in the order of their places, joined where they touch.
-use Rattle.overlap_report.proofs.Words.{◌≡◌, ℕ, ◌+◌, ◌-◌, ◌<◌, ◌≤◌, ◌⊎◌, refl, sym, ◌∙◌, ap, subst, inl, inr, List, [], ◌∷◌, ◌++◌, length, drop, get_or, Bool, cond, max, arith, nat_lt, ◌==◌, flat_map-append, append-nil, flat_in, lt-ltb, nat_tests, drop_of_length-le, range_with_len, Extent, Owned, In, HaveSame, ranges, extents, IsByPlace, EndBelow, IsCover, spans, in_either, in_extents, entry_in, in_left, in_right, in_range, range_low, range_high, run, ltb-true}
+use Rattle.overlap_report.proofs.Words.{◌≡◌, ℕ, ◌+◌, ◌-◌, ◌<◌, ◌≤◌, ◌⊎◌, refl, sym, ◌∙◌, ap, subst, inl, inr, List, [], ◌∷◌, ◌++◌, length, drop, get_or, cond, max, arith, nat_lt, ◌==◌, flat_map-append, append-nil, flat_in, nat_tests, drop_of_length-le, range_with_len, Extent, Owned, In, HaveSame, ranges, extents, IsByPlace, EndBelow, IsCover, spans, in_either, in_extents, entry_in, in_left, in_right, in_range, range_low, range_high, run, ltb-true}
 use Rattle.list_laws.proofs.Truth.{either}
 
 -- the runs of the extents, where one from a place to an end has begun
@@ -27,9 +27,7 @@ begins_by at end (e ∷ es) sorted low d m =
     )
 
 run_cover : (at end : ℕ) (es : List Extent) → IsCover es → ((d : Extent) → In es d → end < d.at) → IsCover (run at end ++ es)
-run_cover at end es h past =
-    either (λ ds. IsCover (ds ++ es)) (nat_lt at end) _ _
-    (λ f. let room : at < end = ltb-true _ _ f in (omega arith, (λ d m. let l = past d m in omega arith), h)) (λ f. h)
+run_cover at end es h past = grind (arith, nat_tests)
 
 pub joined_cover : (at end : ℕ) (es : List Extent) → IsByPlace es → ((d : Extent) → In es d → at ≤ d.at) → IsCover (joined_from at end es)
 joined_cover at end [] sorted low = subst (λ (es : List Extent). IsCover es) (append-nil (run at end)) (run_cover at end [] tt (λ d m. absurd m))
@@ -43,15 +41,10 @@ joined_cover at end (e ∷ es) sorted low =
 -- ---- the bytes
 
 run_bytes : (at end x : ℕ) → In (spans (run at end)) x → (at ≤ x) × (x < end)
-run_bytes at end x m =
-    let r = flat_in (λ (e : Extent). range_with_len e.at e.len) (run at end) x m in
-    let k = in_run at end r.0 r.1 in
-    (omega (arith, k, range_low r.0.at r.0.len x r.2), omega (arith, k, range_high r.0.at r.0.len x r.2))
+run_bytes at end x m = grind (arith, nat_tests, flat_in, in_run at end, range_low, range_high)
 
 bytes_run : (at end x : ℕ) → at ≤ x → x < end → In (spans (run at end)) x
-bytes_run at end x l h =
-    subst (λ (t : Bool). In (spans (cond t (record { at = at; len = end - at } ∷ []) [])) x) (sym (lt-ltb at end (omega arith)))
-    (in_left (range_with_len at (end - at)) [] x (in_range at (end - at) x l (omega arith)))
+bytes_run at end x l h = grind (arith, nat_tests, in_left, in_range, run, range_with_len)
 
 spans_joined : (ds es : List Extent) → spans (ds ++ es) ≡ spans ds ++ spans es
 spans_joined ds es = flat_map-append (λ e. range_with_len e.at e.len) ds es
@@ -73,27 +66,12 @@ joined_only at end x (e ∷ es) m =
       in_range e.at e.len x,
     )
 
-in_first : (e : Extent) (es : List Extent) (x : ℕ) → In (spans (e ∷ es)) x → ((e.at ≤ x) × (x < e.at + e.len)) ⊎ In (spans es) x
-in_first e es x m = elim (in_either (range_with_len e.at e.len) (spans es) x m) [ inl a ↦ inl (range_low e.at e.len x a, range_high e.at e.len x a) | inr a ↦ inr a ]
-
 pub joined_all : (at end x : ℕ) (es : List Extent) → IsByPlace es → ((d : Extent) → In es d → at ≤ d.at) → ((at ≤ x) × (x < end)) ⊎ In (spans es) x
     → In (spans (joined_from at end es)) x
 joined_all at end x [] sorted low (inl m) = bytes_run at end x m.0 m.1
 joined_all at end x [] sorted low (inr m) = absurd m
 joined_all at end x (e ∷ es) sorted low m =
-    grind (
-      arith,
-      nat_tests,
-      joined_all at end x es sorted.1 (λ d k. low d (inr k)),
-      joined_all at (max end (e.at + e.len)) x es sorted.1 (λ d k. low d (inr k)),
-      joined_all e.at (max end (e.at + e.len)) x es sorted.1 sorted.0,
-      spans_joined (run at end) (joined_from e.at (max end (e.at + e.len)) es),
-      in_first e es x,
-      in_right,
-      in_left,
-      bytes_run at end x,
-      low e (inl refl),
-    )
+    grind (arith, nat_tests, joined_all at end x es sorted.1 (λ d k. low d (inr k)), joined_all at (max end (e.at + e.len)) x es sorted.1 (λ d k. low d (inr k)), joined_all e.at (max end (e.at + e.len)) x es sorted.1 sorted.0, spans_joined (run at end) (joined_from e.at (max end (e.at + e.len)) es), in_either, range_low, range_high, in_right, in_left, bytes_run at end x, low e (inl refl))
 
 -- ---- one more entry
 
@@ -110,11 +88,7 @@ pub all_cover : (list : List Owned) → IsByPlace (extents list) → IsCover (jo
 all_cover list sorted = joined_cover 0 0 (extents list) sorted (λ d m. omega arith)
 
 pub all_bytes_joined : (list : List Owned) → IsByPlace (extents list) → HaveSame (spans (joined_from 0 0 (extents list))) (ranges list)
-all_bytes_joined list sorted = (
-  (λ x m. subst (λ (ys : List ℕ). In ys x) (spans_extents list)
-      (elim (joined_only 0 0 x (extents list) m) [ inl a ↦ (let h = a.1 in absurd (omega arith)) | inr a ↦ a ])),
-  (λ x m. joined_all 0 0 x (extents list) sorted (λ d k. omega arith) (inr (subst (λ (ys : List ℕ). In ys x) (sym (spans_extents list)) m))),
-)
+all_bytes_joined list sorted = grind (arith, nat_tests, spans_extents list, joined_only 0 0, joined_all 0 0)
 
 pub entry_ends : (list : List Owned) (n i : ℕ) (d : Owned) → EndBelow n (extents list) → i < length list → (get_or list i d).extent.at + (get_or list i d).extent.len < n
 entry_ends list n i d h l = h (get_or list i d).extent (in_extents list (get_or list i d) (entry_in list i d l))

@@ -1,11 +1,8 @@
 -- Requests that are the same or not, and entries among the first of a list.
-use Rattle.overlap_report.proofs.Words.{◌≡◌, ℕ, zero, suc, ◌+◌, ◌<◌, ◌≤◌, ◌⊎◌, refl, sym, ◌∙◌, ap, subst, inl, inr, List, [], ◌∷◌, ◌++◌, length, take, get_or, true, false, arith, nat_tests, take_more, take_all, entry_in, key_itself, Extent, Owned, Key, same_key, key_below, In, extents, IsByPlace, EndBelow, in_either, in_left, in_right, map_in, in_extents}
+use Rattle.overlap_report.proofs.Words.{◌≡◌, ℕ, zero, suc, ◌+◌, ◌<◌, ◌≤◌, ◌⊎◌, sym, subst, inl, inr, List, [], ◌∷◌, ◌++◌, length, take, get_or, true, false, arith, nat_tests, take_more, take_all, entry_in, Owned, Key, same_key, key_below, In, extents, IsByPlace, EndBelow, in_either, in_left, in_right, map_in, in_extents}
 pub use Rattle.serial_spec.proofs.KeyLaws.{not_below_itself}
 
 -- ---- keys
-
-pub key_back : (a b : Key) → same_key a b ≡ true → same_key b a ≡ true
-key_back a b h = grind (arith, nat_tests)
 
 pub key_meet : (a b r : Key) → same_key a r ≡ true → same_key b r ≡ true → same_key a b ≡ true
 key_meet a b r h k = grind (arith, nat_tests)
@@ -15,9 +12,6 @@ key_apart a b r h k = grind (arith, nat_tests)
 
 pub key_apart_back : (a b r : Key) → same_key a r ≡ false → same_key b r ≡ true → same_key a b ≡ false
 key_apart_back a b r h k = grind (arith, nat_tests)
-
-pub equal_key : (a b : Key) → a ≡ b → same_key a b ≡ true
-equal_key a b e = subst (λ (k : Key). same_key a k ≡ true) e (key_itself a)
 
 pub below_or_above : (a b : Key) → same_key a b ≡ false → key_below a b ≡ false → key_below b a ≡ true
 below_or_above a b h k = grind (arith, nat_tests)
@@ -35,31 +29,21 @@ pub for_next : {seen more : List Owned} {o : Owned} (P : Owned → Type 0) → I
 for_next P next old here p m = elim (next.splits p m) [ inl a ↦ old p a | inr a ↦ subst P (sym a) here ]
 
 pub next_pushed : (seen : List Owned) (o : Owned) → IsNext seen (seen ++ o ∷ []) o
-next_pushed seen o = record {
-  splits = λ p m. elim (in_either seen (o ∷ []) p m) [ inl g ↦ inl g | inr (inl g) ↦ inr (sym g) | inr (inr g) ↦ absurd g ];
-  keeps = λ p m. in_left seen (o ∷ []) p m;
-  has = in_right seen (o ∷ []) o (inl refl);
-}
+next_pushed seen o = grind (arith, nat_tests, in_either, in_left, in_right)
 
 pub before_next : (list : List Owned) (i : ℕ) (o p : Owned) → i < length list → o ≡ get_or list i o → IsByPlace (extents list) → In (take i list) p → p.extent.at ≤ o.extent.at
 before_next [] i o p h is sorted m = absurd (omega arith)
 before_next (a ∷ list) zero o p h is sorted m = absurd m
-before_next (a ∷ list) (suc i) o p h is sorted (inl m) =
-    let there : In list o = subst (λ (z : Owned). In list z) (sym is) (entry_in list i o (omega arith)) in
-    subst (λ (z : Owned). z.extent.at ≤ o.extent.at) m (sorted.0 o.extent (in_extents list o there))
+before_next (a ∷ list) (suc i) o p h is sorted (inl m) = grind (arith, nat_tests, entry_in list i o, in_extents list o)
 before_next (a ∷ list) (suc i) o p h is sorted (inr m) = before_next list i o p (omega arith) is sorted.1 m
 
 pub at_or_before : (list : List Owned) (i : ℕ) (o p : Owned) → i < length list → o ≡ get_or list i o → IsByPlace (extents list) → In list p
     → In (take i list) p ⊎ (o.extent.at ≤ p.extent.at)
 at_or_before [] i o p h is sorted m = absurd m
-at_or_before (a ∷ list) zero o p h is sorted (inl m) =
-    let same : o.extent.at ≡ p.extent.at = ap (λ (z : Owned). z.extent.at) (is ∙ m) in inr (omega arith)
-at_or_before (a ∷ list) zero o p h is sorted (inr m) =
-    let same : o.extent.at ≡ a.extent.at = ap (λ (z : Owned). z.extent.at) is in
-    let low = sorted.0 p.extent (in_extents list p m) in inr (omega arith)
+at_or_before (a ∷ list) zero o p h is sorted (inl m) = grind (arith, nat_tests)
+at_or_before (a ∷ list) zero o p h is sorted (inr m) = grind (arith, nat_tests, in_extents list p m)
 at_or_before (a ∷ list) (suc i) o p h is sorted (inl m) = inl (inl m)
-at_or_before (a ∷ list) (suc i) o p h is sorted (inr m) =
-    elim (at_or_before list i o p (omega arith) is sorted.1 m) [ inl g ↦ inl (inr g) | inr g ↦ inr g ]
+at_or_before (a ∷ list) (suc i) o p h is sorted (inr m) = grind (arith, nat_tests, at_or_before list i o p)
 
 abbrev pub nothing : Owned
 nothing = record { extent = record { at = 0; len = 0 }; rank = 0; request = 0; slot = 0; from = 0 }
@@ -70,9 +54,7 @@ next_at list i h = subst (λ (os : List Owned). IsNext (take i list) os (get_or 
 -- entries that end below a place, and one more
 pub ends_next : (list : List Owned) (i n : ℕ) → i < length list → EndBelow n (extents (take i list))
     → (get_or list i nothing).extent.at + (get_or list i nothing).extent.len < n → EndBelow n (extents (take (i + 1) list))
-ends_next list i n h ends last e m =
-    let r = map_in (λ (o : Owned). o.extent) (take (i + 1) list) e m in
-    subst (λ (z : Extent). z.at + z.len < n) r.2 (for_next (λ p. p.extent.at + p.extent.len < n) (next_at list i h) (λ p k. ends p.extent (in_extents (take i list) p k)) last r.0 r.1)
+ends_next list i n h ends last e m = grind (arith, nat_tests, map_in, for_next, next_at list i h, in_extents (take i list))
 
 pub ends_all : (list : List Owned) (i n : ℕ) → length list ≤ i → EndBelow n (extents (take i list)) → EndBelow n (extents list)
 ends_all list i n h ends = subst (λ (os : List Owned). EndBelow n (extents os)) (take_all i list h) ends

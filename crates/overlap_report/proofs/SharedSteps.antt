@@ -1,8 +1,8 @@
 -- How far the entries so far reach, and the first byte that two requests hold.
-use Rattle.overlap_report.proofs.Words.{cases_lt, ◌≡◌, ℕ, ◌+◌, ◌<◌, ◌≤◌, ◌⊎◌, refl, sym, ◌∙◌, ap, subst, inl, inr, List, length, take, get_or, Bool, true, false, cond, max, Option, Some, None, arith, MatchOption, range_with_len, take_all, entry_in, in_taken, Owned, Pair, Key, same_key, key_below, Holds, holdings_of_entries, shared_pair_of, first_end, second_end, key_itself, key_equal, pair_found, pair_only, In, extents, IsByPlace, in_range, range_low, range_high, holds_by, holder_of, Reach, key_of, Covers, IsClearAt, AreTwo, IsFirst, HasHolder, ArePairAt, same_as, with_entry, no_both}
+use Rattle.overlap_report.proofs.Words.{◌≡◌, ℕ, ◌+◌, ◌<◌, ◌≤◌, ◌⊎◌, refl, sym, ap, subst, inl, inr, List, length, take, get_or, Bool, true, false, cond, max, Option, Some, None, arith, MatchOption, range_with_len, take_all, entry_in, in_taken, Owned, Pair, Key, same_key, key_below, Holds, holdings_of_entries, shared_pair_of, first_end, second_end, key_itself, key_equal, pair_found, pair_only, In, extents, IsByPlace, in_range, range_low, range_high, holds_by, holder_of, Reach, key_of, Covers, IsClearAt, AreTwo, IsFirst, HasHolder, ArePairAt, same_as, with_entry, no_both, nat_tests}
 use Rattle.list_laws.proofs.Optional.{some_or_none}
 use Rattle.list_laws.proofs.Truth.{holds_or_not}
-use Rattle.overlap_report.proofs.KeySteps.{key_back, key_meet, key_apart, key_apart_back, not_below_itself, IsNext, for_next, before_next, at_or_before}
+use Rattle.overlap_report.proofs.KeySteps.{key_meet, key_apart, key_apart_back, not_below_itself, IsNext, for_next, before_next, at_or_before}
 
 -- an entry that ends there, of the request or not
 pub record EndsAt (seen : List Owned) (r : Reach) (n : ℕ) (same : Bool) : Type 0 where
@@ -22,35 +22,21 @@ pub record Reaches (r : Reach) (seen : List Owned) : Type 0 where
 
 clear_next : (seen more : List Owned) (o : Owned) (x : ℕ) → IsNext seen more o → IsClearAt seen x
     → ((p : Owned) → In seen p → Covers p x → Covers o x → same_key (key_of p) (key_of o) ≡ true) → IsClearAt more x
-clear_next seen more o x next clear meet p q m n c d =
-    for_next (λ z. Covers z x → same_key (key_of z) (key_of q) ≡ true) next
-    (λ z a c. for_next (λ y. Covers y x → same_key (key_of z) (key_of y) ≡ true) next (λ y b d. clear z y a b c d) (λ d. meet z a c d) q n d)
-    (λ c. for_next (λ y. Covers y x → same_key (key_of o) (key_of y) ≡ true) next (λ y b d. key_back (key_of y) (key_of o) (meet y b d c)) (λ d. key_itself (key_of o)) q n d) p m c
+clear_next seen more o x next clear meet p q m n c d = grind (arith, nat_tests, for_next, key_itself, key_of)
 
 moved : (seen more : List Owned) (r s : Reach) (o : Owned) (n m : ℕ) (same : Bool) → IsNext seen more o → s.rank ≡ r.rank → s.request ≡ r.request → n ≡ m
     → EndsAt seen r n same → EndsAt more s m same
-moved seen more r s o n m same next e f g h = record {
-  entry = h.entry;
-  is_one = next.keeps h.entry h.is_one;
-  ends = h.ends ∙ g;
-  of_it = ap (λ (k : Key). same_key (key_of h.entry) k) (λ i. (e i, f i)) ∙ h.of_it;
-}
+moved seen more r s o n m same next e f g h = grind (arith, nat_tests)
 
 pub reach_next : (seen more : List Owned) (r : Reach) (o : Owned) → IsNext seen more o → 1 ≤ o.extent.len
     → cond (same_as r o) r.other r.end ≤ o.extent.at → Reaches r seen → Reaches (with_entry r o) more
 reach_next seen more r o next long free h = by_same (same_as r o) refl free
   where
     meet_same : same_as r o ≡ true → r.other ≤ o.extent.at → (x : ℕ) (p : Owned) → In seen p → Covers p x → Covers o x → same_key (key_of p) (key_of o) ≡ true
-    meet_same e low x p m c d = elim (holds_or_not (same_as r p)) [
-      | inl f ↦ key_meet (key_of p) (key_of o) (r.rank, r.request) f e
-      | inr f ↦ absurd (omega (arith, h.others p m (omega (arith, c.0, c.1)) f, c.1, d.0))
-    ]
+    meet_same e low x p m c d = grind (arith, nat_tests, holds_or_not, key_meet, h.others, c.0, c.1, d.0)
 
     by_end : same_as r o ≡ true → EndsAt more (record r { end = max r.end (o.extent.at + o.extent.len) }) (max r.end (o.extent.at + o.extent.len)) true
-    by_end e = elim (cases_lt r.end (o.extent.at + o.extent.len)) [
-      | inl k ↦ record { entry = o; is_one = next.has; ends = omega arith; of_it = e }
-      | inr k ↦ moved seen more r (record r { end = max r.end (o.extent.at + o.extent.len) }) o r.end (max r.end (o.extent.at + o.extent.len)) true next refl refl (omega arith) (h.end_of (omega arith))
-    ]
+    by_end e = grind (arith, nat_tests, moved, next.has, h.end_of)
 
     by_same : (t : Bool) → same_as r o ≡ t → cond t r.other r.end ≤ o.extent.at
         → Reaches (cond t (record r { end = max r.end (o.extent.at + o.extent.len) })
@@ -129,18 +115,10 @@ holds_of list k x h =
 of_holds : (list : List Owned) (k : Key) (x : ℕ) → Holds (holdings_of_entries list) k x → HasHolder list k x
 of_holds list k x h =
     let r = holder_of key_of (λ o. range_with_len o.extent.at o.extent.len) list k x h in
-    let e = r.rank in
-    let f = r.request in
-    record {
-      holder = r.holder;
-      is_one = r.is_one;
-      covers = (range_low r.holder.extent.at r.holder.extent.len x r.has, range_high r.holder.extent.at r.holder.extent.len x r.has);
-      key = λ i. (e i, f i);
-    }
+    grind (arith, nat_tests, range_low, range_high, r.rank, r.request, r.holder, r.is_one)
 
 unshared : (list : List Owned) (x : ℕ) → IsClearAt list x → (a b : Key) → HasHolder list a x → HasHolder list b x → a ≡ b
-unshared list x clear a b h k =
-    sym h.key ∙ key_equal (key_of h.holder) (key_of k.holder) (clear h.holder k.holder h.is_one k.is_one h.covers k.covers) ∙ k.key
+unshared list x clear a b h k = grind (arith, nat_tests, key_equal)
 
 pub no_pair : (list : List Owned) → ((x : ℕ) → IsClearAt list x) → None ≡ shared_pair_of (holdings_of_entries list)
 no_pair list clear = elim (some_or_none (shared_pair_of (holdings_of_entries list))) [

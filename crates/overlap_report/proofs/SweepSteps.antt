@@ -1,5 +1,5 @@
 -- One step of the sweep.
-use Rattle.overlap_report.proofs.Words.{ℕ, ◌+◌, ◌<◌, ◌≤◌, refl, sym, ap, subst, inl, inr, List, [], ◌∷◌, ◌++◌, arith, Extent, Owned, In, HaveSame, extents, IsInLine, in_either, cases_lt, map_push, IsPartOfOne, Covers, part_of, StandsBy, Winner, Swept}
+use Rattle.overlap_report.proofs.Words.{ℕ, ◌+◌, ◌<◌, ◌≤◌, refl, sym, subst, inl, inr, List, [], ◌∷◌, ◌++◌, arith, Extent, Owned, In, HaveSame, extents, IsInLine, in_either, cases_lt, map_push, IsPartOfOne, Covers, part_of, StandsBy, Winner, Swept, nat_tests}
 use Rattle.overlap_report.proofs.KeySteps.{IsNext, for_next, next_pushed}
 
 -- ---- nothing goes on
@@ -19,16 +19,7 @@ swept_empty seen out p stop h s = record {
 -- ---- an entry that ended
 
 pub swept_without : (seen out pool rest : List Owned) (top : Owned) (p : ℕ) → top.extent.at + top.extent.len ≤ p → HaveSame pool (top ∷ rest) → Swept seen out pool p → Swept seen out rest p
-swept_without seen out pool rest top p ended same s = record {
-  won = s.won;
-  served = s.served;
-  alive = λ o m l. elim (same.0 o (s.alive o m l)) [ inl e ↦ absurd (omega (arith, ap (λ (z : Owned). z.extent.at + z.extent.len) e)) | inr n ↦ n ];
-  pooled = λ o m. s.pooled o (same.1 o (inr m));
-  low = s.low;
-  line = s.line;
-  parts = s.parts;
-  begun = s.begun;
-}
+swept_without seen out pool rest top p ended same s = grind (arith, nat_tests)
 
 -- ---- bytes of the top
 
@@ -50,15 +41,7 @@ swept_part seen out pool top p end inside greatest room high s =
     let next = next_pushed out one in
     let among = s.pooled top inside in
     let begins : top.extent.at ≤ p = s.begun top among in
-    let wins : (y : ℕ) → Covers one y → Winner seen one y = λ y c. record {
-      holder = top;
-      is_one = among;
-      covers = (omega (arith, c.0, begins), omega (arith, c.1));
-      rank = refl;
-      slot = refl;
-      from = omega (arith, begins, c.0);
-      greatest = λ q m d. greatest q (s.alive q m (omega (arith, c.0, d.1)));
-    } in
+    let wins : (y : ℕ) → Covers one y → Winner seen one y = grind (arith, nat_tests, s.alive) in
     record {
       won = λ o y m c. for_next (λ z. Covers z y → Winner seen z y) next (λ z g d. s.won z y g d) (wins y) o m c;
       served = λ q y m l c. elim (cases_lt y p) [
@@ -77,15 +60,7 @@ swept_part seen out pool top p end inside greatest room high s =
 
 pub swept_more : (seen more out pool next : List Owned) (o : Owned) → IsNext seen more o → HaveSame (o ∷ pool) next → Swept seen out pool o.extent.at → Swept more out next o.extent.at
 swept_more seen more out pool next o is_next same s = record {
-  won = λ z y m c. (let w = s.won z y m c in record {
-    holder = w.holder;
-    is_one = is_next.keeps w.holder w.is_one;
-    covers = w.covers;
-    rank = w.rank;
-    slot = w.slot;
-    from = w.from;
-    greatest = for_next (λ q. Covers q y → StandsBy q w.holder) is_next w.greatest (λ d. absurd (omega (arith, d.0, (s.low z m).0, c.1)));
-  });
+  won = λ z y m c. (let w = s.won z y m c in grind (arith, nat_tests, for_next, w.holder, is_next.keeps, w.is_one, w.covers, w.rank, w.slot, w.from, w.greatest));
   served = λ q y m l c. for_next (λ z. Covers z y → (u : Owned) × In out u × Covers u y) is_next (λ z g d. s.served z y g l d) (λ d. absurd (omega (arith, d.0))) q m c;
   alive = for_next (λ q. o.extent.at < q.extent.at + q.extent.len → In next q) is_next (λ q g l. same.0 q (inr (s.alive q g l))) (λ l. same.0 o (inl refl));
   pooled = λ q m. elim (same.1 q m) [ inl e ↦ subst (λ (z : Owned). In more z) e is_next.has | inr n ↦ is_next.keeps q (s.pooled q n) ];
