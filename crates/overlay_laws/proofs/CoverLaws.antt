@@ -1,5 +1,5 @@
 -- A cursor that cuts extents goes over the same windows as one that cuts bytes.
-use Rattle.overlay_laws.proofs.Words.{◌≡◌, ℕ, zero, suc, ◌+◌, ◌-◌, ◌<◌, ◌≤◌, refl, sym, ◌∙◌, ap, subst, inl, inr, List, [], ◌∷◌, ◌++◌, length, Bool, max, arith, length-append, append-nil, mod_below, div-add-mod', filter, map, nat_lt, nat_le, ◌==◌, range_with_len, length-range_with_len, lt-ltb, le-ltb, le-leb, lt-leb, leb-true, leb-false, equal_below, equal_true, range_append, Extent, first_of, last_of, hull_len, windows, sieving_windows, in_order, In, HaveSame, IsAscending, walked, round_end, below, above, IsCover, end_after, is_single, first_at, hull_of, extents_walked, told_of, spans, filter-append, nat_tests, either, ◌^◌, Owned, ranges, extents, true, false, cond, append_assoc}
+use Rattle.overlay_laws.proofs.Words.{◌≡◌, ℕ, zero, suc, ◌+◌, ◌-◌, ◌<◌, ◌≤◌, refl, sym, ◌∙◌, ap, subst, inl, inr, List, [], ◌∷◌, ◌++◌, length, Bool, max, arith, length-append, append-nil, filter, map, nat_lt, nat_le, ◌==◌, range_with_len, length-range_with_len, lt-ltb, le-ltb, le-leb, lt-leb, leb-false, equal_below, equal_true, range_append, Extent, first_of, last_of, hull_len, windows, sieving_windows, in_order, In, HaveSame, IsAscending, walked, round_end, below, above, IsCover, end_after, is_single, first_at, hull_of, extents_walked, told_of, spans, filter-append, nat_tests, either, ◌^◌, Owned, ranges, extents, true, false, cond, append_assoc}
 use Rattle.overlay_laws.specs.Lines.{EndBelow}
 use Rattle.overlay_laws.proofs.Members.{in_map}
 use Rattle.overlay_laws.proofs.HullLaws.{range_low, range_high, in_either, in_in_order, in_order_in, in_order_ascends, in_range, flat_in, in_flat}
@@ -29,9 +29,7 @@ long_enough (d ∷ cover) e h (inl k) = subst (λ (z : Extent). 1 ≤ z.len) k h
 long_enough (d ∷ cover) e h (inr k) = long_enough cover e h.2 k
 
 pub ranges_moved : (xs ys : List Owned) → ((o : Owned) → In xs o → In ys o) → (x : ℕ) → In (ranges xs) x → In (ranges ys) x
-ranges_moved xs ys p x h =
-    let r = flat_in (λ (o : Owned). range_with_len o.extent.at o.extent.len) xs x h in
-    in_flat (λ (o : Owned). range_with_len o.extent.at o.extent.len) ys r.0 x (p r.0 r.1) r.2
+ranges_moved xs ys p x h = grind (arith, nat_tests, flat_in, in_flat)
 
 -- a cover of the bytes of entries ends where they do
 pub cover_ends : (cover : List Extent) (list : List Owned) → IsCover cover → HaveSame (spans cover) (ranges list) → EndBelow (2 ^ 62) (extents list) → EndBelow (2 ^ 62) cover
@@ -45,10 +43,7 @@ cover_ends cover list h same ends e m =
 -- ---- a cover that is cut at a place
 
 cut_range : (stop a n : ℕ) → a < stop → stop < a + n → range_with_len a n ≡ range_with_len a (stop - a) ++ range_with_len stop (a + n - stop)
-cut_range stop a n h k =
-    let e : n ≡ (stop - a) + (a + n - stop) = omega arith in
-    let f : a + (stop - a) ≡ stop = omega arith in
-    ap (λ (m : ℕ). range_with_len a m) e ∙ range_append a (stop - a) (a + n - stop) ∙ ap (λ (m : ℕ). range_with_len a (stop - a) ++ range_with_len m (a + n - stop)) f
+cut_range stop a n h k = grind (arith, nat_tests, range_append a (stop - a) (a + n - stop))
 
 cut_by : (stop : ℕ) (e : Extent) (cover : List Extent) (t u : Bool) → nat_le stop e.at ≡ t → nat_le (e.at + e.len) stop ≡ u
     → spans cover ≡ spans (below stop cover) ++ spans (above stop cover)
@@ -69,19 +64,11 @@ cut_spans stop (e ∷ cover) = cut_by stop e cover (nat_le stop e.at) (nat_le (e
 
 below_low : (stop : ℕ) (cover : List Extent) (y : ℕ) → In (spans (below stop cover)) y → y < stop
 below_low stop [] y = λ k. absurd k
-below_low stop (e ∷ cover) y =
-    either (λ (xs : List Extent). In (spans xs) y → y < stop) (nat_le stop e.at) _ _ (λ g k. absurd k)
-    (λ g. either (λ (xs : List Extent). In (spans xs) y → y < stop) (nat_le (e.at + e.len) stop) _ _
-    (λ f k. elim (in_either (range_with_len e.at e.len) (spans (below stop cover)) y k) [ inl m ↦ omega (arith, range_high e.at e.len y m, leb-true (e.at + e.len) stop f) | inr m ↦ below_low stop cover y m ])
-    (λ f k. elim (in_either (range_with_len e.at (stop - e.at)) [] y k) [ inl m ↦ omega (arith, range_high e.at (stop - e.at) y m, leb-false stop e.at g) | inr m ↦ absurd m ]))
+below_low stop (e ∷ cover) y = grind (arith, nat_tests, in_either, range_high, below_low stop cover y, range_with_len, below)
 
 above_high : (stop : ℕ) (cover : List Extent) → IsCover cover → (d : Extent) → In (above stop cover) d → stop ≤ d.at
 above_high stop [] h d = λ k. absurd k
-above_high stop (e ∷ cover) h d =
-    either (λ (xs : List Extent). In xs d → stop ≤ d.at) (nat_le stop e.at) _ _
-    (λ g k. elim k [ inl m ↦ subst (λ (z : Extent). stop ≤ z.at) m (leb-true stop e.at g) | inr m ↦ omega (arith, h.1 d m, leb-true stop e.at g) ])
-    (λ g. either (λ (xs : List Extent). In xs d → stop ≤ d.at) (nat_le (e.at + e.len) stop) _ _ (λ f k. above_high stop cover h.2 d k)
-    (λ f k. elim k [ inl m ↦ subst (λ (z : Extent). stop ≤ z.at) m (omega arith) | inr m ↦ omega (arith, h.1 d m, leb-false (e.at + e.len) stop f) ]))
+above_high stop (e ∷ cover) h d = grind (arith, nat_tests, above_high stop cover h.2 d)
 
 pub spans_below : (stop : ℕ) (cover : List Extent) → IsCover cover → filter (λ y. nat_lt y stop) (spans cover) ≡ spans (below stop cover)
 spans_below stop cover h =
@@ -108,17 +95,11 @@ below_after stop n (e ∷ cover) h d =
 
 pub below_cover : (stop : ℕ) (cover : List Extent) → IsCover cover → IsCover (below stop cover)
 below_cover stop [] h = tt
-below_cover stop (e ∷ cover) h =
-    either IsCover (nat_le stop e.at) _ _ (λ g. tt)
-    (λ g. either IsCover (nat_le (e.at + e.len) stop) _ _ (λ l. (h.0, below_after stop (e.at + e.len) cover h.1, below_cover stop cover h.2))
-    (λ l. (omega (arith, leb-false stop e.at g), (λ d k. absurd k), tt)))
+below_cover stop (e ∷ cover) h = grind (arith, nat_tests, below_after stop (e.at + e.len) cover h.1, below_cover stop cover h.2)
 
 pub above_cover : (stop : ℕ) (cover : List Extent) → IsCover cover → IsCover (above stop cover)
 above_cover stop [] h = tt
-above_cover stop (e ∷ cover) h =
-    either IsCover (nat_le stop e.at) _ _ (λ g. h)
-    (λ g. either IsCover (nat_le (e.at + e.len) stop) _ _ (λ l. above_cover stop cover h.2)
-    (λ l. (omega (arith, leb-false (e.at + e.len) stop l), (λ d k. omega (arith, h.1 d k, leb-false stop e.at g, leb-false (e.at + e.len) stop l)), h.2)))
+above_cover stop (e ∷ cover) h = grind (arith, nat_tests, above_cover stop cover h.2)
 
 -- ---- the hull
 
@@ -144,8 +125,7 @@ end_of_cover e (f ∷ cover) h =
     omega (arith, end_of_cover f cover h.2, h.1 f (inl refl), last_of_range e.at e.len h.0, last, first_in f cover h.2, long, length-range_with_len e.at e.len)
 
 first_of_range : (a n : ℕ) (rest : List ℕ) → 1 ≤ n → first_of (range_with_len a n ++ rest) ≡ a
-first_of_range a zero rest h = absurd (omega arith)
-first_of_range a (suc n) rest h = refl
+first_of_range a n rest h = grind (arith, nat_tests)
 
 pub triple_same : (a b c d : ℕ) (s t : Bool) → a ≡ c → b ≡ d → s ≡ t → ◌≡◌ {A = ℕ × ℕ × Bool} (a, b, s) (c, d, t)
 triple_same a b c d s t p q r = λ i. (p i, q i, r i)
@@ -165,28 +145,14 @@ hull_told e cover h =
 
 -- ---- the walk
 
--- the window that begins at a place, told: its extents are not none, since it ends past that place
-abbrev IsTold : List Extent → Type 0
-IsTold cover = IsCover cover → told_of (spans cover) ≡ hull_of cover
-
 pub below_told : (stop : ℕ) (e : Extent) (cover : List Extent) → IsCover (e ∷ cover) → e.at < stop
     → told_of (spans (below stop (e ∷ cover))) ≡ hull_of (below stop (e ∷ cover))
 below_told stop e cover h l =
-    either IsTold (nat_le stop e.at) _ _ (λ g k. absurd (omega (arith, leb-true stop e.at g)))
-    (λ g. either IsTold (nat_le (e.at + e.len) stop) _ _ (λ k. hull_told e (below stop cover)) (λ k. hull_told (record { at = e.at; len = stop - e.at }) []))
-    (below_cover stop (e ∷ cover) h)
+    grind (arith, nat_tests, hull_told e (below stop cover), hull_told (record { at = e.at; len = stop - e.at }) [], below_cover stop (e ∷ cover) h)
 
 pub range_first : (a n : ℕ) (rest : List ℕ) → 1 ≤ n → (ys : List ℕ) × (range_with_len a n ++ rest ≡ a ∷ ys)
 range_first a zero rest h = absurd (omega arith)
 range_first a (suc n) rest h = (range_with_len (a + 1) n ++ rest, refl)
-
--- the step of a walk, over the whole list
-walked_by : (stop : ℕ → ℕ) (fuel x : ℕ) (ys xs : List ℕ) → x < stop x → xs ≡ x ∷ ys
-    → walked stop (suc fuel) xs ≡ filter (λ y. nat_lt y (stop x)) xs ∷ walked stop fuel (filter (λ y. nat_le (stop x) y) xs)
-walked_by stop fuel x ys xs h e =
-    subst (λ (l : List ℕ). walked stop (suc fuel) l ≡ filter (λ y. nat_lt y (stop x)) l ∷ walked stop fuel (filter (λ y. nat_le (stop x) y) l)) (sym e)
-    (ap (λ r. filter (λ y. nat_lt y (stop x)) (x ∷ ys) ∷ walked stop fuel r)
-    (sym (drop_first x (filter (λ y. nat_le (stop x) y) ys) (nat_le (stop x) x) (lt-leb (stop x) x h))))
 
 -- the windows of the bytes, told, are those of the extents
 pub extents_told : (stop : ℕ → ℕ) (fuel : ℕ) (cover : List Extent) → ((x : ℕ) → x < stop x) → IsCover cover
@@ -195,28 +161,16 @@ extents_told stop zero cover s h = refl
 extents_told stop (suc fuel) [] s h = refl
 extents_told stop (suc fuel) (e ∷ cover) s h =
     let first = range_first e.at e.len (spans cover) h.0 in
-    ap (λ (ws : List (List ℕ)). map told_of ws) (walked_by stop fuel e.at first.0 (spans (e ∷ cover)) (s e.at) first.1)
-    ∙ ap (λ r. told_of (filter (λ y. nat_lt y (stop e.at)) (spans (e ∷ cover))) ∷ r)
-    (ap (λ xs. map told_of (walked stop fuel xs)) (spans_above (stop e.at) (e ∷ cover) h)
-    ∙ extents_told stop fuel (above (stop e.at) (e ∷ cover)) s (above_cover (stop e.at) (e ∷ cover) h))
-    ∙ ap (λ w. w ∷ extents_walked stop fuel (above (stop e.at) (e ∷ cover)))
-    (ap (λ xs. told_of xs) (spans_below (stop e.at) (e ∷ cover) h) ∙ below_told (stop e.at) e cover h (s e.at))
+    grind (arith, nat_tests, drop_first, spans_above (stop e.at) (e ∷ cover) h, extents_told stop fuel (above (stop e.at) (e ∷ cover)) s (above_cover (stop e.at) (e ∷ cover) h), above_cover (stop e.at) (e ∷ cover) h, spans_below (stop e.at) (e ∷ cover) h, below_told (stop e.at) e cover h (s e.at), told_of, filter, walked, extents_walked, above)
 
 pub past_round : (lo buffer x : ℕ) → 1 ≤ buffer → x < round_end lo buffer x
-past_round lo buffer x h =
-    let whole = div-add-mod' (x - lo) buffer in
-    let part = mod_below (x - lo) buffer (omega arith) in
-    omega arith
+past_round lo buffer x h = grind (arith, nat_tests)
 
 -- ---- the bytes of a cover stand in order
 
 pub range_then_ascends : (a n : ℕ) (rest : List ℕ) → IsAscending rest → ((y : ℕ) → In rest y → a + n ≤ y) → IsAscending (range_with_len a n ++ rest)
 range_then_ascends a zero rest h k = h
-range_then_ascends a (suc n) rest h k = (
-  (λ y g. elim (in_either (range_with_len (a + 1) n) rest y g)
-      [ inl l ↦ (let m = range_low (a + 1) n y l in omega arith) | inr l ↦ (let m = k y l in omega arith) ]),
-  range_then_ascends (a + 1) n rest h (λ y l. let m = k y l in omega arith),
-)
+range_then_ascends a (suc n) rest h k = grind (arith, nat_tests, in_either, range_low, range_then_ascends (a + 1) n rest h, range_with_len)
 
 pub spans_ascend : (cover : List Extent) → IsCover cover → IsAscending (spans cover)
 spans_ascend [] h = tt
@@ -233,29 +187,17 @@ same_ascending [] (y ∷ ys) h k there back = absurd (back y (inl refl))
 same_ascending (x ∷ xs) [] h k there back = absurd (there x (inl refl))
 same_ascending (x ∷ xs) (y ∷ ys) h k there back =
     let heads : x ≡ y = grind (arith, nat_tests, there x (inl refl), back y (inl refl), h.0 y, k.0 x) in
-    let rest = same_ascending xs ys h.1 k.1 (tail_members x y xs ys heads h.0 there) (tail_members y x ys xs (sym heads) k.0 back) in
-    λ i. heads i ∷ rest i
+    grind (arith, nat_tests, same_ascending xs ys h.1 k.1 (tail_members x y xs ys heads h.0 there), tail_members)
 
 -- a cover of the bytes of a list has just those in order
 pub cover_in_order : (cover : List Extent) (bytes : List ℕ) → IsCover cover → HaveSame (spans cover) bytes → spans cover ≡ in_order bytes
-cover_in_order cover bytes h same =
-    same_ascending (spans cover) (in_order bytes) (spans_ascend cover h) (in_order_ascends bytes)
-    (λ y k. in_in_order bytes y (same.0 y k)) (λ y k. same.1 y (in_order_in bytes y k))
-
-first_of_spans : (cover : List Extent) → IsCover cover → first_of (spans cover) ≡ first_at cover
-first_of_spans [] h = refl
-first_of_spans (e ∷ cover) h = first_of_range e.at e.len (spans cover) h.0
+cover_in_order cover bytes h same = grind (arith, nat_tests, same_ascending, in_order, spans_ascend, in_order_ascends, in_in_order, in_order_in)
 
 pub windows_told : (buffer : ℕ) (cover : List Extent) → 1 ≤ buffer → IsCover cover
     → map told_of (windows buffer (spans cover)) ≡ extents_walked (round_end (first_at cover) buffer) (length (spans cover)) cover
 windows_told buffer cover h k =
-    ap (λ (ws : List (List ℕ)). map told_of ws)
-    (windows_walked buffer (spans cover) h (spans_ascend cover k)
-    ∙ ap (λ (lo : ℕ). walked (round_end lo buffer) (length (spans cover)) (spans cover)) (first_of_spans cover k))
-    ∙ extents_told (round_end (first_at cover) buffer) (length (spans cover)) cover (λ x. past_round (first_at cover) buffer x h) k
+    grind (arith, nat_tests, windows_walked, spans_ascend, first_of_range, extents_told, past_round, told_of, extents_walked, round_end, first_at, walked)
 
 pub sieving_told : (buffer : ℕ) (cover : List Extent) → 1 ≤ buffer → IsCover cover
     → map told_of (sieving_windows buffer (spans cover)) ≡ extents_walked (λ x. x + buffer) (length (spans cover)) cover
-sieving_told buffer cover h k =
-    ap (λ (ws : List (List ℕ)). map told_of ws) (sieved_walked (length (spans cover)) buffer (spans cover))
-    ∙ extents_told (λ x. x + buffer) (length (spans cover)) cover (λ x. omega arith) k
+sieving_told buffer cover h k = grind (arith, nat_tests, sieved_walked, extents_told, told_of, extents_walked)

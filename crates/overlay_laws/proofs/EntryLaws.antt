@@ -4,13 +4,10 @@ use Rattle.overlay_laws.proofs.SaidLaws.{said_in_any_order, same_said, cells_lon
 
 -- ---- entries in order
 
-drop_again : (n m : ℕ) (b : List ℕ) → drop n (drop m b) ≡ drop (m + n) b
-drop_again n m b = grind (arith, common_steps)
-
-pub run_says : (bytes : List ℕ) (source : Source) (from : ℕ) (os : List Owned) → IsRun bytes source from os
+run_says : (bytes : List ℕ) (source : Source) (from : ℕ) (os : List Owned) → IsRun bytes source from os
     → said_by (map (λ o. cell_of source o) os) ≡ zip (ranges os) (drop from bytes)
 run_says bytes source from [] h = refl
-run_says bytes source from (o ∷ os) h = grind (arith, nat_tests, run_says bytes source (from + o.extent.len) os h.2, drop_again, range_and_rest)
+run_says bytes source from (o ∷ os) h = grind (arith, nat_tests, run_says bytes source (from + o.extent.len) os h.2, common_steps, range_and_rest)
 
 -- what the entries of a step say, in the order of the puts
 pub gathered_says : (header : Header) (source : Source) (puts : Puts) (ess : List (List Owned)) → IsGathered header source puts ess
@@ -84,7 +81,7 @@ each_within g [] n o h k = absurd k
 each_within {X} g (x ∷ xs) n o h (inl e) = subst (λ (z : X). (g z).0 + length (g z).1 ≤ n) e h.0
 each_within g (x ∷ xs) n o h (inr k) = each_within g xs n o h.1 k
 
-pub within_moved : {X : Type 0} (g : X → Cell) (xs ys : List X) (n : ℕ) → HaveSame xs ys → IsWithin (map g xs) n → IsWithin (map g ys) n
+within_moved : {X : Type 0} (g : X → Cell) (xs ys : List X) (n : ℕ) → HaveSame xs ys → IsWithin (map g xs) n → IsWithin (map g ys) n
 within_moved g xs ys n p h = within_each g ys n (λ o k. each_within g xs n o h (p.1 o k))
 
 pub list_says : (header : Header) (source : Source) (puts : Puts) (ess : List (List Owned)) (list : List Owned)

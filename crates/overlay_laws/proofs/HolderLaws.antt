@@ -1,18 +1,15 @@
 -- Entries and the puts that they were gathered from hold the same bytes for the same requests.
-use Rattle.overlay_laws.proofs.Words.{◌≡◌, ℕ, refl, sym, ◌∙◌, ap, subst, inl, inr, List, [], ◌∷◌, true, arith, nat_tests, flat_map, map, range_with_len, and_from, or_left, or_right, or_cases, and_first, and_second, no_false, Header, Post, Owned, Puts, Key, bytes_of, holdings, holdings_of_entries, same_key, Holds, shared_pair, shared_pair_of, same_pair, Source, AreOf, IsGathered, In, HaveSame, eqb-true}
+use Rattle.overlay_laws.proofs.Words.{◌≡◌, ℕ, sym, ◌∙◌, ap, inl, inr, List, [], ◌∷◌, true, arith, nat_tests, flat_map, map, range_with_len, and_from, or_left, or_right, or_cases, and_first, and_second, no_false, Header, Post, Owned, Puts, Key, bytes_of, holdings, holdings_of_entries, same_key, Holds, shared_pair, shared_pair_of, same_pair, Source, AreOf, IsGathered, In, HaveSame, eqb-true}
 use Rattle.overlay_laws.proofs.HullLaws.{any_in, in_any, in_left, in_right, in_either, in_flat, flat_in}
 
 pub same_keys : (a b : Key) → same_key a b ≡ true → (a.0 ≡ b.0) × (a.1 ≡ b.1)
 same_keys a b h = (eqb-true _ _ (and_first _ _ h), eqb-true _ _ (and_second _ _ h))
 
-pub keys_same : (a b : Key) → a.0 ≡ b.0 → a.1 ≡ b.1 → same_key a b ≡ true
-keys_same a b h k = grind (arith, nat_tests)
-
 -- who holds a byte, by members
 pub holds_by : {X : Type 0} (key : X → Key) (bytes : X → List ℕ) (xs : List X) (k : Key) (x : ℕ) (o : X) → In xs o → (key o).0 ≡ k.0 → (key o).1 ≡ k.1 → In (bytes o) x
     → Holds (map (λ z. (key z, bytes z)) xs) k x
 holds_by key bytes [] k x o h e f m = absurd h
-holds_by {X} key bytes (y ∷ ys) k x o (inl g) e f m = grind (arith, nat_tests, or_left, and_from, keys_same, in_any)
+holds_by {X} key bytes (y ∷ ys) k x o (inl g) e f m = grind (arith, nat_tests, or_left, and_from, in_any)
 holds_by key bytes (y ∷ ys) k x o (inr h) e f m = grind (arith, nat_tests, holds_by key bytes ys k x o h e f m, or_right)
 
 pub record IsHolder {X : Type 0} (key : X → Key) (bytes : X → List ℕ) (xs : List X) (k : Key) (x : ℕ) : Type 0 where
@@ -46,19 +43,7 @@ pub to_put : (header : Header) (source : Source) (puts : Puts) (ess : List (List
 to_put header source [] [] o x h k m = absurd k
 to_put header source [] (os ∷ ess) o x h k m = absurd h
 to_put header source (p ∷ puts) [] o x h k m = absurd h
-to_put header source (p ∷ puts) (os ∷ ess) o x h k m =
-    elim (in_either os (flat_map (λ q. q) ess) o k) [
-      | inl g ↦ (let e = entry_of p os o h.3 g in
-          record {
-            put = p;
-            is_one = inl refl;
-            rank = e.0;
-            request = e.1;
-            has = subst (λ (xs : List ℕ). In xs x) h.1 (in_flat (λ q. range_with_len q.extent.at q.extent.len) os o x g m);
-          })
-      | inr g ↦ (let r = to_put header source puts ess o x h.2 g m in
-          record { put = r.put; is_one = inr r.is_one; rank = r.rank; request = r.request; has = r.has })
-    ]
+to_put header source (p ∷ puts) (os ∷ ess) o x h k m = grind (arith, nat_tests, in_either os, entry_of p os o h.3, in_flat, to_put header source puts ess o x h.2)
 
 record HasEntry (ess : List (List Owned)) (p : ℕ × Post) (x : ℕ) : Type 0 where
   entry : Owned

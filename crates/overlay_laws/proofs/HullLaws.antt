@@ -1,5 +1,5 @@
 -- The windows of the device calls have every covered byte, so that hulls written over them are the step.
-use Rattle.overlay_laws.proofs.Words.{◌≡◌, ℕ, zero, suc, ◌+◌, ◌-◌, ◌*◌, ◌/◌, ◌%◌, ◌<◌, ◌≤◌, refl, sym, ◌∙◌, ap, inl, inr, ◌⊎◌, List, [], ◌∷◌, ◌++◌, length, Bool, true, false, not, cond, min, max, arith, nat_tests, div_below, le-div, mod_below, div-add-mod', mul-le, mul_comm, fold, flat_map, filter, map, zip, nat_lt, nat_le, ◌==◌, range_with_len, list_any, or_left, or_right, in_filter, filter_in, equal_true, puts_are_cells, puts_say, Header, Hints, Puts, covered, Setting, put_post, in_order, first_of, last_of, not_empty, domain_size, domains, windows, collective_windows, sieved, sieving_windows, is_empty, Cell, said_at, said_by, Says, IsWithin, IsInOne, HasEach, said_by_puts, In, cells_of_puts, hulls, IsAscending, written_over, AreHints, filter_at_most, leb_tells, cases_eq, lt-ltb}
+use Rattle.overlay_laws.proofs.Words.{◌≡◌, ℕ, zero, suc, ◌+◌, ◌-◌, ◌*◌, ◌/◌, ◌%◌, ◌<◌, ◌≤◌, refl, sym, ◌∙◌, ap, inl, inr, ◌⊎◌, List, [], ◌∷◌, ◌++◌, length, Bool, true, not, cond, min, max, arith, nat_tests, div_below, le-div, mod_below, div-add-mod', mul-le, mul_comm, fold, flat_map, filter, map, zip, nat_lt, nat_le, ◌==◌, range_with_len, list_any, or_left, or_right, in_filter, filter_in, equal_true, puts_are_cells, puts_say, Header, Hints, Puts, covered, Setting, put_post, in_order, first_of, last_of, not_empty, domain_size, domains, windows, collective_windows, sieved, sieving_windows, is_empty, Cell, said_at, said_by, Says, IsWithin, IsInOne, HasEach, said_by_puts, In, cells_of_puts, hulls, IsAscending, written_over, AreHints, filter_at_most, leb_tells, cases_eq, lt-ltb}
 use Rattle.overlay_laws.proofs.Members.{in_map, map_in}
 use Rattle.overlay_laws.proofs.SaidLaws.{said_is, same_said}
 use Rattle.overlay_laws.proofs.EntryLaws.{says_cases}
@@ -43,17 +43,14 @@ range_ascends a zero = tt
 range_ascends a (suc n) = ((λ y h. let l = range_low (a + 1) n y h in omega arith), range_ascends (a + 1) n)
 
 kept_ascends : (t : ℕ → Bool) (x : ℕ) (xs : List ℕ) (b : Bool) → ((y : ℕ) → In xs y → x < y) → IsAscending (filter t xs) → IsAscending (cond b (x ∷ filter t xs) (filter t xs))
-kept_ascends t x xs true h k = ((λ y g. h y (filter_in t xs y g).0), k)
-kept_ascends t x xs false h k = k
+kept_ascends t x xs b h k = grind (arith, nat_tests, filter_in)
 
 pub filter_ascends : (t : ℕ → Bool) (xs : List ℕ) → IsAscending xs → IsAscending (filter t xs)
 filter_ascends t [] h = tt
 filter_ascends t (x ∷ xs) h = kept_ascends t x xs (t x) h.0 (filter_ascends t xs h.1)
 
 pub first_least : (xs : List ℕ) (x : ℕ) → IsAscending xs → In xs x → first_of xs ≤ x
-first_least [] x h k = absurd k
-first_least (y ∷ ys) x h (inl e) = omega arith
-first_least (y ∷ ys) x h (inr k) = let l = h.0 x k in omega arith
+first_least xs x h k = grind (arith, nat_tests)
 
 pub last_most : (xs : List ℕ) (x : ℕ) → In xs x → x ≤ last_of xs
 last_most [] x h = absurd h
@@ -69,12 +66,10 @@ pub ascending_few : (xs : List ℕ) (lo hi : ℕ) → IsAscending xs → ((x : �
 ascending_few [] lo hi h within = omega arith
 ascending_few (x ∷ xs) lo hi h within =
     let here = within x (inl refl) in
-    let rest = ascending_few xs (x + 1) hi h.1 (λ y m. (let next = h.0 y m in omega arith, (within y (inr m)).1)) in
-    omega (arith, here.0, here.1)
+    grind (arith, nat_tests, ascending_few xs (x + 1) hi h.1, h.0, here.0, here.1)
 
 pub first_last : (xs : List ℕ) → first_of xs ≤ last_of xs + 1
-first_last [] = omega arith
-first_last (y ∷ ys) = omega arith
+first_last xs = grind (arith, nat_tests)
 
 -- ---- the covered bytes in order
 
@@ -86,12 +81,10 @@ least_low x (z ∷ xs) y (inr (inl e)) = let l = least_low (min x z) xs (min x z
 least_low x (z ∷ xs) y (inr (inr h)) = least_low (min x z) xs y (inr h)
 
 pub in_in_order : (xs : List ℕ) (y : ℕ) → In xs y → In (in_order xs) y
-in_in_order [] y h = absurd h
-in_in_order (x ∷ xs) y h = grind (arith, nat_tests, least_low, last_most, in_filter, in_range, in_any)
+in_in_order xs y h = grind (arith, nat_tests, least_low, last_most, in_filter, in_range, in_any)
 
 pub in_order_in : (xs : List ℕ) (y : ℕ) → In (in_order xs) y → In xs y
-in_order_in [] y h = absurd h
-in_order_in (x ∷ xs) y h = grind (arith, nat_tests, any_in, filter_in)
+in_order_in xs y h = grind (arith, nat_tests, any_in, filter_in)
 
 pub in_order_ascends : (xs : List ℕ) → IsAscending (in_order xs)
 in_order_ascends xs = grind (arith, nat_tests, filter_ascends, range_ascends)
@@ -105,8 +98,7 @@ pub record HasWindow (ws : List (List ℕ)) (x : ℕ) : Type 0 where
   pub ascends : IsAscending window
 
 not_empty_has : (w : List ℕ) (x : ℕ) → In w x → not (is_empty w) ≡ true
-not_empty_has [] x h = absurd h
-not_empty_has (y ∷ ys) x h = refl
+not_empty_has w x h = grind (arith, nat_tests)
 
 has_hull : (ws : List (List ℕ)) (w : List ℕ) (x : ℕ) → In ws w → In w x → IsAscending w → HasEach (hulls ws) x
 has_hull [] w x h k g = absurd h
@@ -143,9 +135,6 @@ windows_have buffer bytes x h asc k =
       ascends = filter_ascends (λ y. (y - lo) / buffer == (x - lo) / buffer) bytes asc;
     }
 
-windows_only : (buffer : ℕ) (bytes w : List ℕ) (x : ℕ) → In (windows buffer bytes) w → In w x → In bytes x
-windows_only buffer bytes w x h k = grind (arith, nat_tests, filter_in, not, map_in)
-
 -- ---- domains
 
 domains_have : (nodes unit : ℕ) (bytes : List ℕ) (x : ℕ) → 1 ≤ nodes → 1 ≤ unit → IsAscending bytes → In bytes x → HasWindow (domains nodes unit bytes) x
@@ -156,7 +145,6 @@ domains_have nodes unit bytes x h u asc k =
     let c = (n + (nodes - 1)) / nodes in
     let s = max 1 (domain_size low (last_of bytes + 1) nodes unit) in
     let high : x ≤ last_of bytes = last_most bytes x k in
-    let covers : n ≤ c * nodes = ceil_covers n nodes h in
     let rounded : c ≤ (c + (unit - 1)) / unit * unit = ceil_covers c unit u in
     let grown : c * nodes ≤ s * nodes = mul-le c nodes s nodes (omega arith) (omega arith) in
     let one : 1 * 1 ≤ s * nodes = mul-le 1 1 s nodes (omega arith) h in
@@ -169,9 +157,6 @@ domains_have nodes unit bytes x h u asc k =
       ascends = filter_ascends (λ y. (y - low) / s == (x - low) / s) bytes asc;
     }
 
-domains_only : (nodes unit : ℕ) (bytes d : List ℕ) (x : ℕ) → In (domains nodes unit bytes) d → In d x → In bytes x
-domains_only nodes unit bytes d x h k = grind (arith, nat_tests, map_in, filter_in)
-
 pub collective_have : (hints : Hints) (bytes : List ℕ) (x : ℕ) → AreHints hints → IsAscending bytes → In bytes x → HasWindow (collective_windows hints bytes) x
 collective_have hints bytes x h asc k =
     let d = domains_have hints.cb_nodes hints.striping_unit bytes x h.0 h.1 asc k in
@@ -183,9 +168,6 @@ collective_have hints bytes x h asc k =
       has = w.has;
       ascends = w.ascends;
     }
-
-pub collective_only : (hints : Hints) (bytes w : List ℕ) (x : ℕ) → In (collective_windows hints bytes) w → In w x → In bytes x
-collective_only hints bytes w x h k = grind (arith, nat_tests, flat_in, filter_in, not, domains_only, windows_only)
 
 -- ---- sieving windows
 
@@ -213,12 +195,6 @@ sieved_only (suc fuel) buffer [] w x h k = absurd h
 sieved_only (suc fuel) buffer (y ∷ ys) w x (inl e) k = grind (arith, nat_tests, filter_in)
 sieved_only (suc fuel) buffer (y ∷ ys) w x (inr h) k =
     inr (filter_in (λ z. nat_le (y + buffer) z) ys x (sieved_only fuel buffer (filter (λ z. nat_le (y + buffer) z) ys) w x h k)).0
-
-pub sieving_have : (buffer : ℕ) (bytes : List ℕ) (x : ℕ) → 1 ≤ buffer → IsAscending bytes → In bytes x → HasWindow (sieving_windows buffer bytes) x
-sieving_have buffer bytes x h asc k = sieved_have (length bytes) buffer bytes x h (omega arith) asc k
-
-pub sieving_only : (buffer : ℕ) (bytes w : List ℕ) (x : ℕ) → In (sieving_windows buffer bytes) w → In w x → In bytes x
-sieving_only buffer bytes w x h k = sieved_only (length bytes) buffer bytes w x h k
 
 -- ---- the step, hull by hull
 
@@ -256,7 +232,7 @@ pub collective_done : (hints : Hints) (s : Setting) (puts : Puts) (file : List �
     → ((x : ℕ) → In (covered s.header puts) x → x < length file)
     → written_over file cells (collective_windows hints (in_order (covered s.header puts))) ≡ fold (put_post s) file puts
 collective_done hints s puts file cells h one room fits same below =
-    grind (arith, nat_tests, hulls_done, in_order_in, collective_only, collective_have, in_order_ascends, in_in_order)
+    grind (arith, nat_tests, hulls_done, in_order_in, flat_in, filter_in, map_in, not, collective_have, in_order_ascends, in_in_order)
 
 pub sieving_done : (buffer : ℕ) (s : Setting) (puts : Puts) (file : List ℕ) (cells : List Cell) → 1 ≤ buffer → 1 ≤ length file
     → IsWithin (cells_of_puts s.header puts) (length file) → IsWithin cells (length file)
@@ -264,4 +240,4 @@ pub sieving_done : (buffer : ℕ) (s : Setting) (puts : Puts) (file : List ℕ) 
     → ((x : ℕ) → In (covered s.header puts) x → x < length file)
     → written_over file cells (sieving_windows buffer (in_order (covered s.header puts))) ≡ fold (put_post s) file puts
 sieving_done buffer s puts file cells h one room fits same below =
-    grind (arith, nat_tests, in_order_ascends (covered s.header puts), hulls_done, in_order_in, sieving_only, sieving_have, in_in_order)
+    grind (arith, nat_tests, in_order_ascends (covered s.header puts), hulls_done, in_order_in, sieved_only, sieved_have, in_in_order)

@@ -60,7 +60,3 @@ in_zip [] ys k x y h g = absurd cc
 in_zip (a ∷ xs) [] k x y h g = absurd cc
 in_zip (a ∷ xs) (b ∷ ys) zero x y h g = grind (arith, nat_tests)
 in_zip (a ∷ xs) (b ∷ ys) (suc k) x y h g = inr (in_zip xs ys k x y h g)
-
--- the first of a pair is a member of the first list
-pub zip_left : {X Y : Type 0} (xs : List X) (ys : List Y) (p : X × Y) → In (zip xs ys) p → In xs p.0
-zip_left xs ys p h = let r = zip_in xs ys p h in at_in xs r.0 p.0 r.1

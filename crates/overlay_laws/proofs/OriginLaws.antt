@@ -1,20 +1,13 @@
 -- The bytes of entries by where they come from; where requests overlap, the last in rank order counts.
-use Rattle.overlay_laws.proofs.Words.{◌≡◌, ℕ, zero, suc, ◌+◌, ◌<◌, ◌≤◌, refl, sym, ◌∙◌, ap, subst, inl, inr, List, [], ◌∷◌, ◌++◌, length, take, drop, Option, Some, None, arith, drop_more, map-append, fold, flat_map, map, option_map, enumerate_from, range_with_len, no_none_some, puts_are_cells, puts_say, one_hit, Owned, at, Puts, Setting, put_post, option_or, same_Some, one_says, said_at, Says, IsOneValued, write_cells, said_by, IsWithin, cells_of_puts, Source, cell_of, IsGathered, In, HaveSame, Origin, origins_of, origins, byte_at, AreFound, AtMost, IsGreatest, IsResolved, IsOnceEach, IsInOrder, nat_tests, some_or_none}
+use Rattle.overlay_laws.proofs.Words.{◌≡◌, ℕ, zero, suc, ◌+◌, ◌<◌, ◌≤◌, refl, sym, ◌∙◌, ap, inl, inr, List, [], ◌∷◌, ◌++◌, length, take, drop, Some, arith, drop_more, map-append, fold, flat_map, map, option_map, enumerate_from, range_with_len, no_none_some, puts_are_cells, puts_say, one_hit, Owned, at, Puts, Setting, put_post, said_at, Says, IsOneValued, write_cells, said_by, IsWithin, cells_of_puts, Source, cell_of, IsGathered, In, HaveSame, Origin, origins_of, origins, byte_at, AreFound, AtMost, IsGreatest, IsResolved, IsOnceEach, IsInOrder, nat_tests, some_or_none}
 use Rattle.overlay_laws.proofs.SaidLaws.{said_is, says_some, one_said, same_said}
 use Rattle.overlay_laws.proofs.EntryLaws.{says_cases, says_moved, gathered_says}
 
 -- ---- bytes by their origins
 
-one_mapped : {A B : Type 0} (f : A → B) (y : ℕ) (a : A) (x : ℕ) → one_says y (f a) x ≡ option_map f (one_says y a x)
-one_mapped f y a x = grind (arith, nat_tests, one_hit)
-
-else_mapped : {A B : Type 0} (f : A → B) (o q : Option A) → option_or (option_map f o) (option_map f q) ≡ option_map f (option_or o q)
-else_mapped f None q = refl
-else_mapped f (Some a) q = refl
-
 pub said_mapped : {A B : Type 0} (f : A → B) (ps : List (ℕ × A)) (x : ℕ) → said_at (map (λ p. (p.0, f p.1)) ps) x ≡ option_map f (said_at ps x)
 said_mapped f [] x = refl
-said_mapped f (p ∷ ps) x = grind (arith, nat_tests, said_mapped f ps x, one_mapped, else_mapped)
+said_mapped f (p ∷ ps) x = grind (arith, nat_tests, said_mapped f ps x, one_hit)
 
 pub slice_step : (b : List ℕ) (from n : ℕ) → from < length b → take (suc n) (drop from b) ≡ at b from ∷ take n (drop (from + 1) b)
 slice_step b from n h = ap (λ (xs : List ℕ). take (suc n) xs) (drop_more b from 0 h)
@@ -36,26 +29,14 @@ AllInOrder : List (ℕ × Origin) → Type 0
 AllInOrder [] = Unit {0}
 AllInOrder (p ∷ ps) = ((x : ℕ) (b : Origin) → Says ps x b → AtMost p.1 b) × AllInOrder ps
 
-itself : (a : Origin) → AtMost a a
-itself a = inr (refl, omega arith)
-
 last_is_greatest : (ps : List (ℕ × Origin)) → AllInOrder ps → (x : ℕ) (a b : Origin) → said_at ps x ≡ Some a → Says ps x b → AtMost b a
 unfolding AllInOrder
 last_is_greatest [] h x a b e k = absurd k
-last_is_greatest (p ∷ ps) h x a b e (inr l) =
-    let s = says_some ps x b l in
-    last_is_greatest ps h.1 x a b (grind (arith, nat_tests, s)) l
-last_is_greatest (p ∷ ps) h x a b e (inl l) = elim (some_or_none (said_at ps x)) [
-  | inl n ↦ (let same : b ≡ a = grind (arith, nat_tests, same_Some b a) in subst (λ (z : Origin). AtMost b z) same (itself b))
-  | inr s ↦ (let same : s.0 ≡ a = grind (arith, nat_tests, same_Some s.0 a) in
-      subst (λ (z : Origin). AtMost z a) l.1 (h.0 x a (said_is ps x a (s.1 ∙ ap Some same))))
-]
-
-same_ends : (a b : Origin) → AtMost a b → AtMost b a → (a.0 ≡ b.0) × (a.1 ≡ b.1)
-same_ends a b xs ys = grind (arith, nat_tests)
+last_is_greatest (p ∷ ps) h x a b e (inr l) = grind (arith, nat_tests, says_some, last_is_greatest ps h.1 x a b)
+last_is_greatest (p ∷ ps) h x a b e (inl l) = grind (arith, nat_tests, some_or_none (said_at ps x), said_at ps x, said_is ps x a, l.1, h.0)
 
 pub greatest_once : (ps : List (ℕ × Origin)) → IsOnceEach ps → (x : ℕ) (a b : Origin) → IsGreatest ps x a → IsGreatest ps x b → a ≡ b
-greatest_once ps once x a b ha hb = grind (arith, nat_tests, same_ends)
+greatest_once ps once x a b ha hb = grind (arith, nat_tests)
 
 -- ---- entries in order
 
@@ -65,8 +46,7 @@ says_key r k p (i ∷ is) x a (inl h) = (ap (λ (z : Origin). z.0) (sym h.1), ap
 says_key r k p (i ∷ is) x a (inr h) = says_key r k (p + 1) is x a h
 
 key_at_most : (r k i : ℕ) (q : Owned) (a : Origin) → AtMost (r, k, 0) (q.rank, q.slot, 0) → (a.0 ≡ q.rank) × (a.1 ≡ q.slot) → AtMost (r, k, i) a
-key_at_most r k i q a (inl h) e = let f = e.0 in inl (omega arith)
-key_at_most r k i q a (inr h) e = let f = e.0 in let g = e.1 in let m = h.0 in let n = h.1 in inr (omega arith, omega arith)
+key_at_most r k i q a xs e = grind (arith, nat_tests)
 
 says_entry : (os : List Owned) (x : ℕ) (a : Origin) → Says (origins os) x a → (q : Owned) × In os q × (a.0 ≡ q.rank) × (a.1 ≡ q.slot)
 says_entry [] x a h = absurd h

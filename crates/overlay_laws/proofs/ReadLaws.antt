@@ -1,5 +1,5 @@
 -- Windows that are each read, overlaid and written, one after another.
-use Rattle.overlay_laws.proofs.Words.{◌≡◌, ℕ, zero, suc, ◌+◌, ◌-◌, ◌<◌, ◌≤◌, None, refl, sym, ◌∙◌, ap, subst, List, [], ◌∷◌, length, Some, arith, take, drop, fold, map, read_at, read_long, at, read, written, Cell, write_cells, IsWithin, IsFrom, moved_down, said_at, said_by, clips, IsInOne, HasEach, read_overlaid, all_read_overlaid, nat_tests}
+use Rattle.overlay_laws.proofs.Words.{◌≡◌, ℕ, zero, suc, ◌+◌, ◌-◌, ◌<◌, ◌≤◌, None, refl, ◌∙◌, List, [], ◌∷◌, length, Some, arith, take, drop, fold, map, read_at, read_long, at, read, written, Cell, write_cells, IsWithin, IsFrom, moved_down, said_at, said_by, clips, IsInOne, HasEach, read_overlaid, all_read_overlaid, nat_tests}
 use Rattle.overlay_laws.proofs.SaidLaws.{cells_long}
 use Rattle.overlay_laws.proofs.WindowLaws.{clips_within, clips_from, within_more, window_done, windows_done}
 use Rattle.overlay_laws.proofs.OriginLaws.{slice_step}
@@ -17,17 +17,12 @@ one_read : (file : List ℕ) (cells : List Cell) (w : ℕ × ℕ) → w.0 ≤ w.
 one_read file cells w h k =
     grind (arith, nat_tests, read_long file w.0 (w.1 - w.0), clips_from w.0 w.1 cells h, clips_within w.0 w.1 cells h, window_answer, kept_read)
 
-in_one_moved : (windows : List (ℕ × ℕ)) (n m : ℕ) → n ≡ m → IsInOne windows n → IsInOne windows m
-in_one_moved windows n m e h = subst (λ (k : ℕ). IsInOne windows k) e h
-
 windows_read : (windows : List (ℕ × ℕ)) (file : List ℕ) (cells : List Cell) → IsInOne windows (length file)
     → all_read_overlaid file cells windows ≡ fold (λ f pieces. write_cells f pieces) file (map (λ w. clips w.0 w.1 cells) windows)
 windows_read [] file cells h = refl
 windows_read (w ∷ windows) file cells h =
     let same = one_read file cells w h.0 h.1 in
-    let long = cells_long (clips w.0 w.1 cells) file (within_more (clips w.0 w.1 cells) w.1 (length file) h.1 (clips_within w.0 w.1 cells h.0)) in
-    ap (λ f. all_read_overlaid f cells windows) same
-    ∙ windows_read windows (write_cells file (clips w.0 w.1 cells)) cells (in_one_moved windows (length file) (length (write_cells file (clips w.0 w.1 cells))) (sym long) h.2)
+    grind (arith, nat_tests, cells_long (clips w.0 w.1 cells) file, within_more (clips w.0 w.1 cells) w.1 (length file) h.1 (clips_within w.0 w.1 cells h.0), clips_within w.0 w.1 cells h.0, windows_read windows (write_cells file (clips w.0 w.1 cells)) cells, h.2, all_read_overlaid)
 
 -- windows that have every place of the cells, each read, overlaid with its part of the cells and written, write the cells
 pub all_read : (file : List ℕ) (cells : List Cell) (windows : List (ℕ × ℕ)) → IsWithin cells (length file) → IsInOne windows (length file)

@@ -1,5 +1,5 @@
 -- The elements of a region have different indices, so those of a sound header's variable lie apart.
-use Rattle.overlay_laws.proofs.Words.{◌≡◌, ℕ, zero, suc, ◌+◌, ◌-◌, ◌*◌, ◌<◌, ◌≤◌, refl, sym, ◌∙◌, ap, subst, inl, inr, ◌⊎◌, List, [], ◌∷◌, ◌++◌, length, get_or, drop, true, Some, arith, flat_map, map, slice_get, range_with_len, length-map, same_Some, no_none_some, same_factor, Header, Var, Region, size_of, is_sound, product, row, place, IsIndex, IsElement, AreApart, coordinates, index_at, elements, places, length-coordinates, elements_apart, LieApart, HaveStrides, nat_tests, mapped_entry}
+use Rattle.overlay_laws.proofs.Words.{◌≡◌, ℕ, zero, suc, ◌+◌, ◌-◌, ◌*◌, ◌<◌, ◌≤◌, refl, sym, ◌∙◌, ap, subst, inl, inr, ◌⊎◌, List, [], ◌∷◌, ◌++◌, length, true, Some, arith, flat_map, map, slice_get, range_with_len, length-map, same_Some, no_none_some, same_factor, Header, Var, Region, size_of, is_sound, row, place, IsIndex, IsElement, coordinates, index_at, elements, places, length-coordinates, elements_apart, LieApart, HaveStrides, nat_tests, mapped_entry}
 
 split_at : {A : Type 0} (xs ys : List A) (m : ℕ) (c : A) → slice_get (xs ++ ys) m ≡ Some c
     → (slice_get xs m ≡ Some c) ⊎ ((length xs ≤ m) × (slice_get ys (m - length xs) ≡ Some c))
@@ -26,15 +26,7 @@ block_at inner a (suc n) m c h =
           record { block = 0; place = m; rest = r.0; below = omega arith; is_place = omega arith; is_rest = r.1.0; whole = ap (λ (k : ℕ). k ∷ r.0) first ∙ r.1.1 })
       | inr g ↦ (let r = block_at inner (a + 1) n (m - length (map (λ d. a ∷ d) inner)) c g.1 in
           let next : a + suc r.block ≡ a + 1 + r.block = omega arith in
-          record {
-            block = suc r.block;
-            place = r.place;
-            rest = r.rest;
-            below = omega (arith, r.below);
-            is_place = omega (arith, r.is_place, long, g.0);
-            is_rest = r.is_rest;
-            whole = ap (λ (k : ℕ). k ∷ r.rest) next ∙ r.whole;
-          })
+          grind (arith, nat_tests, place, r.block, r.place, r.rest, r.below, r.is_place, g.0, r.is_rest, r.whole))
     ]
 
 -- the number of a region's element is its row-major number
@@ -42,25 +34,13 @@ pub coordinate_row : (counts : List ℕ) (m : ℕ) (c : List ℕ) → slice_get 
 coordinate_row [] zero c h = let e : [] ≡ c = same_Some [] c h in (subst (λ (x : List ℕ). IsIndex [] x) e tt, ap (λ (x : List ℕ). row [] x) e)
 coordinate_row [] (suc m) c h = no_none_some c h
 coordinate_row (n ∷ counts) m c h =
-    let b = block_at (coordinates counts) 0 n m c h in
-    let r = coordinate_row counts b.place b.rest b.is_rest in
-    let zero_first : b.block ≡ 0 + b.block = omega arith in
-    let whole : b.block ∷ b.rest ≡ c = ap (λ (k : ℕ). k ∷ b.rest) zero_first ∙ b.whole in (
-      subst (λ (x : List ℕ). IsIndex (n ∷ counts) x) whole (b.below, r.0),
-      b.is_place ∙ ap (λ (k : ℕ). b.block * k + b.place) (length-coordinates counts) ∙ ap (λ (k : ℕ). b.block * product counts + k) r.1
-          ∙ ap (λ (x : List ℕ). row (n ∷ counts) x) whole,
-    )
-
-times_once : (s t x y : ℕ) → 1 ≤ t → s + x * t ≡ s + y * t → x ≡ y
-times_once s t x y h e = let f : x * t ≡ y * t = omega arith in same_factor x y t h f
+    grind (arith, nat_tests, block_at (coordinates counts) 0 n m c h, coordinate_row counts (block_at (coordinates counts) 0 n m c h).place, length-coordinates counts)
 
 index_once : (counts starts strides c d : List ℕ) → HaveStrides counts starts strides → IsIndex counts c → IsIndex counts d
     → index_at starts strides c ≡ index_at starts strides d → c ≡ d
 index_once [] starts strides [] [] h p q e = refl
 index_once (n ∷ counts) (s ∷ starts) (t ∷ strides) (x ∷ c) (y ∷ d) h p q e =
-    let first : s + x * t ≡ s + y * t = ap (λ (l : List ℕ). get_or l 0 0) e in
-    let rest = index_once counts starts strides c d h.1 p.1 q.1 (ap (λ (l : List ℕ). drop 1 l) e) in
-    ap (λ (k : ℕ). k ∷ c) (times_once s t x y h.0 first) ∙ ap (λ (l : List ℕ). y ∷ l) rest
+    grind (arith, nat_tests, index_once counts starts strides c d h.1 p.1 q.1, same_factor)
 index_once [] _ _ [] (y ∷ d) h p q e = absurd q
 index_once [] _ _ (x ∷ c) _ h p q e = absurd p
 index_once (n ∷ counts) _ _ [] _ h p q e = absurd p
@@ -73,18 +53,9 @@ pub elements_once : (g : Region) (i j : ℕ) (a : List ℕ) → HaveStrides g.co
 elements_once g i j a h p q =
     let c = mapped_entry (λ c. index_at g.start g.stride c) (coordinates g.count) i a p in
     let d = mapped_entry (λ c. index_at g.start g.stride c) (coordinates g.count) j a q in
-    let rc = coordinate_row g.count i c.0 c.1.0 in
-    let rd = coordinate_row g.count j d.0 d.1.0 in
-    let same = index_once g.count g.start g.stride c.0 d.0 h rc.0 rd.0 (c.1.1 ∙ sym d.1.1) in
-    rc.1 ∙ ap (λ (x : List ℕ). row g.count x) same ∙ sym rd.1
+    grind (arith, nat_tests, coordinate_row g.count i c.0 c.1.0, coordinate_row g.count j d.0 d.1.0, index_once g.count g.start g.stride c.0 d.0 h (coordinate_row g.count i c.0 c.1.0).0, c.1.1, d.1.1)
 
 pub region_apart : (header : Header) (k : ℕ) (v : Var) (g : Region) → is_sound header ≡ true → slice_get header.vars k ≡ Some v
     → HaveStrides g.count g.start g.stride → ((i : ℕ) (a : List ℕ) → slice_get (elements g) i ≡ Some a → IsElement header v a)
     → LieApart (size_of v.kind) (places header v g)
-region_apart header k v g sound is h each i j p q e f differ =
-    let a = mapped_entry (λ index. place header v index) (elements g) i p e in
-    let b = mapped_entry (λ index. place header v index) (elements g) j q f in
-    let apart = elements_apart header k k v v a.0 b.0 sound is is (each i a.0 a.1.0) (each j b.0 b.1.0)
-    (λ d. differ (elements_once g i j b.0 h (a.1.0 ∙ ap Some d.1) b.1.0)) in
-    subst (λ (x : ℕ). AreApart x (size_of v.kind) q (size_of v.kind)) a.1.1
-    (subst (λ (y : ℕ). AreApart (place header v a.0) (size_of v.kind) y (size_of v.kind)) b.1.1 apart)
+region_apart header k v g sound is h each i j p q e f differ = grind (arith, nat_tests, mapped_entry, place, elements_apart, elements_once, v.kind)

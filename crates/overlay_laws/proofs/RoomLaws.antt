@@ -1,18 +1,17 @@
 -- Where every covered byte lies below n, so does every cell of the puts and of their entries.
-use Rattle.overlay_laws.proofs.Words.{ℕ, ◌+◌, ◌-◌, ◌<◌, ◌≤◌, List, [], ◌∷◌, drop, Option, Some, None, arith, flat_map, slice_get, range_with_len, take_at_most, size_pos, Header, Var, Post, Owned, size_of, cells, places, Puts, bytes_of, bytes_of_some, covered, Setting, IsWithin, cells_of_some, cells_of, cells_of_puts, Source, cell_of, IsGathered, In, HaveSame, HasRoom}
+use Rattle.overlay_laws.proofs.Words.{ℕ, ◌+◌, ◌-◌, ◌<◌, ◌≤◌, List, [], ◌∷◌, drop, Option, Some, None, arith, flat_map, slice_get, range_with_len, take_at_most, size_pos, Header, Var, Post, Owned, size_of, cells, places, Puts, bytes_of, bytes_of_some, covered, Setting, IsWithin, cells_of_some, cells_of, cells_of_puts, Source, cell_of, IsGathered, In, HaveSame, HasRoom, nat_tests}
 use Rattle.overlay_laws.proofs.HullLaws.{in_left, in_right, in_range, in_flat}
 use Rattle.overlay_laws.proofs.WindowLaws.{append_within}
 use Rattle.overlay_laws.proofs.EntryLaws.{within_each}
 use Rattle.overlay_laws.proofs.HolderLaws.{to_put}
 
-pub cells_room : (size : ℕ) (ps bytes : List ℕ) (n : ℕ) → 1 ≤ size → ((x : ℕ) → In (flat_map (λ p. range_with_len p size) ps) x → x < n) → IsWithin (cells size ps bytes) n
+cells_room : (size : ℕ) (ps bytes : List ℕ) (n : ℕ) → 1 ≤ size → ((x : ℕ) → In (flat_map (λ p. range_with_len p size) ps) x → x < n) → IsWithin (cells size ps bytes) n
 cells_room size [] bytes n h below = tt
 cells_room size (p ∷ ps) bytes n h below =
     let last = below (p + (size - 1)) (in_left (range_with_len p size) (flat_map (λ q. range_with_len q size) ps) (p + (size - 1)) (in_range p size (p + (size - 1)) (omega arith) (omega arith))) in
-    let short = take_at_most size bytes in
-    (omega arith, cells_room size ps (drop size bytes) n h (λ x k. below x (in_right (range_with_len p size) (flat_map (λ q. range_with_len q size) ps) x k)))
+    grind (arith, nat_tests, take_at_most size bytes, cells_room size ps (drop size bytes) n h, in_right (range_with_len p size), range_with_len, flat_map)
 
-pub post_room : (header : Header) (v : Option Var) (post : Post) (n : ℕ) → ((x : ℕ) → In (bytes_of_some header v post) x → x < n) → IsWithin (cells_of_some header v post) n
+post_room : (header : Header) (v : Option Var) (post : Post) (n : ℕ) → ((x : ℕ) → In (bytes_of_some header v post) x → x < n) → IsWithin (cells_of_some header v post) n
 post_room header None post n below = tt
 post_room header (Some v) post n below = cells_room (size_of v.kind) (places header v post.region) post.bytes n (size_pos v.kind) below
 
@@ -31,11 +30,9 @@ has_room s source puts ess list n one g same some below = (
   one,
   puts_room s.header puts n below,
   within_each (λ o. cell_of source o) list n (λ o k.
-      let l = some o k in
       let p = to_put s.header source puts ess o (o.extent.at + (o.extent.len - 1)) g (same.1 o k)
       (in_range o.extent.at o.extent.len (o.extent.at + (o.extent.len - 1)) (omega arith) (omega arith)) in
       let last = below (o.extent.at + (o.extent.len - 1)) (in_flat (λ q. bytes_of s.header q.1) puts p.put (o.extent.at + (o.extent.len - 1)) p.is_one p.has) in
-      let short = take_at_most o.extent.len (drop o.from (source o.rank o.slot)) in
-      omega arith),
+      grind (arith, nat_tests, take_at_most)),
   below,
 )

@@ -1,13 +1,11 @@
 -- Cells written one after another: each byte is what the last cell that has it says, else the old one.
-use Rattle.overlay_laws.proofs.Words.{◌≡◌, ℕ, refl, sym, ◌∙◌, subst, inl, inr, List, [], ◌∷◌, length, Some, ext_get_or, equal_true, one_hit, cells_said, no_none_some, first_counts, at, written, length-written_inside, same_Some, said_at, Says, IsOneValued, Cell, write_cells, said_by, IsWithin, arith, nat_tests, some_or_none, second_counts, eqb-true}
+use Rattle.overlay_laws.proofs.Words.{◌≡◌, ℕ, refl, sym, ◌∙◌, inl, inr, List, [], ◌∷◌, length, Some, ext_get_or, equal_true, one_hit, cells_said, no_none_some, first_counts, at, written, length-written_inside, same_Some, said_at, Says, IsOneValued, Cell, write_cells, said_by, IsWithin, arith, nat_tests, some_or_none, second_counts, eqb-true}
 
 -- ---- cells
 
 pub cells_long : (cells : List Cell) (file : List ℕ) → IsWithin cells (length file) → length (write_cells file cells) ≡ length file
 cells_long [] file h = refl
-cells_long (c ∷ cells) file h =
-    let one : length (written file c.0 c.1) ≡ length file = length-written_inside file c.0 c.1 h.0 in
-    cells_long cells (written file c.0 c.1) (subst (λ (n : ℕ). IsWithin cells n) (sym one) h.1) ∙ one
+cells_long (c ∷ cells) file h = grind (arith, nat_tests, length-written_inside, cells_long cells (written file c.0 c.1), written)
 
 -- length and bytes are the file
 pub same_file : (f g : List ℕ) → length f ≡ length g → ((x : ℕ) → at f x ≡ at g x) → f ≡ g

@@ -1,5 +1,5 @@
 -- Puts of which no two requests share a byte, and no request holds one twice, say one thing of each place.
-use Rattle.overlay_laws.proofs.Words.{◌≡◌, ℕ, zero, suc, refl, sym, ◌∙◌, ap, inl, inr, List, [], ◌∷◌, true, ◌&&◌, Some, None, slice_get-map, same_Some, zip, slice_get, ◌==◌, list_any, or_left, or_right, and_from, equal_true, no_none_some, some_of_map, Header, Post, Puts, Holding, bytes_of, holdings, same_key, has_byte, Holds, IsUnshared, shared_pair, said_by_puts, IsOwnOnce, key_itself, pair_none, Says, IsOneValued, HaveOwnKeys, IsOnce, arith, nat_tests}
+use Rattle.overlay_laws.proofs.Words.{◌≡◌, ℕ, zero, suc, refl, ap, inl, inr, List, [], ◌∷◌, true, ◌&&◌, Some, None, slice_get-map, same_Some, zip, slice_get, ◌==◌, list_any, or_left, or_right, and_from, equal_true, no_none_some, some_of_map, Header, Post, Puts, Holding, bytes_of, holdings, same_key, has_byte, Holds, IsUnshared, shared_pair, said_by_puts, IsOwnOnce, key_itself, pair_none, Says, IsOneValued, HaveOwnKeys, IsOnce, arith, nat_tests}
 use Rattle.overlay_laws.proofs.EntryLaws.{says_cases}
 
 has_at : (xs : List ℕ) (k x : ℕ) → slice_get xs k ≡ Some x → list_any (λ y. y == x) xs ≡ true
@@ -50,8 +50,7 @@ unshared_once header puts apart own x v w hv hw =
     (holds_at (holdings header puts) b.number b.place x ((b.put.0, b.put.1.id), bytes_of header b.put.1) hb b.is_place) in
     let same = own a.number b.number ((a.put.0, a.put.1.id), bytes_of header a.put.1) ((b.put.0, b.put.1.id), bytes_of header b.put.1)
     a.place b.place x ha hb keys a.is_place b.is_place in
-    let put : a.put ≡ b.put = same_Some a.put b.put (sym a.is_put ∙ ap (λ (n : ℕ). slice_get puts n) same.0 ∙ b.is_put) in
-    same_Some v w (sym a.is_byte ∙ ap (λ (p : ℕ × Post). slice_get p.1.bytes a.place) put ∙ ap (λ (n : ℕ). slice_get b.put.1.bytes n) same.1 ∙ b.is_byte)
+    grind (arith, nat_tests, a.put, b.put, a.is_put, same.0, b.is_put, a.is_byte, a.place, b.put.1.bytes)
 
 pub no_pair_once : (header : Header) (puts : Puts) → shared_pair header puts ≡ None → IsOwnOnce (holdings header puts)
     → IsOneValued (said_by_puts header puts)
@@ -59,11 +58,7 @@ no_pair_once header puts none own = unshared_once header puts (pair_none (holdin
 
 -- ---- no request holds a byte twice
 
-put_at : (header : Header) (puts : Puts) (i : ℕ) (g : Holding) → slice_get (holdings header puts) i ≡ Some g
-    → (p : ℕ × Post) × (slice_get puts i ≡ Some p) × (((p.0, p.1.id), bytes_of header p.1) ≡ g)
-put_at header puts i g e = grind (arith, nat_tests, some_of_map, slice_get-map)
-
 -- it is so where no two posts are of one request, and no post holds a byte twice
 pub own_once : (header : Header) (puts : Puts) → HaveOwnKeys puts → ((i : ℕ) (p : ℕ × Post) → slice_get puts i ≡ Some p → IsOnce (bytes_of header p.1))
     → IsOwnOnce (holdings header puts)
-own_once header puts keys once i j g h k l x e f key a b = grind (arith, nat_tests, put_at, same_Some)
+own_once header puts keys once i j g h k l x e f key a b = grind (arith, nat_tests, some_of_map, slice_get-map, same_Some)

@@ -1,5 +1,5 @@
 -- Windows that are read, overlaid and written are cells that are written; windows that have every cell are the cells.
-use Rattle.overlay_laws.proofs.Words.{◌≡◌, ℕ, ◌+◌, ◌-◌, ◌<◌, ◌≤◌, refl, sym, ◌∙◌, ap, inl, inr, ◌⊎◌, List, [], ◌∷◌, ◌++◌, length, drop, get_or, Option, Some, None, arith, common_steps, flat_map-append, fold-append, get_or-take, get_or-drop, fold, flat_map, nat_lt, map, enumerate_from, at-written_before, at-written_after, length-written_inside, said_below, said_past, said_inside, at-written_inside, said_append, cells_said, no_none_some, neither_some, second_counts, first_counts, at, written, option_or, said_at, byte_or, Cell, write_cells, said_by, IsWithin, IsFrom, moved_down, IsPart, AreParts, SomeSays, clip, clips, IsInOne, HasEach, nat_tests, cond, some_or_none, leb_tells, ltb-true, ltb-false}
+use Rattle.overlay_laws.proofs.Words.{◌≡◌, ℕ, ◌+◌, ◌-◌, ◌<◌, ◌≤◌, refl, sym, ◌∙◌, ap, inl, inr, ◌⊎◌, List, [], ◌∷◌, ◌++◌, length, drop, get_or, Some, None, arith, common_steps, flat_map-append, fold-append, get_or-take, get_or-drop, fold, flat_map, nat_lt, map, enumerate_from, at-written_before, at-written_after, length-written_inside, said_below, said_past, said_inside, at-written_inside, said_append, cells_said, no_none_some, neither_some, second_counts, first_counts, at, written, option_or, said_at, byte_or, Cell, write_cells, said_by, IsWithin, IsFrom, moved_down, IsPart, AreParts, SomeSays, clip, clips, IsInOne, HasEach, nat_tests, cond, some_or_none, leb_tells, ltb-true, ltb-false}
 use Rattle.overlay_laws.proofs.SaidLaws.{cells_long, same_file, same_said}
 
 -- ---- cells seen from a place on
@@ -8,16 +8,10 @@ use Rattle.overlay_laws.proofs.SaidLaws.{cells_long, same_file, same_said}
 said_cell : (p : ℕ) (b : List ℕ) (x : ℕ) → said_at (enumerate_from p b) x ≡ cond (nat_lt x p) None (cond (nat_lt x (p + length b)) (Some (at b (x - p))) None)
 said_cell p b x = grind (arith, nat_tests, said_below, said_inside p b x 0, said_past)
 
-one_moved : (lo p : ℕ) (b : List ℕ) (x : ℕ) → lo ≤ p → lo ≤ x → said_at (enumerate_from (p - lo) b) (x - lo) ≡ said_at (enumerate_from p b) x
-one_moved lo p b x h k = grind (arith, nat_tests, said_cell)
-
-two_else : {A : Type 0} (o p q r : Option A) → o ≡ p → q ≡ r → option_or o q ≡ option_or p r
-two_else o p q r e f = ap (λ s. option_or s q) e ∙ ap (λ s. option_or p s) f
-
 pub moved_said : (lo : ℕ) (cells : List Cell) (x : ℕ) → IsFrom lo cells → lo ≤ x
     → said_at (said_by (moved_down lo cells)) (x - lo) ≡ said_at (said_by cells) x
 moved_said lo [] x h k = refl
-moved_said lo (c ∷ cells) x h k = grind (arith, nat_tests, moved_said lo cells x h.1 k, said_append, two_else, one_moved)
+moved_said lo (c ∷ cells) x h k = grind (arith, nat_tests, moved_said lo cells x h.1 k, said_append, said_cell)
 
 pub within_lowered : (lo n : ℕ) (cells : List Cell) → IsFrom lo cells → IsWithin cells (lo + n) → IsWithin (moved_down lo cells) n
 within_lowered lo n [] h k = tt
@@ -135,9 +129,9 @@ clip_in lo hi c x h k = elim (leb_tells c.0 x) [
 
 pub clips_in : (lo hi : ℕ) (cells : List Cell) (x : ℕ) → lo ≤ x → x < hi → said_at (said_by (clips lo hi cells)) x ≡ said_at (said_by cells) x
 clips_in lo hi [] x h k = refl
-clips_in lo hi (c ∷ cells) x h k = grind (arith, nat_tests, clips_in lo hi cells x h k, said_append, two_else, clip_in)
+clips_in lo hi (c ∷ cells) x h k = grind (arith, nat_tests, clips_in lo hi cells x h k, said_append, clip_in)
 
-pub clips_part : (lo hi : ℕ) (cells : List Cell) → lo ≤ hi → IsPart (said_by cells) (clips lo hi cells)
+clips_part : (lo hi : ℕ) (cells : List Cell) → lo ≤ hi → IsPart (said_by cells) (clips lo hi cells)
 clips_part lo hi cells h x v e =
     grind (arith, nat_tests, clips_within lo hi cells h, clips_from lo hi cells h, clips_in, ltb-true, no_none_some, none_past, ltb-false, none_below)
 
