@@ -1,5 +1,5 @@
 -- What the owner holds of each number is what the arrivals tell.
-use Rattle.owner_laws.proofs.Words.{◌≡◌, ℕ, zero, suc, ◌+◌, ◌<◌, refl, sym, ◌∙◌, ap, inl, inr, ◌⊎◌, List, [], ◌∷◌, ◌++◌, length, set, max, Bool, true, false, ◌&&◌, Option, Some, None, arith, append-nil, filter-append, filter_map-append, eqb_tells, nat_tests, same_Some, slice_get_within, slice_get, filter_map, ◌==◌, option_and_then, list_any, range_with_len, option_or, entry_below, entry_set, entry_set_other, MeetKind, Offer, RankItem, Owner, differs, Event, holds, kind_held, left_behind, left_by, needed_now, offers_held, Client, Setting, Arrival, kind_of_meeting, Puts, are_left_behind, brought, ends, has_fewer, has_left, kind_waiting, last, meeting_offers, puts_brought, waiting, waits, no_need, none_last}
+use Rattle.owner_laws.proofs.Words.{◌≡◌, ℕ, zero, suc, ◌+◌, ◌<◌, refl, sym, ◌∙◌, ap, inl, inr, ◌⊎◌, List, [], ◌∷◌, ◌++◌, length, set, max, Bool, true, false, Option, Some, None, arith, append-nil, filter-append, filter_map-append, nat_tests, same_Some, slice_get_within, slice_get, filter_map, ◌==◌, option_and_then, list_any, range_with_len, option_or, entry_below, entry_set, entry_set_other, MeetKind, Offer, RankItem, Owner, differs, Event, holds, kind_held, left_behind, left_by, needed_now, offers_held, Client, Setting, Arrival, kind_of_meeting, Puts, are_left_behind, brought, ends, has_fewer, has_left, kind_waiting, last, meeting_offers, puts_brought, waiting, waits, no_need, none_last}
 use Rattle.serial_spec.specs.Owner as owner
 use Rattle.join_laws.proofs.StepLaws.{Free}
 use Rattle.list_laws.proofs.Optional.{some_or_none}
@@ -92,14 +92,12 @@ module _ (ranks : ℕ) (before : List Arrival) (d : Owner) (kept : Kept ranks be
   waiting_is q x e = let own = kept.each q x e in grind (arith, nat_tests, waits_is q x e, some_or_none x.held)
 
   pub numbers_any : (p : Client → Bool) (f : ℕ → Bool) → ((q : ℕ) (x : Client) → slice_get d.clients q ≡ Some x → p x ≡ f q) → list_any p d.clients ≡ list_any f (range_with_len 0 ranks)
-  numbers_any p f h =
-      any_numbers p f d.clients 0 (λ q x e. let z : q ≡ 0 + q = omega arith in h q x e ∙ ap f z) ∙ ap (λ (n : ℕ). list_any f (range_with_len 0 n)) kept.long
+  numbers_any p f h = grind (arith, nat_tests, any_numbers p f d.clients 0)
 
   pub left_is : left_behind d.clients ≡ are_left_behind ranks before
   left_is =
       let a = numbers_any owner.has_left (has_left ranks before) (λ q x e. λ i. left_by (sym (waiting_is q x e) i) ((kept.each q x e).ended i)) in
-      let b = numbers_any holds (waits ranks before) (λ q x e. sym (waits_is q x e)) in
-      λ i. (a i && b i)
+      grind (arith, nat_tests, numbers_any, holds, waits_is, waits)
 
   pub kinds_are : (k : Option MeetKind) → list_any (λ y. differs (kind_held y) k) d.clients ≡ list_any (λ q. differs (kind_waiting ranks before q) k) (range_with_len 0 ranks)
   kinds_are k = numbers_any (λ y. differs (kind_held y) k) (λ q. differs (kind_waiting ranks before q) k)
@@ -116,11 +114,7 @@ nothing_reached s n puts e = let none : needed_now s puts ≡ 0 = ap (λ (ps : P
 
 -- a client that holds as much as before
 pub free_set : (clients : List Client) (r : ℕ) (x y : Client) → slice_get clients r ≡ Some x → y.held ≡ x.held → Free clients → Free (set clients r y)
-free_set clients r x y at e f = by (eqb_tells f.number r)
-  where
-    by : (((f.number == r) ≡ true) × (f.number ≡ r)) ⊎ (((f.number == r) ≡ false) × (f.number ≡ r → ⊥)) → Free (set clients r y)
-    by (inl (b, z)) = record { number = r; free = y; at_free = entry_set clients r x y at; is_free = grind (arith, nat_tests, same_Some, f) }
-    by (inr (b, n)) = record { number = f.number; free = f.free; at_free = entry_set_other clients r f.number y n ∙ f.at_free; is_free = f.is_free }
+free_set clients r x y at e f = grind (arith, nat_tests, entry_set, entry_set_other)
 
 pub some_holds : (clients : List Client) (r : ℕ) (x : Client) → slice_get clients r ≡ Some x → holds x ≡ true → list_any holds clients ≡ true
 some_holds [] r x e h = cc

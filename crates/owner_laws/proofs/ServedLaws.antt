@@ -1,7 +1,7 @@
 -- A run of the owner: its first strange arrival, and its order by the arrivals before that one.
-use Rattle.owner_laws.proofs.Words.{◌≡◌, ℕ, ◌<◌, refl, sym, ◌∙◌, ap, subst, List, [], ◌∷◌, ◌++◌, replicate, max, true, ◌&&◌, Option, None, arith, length-replicate, list_all-append, nat_lt, list_all, entry_below, and_first, and_second, Mark, Client, Owner, event, first_owner, free_client, is_strange, needed_now, served, Counted, Setting, Arrival, done, served_on, stranger_on, none_marked, entry_replicate, done_is, IsCutByArrivals, IsDoneByArrivals, before_stranger, before_stranger_from, first_stranger, first_stranger_from, is_strange_after, puts_brought, inl, inr, ltb-true}
+use Rattle.owner_laws.proofs.Words.{◌≡◌, ℕ, ◌<◌, refl, sym, ◌∙◌, ap, List, [], ◌∷◌, ◌++◌, replicate, max, true, ◌&&◌, Option, None, arith, length-replicate, list_all-append, nat_lt, list_all, entry_below, and_first, and_second, Mark, Owner, event, first_owner, free_client, is_strange, needed_now, served, Counted, Setting, Arrival, done, served_on, stranger_on, none_marked, entry_replicate, done_is, IsCutByArrivals, IsDoneByArrivals, before_stranger, before_stranger_from, first_stranger, first_stranger_from, is_strange_after, puts_brought, inl, inr, ltb-true, nat_tests}
 use Rattle.list_laws.proofs.Truth.{holds_or_not}
-use Rattle.owner_laws.proofs.HeldClients.{Kept, OfNumber}
+use Rattle.owner_laws.proofs.HeldClients.{Kept}
 use Rattle.owner_laws.proofs.StrangerLaws.{event_next, not_taken, same_strange}
 
 -- ---- from where the owner stands
@@ -22,7 +22,6 @@ found s ranks reached before d [] n kept e = record { stranger = refl; front = r
 found s ranks reached before d ((r, i) ∷ rest) n kept e =
     let low = and_first (nat_lt r ranks) _ n in
     let below : r < ranks = ltb-true r ranks low in
-    let long = kept.long in
     let client = entry_below d.clients r (omega arith) in
     let told_so = same_strange s ranks before d kept r client.0 client.1 i ∙ ap (λ (m : ℕ). is_strange_after s ranks m before (r, i)) e in
     elim (holds_or_not (is_strange s d (r, i))) [
@@ -53,11 +52,7 @@ first_kept : (ranks r : ℕ) (c : Counted) → r < ranks → Kept ranks [] (firs
 first_kept ranks r c l =
     let long = length-replicate ranks free_client in
     let own = entry_below (replicate ranks free_client) r (omega arith) in
-    record {
-      long = long;
-      some_free = record { number = r; free = own.0; at_free = own.1; is_free = ap (λ (x : Client). x.held) (entry_replicate ranks r free_client own.0 own.1) };
-      each = λ q x e. let first : OfNumber [] 0 q free_client = record { count = omega arith; held = λ o h. absurd cc; ended = refl } in subst (λ (z : Client). OfNumber [] 0 q z) (sym (entry_replicate ranks q free_client x e)) first;
-    }
+    grind (arith, nat_tests, entry_replicate)
 
 found_first : (s : Setting) (ranks : ℕ) (c : Counted) (arrivals : List Arrival) → list_all (λ a. nat_lt a.0 ranks) arrivals ≡ true
     → Found s ranks c.records [] (first_owner (replicate ranks free_client) c) arrivals
@@ -71,9 +66,7 @@ stranger_found s ranks c arrivals h = (found_first s ranks c arrivals h).strange
 
 pub order_found : (s : Setting) (ranks : ℕ) (c : Counted) (arrivals : List Arrival) → list_all (λ a. nat_lt a.0 ranks) arrivals ≡ true
     → (served s (first_owner (replicate ranks free_client) c) arrivals).marks ≡ done ranks (before_stranger s ranks c.records arrivals)
-order_found s ranks c arrivals h =
-    let front = (found_first s ranks c arrivals h).front in
-    sym front.marks ∙ done_is s ranks c (before_stranger s ranks c.records arrivals) front.numbers front.none_strange
+order_found s ranks c arrivals h = grind (arith, nat_tests, found_first, done_is, before_stranger)
 
 -- ---- what the owner tells
 

@@ -1,5 +1,5 @@
 -- The owner finds the arrivals strange that are.
-use Rattle.owner_laws.proofs.Words.{◌≡◌, ℕ, suc, ◌+◌, refl, sym, ◌∙◌, ap, subst, inl, inr, ◌⊎◌, List, [], ◌∷◌, ◌++◌, length, map, set, max, Bool, true, false, cond, ◌&&◌, Option, Some, None, arith, length-append, length-map, length-set, eqb-false, nat_tests, option_map, option_or, slice_get, filter_map, ◌==◌, is_some, list_all, list_any, range_with_len, entry_set, MeetKind, Offer, OfferKind, RankItem, at_item, at_offer, Owner, differs, event, freed, has_ended, has_held, holds, is_strange, kind_held, left_behind, meets_if, needed_now, offers_held, Client, some_true, strange_offer, puts_of, Setting, Arrival, is_offer, kind_of_meeting, meeting_kind, offer_of, Puts, are_left_behind, end_of_item, ends, is_strange_after, last, meeting_offer, meeting_offers, puts_brought, puts_complete, puts_met, waits, entry_map, client_ended, client_held}
+use Rattle.owner_laws.proofs.Words.{◌≡◌, ℕ, suc, ◌+◌, refl, sym, ◌∙◌, ap, subst, inl, inr, ◌⊎◌, List, [], ◌∷◌, ◌++◌, length, map, set, max, Bool, true, false, cond, Option, Some, None, arith, length-append, length-map, length-set, eqb-false, nat_tests, option_map, option_or, slice_get, filter_map, ◌==◌, is_some, list_all, list_any, range_with_len, entry_set, MeetKind, Offer, OfferKind, RankItem, at_item, at_offer, Owner, event, freed, has_ended, holds, is_strange, meets_if, needed_now, offers_held, Client, puts_of, Setting, Arrival, is_offer, kind_of_meeting, meeting_kind, Puts, are_left_behind, end_of_item, ends, is_strange_after, last, meeting_offer, meeting_offers, puts_brought, puts_complete, puts_met, waits, entry_map, client_ended, client_held}
 use Rattle.nc_base.specs.declared.step.OfferKind.TheVariants as offer
 use Rattle.nc_base.specs.declared.step.RankItem.TheVariants as item
 use Rattle.join_laws.proofs.StrangeLaws.{strange_alone, freed_none as none_hold}
@@ -16,8 +16,7 @@ one_long : (m : Option Offer) → length (one_or_none m) ≡ one_if m
 one_long m = grind (arith, nat_tests)
 
 or_else : (m n l : Option Offer) (o : Offer) → option_or m n ≡ Some o → (n ≡ Some o → l ≡ Some o) → option_or m l ≡ Some o
-or_else None n l o e f = f e
-or_else (Some p) n l o e f = e
+or_else m n l o e f = grind (arith, nat_tests)
 
 module _ (s : Setting) (ranks : ℕ) (before : List Arrival) (d : Owner) (kept : Kept ranks before d) (r : ℕ) (x : Client) (at : slice_get d.clients r ≡ Some x) where
   -- an item of its own, by which its client becomes x'
@@ -29,15 +28,7 @@ module _ (s : Setting) (ranks : ℕ) (before : List Arrival) (d : Owner) (kept :
       own = kept.each r x at
 
       mine : OfNumber (before ++ (r, i) ∷ []) d.met r x'
-      mine = record {
-        count =
-            let was = own.count in
-            let one = one_long (meeting_offer i) in
-            let now = ap (λ (xs : List Offer). length xs) (brought_here meeting_offer r i before) ∙ length-append (meeting_offers r before) (one_or_none (meeting_offer i)) in
-            omega arith;
-        held = λ o h. last_here meeting_offer r i before ∙ or_else (meeting_offer i) x.held _ o (sym held ∙ h) (own.held o);
-        ended = ended ∙ ap (λ (m : Option Bool). option_or (end_of_item i) m) own.ended ∙ sym (last_here end_of_item r i before);
-      }
+      mine = grind (arith, nat_tests, one_long, brought_here, length-append, last_here, or_else, own.count, own.held, own.ended, meeting_offer, end_of_item)
 
       by : ((q ≡ r) × (y ≡ x')) ⊎ (((r == q) ≡ false) × (slice_get d.clients q ≡ Some y)) → OfNumber (before ++ (r, i) ∷ []) d.met q y
       by (inl (z, w)) = let z' = sym z in let w' = sym w in subst (λ (p : ℕ × Client). OfNumber (before ++ (r, i) ∷ []) d.met p.0 p.1) (λ j. (z' j, w' j)) mine
@@ -145,26 +136,14 @@ module _ (s : Setting) (ranks : ℕ) (before : List Arrival) (d : Owner) (kept :
       by_event s d r x at (Next s ranks before d r) end_next (λ c o idle k. solo_next c o k) (λ c o kind idle k some. waits_next c o kind k idle some)
       (λ c o kind idle k all. meets_next c o kind k idle all)
 
-  alone : (i : RankItem) → (is_offer i && has_held (slice_get d.clients r)) ≡ false → is_offer i ≡ true → x.held ≡ None
-  alone i e f = grind (arith, nat_tests, some_or_none x.held)
-
 -- ---- a strange arrival
-
-five : (a b c d d' e : Bool) → (b ≡ false → d ≡ d') → some_true (a ∷ b ∷ c ∷ d ∷ e ∷ []) ≡ some_true (a ∷ b ∷ c ∷ d' ∷ e ∷ [])
-five false false c d d' e f = ap (λ (t : Bool). some_true (false ∷ false ∷ c ∷ t ∷ e ∷ [])) (f refl)
-five xs b c d d' e f = refl
 
 module _ (s : Setting) (ranks : ℕ) (before : List Arrival) (d : Owner) (kept : Kept ranks before d) (r : ℕ) (x : Client) (at : slice_get d.clients r ≡ Some x) (i : RankItem) where
   pub same_strange : is_strange s d (r, i) ≡ is_strange_after s ranks d.reached before (r, i)
   unfolding is_strange
   same_strange =
       let ended : has_ended (slice_get d.clients r) ≡ is_some (last (ends r before)) = ap has_ended at ∙ ap (λ (m : Option Bool). is_some m) ((kept.each r x at).ended) in
-      let held : has_held (slice_get d.clients r) ≡ waits ranks before r = ap has_held at ∙ sym (waits_is ranks before d kept r x at) in
-      let others = kinds_are ranks before d kept (meeting_kind i) in
-      five (has_ended (slice_get d.clients r)) (is_offer i && has_held (slice_get d.clients r)) (list_any (λ y. differs (kind_held y) (meeting_kind i)) d.clients)
-      (left_behind (event s d (r, i)).owner.clients) (are_left_behind ranks (before ++ (r, i) ∷ [])) (strange_offer s.header d.reached (offer_of i))
-      (λ e. left_is ranks (before ++ (r, i) ∷ []) (event s d (r, i)).owner (event_next s ranks before d kept r x at i (alone s ranks before d kept r x at i e)).kept)
-      ∙ (λ j. some_true (ended j ∷ (is_offer i && held j) ∷ others j ∷ are_left_behind ranks (before ++ (r, i) ∷ []) ∷ strange_offer s.header d.reached (offer_of i) ∷ []))
+      grind (arith, nat_tests, waits_is ranks before d kept r x at, kinds_are ranks before d kept (meeting_kind i), left_is ranks (before ++ (r, i) ∷ []) (event s d (r, i)).owner, event_next s ranks before d kept r x at i, some_or_none, s.header, d.reached, are_left_behind)
 
   pub not_taken : is_strange s d (r, i) ≡ false → is_offer i ≡ true → x.held ≡ None
   not_taken e = strange_alone s d r i x at e
