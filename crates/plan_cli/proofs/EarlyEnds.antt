@@ -1,5 +1,5 @@
 -- What the status of a plan that ends early leaves.
-use Rattle.plan_cli.proofs.Words.{◌≡◌, ℕ, true, false, List, Option, Some, None, inl, inr, ◌⊎◌, refl, subst, arith, IfSome, IsSomeAnd, both_ways, some_not_none, HeaderErr, RedefErr, HasFault, Reads, header_line, layout_line, redef_line, script_line, creation_fault, front, Asks, AsksFor, AsksForBadLayout, HasRedefinitionFault, IsBadDataset, IsBeforeStart, IsFaultyFile, IsFaultyText, IsRight, IsSoundFile, IsWrong, TellsDataset, TellsScript, status_of, Stop, laid-mislaid, of_bad_layout, read-faulty, same_script, LacksDataset, line_of, renamed, IsStoppedBy, IsUnprepared}
+use Rattle.plan_cli.proofs.Words.{◌≡◌, ℕ, true, false, List, Option, Some, None, inl, inr, ◌⊎◌, refl, subst, arith, IfSome, IsSomeAnd, both_ways, some_not_none, HeaderErr, RedefErr, HasFault, Reads, header_line, layout_line, redef_line, script_line, creation_fault, front, Asks, AsksFor, AsksForBadLayout, HasRedefinitionFault, IsBadDataset, IsBeforeStart, IsFaultyFile, IsFaultyText, IsRight, IsSoundFile, IsWrong, TellsDataset, TellsScript, status_of, Stop, laid-mislaid, of_bad_layout, read-faulty, same_script, LacksDataset, line_of, renamed, IsStoppedBy, IsUnprepared, nat_tests}
 use Rattle.nc_base.specs.declared.script.Script as script_type
 use Rattle.dataset_start.specs.declared.stop.Stop.TheVariants as stops
 
@@ -53,11 +53,6 @@ module _ (held named : Option (List ℕ)) (Untouched SourceFailed DatasetFailed 
   pub unread : (left : Option (List ℕ)) (stop : Stop) → Stopped left stop → status_of stop ≡ 7 → DatasetFailed ⊎ LacksDataset named left
   unread left stops.Disk w s = elim w.1.1.1 [ inl f ↦ inl f | inr n ↦ inr (record { unnamed = n; script = w.0; asks = w.1.0; opens = w.1.1.0 }) ]
   unread left stop w s = absurd (omega (arith, s))
-
-  -- the source failed
-  pub source_failed : (left : Option (List ℕ)) (stop : Stop) → Stopped left stop → status_of stop ≡ 5 → SourceFailed
-  source_failed left stops.Source w s = w.1
-  source_failed left stop w s = absurd (omega (arith, s))
 
   -- no dataset was looked at
   pub untouched : (left : Option (List ℕ)) (stop : Stop) → Stopped left stop → IsBeforeStart (status_of stop) → Untouched
@@ -135,5 +130,4 @@ module _ (held named : Option (List ℕ)) (Untouched SourceFailed DatasetFailed 
   wants_memory (Some text) (stops.Script e) w h a s d = read-faulty text a.0 e a.1 w.1
   wants_memory (Some text) stops.Source w h a s d = absurd (s w.1)
   wants_memory (Some text) stops.Memory w h a s d = refl
-  wants_memory (Some text) stop w h a s d =
-      not_right a.0 stop (subst (λ (z : script_type.Script). IsUnprepared z held named DatasetFailed stop) (same_script text w.0 a.0 w.1.0 a.1) w.1.1) h d a.2
+  wants_memory (Some text) stop w h a s d = grind (arith, nat_tests, not_right a.0 stop, same_script text w.0 a.0 w.1.0 a.1)

@@ -1,5 +1,5 @@
 -- What a plan tells of a run.
-use Rattle.plan_cli.proofs.Words.{◌≡◌, ℕ, Bool, List, [], ◌++◌, length, Option, refl, sym, ap, ap₂, ◌∙◌, Header, Script, DiskCall, after, Asks, Opening, document, Foretells, Planned, TellsPlan, file_at_start, IsOpening, MayHold}
+use Rattle.plan_cli.proofs.Words.{◌≡◌, ℕ, Bool, List, [], length, Option, refl, sym, ap, ◌∙◌, Header, Script, after, Asks, Opening, document, Foretells, Planned, TellsPlan, file_at_start, IsOpening, MayHold, arith, nat_tests}
 
 -- a plan from an opening on is that of the whole run
 foretold : (json : Bool) (script : Script) (held : Option (List ℕ)) (header : Header) (opening : Opening) (text : List ℕ) (o : IsOpening script held header opening)
@@ -7,13 +7,7 @@ foretold : (json : Bool) (script : Script) (held : Option (List ℕ)) (header : 
 foretold json script held header opening text o t bytes m =
     let at = file_at_start script o.old header bytes in
     let long : length at ≡ opening.size = sym (o.size bytes m) in
-    record {
-      calls = ap₂ (λ (a b : List DiskCall). a ++ b) (t.opened ∙ o.calls bytes m) (t.planned.calls at long);
-      each = t.planned.each at long;
-      answers = t.planned.answers at long;
-      pending = t.planned.pending at long;
-      records = t.planned.records at long;
-    }
+    grind (arith, nat_tests)
 
 pub planned : (json : Bool) (left left_now held : Option (List ℕ)) (script : Script) (header : Header) (opening : Opening) (text : List ℕ) → Asks left script
     → left_now ≡ after (λ _. []) left → IsOpening script held header opening → TellsPlan json script header opening text → Planned json left left_now held text

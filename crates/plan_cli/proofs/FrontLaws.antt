@@ -1,5 +1,5 @@
 -- The file of which the front is seen.
-use Rattle.plan_cli.proofs.Words.{◌≡◌, ℕ, ◌-◌, ◌^◌, ◌≤◌, ◌<◌, List, ◌++◌, length, take, min, replicate, Option, Some, None, inl, inr, ◌⊎◌, refl, sym, subst, ap, ◌∙◌, arith, IfSome, take-append_seam, cases_lt, append-nil, length-append, length-replicate, take_all, Header, BeginsWith, front, IsOpened, IsOpenedFile}
+use Rattle.plan_cli.proofs.Words.{◌≡◌, ℕ, ◌-◌, ◌^◌, List, ◌++◌, length, take, min, replicate, Option, Some, None, inl, inr, refl, sym, subst, ap, ◌∙◌, arith, IfSome, take-append_seam, cases_lt, append-nil, length-append, length-replicate, take_all, Header, BeginsWith, front, IsOpened, IsOpenedFile}
 
 -- a file of so many bytes that begins with these
 begun : List ℕ → ℕ → List ℕ

@@ -1,5 +1,5 @@
 -- A plan that is given ends with 0, or with 6 where the sink failed.
-use Rattle.plan_cli.proofs.Words.{◌≡◌, ◌⊎◌, ℕ, List, inl, inr, subst, sym, arith, IfSome, IsBeforeStart, IsSilent, IsStatus, line_of_status}
+use Rattle.plan_cli.proofs.Words.{◌≡◌, ◌⊎◌, ℕ, List, inl, inr, arith, IfSome, IsBeforeStart, IsSilent, IsStatus, line_of_status, nat_tests}
 
 module _ (status : ℕ) (given : (status ≡ 0) ⊎ (status ≡ 6)) where
   pub given_status : IsStatus status
@@ -13,7 +13,4 @@ module _ (status : ℕ) (given : (status ≡ 0) ⊎ (status ≡ 6)) where
 
   -- no line stands for it
   pub given_without_line : (Told : List ℕ → Type 0) → IfSome (line_of_status status) Told
-  given_without_line Told = elim given [
-    | inl e ↦ subst (λ (s : ℕ). IfSome (line_of_status s) Told) (sym e) tt
-    | inr e ↦ subst (λ (s : ℕ). IfSome (line_of_status s) Told) (sym e) tt
-  ]
+  given_without_line Told = grind (arith, nat_tests)

@@ -1,5 +1,5 @@
 -- The dataset of a script, as it is known when the ranks begin.
-use Rattle.plan_cli.proofs.Words.{◌≡◌, ℕ, ◌==◌, true, false, List, [], length, Option, refl, sym, subst, ap, ◌∙◌, IfOk, IfSome, Ok, Err, Result, both_ways, HeaderErr, Header, Script, HasFault, is_sound, IsApplied, IsOpeningOf, Opening, created_header, creation_fault, front, Stop, created-faultless, fault-none, fault-some, header-changed, header-kept, opened-faultless, redefined_sound, IsOpenedFile, IsOpening, Prepared, None}
+use Rattle.plan_cli.proofs.Words.{◌≡◌, ℕ, ◌==◌, true, false, List, [], length, Option, refl, sym, ap, ◌∙◌, IfOk, IfSome, Ok, Err, Result, both_ways, HeaderErr, Header, Script, HasFault, is_sound, IsApplied, IsOpeningOf, Opening, created_header, creation_fault, front, Stop, created-faultless, fault-none, fault-some, header-changed, header-kept, opened-faultless, redefined_sound, IsOpenedFile, IsOpening, Prepared, None, arith, nat_tests}
 use Rattle.dataset_start.specs.Dataset.{header_of_run, redefinition_fault}
 use Rattle.plan_cli.proofs.FrontLaws.{as_opened}
 
@@ -38,8 +38,7 @@ module _ (script : Script) (old : Header) (size : ℕ) (held : Option (List ℕ)
 
   pub kept : (result : Result Prepared Stop) → (length script.extra == 0) ≡ true → is_sound old ≡ true → IfOk result (λ p. p.header ≡ old)
       → IfOk result (λ p. IsOpeningOf script old p.header size p.opening) → IfOk result (λ p. IsOpening script held p.header p.opening)
-  kept (Ok p) x s h q =
-      existing p.header p.opening (fault-none script old x) (h ∙ sym (header-kept script old x)) (subst (λ (k : Header). is_sound k ≡ true) (sym h) s) q
+  kept (Ok p) x s h q = grind (arith, nat_tests, existing, fault-none, header-kept)
   kept (Err stop) x s h q = tt
 
   pub added : (result : Result Prepared Stop) → (length script.extra == 0) ≡ false → IfOk result (λ p. IsApplied old script.extra p.header)

@@ -1,5 +1,5 @@
 -- The words of this crate's proofs, from where they stand.
-pub use Rattle.list_laws.proofs.Std.{Bool, Bor, IfErr, IfOk, IfOk-weaker, IfSome, IsErrAnd, IsErrOf, IsSomeAnd, List, None, Option, Some, [], ap, append-nil, ap₂, arith, both_ways, cases_lt, false, inl, inr, length, length-replicate, min, option_map, refl, replicate, rules, subst, sym, take, take-append_seam, take_all, true, ℕ, ◌++◌, ◌-◌, ◌<◌, ◌^◌, ◌∙◌, ◌≡◌, ◌≤◌, ◌⊎◌}
+pub use Rattle.list_laws.proofs.Std.{Bool, Bor, IfErr, IfOk, IfOk-weaker, IfSome, IsErrAnd, IsErrOf, IsSomeAnd, List, None, Option, Some, [], ap, append-nil, ap₂, arith, both_ways, cases_lt, false, inl, inr, length, length-replicate, min, option_map, refl, replicate, rules, subst, sym, take, take-append_seam, take_all, true, ℕ, ◌++◌, ◌-◌, ◌<◌, ◌^◌, ◌∙◌, ◌≡◌, ◌≤◌, ◌⊎◌, nat_tests}
 pub use Rattle.std.proofs.Common.{◌==◌}
 pub use Rattle.std.proofs.lemmas.List.{length-append}
 pub use Rattle.std.specs.Prelude.{Err, Ok, Result}

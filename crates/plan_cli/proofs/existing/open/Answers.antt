@@ -1,4 +1,4 @@
-use Rattle.plan_cli.proofs.Words.{◌≡◌, Option, List, ℕ, Some, ap, sym, subst, rules, Bor, IfErr, IfOk, both_ways, Rose, no_extras, some_extras, IsOpening, held_of, IsUnprepared, name_of}
+use Rattle.plan_cli.proofs.Words.{◌≡◌, Some, rules, both_ways, no_extras, some_extras}
 use Rattle.plan_cli.proofs.OpeningLaws.{added, kept}
 use Rattle.plan_cli.proofs.StopLaws.{refuses, unadded}
 use Rattle.plan_cli.proofs.existing.open.Goals as goal
