@@ -1,5 +1,5 @@
 -- What one rank more asks for.
-use Rattle.plan_sums.proofs.Words.{◌≡◌, ℕ, ◌+◌, ◌-◌, ◌^◌, ap, List, [], ◌∷◌, ◌++◌, min, arith, sum_by_push, Asked, naive_sum, Naive}
+use Rattle.plan_sums.proofs.Words.{◌≡◌, ℕ, ◌+◌, ◌-◌, ◌^◌, ap, List, [], ◌∷◌, ◌++◌, min, arith, sum_by_push, Asked, naive_sum, Naive, nat_tests}
 
 pub asked_more : (before : List Asked) (one : Asked) (n : Naive) (calls bytes : ℕ) → n ≡ naive_sum before → calls ≡ min (n.calls + one.pieces) (2 ^ 64 - 1)
     → bytes ≡ min (n.bytes + one.bytes) (2 ^ 64 - 1) → record { calls = calls; bytes = bytes } ≡ naive_sum (before ++ one ∷ [])
@@ -8,6 +8,4 @@ asked_more before one n calls bytes is many long =
     let was_long : n.bytes ≡ (naive_sum before).bytes = ap (λ (x : Naive). x.bytes) is in
     let pieces = sum_by_push (λ (a : Asked). a.pieces) before one in
     let more = sum_by_push (λ (a : Asked). a.bytes) before one in
-    let calls_so : calls ≡ (naive_sum (before ++ one ∷ [])).calls = omega arith in
-    let bytes_so : bytes ≡ (naive_sum (before ++ one ∷ [])).bytes = omega arith in
-    λ i. record { calls = calls_so i; bytes = bytes_so i }
+    grind (arith, nat_tests)

@@ -1,5 +1,5 @@
 -- The sums of a plan, by those of its calls.
-use Rattle.plan_sums.proofs.Words.{◌≡◌, ℕ, ◌-◌, ◌∙◌, ap, List, Put, Get, calls_in, RunPlan, cells_in, asked_in, naive_sum, all_calls, AreSums, counted, Counted, Cell, Naive}
+use Rattle.plan_sums.proofs.Words.{◌≡◌, ℕ, ◌-◌, List, Put, Get, calls_in, RunPlan, cells_in, asked_in, naive_sum, all_calls, AreSums, counted, Counted, Cell, Naive, arith, nat_tests}
 
 pub summed : (plan : RunPlan) (unit ranks nodes : ℕ) (all moved : Counted) (got put : Naive) (over beside : ℕ) (cells : List Cell) → all ≡ counted unit (all_calls plan)
     → moved ≡ counted unit (calls_in plan.steps) → got ≡ naive_sum (asked_in Get plan.steps) → put ≡ naive_sum (asked_in Put plan.steps)
@@ -14,13 +14,4 @@ pub summed : (plan : RunPlan) (unit ranks nodes : ℕ) (all moved : Counted) (go
       written_over = beside;
       matrix = cells;
     })
-summed plan unit ranks nodes all moved got put over beside cells are moves gets puts more further through = record {
-  grows = ap (λ (c : Counted). c.grows) are;
-  reads = ap (λ (c : Counted). c.reads) are;
-  writes = ap (λ (c : Counted). c.writes) are;
-  naive_reads = gets;
-  naive_writes = puts;
-  read_over = more ∙ ap (λ (c : Counted). c.reads.bytes - got.bytes) moves;
-  written_over = further ∙ ap (λ (c : Counted). c.writes.bytes - put.bytes) moves;
-  matrix = through;
-}
+summed plan unit ranks nodes all moved got put over beside cells are moves gets puts more further through = grind (arith, nat_tests)

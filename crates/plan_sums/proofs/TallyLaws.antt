@@ -1,5 +1,5 @@
 -- One read or write more.
-use Rattle.plan_sums.proofs.Words.{◌≡◌, ◌<◌, ℕ, ◌+◌, ◌-◌, ◌^◌, refl, sym, ◌∙◌, ap, List, [], ◌∷◌, ◌++◌, length, map, min, max, cond, arith, fold, count_by, sum_by_push, Extent, long_push, greatest, bytes_in, capped, is_unaligned, least_of, tally_of, Tally}
+use Rattle.plan_sums.proofs.Words.{◌≡◌, ◌<◌, ℕ, ◌+◌, ◌-◌, ◌^◌, refl, sym, ◌∙◌, ap, List, [], ◌∷◌, ◌++◌, length, map, min, max, cond, arith, fold, count_by, sum_by_push, Extent, long_push, greatest, bytes_in, capped, is_unaligned, least_of, tally_of, Tally, nat_tests}
 
 least_from : (n : ℕ) (es : List Extent) (e : Extent) → fold min n (map (λ x. x.len) (es ++ e ∷ [])) ≡ min (fold min n (map (λ x. x.len) es)) e.len
 least_from n [] e = refl
@@ -29,9 +29,4 @@ tally_more unit before e t calls bytes least most one unaligned is many long fir
     let more = long_push before e in
     let more_bytes = sum_by_push (λ (x : Extent). x.len) before e in
     let more_strays = sum_by_push (λ (x : Extent). cond (is_unaligned unit x) 1 0) before e in
-    let calls_so : calls ≡ capped (length (before ++ e ∷ [])) = omega arith in
-    let bytes_so : bytes ≡ capped (bytes_in (before ++ e ∷ [])) = omega arith in
-    let least_so : least ≡ least_of (map (λ x. x.len) (before ++ e ∷ [])) = least_push before e least (λ z. first (was_many ∙ z)) (λ l. let some : 0 < t.calls = omega arith in later some ∙ ap (λ (n : ℕ). min n e.len) was_least) in
-    let most_so : most ≡ greatest (map (λ x. x.len) (before ++ e ∷ [])) = longest ∙ ap (λ (n : ℕ). max n e.len) was_most ∙ sym (most_push before e) in
-    let strays_so : unaligned ≡ capped (count_by (is_unaligned unit) (before ++ e ∷ [])) = omega arith in
-    λ i. record { calls = calls_so i; bytes = bytes_so i; least = least_so i; most = most_so i; unaligned = strays_so i }
+    grind (arith, nat_tests, least_push before e least, most_push before e)

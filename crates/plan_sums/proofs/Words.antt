@@ -1,5 +1,5 @@
 -- The words of this crate's proofs, from where they stand.
-pub use Rattle.list_laws.proofs.Std.{Bool, List, [], ap, append-nil, arith, cond, false, filter, filter-append, flat_map, flat_map-append, flat_map-map, flat_map_more, fold, get_or, length, map, map-append, max, min, range_with_len, refl, sum_by_push, sym, take, take_more, true, ℕ, ◌++◌, ◌+◌, ◌-◌, ◌<◌, ◌==◌, ◌^◌, ◌∙◌, ◌∷◌, ◌≡◌}
+pub use Rattle.list_laws.proofs.Std.{Bool, List, [], ap, append-nil, arith, cond, false, filter, filter-append, flat_map, flat_map-append, flat_map-map, flat_map_more, fold, get_or, length, map, map-append, max, min, range_with_len, refl, sum_by_push, sym, take, take_more, true, ℕ, ◌++◌, ◌+◌, ◌-◌, ◌<◌, ◌==◌, ◌^◌, ◌∙◌, ◌∷◌, ◌≡◌, nat_tests}
 pub use Rattle.std.proofs.lemmas.List.{append_assoc}
 pub use Rattle.std.specs.List.{count_by, sum_by}
 pub use Rattle.list_laws.proofs.Common.{long_push}
