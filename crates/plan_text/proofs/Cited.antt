@@ -1,5 +1,5 @@
 -- The words that this crate's proofs cite, from where they stand.
-pub use Rattle.list_laws.proofs.Std.{Bool, List, None, Option, Some, [], ap, append_assoc, arith, codes, common_steps, decimal, digit_glyph, digits_onto, false, get_or, length, map, map_more, refl, slice_get, slice_get-get_or, suc, sym, take, true, zero, ℕ, ◌%◌, ◌++◌, ◌+◌, ◌/◌, ◌<◌, ◌^◌, ◌∙◌, ◌∷◌, ◌≡◌}
+pub use Rattle.list_laws.proofs.Std.{Bool, List, None, Option, Some, [], ap, append_assoc, arith, codes, common_steps, decimal, digit_glyph, digits_onto, false, get_or, length, map, map_more, refl, slice_get, slice_get-get_or, suc, sym, take, true, zero, ℕ, ◌%◌, ◌++◌, ◌+◌, ◌/◌, ◌<◌, ◌^◌, ◌∙◌, ◌∷◌, ◌≡◌, nat_tests}
 pub use Rattle.std.proofs.Common.{le-leb, lt-ltb, ne_eqb, ◌==◌}
 pub use Rattle.std.proofs.lemmas.List.Concat.{flat_map-append}
 unfoldable pub use Rattle.list_laws.proofs.Std.{digits}

@@ -1,5 +1,5 @@
 -- Parts behind a front, and words and numbers that a line goes on with.
-use Rattle.plan_text.proofs.Cited.{◌≡◌, ℕ, List, [], ◌∷◌, ◌++◌, sym, ap, ◌∙◌, append_assoc, then_append, text_line}
+use Rattle.plan_text.proofs.Cited.{◌≡◌, ℕ, List, ◌++◌, sym, ap, ◌∙◌, append_assoc, then_append, text_line, arith, nat_tests}
 
 -- words and what follows them, behind a front
 pub then_words : (o x y a b c : List ℕ) → x ≡ o ++ a → y ≡ x ++ (b ++ c) → y ≡ o ++ (a ++ b ++ c)
@@ -7,9 +7,7 @@ then_words o x y a b c e f = then_append o x y a (b ++ c) e f ∙ ap (λ (t : Li
 
 -- the last ones of a line
 pub then_end : (o x y a b c : List ℕ) → x ≡ o ++ a → y ≡ x ++ text_line (b ++ c) → y ≡ o ++ text_line (a ++ b ++ c)
-then_end o x y a b c e f =
-    then_append o x y a (text_line (b ++ c)) e f
-    ∙ ap (λ (t : List ℕ). o ++ t) (sym (append_assoc a (b ++ c) (10 ∷ [])) ∙ ap (λ (t : List ℕ). text_line t) (sym (append_assoc a b c)))
+then_end o x y a b c e f = grind (arith, nat_tests, then_append)
 
 -- five words, of which each but the first has its blank
 pub five_words : (a b c d e : List ℕ) → a ++ b ++ c ++ d ++ e ≡ a ++ (b ++ (c ++ (d ++ e)))
