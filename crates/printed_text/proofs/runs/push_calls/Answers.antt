@@ -1,4 +1,4 @@
-use Rattle.printed_text.proofs.Cited.{◌+◌, List, ◌++◌, refl, ap, ◌∙◌, arith, Header, Call, call_lines}
+use Rattle.printed_text.proofs.Cited.{◌+◌, List, ◌++◌, refl, ap, ◌∙◌, arith, Header, Call, call_lines, nat_tests}
 use Rattle.printed_text.proofs.WordLaws.{pair_pushed, pairs_pushed}
 use Rattle.printed_text.proofs.runs.push_calls.Goals as goal
 
@@ -14,6 +14,4 @@ loop-number-preserved c =
     (omega arith) (omega arith) call.is answer.is refl c.loop-number.invariant pushed
 
 pub returns : goal.returns
-returns c =
-    let calls = c.args.calls.now in
-    pairs_pushed (call_lines c.args.names.now calls) c.args.out.now.items c.loop-number.out.items calls c.args.answers.now c.loop-number.number (omega arith) c.loop-number.invariant
+returns c = grind (arith, nat_tests, pairs_pushed, c.loop-number.invariant)

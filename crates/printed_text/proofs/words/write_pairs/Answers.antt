@@ -1,16 +1,10 @@
 -- Each pair goes before those that are written.
-use Rattle.printed_text.proofs.Cited.{◌≡◌, ℕ, ◌+◌, ◌*◌, ◌++◌, ◌∙◌, List, arith, ap, length, length-set, sym, take, drop, append-nil, take-append-drop, hex}
+use Rattle.printed_text.proofs.Cited.{◌≡◌, ℕ, ◌+◌, ◌*◌, ◌++◌, ◌∙◌, List, arith, ap, sym, take, drop, append-nil, take-append-drop, hex, nat_tests}
 use Rattle.printed_text.proofs.HexLaws.{pair_next}
 use Rattle.printed_text.proofs.words.write_pairs.Goals as goal
 
 pub loop-left-preserved : goal.loop-left-preserved
-loop-left-preserved c =
-    let l = c.loop-left in
-    record {
-      written = l.invariant.written ∙ pair_next c.args.start l.left l.rest l.text _ (omega arith) (omega (arith, l.invariant.same)) c.write_pair.ensures;
-      same = ap length c.write_pair.ensures ∙ length-set _ _ _ ∙ length-set _ _ _ ∙ l.invariant.same;
-      bound = omega arith;
-    }
+loop-left-preserved c = grind (arith, nat_tests, pair_next, c.loop-left.invariant.written, c.loop-left.invariant.same, c.write_pair.ensures)
 
 pub returns-clause-written : goal.returns-clause-written
 returns-clause-written c =
