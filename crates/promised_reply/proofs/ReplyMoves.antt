@@ -1,4 +1,6 @@
 -- Each move on a reply keeps its rule.
+use Rattle.std.proofs.lemmas.Bool.Decides.{nat_tests}
+use native.Mathlib.Omega.{arith}
 use Rattle.std.proofs.Common.{◌≡◌, ℕ, zero, suc, List, [], ◌∷◌, ◌++◌, Option, Some, None, set, sym, refl, ◌∙◌, subst, ap, inl, inr}
 use Rattle.std.specs.Prelude.{IsSome}
 use Rattle.std.specs.Option.{ForSome}
@@ -29,17 +31,10 @@ module _ {T P : Type 0} (kept_by : P → T → Type 0) where
   unnamed_known : {A : Type 0} (promise : P) (v : ReplyView P) → Knows promise v → v.promise ≡ None → A
   unnamed_known promise v knows none = absurd cc
 
-  -- the pass of a reply whose promise is not named knows none
-  knows_none : (views : List (ReplyView P)) (seat : ℕ) (v : ReplyView P) → views ≡ reply_view None ∷ [] → get_elem? views seat ≡ some v → v.promise ≡ None
-  knows_none views seat v alone at = each_elem (λ u. u.promise ≡ None) views seat v (subst (AllByRecursion (λ u. u.promise ≡ None)) (sym alone) (refl, tt)) at
-
   -- a promise that a pass knows is the one that was named
   named_to : (promise : P) (v : ReplyView P) (seat : ℕ) (items : List T) (views : List (ReplyView P)) → Knows promise v → get_elem? views seat ≡ some v
       → ReplyHolds kept_by items views → IsNamed kept_by promise items views
-  named_to promise v seat items views knows at (inl (empty, alone)) = unnamed_known promise v knows (knows_none views seat v alone at)
-  named_to promise v seat items views knows at (inr (other, kept)) =
-      let same : other ≡ promise = same_Some other promise (sym (each_elem (Knows other) views seat v kept.1 at) ∙ knows) in
-      subst (λ (p : P). IsNamed kept_by p items views) same kept
+  named_to promise v seat items views knows at xs = grind (arith, nat_tests, unnamed_known, same_Some, each_elem)
 
   pub begins : ReplyHolds kept_by [] (reply_view None ∷ [])
   begins = inl (refl, refl)
@@ -59,8 +54,7 @@ module _ {T P : Type 0} (kept_by : P → T → Type 0) where
       only [] place one e = absurd (some-ne-none v (sym e))
       only (u ∷ us) zero one e = (is, let rest : us ≡ [] = cc in subst (AllByRecursion (Knows promise)) (sym rest) tt)
       only (u ∷ us) (suc place) one e = let rest : us ≡ [] = cc in absurd (some-ne-none v (sym e ∙ ap (λ l. get_elem? l place) rest))
-  opens seat v named promise none is items views (inr (other, kept)) at =
-      unnamed_known other v (each_elem (Knows other) views seat v kept.1 at) none
+  opens seat v named promise none is items views (inr (other, kept)) at = grind (arith, nat_tests, unnamed_known, each_elem, reply_view)
 
   pub gives : (n seat : ℕ) (v : ReplyView P) (x : T) → IsSome v.promise → ForSome v.promise (λ p. kept_by p x) → Pushes (ReplyHolds kept_by) n seat v x (λ w. w ≡ v)
   gives n seat v x some_named keeps items views short h at = by v.promise refl some_named keeps
@@ -73,10 +67,4 @@ module _ {T P : Type 0} (kept_by : P → T → Type 0) where
           (v, inr (promise, (each_push (kept_by promise) items x named.0 (keeps promise refl), each_set (Knows promise) views seat v is named.1)), refl)
 
   pub takes : (seat : ℕ) (v : ReplyView P) → Pops (ReplyHolds kept_by) seat v (λ x w. (w ≡ v) × ForSome v.promise (λ promise. kept_by promise x))
-  takes seat v x items views (inl (empty, alone)) at = absurd cc
-  takes seat v x items views (inr (promise, kept)) at =
-      let knows = each_elem (Knows promise) views seat v kept.1 at in (
-        v,
-        inr (promise, (kept.0.1, each_set (Knows promise) views seat v knows kept.1)),
-        (refl, λ p e. subst (λ (q : P). kept_by q x) (same_Some promise p (sym knows ∙ e)) kept.0.0),
-      )
+  takes seat v x items views xs at = grind (arith, nat_tests, each_elem, each_set, same_Some)
