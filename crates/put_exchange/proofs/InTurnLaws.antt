@@ -1,5 +1,5 @@
 -- A part whose windows are overlaid with the entries, one after another.
-use Rattle.put_exchange.proofs.Words.{◌≡◌, ℕ, ◌+◌, ◌≤◌, inl, inr, refl, sym, ◌∙◌, ap, subst, List, [], ◌∷◌, length, Option, flat_map, IfSome, Owned, DiskCall, with_end-nil, after, with_end, BothTold, said_by, IsOneValued, store_calls, IsBetween, In, Source, cell_of, IsPast, covered_place, TurnWalk, ArePieces, put_part, cells_in, put_window, IsFilledBy, Told, turns_ahead, IsTurnWalk, HaveWindows, IsTurn, LieOnPart, AreInFront, AreServed, IsAt, at_next, served_are, served_covered, served_now, map}
+use Rattle.put_exchange.proofs.Words.{◌≡◌, ℕ, ◌+◌, ◌≤◌, inl, refl, sym, ap, subst, List, [], ◌∷◌, length, Option, flat_map, IfSome, Owned, DiskCall, with_end-nil, after, with_end, BothTold, said_by, IsOneValued, store_calls, IsBetween, In, Source, cell_of, IsPast, covered_place, TurnWalk, ArePieces, put_part, cells_in, put_window, IsFilledBy, Told, turns_ahead, IsTurnWalk, HaveWindows, IsTurn, LieOnPart, AreInFront, AreServed, IsAt, at_next, served_are, served_covered, served_now, map, arith, nat_tests}
 use Rattle.put_exchange.proofs.PieceLaws.{pieces_found, served_picked}
 use Rattle.put_exchange.proofs.PutLaws.{IsPutSoFar, told_begin, told_between, told_end, told_more, told_next}
 use Rattle.put_exchange.proofs.ServeLaws.{calls_more}
@@ -38,15 +38,7 @@ pub in_turn_next : (source : Source) (from len room : ℕ) (list begun : List Ow
     → now ≡ after (put_window source from t begun) mid → drawn ≡ with_end made (store_calls t) → IsInTurn source from len room list all v held now calls drawn
 in_turn_next source from len room list begun all w v t held mid now calls made drawn told one s e ready b past put device =
     let on = ahead_on from len w v t s.on_part e in
-    let served = served_now list w.entries.now begun room (turns_ahead w.windows) (turns_ahead v.windows) t s.here e b in
-    record {
-      ready = ready;
-      here = at_next list w.entries.now v.entries.now room (turns_ahead w.windows) (turns_ahead v.windows) t s.here e past;
-      on_part = λ u m. s.on_part u (subst (λ (ts : List Told). In ts u) (sym e) (inr m));
-      bytes = told_next source list begun from len t (turns_ahead v.windows) held mid now told one (served_picked list begun t served) on.0 on.1
-          (subst (λ (ts : List Told). BothTold (λ old left. IsPutSoFar source list from ts old left) held mid) e s.bytes) put;
-      device = calls_more t (turns_ahead v.windows) made drawn device ∙ sym (ap (λ (ts : List Told). with_end made (flat_map store_calls ts)) e) ∙ s.device;
-    }
+    grind (arith, nat_tests, served_now list w.entries.now begun room (turns_ahead w.windows) (turns_ahead v.windows) t s.here e b, at_next list w.entries.now v.entries.now room (turns_ahead w.windows) (turns_ahead v.windows) t s.here e past, told_next source list begun from len t (turns_ahead v.windows) held mid now told one, served_picked list begun t, calls_more t (turns_ahead v.windows) made drawn device)
 
 -- a window that was cut off
 pub in_turn_cut : (source : Source) (from len room : ℕ) (list begun : List Owned) (all : List Told) (w v : TurnWalk) (t : Told) (held mid now : Option (List ℕ)) (calls made : Option (List DiskCall))
@@ -55,15 +47,11 @@ pub in_turn_cut : (source : Source) (from len room : ℕ) (list begun : List Own
     → BothTold (λ old left. IsBetween old (put_window source from t begun old) left) mid now → BothTold (λ old left. IsBetween old (put_part source list from old) left) held now
 in_turn_cut source from len room list begun all w v t held mid now calls made told one s e b put =
     let on = ahead_on from len w v t s.on_part e in
-    let served = served_now list w.entries.now begun room (turns_ahead w.windows) (turns_ahead v.windows) t s.here e b in
-    told_more source list begun from len t held mid now told one (served_picked list begun t served) on.0 on.1 (told_between source list from (turns_ahead w.windows) held mid s.bytes) put
+    grind (arith, nat_tests, served_now list w.entries.now begun room (turns_ahead w.windows) (turns_ahead v.windows) t s.here e b, told_more source list begun from len t held mid now told one, served_picked list begun t, told_between source list from (turns_ahead w.windows) held mid s.bytes)
 
 pub in_turn_end : (source : Source) (from len room : ℕ) (list : List Owned) (all : List Told) (w : TurnWalk) (held now : Option (List ℕ)) (calls made : Option (List DiskCall))
     → IsInTurn source from len room list all w held now calls made → turns_ahead w.windows ≡ [] → (now ≡ after (put_part source list from) held) × (made ≡ with_end calls (flat_map store_calls all))
-in_turn_end source from len room list all w held now calls made s none = (
-  told_end source list from held now (subst (λ (ts : List Told). BothTold (λ old left. IsPutSoFar source list from ts old left) held now) none s.bytes),
-  sym (ap (λ (ts : List Told). with_end made (flat_map store_calls ts)) none ∙ with_end-nil made) ∙ s.device,
-)
+in_turn_end source from len room list all w held now calls made s none = grind (arith, nat_tests, told_end source list from held now, with_end-nil made)
 
 pub in_turn_whole : (source : Source) (from len room : ℕ) (list : List Owned) (all : List Told) (w : TurnWalk) (held now : Option (List ℕ)) (calls made : Option (List DiskCall))
     → IsInTurn source from len room list all w held now calls made → BothTold (λ old left. IsBetween old (put_part source list from old) left) held now

@@ -47,12 +47,7 @@ pub packing_now : (source : Source) (ranks room : ℕ) (list begun : List Owned)
     → turns_ahead w.windows ≡ t ∷ turns_ahead v.windows → AreInFront (t.0 + t.1) w.entries.now begun → IsToPack source ranks begun t
 packing_now source ranks room list begun all w v t rounds dues ends pieces below p e front =
     let served : AreServed list begun t.0 (t.0 + t.1) = served_now list w.entries.now begun room (turns_ahead w.windows) (turns_ahead v.windows) t p.here e front in
-    record {
-      ends = served_ends list begun t.0 (t.0 + t.1) served ends;
-      hull = turn_limit list w.entries.now room (turns_ahead w.windows) (turns_ahead v.windows) t ends p.here e;
-      pieces = served_are source list begun t.0 (t.0 + t.1) served pieces;
-      below = λ o m. below o (served_in list begun t.0 (t.0 + t.1) o served m);
-    }
+    grind (arith, nat_tests, served_ends list begun t.0 (t.0 + t.1) served ends, turn_limit list w.entries.now room (turns_ahead w.windows) (turns_ahead v.windows) t ends p.here e, served_are source list begun t.0 (t.0 + t.1) served pieces, served_in list begun t.0 (t.0 + t.1))
 
 pub packing_next : (source : Source) (ranks room : ℕ) (list begun : List Owned) (all : List Told) (w v : TurnWalk) (window : Window) (rounds now : List Round) (round : Round) (dues more : List Due)
     (due : Due) → IsPacking source ranks room list all w rounds dues → turns_ahead w.windows ≡ told_window window ∷ turns_ahead v.windows → IsTurnWalk v

@@ -3,7 +3,7 @@ use Rattle.std.proofs.lemmas.List.{map-set}
 use Rattle.std.proofs.lemmas.List.FromFn.{get_or-map-range_with_len, length-map-range_with_len, map-range_with_len_more}
 use Rattle.std.proofs.lemmas.Option.{get_or_from_slice_get}
 use Rattle.list_laws.proofs.Maps.{entry_map}
-use Rattle.put_exchange.proofs.Words.{◌≡◌, ℕ, zero, suc, ◌+◌, ◌<◌, ◌≤◌, inl, inr, refl, sym, ◌∙◌, ap, List, [], ◌∷◌, ◌++◌, length, map, take, set, get_or, Bool, true, false, cond, Some, ◌&&◌, arith, and_parts, and_right, eqb-true, eqb_tells, append-nil, length-map, map-append, take_more, filter, filter-append, slice_get-get_or, slice_get, ◌==◌, range_with_len, equal_true, Batch, Owned, Vec, Global, In, map_in, filter_in, cell_of, clip, part_bytes, slot_in, meets, of_rank, ArePieces, Told, puts_of_some, source_of, AreCuts, binned, bytes_of, cells_in, cells_of, cut_in, cuts_by, has_pieces, hull_of, posts_of, sent, sent_by, Cut, Sent, nat_tests, slice_get_within}
+use Rattle.put_exchange.proofs.Words.{◌≡◌, ℕ, zero, suc, ◌+◌, ◌<◌, inl, refl, sym, ◌∙◌, ap, List, [], ◌∷◌, ◌++◌, length, map, take, set, get_or, Bool, true, false, cond, Some, ◌&&◌, arith, and_parts, and_right, eqb-true, eqb_tells, append-nil, length-map, map-append, take_more, filter, filter-append, slice_get-get_or, slice_get, ◌==◌, range_with_len, equal_true, Batch, Owned, Vec, Global, In, map_in, filter_in, cell_of, clip, part_bytes, slot_in, meets, of_rank, ArePieces, Told, source_of, AreCuts, binned, bytes_of, cells_in, cells_of, cut_in, cuts_by, has_pieces, hull_of, posts_of, sent, sent_by, Cut, Sent, nat_tests, slice_get_within}
 use Rattle.overlay_laws.proofs.WalkLaws.{map_range}
 
 -- ---- the cuts of a rank's entries
@@ -17,8 +17,7 @@ cut_cells : (batches : List Batch) (t : Told) (r : ℕ) (os : List Owned) → ((
 cut_cells batches t r [] own = refl
 cut_cells batches t r (o ∷ os) own =
     let first = cut_cell batches t.0 (t.0 + t.1) r o (own o (inl refl)) in
-    let rest = cut_cells batches t r os (λ p m. own p (inr m)) in
-    λ i. first i ∷ rest i
+    grind (arith, nat_tests, cut_cells batches t r os)
 
 -- what is told of an entry of a rank
 pub record IsOfRank (list : List Owned) (lo hi r : ℕ) (o : Owned) : Type 0 where
@@ -53,10 +52,7 @@ set_map : {X : Type 0} (f g : ℕ → X) (a n k : ℕ) (y : X) → k < n → y �
     → set (map f (range_with_len a n)) k y ≡ map g (range_with_len a n)
 set_map f g a zero k y l e h = absurd (omega arith)
 set_map f g a (suc n) zero y l e h = grind (arith, nat_tests, map_range)
-set_map f g a (suc n) (suc k) y l e h =
-    let next : a + suc k ≡ a + 1 + k = omega arith in
-    let rest = set_map f g (a + 1) n k y (omega arith) (e ∙ ap g next) (λ j m. h j (λ s. m (s ∙ next))) in
-    λ i. h a (λ s. omega arith) i ∷ rest i
+set_map f g a (suc n) (suc k) y l e h = grind (arith, nat_tests, set_map f g (a + 1) n k y)
 
 -- ---- the lists themselves
 
@@ -66,9 +62,7 @@ bins_long f n bins e = sym (length-map bins (λ bin. bin.items)) ∙ ap (λ (bs 
 pub bin_is : (f : ℕ → List Cut) (n k : ℕ) (bins : List (Vec Cut Global)) (bin : Vec Cut Global) → binned bins ≡ map f (range_with_len 0 n) → slice_get bins k ≡ Some bin → bin.items ≡ f k
 bin_is f n k bins bin e at =
     let low = slice_get_within bins k bin at in
-    let long = bins_long f n bins e in
-    sym (get_or_from_slice_get (binned bins) k bin.items [] (entry_map (λ (b : Vec Cut Global). b.items) bins k bin at))
-    ∙ ap (λ (bs : List (List Cut)). get_or bs k []) e ∙ get_or-map-range_with_len f 0 n k k [] (omega arith) (omega arith)
+    grind (arith, nat_tests, bins_long f n bins e, get_or_from_slice_get (binned bins) k bin.items [], entry_map, get_or-map-range_with_len f 0 n k k [])
 
 unequal : (a b : ℕ) → (a ≡ b → ⊥) → (a == b) ≡ false
 unequal a b ne = grind (arith, nat_tests, eqb_tells)
@@ -83,11 +77,7 @@ binned_more n xs o t bins bin d below meet is put =
     let here : 0 + o.rank ≡ o.rank = omega arith in
     let long = bins_long old n bins is in
     let own : (get_or bins o.rank d).items ≡ old o.rank = bin_is old n o.rank bins (get_or bins o.rank d) is (slice_get-get_or bins o.rank d (omega arith)) in
-    map-set (λ (b : Vec Cut Global). b.items) bins o.rank bin
-    ∙ ap (λ (bs : List (List Cut)). set bs o.rank bin.items) is
-    ∙ set_map old new 0 n o.rank bin.items below
-    (put ∙ ap (λ (cs : List Cut). cs ++ cut_in t.0 (t.0 + t.1) o ∷ []) own ∙ cuts_more xs o t meet ∙ ap new (sym here))
-    (λ j other. cuts_kept xs o t j (ap (λ (b : Bool). b && meets t.0 (t.0 + t.1) o) (unequal o.rank j (λ e. other (sym e ∙ sym here)))))
+    grind (arith, nat_tests, map-set, set_map, cuts_more, cuts_kept, unequal, t.0, t.1, cut_in, meets)
 
 -- one that has none changes nothing
 binned_kept : (n : ℕ) (xs : List Owned) (o : Owned) (t : Told) (bins : List (List Cut)) → meets t.0 (t.0 + t.1) o ≡ false

@@ -1,5 +1,5 @@
 -- The pieces of a window are those of the entries that a walk gives with it, and have each covered byte of it.
-use Rattle.put_exchange.proofs.Words.{◌≡◌, ℕ, ◌+◌, ◌<◌, ◌≤◌, inl, inr, refl, sym, ◌∙◌, ap, List, [], ◌∷◌, ◌++◌, Bool, false, ◌&&◌, arith, append-nil, filter, nat_lt, ◌==◌, range_with_len, and_from, and_right, lt-ltb, le-ltb, filter-append, Owned, In, Source, AreFound, in_flat, flat_in, in_range, equal_true, in_filter, filter_in, filter_none, IsCovered, past_same, meets, of_rank, pieces_in, ArePieces, Told, AreServed, in_served, served_in, nat_tests}
+use Rattle.put_exchange.proofs.Words.{◌≡◌, ℕ, ◌+◌, ◌<◌, ◌≤◌, inl, inr, refl, sym, ◌∙◌, ap, List, [], ◌∷◌, ◌++◌, Bool, false, ◌&&◌, arith, append-nil, filter, nat_lt, ◌==◌, and_right, le-ltb, filter-append, Owned, In, Source, AreFound, in_flat, flat_in, in_range, equal_true, in_filter, filter_in, filter_none, IsCovered, past_same, meets, of_rank, pieces_in, ArePieces, Told, AreServed, in_served, served_in, nat_tests}
 use Rattle.put_exchange.proofs.PutLaws.{ArePicked}
 
 -- ---- tests
@@ -36,11 +36,7 @@ pieces_found source (o ∷ list) h = ((h o (inl refl)).found, pieces_found sourc
 
 pub in_pieces : (ranks : ℕ) (list : List Owned) (t : Told) (o : Owned) → In list o → o.rank < ranks → o.extent.at < t.0 + t.1 → t.0 < o.extent.at + o.extent.len
     → In (pieces_in ranks list t) o
-in_pieces ranks list t o m r b e =
-    in_flat (λ r. of_rank t.0 (t.0 + t.1) r list) (range_with_len 0 ranks) o.rank o (in_range 0 ranks o.rank (omega arith) (omega arith))
-    (in_filter (λ p. p.rank == o.rank && meets t.0 (t.0 + t.1) p) list o m
-    (and_from (o.rank == o.rank) (meets t.0 (t.0 + t.1) o) (equal_true o.rank o.rank refl)
-    (and_from (nat_lt o.extent.at (t.0 + t.1)) (nat_lt t.0 (o.extent.at + o.extent.len)) (lt-ltb o.extent.at (t.0 + t.1) b) (lt-ltb t.0 (o.extent.at + o.extent.len) e))))
+in_pieces ranks list t o m r b e = grind (arith, nat_tests, in_flat, in_range 0 ranks o.rank, in_filter, equal_true o.rank o.rank)
 
 pub pieces_picked : (ranks : ℕ) (list : List Owned) (t : Told) → ((o : Owned) → In list o → o.rank < ranks) → ArePicked list t (pieces_in ranks list t)
 pieces_picked ranks list t below = grind (arith, nat_tests, piece_from, in_pieces)
@@ -50,7 +46,4 @@ pub pieces_covered : (ranks : ℕ) (list : List Owned) (t : Told) (x : ℕ) → 
 pieces_covered ranks list t x below l h c = grind (arith, nat_tests, in_pieces ranks list t c.by c.inside (below c.by c.inside) (omega arith) (omega arith))
 
 pub served_picked : (list begun : List Owned) (t : Told) → AreServed list begun t.0 (t.0 + t.1) → ArePicked list t begun
-served_picked list begun t s = record {
-  inside = λ o m. served_in list begun t.0 (t.0 + t.1) o s m;
-  all = λ o m b e. in_served list begun t.0 (t.0 + t.1) o s m b e;
-}
+served_picked list begun t s = grind (arith, nat_tests, served_in list begun t.0 (t.0 + t.1), in_served list begun t.0 (t.0 + t.1))

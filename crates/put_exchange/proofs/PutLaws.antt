@@ -88,18 +88,14 @@ part_within source list from len = grind (arith, nat_tests, within_lowered, clip
 turn_within : (source : Source) (picked : List Owned) (from len : ℕ) (t : Told) → from ≤ t.0 → t.0 + t.1 ≤ from + len → IsWithin (turn_cells source picked from t) len
 turn_within source picked from len t low high =
     let cells = cells_in source t picked in
-    within_lowered from len cells (from_less from t.0 cells low (clips_from t.0 (t.0 + t.1) (entry_cells source picked) (omega arith)))
-    (within_more cells (t.0 + t.1) (from + len) high (clips_within t.0 (t.0 + t.1) (entry_cells source picked) (omega arith)))
+    grind (arith, nat_tests, within_lowered from len cells, from_less from t.0 cells low, clips_from t.0 (t.0 + t.1) (entry_cells source picked), within_more cells (t.0 + t.1) (from + len) high, clips_within t.0 (t.0 + t.1) (entry_cells source picked))
 
 -- what a window's cells say the part's cells say
 turn_part : (source : Source) (list picked : List Owned) (from len : ℕ) (t : Told) → IsOneValued (said_by (entry_cells source list)) → ArePicked list t picked → from ≤ t.0 → t.0 + t.1 ≤ from + len
     → IsPart (said_by (part_cells source list from len)) (turn_cells source picked from t)
 turn_part source list picked from len t one p low high y v h =
     let r = hull_said (entry_cells source picked) from t.0 (t.0 + t.1) y v low (omega arith) h in
-    let a = r.0 in
-    let b = r.1 in
-    let says = piece_says source list picked t (y + from) v p (said_is (said_by (entry_cells source picked)) (y + from) v r.2) in
-    said_hull (entry_cells source list) from from (from + len) y v (omega arith) (omega arith) (omega arith) (one_said (said_by (entry_cells source list)) one (y + from) v says)
+    grind (arith, nat_tests, piece_says source list picked t (y + from) v p, said_is (said_by (entry_cells source picked)) (y + from) v r.2, said_hull (entry_cells source list) from from (from + len) y v, one_said (said_by (entry_cells source list)) one (y + from) v)
 
 -- ... and in the window's hull the other way
 part_turn : (source : Source) (list picked : List Owned) (from len : ℕ) (t : Told) (y v : ℕ) → IsOneValued (said_by (entry_cells source list)) → ArePicked list t picked → from ≤ t.0
@@ -107,9 +103,7 @@ part_turn : (source : Source) (list picked : List Owned) (from len : ℕ) (t : T
     → said_at (said_by (turn_cells source picked from t)) y ≡ Some v
 part_turn source list picked from len t y v one p low l h e =
     let whole = (hull_said (entry_cells source list) from from (from + len) y v (omega arith) (omega arith) e).2 in
-    let says = entry_says source _ _ t _ v p l h (said_is (said_by (entry_cells source list)) (y + from) v whole) in
-    said_hull (entry_cells source picked) _ _ _ y v low l h
-    (one_said _ (λ x a b f g. one x a b (piece_says source _ _ t x a p f) (piece_says source _ _ t x b p g)) _ v says)
+    grind (arith, nat_tests, entry_says source, said_is (said_by (entry_cells source list)) (y + from) v whole, said_hull (entry_cells source picked), one_said, piece_says source)
 
 -- ---- a part on its way
 
@@ -190,8 +184,7 @@ put_end source list from old now s = grind (arith, nat_tests, cells_long _ old (
 pub told_begin : (source : Source) (list : List Owned) (from len : ℕ) (ts : List Told) (held : Option (List ℕ)) → IfSome held (λ file. length file ≡ len) → HaveWindows from len list ts
     → BothTold (λ old now. IsPutSoFar source list from ts old now) held held
 told_begin source list from len ts None told windows = refl
-told_begin source list from len ts (Some old) told windows =
-    (old, refl, put_begin source list from ts old (subst (λ (n : ℕ). HaveWindows from n list ts) (sym told) windows))
+told_begin source list from len ts (Some old) told windows = grind (arith, nat_tests, put_begin source list from ts old)
 
 pub told_nothing : (held : Option (List ℕ)) (whole : List ℕ → List ℕ) → BothTold (λ old left. IsBetween old (whole old) left) held held
 told_nothing None whole = refl
@@ -210,11 +203,8 @@ pub told_next : (source : Source) (list picked : List Owned) (from len : ℕ) (t
     → BothTold (λ old now. IsPutSoFar source list from (t ∷ ts) old now) held mid → now ≡ after (put_window source from t picked) mid
     → BothTold (λ old now. IsPutSoFar source list from ts old now) held now
 told_next source list picked from len t ts None mid now told one p low high b e = e ∙ ap (after (put_window source from t picked)) b
-told_next source list picked from len t ts (Some old) mid now told one p low high b e = (
-  put_window source from t picked b.0,
-  e ∙ ap (after (put_window source from t picked)) b.1,
-  put_next source list picked from t ts old b.0 one p low (subst (λ (n : ℕ). t.0 + t.1 ≤ from + n) (sym told) high) b.2,
-)
+told_next source list picked from len t ts (Some old) mid now told one p low high b e =
+    grind (arith, nat_tests, put_next source list picked from t ts old b.0 one p low)
 
 pub told_more : (source : Source) (list picked : List Owned) (from len : ℕ) (t : Told) (held mid now : Option (List ℕ)) → IfSome held (λ file. length file ≡ len)
     → IsOneValued (said_by (map (λ o. cell_of source o) list)) → ArePicked list t picked → from ≤ t.0 → t.0 + t.1 ≤ from + len
@@ -249,11 +239,4 @@ put_later disk plan end came p new ok h = grind (arith, nat_tests)
 
 -- nothing was done
 pub put_kept : {D : Type 0} (disk : DiskGhosts D) (plan : PutPlan) (end : Result (Unit {0}) StepErr) → IsErr end → (p : D × Extent) → PutBy disk plan end p p.0
-put_kept disk plan end cut p = record {
-  from = refl;
-  len = refl;
-  bytes = err_not_ok _ end cut;
-  between = told_nothing (disk.held p.0) (put_part (source_in plan) plan.list.now (disk.from p.0));
-  device = err_not_ok _ end cut;
-  later = omega arith;
-}
+put_kept disk plan end cut p = grind (arith, nat_tests, err_not_ok, told_nothing, PutBy)

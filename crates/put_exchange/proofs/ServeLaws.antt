@@ -69,9 +69,7 @@ next_between : {T E : Type 0} (source : Source) (from len ranks room count : ℕ
     → more ≡ prior ++ messages_in source ranks list t → BothTold (λ old left. IsBetween old (put_part source list from old) left) held now
 next_between source from len ranks room count list t prior taken more held mid now made drawn (Ok x) end given turn low high many d b e =
     let put = d.put refl in
-    let r = window_messages source from ranks count list t prior taken more mid now end put many e in
-    told_more source list (pieces_in ranks list t) from len t held mid now given.told given.one (pieces_picked ranks list t given.below) low high (b r.0)
-    (put.between source (pieces_in ranks list t) r.1 (pieces_filled source ranks room list t given.pieces given.below turn))
+    grind (arith, nat_tests, window_messages source from ranks count list t prior taken more mid now end put many e, told_more source list (pieces_in ranks list t) from len t held mid now given.told given.one, pieces_picked ranks list t given.below, pieces_filled source ranks room list t given.pieces given.below turn)
 next_between source from len ranks room count list t prior taken more held mid now made drawn (Err x) end given turn low high many d b e =
     grind (arith, nat_tests, append_parts taken d.took.got prior (messages_in source ranks list t) many (sym d.took.taken ∙ e))
 
@@ -83,9 +81,7 @@ next_bytes : {T E : Type 0} (source : Source) (from len ranks room count : ℕ) 
     → OnOk end (more ≡ prior ++ messages_in source ranks list t → BothTold (λ old left. IsPutSoFar source list from ts old left) held now)
 next_bytes source from len ranks room count list t ts prior taken more held mid now made drawn (Ok x) (Ok y) given turn low high many d b =
     λ e. let put = d.put refl in
-    let r = window_messages source from ranks count list t prior taken more mid now (Ok y) put many e in
-    told_next source list (pieces_in ranks list t) from len t ts held mid now given.told given.one (pieces_picked ranks list t given.below) low high (b r.0)
-    (put.bytes source (pieces_in ranks list t) r.1 (pieces_filled source ranks room list t given.pieces given.below turn))
+    grind (arith, nat_tests, window_messages source from ranks count list t prior taken more mid now (Ok y) put many e, told_next source list (pieces_in ranks list t) from len t ts held mid now given.told given.one, pieces_picked ranks list t given.below, pieces_filled source ranks room list t given.pieces given.below turn)
 next_bytes source from len ranks room count list t ts prior taken more held mid now made drawn (Err x) (Ok y) given turn low high many d b = let e = d.ok in absurd cc
 next_bytes source from len ranks room count list t ts prior taken more held mid now made drawn before (Err y) given turn low high many d b = tt
 
@@ -113,8 +109,7 @@ served_next source from len ranks room count list all ahead rest t taken more he
       between = next_between source from len ranks room count list t s.done taken more held mid now made drawn before end given turns.0 low high s.many d s.between;
       bytes = next_bytes source from len ranks room count list t rest s.done taken more held mid now made drawn before end given turns.0 low high s.many d
           (subst (λ (ts : List Told). OnOk before (taken ≡ s.done → BothTold (λ old left. IsPutSoFar source list from ts old left) held mid)) e s.bytes);
-      device = next_calls t rest (with_end calls (flat_map store_calls all)) calls made drawn before end d.ok d.device
-          (subst (λ (ts : List Told). OnOk before (with_end made (flat_map store_calls ts) ≡ with_end calls (flat_map store_calls all))) e s.device);
+      device = grind (arith, nat_tests, next_calls, s.device, with_end, flat_map);
     }
 
 pub record IsThrough {T E : Type 0} (source : Source) (from ranks : ℕ) (list : List Owned) (all : List Told) (taken : List Sent)

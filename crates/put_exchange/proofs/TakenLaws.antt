@@ -1,5 +1,5 @@
 -- Messages that were taken off a line, and laid one after another.
-use Rattle.put_exchange.proofs.Words.{◌≡◌, ℕ, arith, ◌+◌, ◌<◌, inl, refl, sym, ◌∙◌, ap, List, [], ◌∷◌, ◌++◌, length, take, get_or, append_assoc, fold-append, drop-append_seam, take-append_seam, append-nil, length-append, map-append, take_more, flat_map-append, Extent, Owned, Cell, write_cells, moved_down, Source, cell_of, clip, clips, in_left, in_right, Sent, pieces_in_all, HasLaid, nat_tests, map}
+use Rattle.put_exchange.proofs.Words.{◌≡◌, ℕ, arith, ◌+◌, ◌<◌, refl, sym, ◌∙◌, ap, List, [], ◌∷◌, ◌++◌, length, take, get_or, append_assoc, fold-append, drop-append_seam, take-append_seam, append-nil, length-append, map-append, take_more, flat_map-append, Extent, Owned, Cell, write_cells, moved_down, Source, cell_of, clip, clips, in_left, in_right, Sent, pieces_in_all, HasLaid, nat_tests, map}
 
 -- ---- lists of what was taken
 
@@ -21,11 +21,7 @@ laid_more hull n k before mid now m old buf new h e f laid =
       got = h.got ++ m ∷ [];
       taken = e ∙ ap (λ (xs : List Sent). xs ++ m ∷ []) h.taken ∙ append_assoc before h.got (m ∷ []);
       many = length-append h.got (m ∷ []) ∙ ap (λ (j : ℕ). j + 1) h.many ∙ sym f;
-      laid = λ own.
-          laid (own m (in_right h.got (m ∷ []) m (inl refl)))
-          ∙ ap (λ (b : List ℕ). write_cells b (moved_down hull.at m.pieces)) (h.laid (λ p i. own p (in_left h.got (m ∷ []) p i)))
-          ∙ written_more hull.at (pieces_in_all h.got) m.pieces old
-          ∙ ap (λ (cells : List Cell). write_cells old (moved_down hull.at cells)) (sym (pieces_more h.got m));
+      laid = grind (arith, nat_tests, in_right h.got (m ∷ []) m, in_left h.got (m ∷ []), written_more hull.at (pieces_in_all h.got) m.pieces old, pieces_more h.got m);
     }
 
 cells_more : (source : Source) (lo hi : ℕ) (got : List Owned) (o : Owned)

@@ -1,5 +1,5 @@
 -- Each entry has its bytes in its post.
-use Rattle.put_exchange.proofs.Words.{◌+◌, ◌∙◌, get_or, Owned, entry_in, source_of}
+use Rattle.put_exchange.proofs.Words.{◌+◌, ◌∙◌, Owned, entry_in, source_of, arith, nat_tests}
 use Rattle.put_exchange.proofs.TakenLaws.{entries_more}
 use Rattle.put_exchange.proofs.in_turn.lay_entries.Goals as goal
 
@@ -7,8 +7,7 @@ abbrev none : Owned
 none = record { extent = record { at = 0; len = 0 }; rank = 0; request = 0; slot = 0; from = 0 }
 
 pub lay_piece-requires-clause-piece : goal.lay_piece-requires-clause-piece
-lay_piece-requires-clause-piece c =
-    c.requires.pieces (get_or c.args.entries.now c.loop-entry.entry-index none) (entry_in c.args.entries.now _ none c.loop-entry-test.true)
+lay_piece-requires-clause-piece c = grind (arith, nat_tests, entry_in c.args.entries.now, c.requires.pieces, c.loop-entry-test.true)
 
 pub loop-entry-preserved : goal.loop-entry-preserved
 loop-entry-preserved c =

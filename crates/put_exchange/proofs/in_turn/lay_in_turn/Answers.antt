@@ -1,5 +1,5 @@
 -- Each window is overlaid with the entries' bytes.
-use Rattle.put_exchange.proofs.Words.{ap, Job, ◌≡◌, ◌∙◌, refl, sym, subst, ℕ, List, arith, Batch, after, BothTold, IsBetween, told_window, ArePieces, source_in, cells_in, put_window, IsFilledBy, source_of, err_not_ok, plan_on, plan_windows, due_now, served_are}
+use Rattle.put_exchange.proofs.Words.{ap, Job, ◌≡◌, ◌∙◌, refl, sym, subst, ℕ, List, arith, Batch, after, BothTold, IsBetween, told_window, ArePieces, source_in, cells_in, put_window, IsFilledBy, source_of, err_not_ok, plan_on, plan_windows, due_now, served_are, nat_tests}
 use Rattle.put_exchange.proofs.InTurnLaws.{in_turn_begin, in_turn_cut, in_turn_end, in_turn_next, in_turn_whole, served_filled}
 use Rattle.put_exchange.proofs.in_turn.lay_in_turn.Goals as goal
 
@@ -25,12 +25,7 @@ turns-init g c =
 pub put_turn-requires-clause-reach : goal.put_turn-requires-clause-reach
 put_turn-requires-clause-reach g c κs within =
     let due = due_now _ _ _ _ _ _ _ _ (told_window c.in-Some.turn.window) c.requires.plan.ends c.turns.invariant.served.here c.turns.invariant.served.on_part c.in-Some.ensures.some c.in-Some.ensures.front in
-    record {
-      low = omega (arith, due.low, c.turns.invariant.from);
-      high = omega (arith, due.high, c.turns.invariant.from, c.turns.invariant.len);
-      limit = due.limit;
-      short = omega (arith, due.turn.short, c.requires.room);
-    }
+    grind (arith, nat_tests, c.turns.invariant.from, c.turns.invariant.len, c.requires.room)
 
 pub put_turn-requires-clause-pieces : goal.put_turn-requires-clause-pieces
 put_turn-requires-clause-pieces g c κs within =
@@ -89,11 +84,4 @@ pub returns-clause-put : goal.returns-clause-put
 returns-clause-put g c =
     let plan = c.args.plan.now in
     let end = in_turn_end _ _ _ _ _ _ _ _ _ _ _ c.turns.invariant.served c.in_default.ensures.none in
-    record {
-      from = c.turns.invariant.from;
-      len = c.turns.invariant.len;
-      bytes = end.0;
-      between = in_turn_whole _ _ _ _ _ _ _ _ _ _ _ c.turns.invariant.served;
-      device = end.1;
-      later = c.turns.invariant.later;
-    }
+    grind (arith, nat_tests, in_turn_whole, c.turns.invariant.from, c.turns.invariant.len, c.turns.invariant.served, c.turns.invariant.later)

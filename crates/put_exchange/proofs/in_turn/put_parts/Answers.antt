@@ -1,5 +1,5 @@
 -- One part more was served, or cut off.
-use Rattle.put_exchange.proofs.Words.{◌∙◌, refl, sym, get_or, Err, Ok, rules, arith, common_steps, slice_get-get_or, Rose, at_in, err_not_ok, all_served_to, none_served, one_cut, one_failed, one_served}
+use Rattle.put_exchange.proofs.Words.{◌∙◌, refl, sym, get_or, Err, Ok, rules, arith, common_steps, slice_get-get_or, Rose, at_in, err_not_ok, all_served_to, none_served, one_cut, one_failed, one_served, nat_tests}
 use Rattle.put_exchange.proofs.PutLaws.{PutBy, put_kept, put_later}
 use Rattle.put_exchange.proofs.in_turn.put_parts.Goals as goal
 
@@ -16,9 +16,7 @@ lay_in_turn-requires-clause-domain g c κs within =
     c.requires.domains.each i _ c.aggregator_at-aggregator.result.domain (sym (c.loop-place.invariant.served.left i (omega arith)) ∙ at) c.aggregator_at-aggregator.ensures
 
 pub lay_in_turn-requires-clause-room : goal.lay_in_turn-requires-clause-room
-lay_in_turn-requires-clause-room g c κs within =
-    let domain = c.aggregator_at-aggregator.result.domain in
-    omega (arith, c.requires.room domain (at_in c.args.domains.now c.loop-place.place domain c.aggregator_at-aggregator.ensures), c.loop-place.invariant.buf)
+lay_in_turn-requires-clause-room g c κs within = grind (arith, nat_tests, at_in, c.requires.room, c.aggregator_at-aggregator.ensures, c.loop-place.invariant.buf)
 
 pub loop-place-preserved : goal.loop-place-preserved
 loop-place-preserved g c =

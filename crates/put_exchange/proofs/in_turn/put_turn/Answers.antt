@@ -1,5 +1,5 @@
 -- The hull as it is written is the old one with the entries' bytes.
-use Rattle.put_exchange.proofs.Words.{◌≡◌, ◌+◌, length, map, refl, calls_more, rules, arith, common_steps, cell_of, clips_from, clips_within, told_window, window_told_by, window_refused_by, put_window, source_of}
+use Rattle.put_exchange.proofs.Words.{◌≡◌, ◌+◌, length, map, refl, calls_more, rules, arith, common_steps, cell_of, clips_from, clips_within, window_told_by, window_refused_by, source_of, nat_tests}
 use Rattle.put_exchange.proofs.PutLaws.{told_kept, told_whole}
 use Rattle.put_exchange.proofs.in_turn.put_turn.Goals as goal
 
@@ -18,9 +18,7 @@ returns-clause-bytes g c =
     c.requires.whole c.in_ok-open_window.ensures.read c.in_ok-close_window.ensures.bytes
 
 pub returns-clause-between : goal.returns-clause-between
-returns-clause-between g c =
-    told_whole (source_of c.args.batches.now) c.args.turn.now.entries.now (g.D.Disk.from c.args.part.now) (g.D.Disk.len c.args.part.now) (told_window c.args.turn.now.window)
-    (g.D.Disk.held c.args.part.now) (g.D.Disk.held c.close_window.new.disk) (g.D.Disk.told c.args.part.now) c.requires.reach.low c.requires.reach.high (returns-clause-bytes g c)
+returns-clause-between g c = grind (arith, nat_tests, told_whole, returns-clause-bytes, g.D.Disk.told, c.requires.reach.low, c.requires.reach.high)
 
 pub returns-clause-calls : goal.returns-clause-calls
 returns-clause-calls g c = calls_more _ _ _ _ _ _ refl c.in_ok-open_window.ensures.calls c.in_ok-close_window.ensures.calls
@@ -40,6 +38,4 @@ returns-in_err-close_window-clause-between g c =
     c.requires.whole c.in_ok-open_window.ensures.read c.in_err-close_window.ensures.refused
 
 pub returns-in_err-open_window-clause-between : goal.returns-in_err-open_window-clause-between
-returns-in_err-open_window-clause-between g c =
-    told_kept (g.D.Disk.held c.args.part.now) (g.D.Disk.held c.open_window.new.disk)
-    (put_window (source_of c.args.batches.now) (g.D.Disk.from c.args.part.now) (told_window c.args.turn.now.window) c.args.turn.now.entries.now) c.in_err-open_window.ensures.bytes
+returns-in_err-open_window-clause-between g c = grind (arith, nat_tests, told_kept, c.in_err-open_window.ensures.bytes)

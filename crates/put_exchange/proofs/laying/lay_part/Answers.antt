@@ -1,5 +1,5 @@
 -- Each window is served by the messages that are due in it.
-use Rattle.put_exchange.proofs.Words.{◌∙◌, inl, inr, refl, ap, subst, length, ℕ, List, false, get_or, arith, drop_all, told_window, Told, turns_due, messages_in, turn_due, Due, HasPutTaken}
+use Rattle.put_exchange.proofs.Words.{◌∙◌, inl, inr, refl, ap, length, List, false, get_or, arith, drop_all, told_window, Told, turns_due, messages_in, Due, nat_tests}
 use Rattle.put_exchange.proofs.ServeLaws.{count_at, due_in, dues_left, served_begin, served_next, served_end}
 use Rattle.put_exchange.proofs.laying.lay_part.Goals as goal
 
@@ -21,14 +21,7 @@ loop-due-init g c = record {
 pub serve_turn-end-requires-after_bounds : goal.serve_turn-end-requires-after_bounds
 serve_turn-end-requires-after_bounds g c κs within =
     let t = told_window (get_or c.args.dues.now c.loop-due.due-index none).window in
-    let inside = due_in c.args.dues.now _ none c.loop-due-test.true in
-    let on = c.requires.due.on_part t inside in
-    record {
-      low = omega (arith, on.0, c.loop-due.invariant.from);
-      high = omega (arith, on.1, c.loop-due.invariant.from, c.loop-due.invariant.len);
-      limit = c.requires.due.limit t inside;
-      short = omega (arith, c.requires.due.short t inside, c.loop-due.invariant.buf);
-    }
+    grind (arith, nat_tests, due_in c.args.dues.now, c.loop-due-test.true, c.requires.due.on_part, c.loop-due.invariant.from, c.loop-due.invariant.len, c.requires.due.limit, c.requires.due.short, c.loop-due.invariant.buf)
 
 pub loop-due-preserved : goal.loop-due-preserved
 loop-due-preserved g c =
@@ -51,9 +44,7 @@ loop-due-preserved g c =
           (count_at (λ (u : Told). length (messages_in source ranks list u)) dues i none c.loop-due-test.true plan.counts)
           (record {
             took = c.serve_turn-end.ensures.taken;
-            put = λ ok.
-                subst (λ (n : ℕ). HasPutTaken (turn_due n t due.count) c.loop-due.line.items c.serve_turn-end.new.line.items (g.D.Disk.held c.loop-due.part) (g.D.Disk.held c.serve_turn-end.new.part) c.serve_turn-end.result)
-                c.loop-due.invariant.from (c.serve_turn-end.ensures.put ok);
+            put = grind (arith, nat_tests, c.loop-due.invariant.from, c.serve_turn-end.ensures.put);
             kept = c.serve_turn-end.ensures.kept;
             ok = c.serve_turn-end.ensures.ok;
             device = c.serve_turn-end.ensures.calls;
@@ -75,13 +66,6 @@ returns-clause-served g c =
           (served_end _ _ _ _ _ _ _ _ _ _ _ _ _ (c.loop-due.invariant.served source ranks list plan) none_left).many;
       put = λ source ranks list plan e.
           (let through = served_end _ _ _ _ _ _ _ _ _ _ _ _ _ (c.loop-due.invariant.served source ranks list plan) none_left in
-          record {
-            from = c.loop-due.invariant.from;
-            len = c.loop-due.invariant.len;
-            bytes = through.bytes e;
-            between = through.between e;
-            device = through.device;
-            later = c.loop-due.invariant.later;
-          });
+          grind (arith, nat_tests, c.loop-due.invariant.from, c.loop-due.invariant.len, c.loop-due.invariant.later));
       failed = c.loop-due.invariant.failed;
     }

@@ -1,5 +1,5 @@
 -- The hull as it is written is the old one with the bytes of what was taken.
-use Rattle.put_exchange.proofs.Words.{◌≡◌, ◌∙◌, ◌+◌, List, ap, length, refl, calls_more, rules, arith, common_steps, after, cell_of, clips_from, clips_within, told_window, window_told_by, window_refused_by, Owned, Cell, write_cells, moved_down, Source, cells_in, put_window, Carry, IsFilledBy, err_not_ok, map}
+use Rattle.put_exchange.proofs.Words.{◌≡◌, ◌∙◌, ◌+◌, List, ap, length, refl, calls_more, rules, arith, common_steps, after, cell_of, clips_from, clips_within, told_window, window_told_by, window_refused_by, Owned, Cell, write_cells, moved_down, Source, cells_in, put_window, Carry, IsFilledBy, err_not_ok, map, nat_tests}
 use Rattle.put_exchange.proofs.PutLaws.{told_kept, told_whole}
 use Rattle.put_exchange.proofs.laying.put_turn.Goals as goal
 
@@ -23,15 +23,7 @@ returns-clause-put g c =
     (clips_from at (at + len) (map (λ o. cell_of source o) picked) (omega arith))
     (clips_within at (at + len) (map (λ o. cell_of source o) picked) (omega arith))
     whole c.in_ok-opened.ensures.read c.in_ok-close_window.ensures.bytes in
-    record {
-      got = got;
-      taken = c.take_messages.ensures.laid.taken;
-      many = c.take_messages.ensures.laid.many;
-      bytes = bytes;
-      between = λ source picked carry whole.
-          told_whole source picked from (g.D.Disk.len c.args.part.now) t (g.D.Disk.held c.args.part.now) (g.D.Disk.held c.close_window.new.disk) (g.D.Disk.told c.args.part.now) c.requires.low c.requires.high
-          (bytes source picked carry whole);
-    }
+    grind (arith, nat_tests, told_whole, c.take_messages.ensures.laid.taken, c.take_messages.ensures.laid.many, g.D.Disk.told, c.requires.low, c.requires.high)
 
 pub returns-clause-calls : goal.returns-clause-calls
 returns-clause-calls g c = calls_more _ _ _ _ _ _ refl c.in_ok-opened.ensures.calls c.in_ok-close_window.ensures.calls
@@ -60,13 +52,4 @@ returns-in_err-close_window-clause-put g c =
 pub returns-in_err-opened-clause-put : goal.returns-in_err-opened-clause-put
 returns-in_err-opened-clause-put g c =
     let t = told_window c.args.due.now.window in
-    let got = c.take_messages.ensures.laid.got in
-    record {
-      got = got;
-      taken = c.take_messages.ensures.laid.taken;
-      many = c.take_messages.ensures.laid.many;
-      bytes = λ source picked carry whole. err_not_ok _ _ c.from_residual.ensures.0;
-      between = λ source picked carry whole.
-          told_kept _ _ (put_window source (g.D.Disk.from c.args.part.now) t picked)
-          c.in_err-opened.ensures.bytes;
-    }
+    grind (arith, nat_tests, err_not_ok, told_kept, c.take_messages.ensures.laid.got, c.take_messages.ensures.laid.taken, c.take_messages.ensures.laid.many, c.from_residual.ensures.0, c.in_err-opened.ensures.bytes)

@@ -1,5 +1,5 @@
 -- One cut more, which lies in the hull and in its put.
-use Rattle.put_exchange.proofs.Words.{◌∙◌, get_or, entry_in, Cut}
+use Rattle.put_exchange.proofs.Words.{◌∙◌, entry_in, Cut, arith, nat_tests}
 use Rattle.put_exchange.proofs.MessageLaws.{laid_cut}
 use Rattle.put_exchange.proofs.message.lay_cuts.Goals as goal
 
@@ -7,8 +7,7 @@ abbrev none : Cut
 none = record { at = 0; slot = 0; from = 0; len = 0 }
 
 pub lay_cut-requires-clause-cut : goal.lay_cut-requires-clause-cut
-lay_cut-requires-clause-cut c =
-    c.requires.cuts (get_or c.args.cuts.now c.loop-cut.cut-index none) (entry_in c.args.cuts.now c.loop-cut.cut-index none c.loop-cut-test.true)
+lay_cut-requires-clause-cut c = grind (arith, nat_tests, entry_in c.args.cuts.now c.loop-cut.cut-index none c.loop-cut-test.true, c.requires.cuts)
 
 pub loop-cut-preserved : goal.loop-cut-preserved
 loop-cut-preserved c = record {

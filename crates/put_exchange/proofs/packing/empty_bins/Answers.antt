@@ -1,5 +1,5 @@
 -- One rank more.
-use Rattle.put_exchange.proofs.Words.{◌≡◌, ◌∙◌, ◌++◌, ◌∷◌, [], ◌<◌, ℕ, List, Vec, Global, ap, sym, length, map, rules, arith, common_steps, length-append, map-append, range_with_len, binned, Cut}
+use Rattle.put_exchange.proofs.Words.{◌≡◌, ◌∙◌, ◌++◌, ◌∷◌, [], ◌<◌, ℕ, List, Vec, Global, ap, sym, length, map, rules, arith, common_steps, length-append, map-append, range_with_len, binned, Cut, nat_tests}
 use Rattle.std.proofs.lemmas.List.FromFn.{map-range_with_len_more}
 use Rattle.put_exchange.proofs.packing.empty_bins.Goals as goal
 
@@ -26,7 +26,4 @@ ranks-preserved c =
     }
 
 pub returns : goal.returns
-returns c =
-    let few = c.ranks.invariant.few in
-    let all : length c.ranks.bins.items ≡ c.args.ranks = first_of (search rules, grind (arith, common_steps)) in
-    c.ranks.invariant.each ∙ ap (λ (n : ℕ). map (λ (r : ℕ). []) (range_with_len 0 n)) all
+returns c = grind (arith, nat_tests, c.ranks.invariant.few, c.ranks.invariant.each)

@@ -1,16 +1,10 @@
 -- One window more.
-use Rattle.put_exchange.proofs.Words.{length, min, refl, rules, arith, common_steps, told_window, planned_turns, source_in}
+use Rattle.put_exchange.proofs.Words.{length, min, refl, rules, arith, common_steps, told_window, planned_turns, source_in, nat_tests}
 use Rattle.put_exchange.proofs.MailLaws.{packing_begin, packing_end, packing_next, packing_now, past_turn}
 use Rattle.put_exchange.proofs.packing.mail_of.Goals as goal
 
 pub turns-init : goal.turns-init
-turns-init c =
-    let plan = c.args.plan.now in
-    record {
-      packing = packing_begin (source_in plan) (length plan.job.now.batches) (min plan.hints.now.cb_buffer c.args.domain.len) plan.list.now (planned_turns plan c.args.domain) c.walk_of-walk.result _ _
-          c.walk_of-walk.ensures.ready c.walk_of-walk.ensures.at c.walk_of-walk.ensures.windows c.new.ensures.items c.new-2.ensures.items;
-      past = c.requires.past;
-    }
+turns-init c = grind (arith, nat_tests, packing_begin, c.walk_of-walk.ensures.ready, c.walk_of-walk.ensures.at, c.walk_of-walk.ensures.windows, c.requires.past)
 
 pub messages_of-requires : goal.messages_of-requires
 messages_of-requires c =

@@ -1,5 +1,5 @@
 -- One rank more.
-use Rattle.put_exchange.proofs.Words.{ℕ, ◌≡◌, ◌<◌, ◌∙◌, ◌++◌, ◌∷◌, [], List, Vec, Global, ap, sym, subst, length, map, filter, append_assoc, arith, rules, common_steps, range_with_len, slice_get_within, middle_at, told_window, source_of, AreCuts, cuts_by, has_pieces, hull_of, sent_by, Cut}
+use Rattle.put_exchange.proofs.Words.{ℕ, ◌≡◌, ◌<◌, ◌∙◌, ◌++◌, ◌∷◌, [], List, ap, sym, length, append_assoc, arith, rules, common_steps, slice_get_within, middle_at, told_window, cuts_by, Cut, nat_tests}
 use Rattle.put_exchange.proofs.PackLaws.{bin_is, bins_long, cuts_are, messages_push}
 use Rattle.put_exchange.proofs.packing.with_bins.Goals as goal
 
@@ -13,10 +13,7 @@ add_message-requires c =
     let middle = ap (λ v. c.loop-cuts.yielded ++ v) (sym c.in-Some.ensures.steps.0) ∙ c.loop-cuts.invariant.all in
     let here = middle_at c.loop-cuts.yielded _ bins c.in-Some.cuts middle in
     let low : length c.loop-cuts.yielded < length bins = slice_get_within bins (length c.loop-cuts.yielded) c.in-Some.cuts here in
-    let long = bins_long f (length batches) bins c.requires.bins in
-    let many = c.loop-cuts.invariant.many in
-    let own = bin_is f (length batches) (length c.loop-cuts.yielded) bins c.in-Some.cuts c.requires.bins here ∙ ap f (sym many) in
-    subst (λ (cuts : List Cut). AreCuts batches (hull_of t) c.loop-cuts.rank cuts) (sym own) (cuts_are batches t c.loop-cuts.rank list c.requires.pieces (omega arith))
+    grind (arith, nat_tests, bins_long f (length batches) bins c.requires.bins, bin_is f (length batches) (length c.loop-cuts.yielded) bins c.in-Some.cuts c.requires.bins here, cuts_are batches t c.loop-cuts.rank list c.requires.pieces, c.loop-cuts.invariant.many)
 
 pub overflow_add-rank : goal.overflow_add-rank
 overflow_add-rank c =
@@ -48,8 +45,4 @@ pub returns : goal.returns
 returns c =
     let t = told_window c.args.turn.now.window in
     let whole : c.loop-cuts.yielded ≡ c.args.bins.items = first_of (search rules, grind (arith, common_steps)) in
-    let long = bins_long (λ r. cuts_by t c.args.turn.now.entries.now r) (length c.args.job.now.batches) c.args.bins.items c.requires.bins in
-    let same = ap (λ (bins : List (Vec Cut Global)). length bins) whole in
-    let many = c.loop-cuts.invariant.many in
-    let all : c.loop-cuts.rank ≡ length c.args.job.now.batches = omega arith in
-    c.loop-cuts.invariant.messages ∙ ap (λ n. filter has_pieces (map (λ r. sent_by (source_of c.args.job.now.batches) c.args.turn.now.entries.now t r) (range_with_len 0 n))) all
+    grind (arith, nat_tests, bins_long, c.requires.bins, c.loop-cuts.invariant.many, c.loop-cuts.invariant.messages)

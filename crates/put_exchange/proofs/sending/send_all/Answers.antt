@@ -1,5 +1,5 @@
 -- The messages of one window were put.
-use Rattle.put_exchange.proofs.Words.{◌≡◌, ◌∙◌, List, [], ◌∷◌, refl, sym, get_or, length-set, subst, same_Some, slice_get, slice_get-get_or, Some, None, HasSent, Feed, HaveFed, Round, Worker, fewer_all, number_of, set_each}
+use Rattle.put_exchange.proofs.Words.{◌≡◌, ◌∙◌, List, [], ◌∷◌, refl, get_or, length-set, slice_get, slice_get-get_or, Some, None, HasSent, Feed, HaveFed, Round, Worker, fewer_all, number_of, set_each, arith, nat_tests}
 use Rattle.put_exchange.proofs.sending.send_all.Goals as goal
 
 fed_twice : (a b c : Feed) → HaveFed a b → HaveFed b c → HaveFed a c
@@ -13,10 +13,7 @@ none_left [] e = refl
 none_left (r ∷ rounds) e = absurd cc
 
 pub rounds-init : goal.rounds-init
-rounds-init g c = record {
-  long = refl;
-  sent = λ k a b e f. subst (λ (s : Worker g.row.D.Denot). HasSent a s) (same_Some a b (sym e ∙ f)) (record { helper = refl; fed = record { of = refl; put = refl } });
-}
+rounds-init g c = grind (arith, nat_tests)
 
 pub rounds-smaller : goal.rounds-smaller
 rounds-smaller g c =
