@@ -1,5 +1,5 @@
 -- What the filling of a share of a record comes to.
-use Rattle.rank_core.proofs.Words.{◌≡◌, ℕ, ◌+◌, ◌-◌, ◌*◌, ◌<◌, ◌≤◌, refl, sym, ap, ◌∙◌, List, [], ◌∷◌, map, Bool, true, false, ltb, ◌||◌, Option, None, Some, arith, slice_get, mul-div_cancel, mul-le-mul_left, Header, Var, Post, Part, div_grows, boxes, share_begin, inner_lengths, is_record, product, most_elements, box_post, fills, find_var, is_record_past, Target, fill_posts, look_of, look_record}
+use Rattle.rank_core.proofs.Words.{◌≡◌, ℕ, ◌+◌, ◌-◌, ◌*◌, ◌<◌, ◌≤◌, refl, sym, ap, ◌∙◌, List, [], ◌∷◌, map, Bool, true, false, ltb, ◌||◌, Option, None, Some, arith, slice_get, Header, Var, Post, Part, div_grows, boxes, share_begin, inner_lengths, is_record, product, most_elements, box_post, fills, find_var, is_record_past, Target, fill_posts, look_of, look_record, nat_tests}
 use Rattle.nc_base.specs.declared.answer.Code.TheVariants as code
 use Rattle.serial_spec.specs.Looks as looks
 
@@ -9,11 +9,7 @@ pub share_grows : (total rank ranks : ℕ) → rank < ranks → share_begin tota
 share_grows total rank ranks h = div_grows (total * rank) (total * (rank + 1)) ranks (omega arith) (omega arith)
 
 pub share_within : (total rank ranks : ℕ) → rank < ranks → share_begin total (rank + 1) ranks ≤ total
-share_within total rank ranks h =
-    let l : rank + 1 ≤ ranks = omega arith in
-    let some : 1 ≤ ranks = omega arith in
-    let m : total * (rank + 1) ≤ total * ranks = omega (arith, mul-le-mul_left total l) in
-    omega (arith, div_grows (total * (rank + 1)) (total * ranks) ranks some m, mul-div_cancel total {n = ranks} some)
+share_within total rank ranks h = grind (arith, nat_tests, div_grows)
 
 -- ---- the cases
 
@@ -81,7 +77,4 @@ fill_missing header name number rank ranks e = ap (by_place header number rank r
 pub fill_found : (header : Header) (name : List ℕ) (number rank ranks : ℕ) (t : Target) → Some t.place ≡ find_var header name
     → t.header.now ≡ header → look_record t number rank ranks ≡ looks.look_fill header name number rank ranks
 unfolding look_record
-fill_found header name number rank ranks t e h =
-    ap (λ (o : Option Var). at_var t.header.now t.place number rank ranks o) (sym t.there)
-    ∙ (λ i. at_var (h i) t.place number rank ranks (slice_get (h i).vars t.place))
-    ∙ ap (by_place header number rank ranks) e
+fill_found header name number rank ranks t e h = grind (arith, nat_tests)

@@ -1,5 +1,5 @@
 -- The posts that fill a share of a record are puts that a step takes, and hold no byte twice.
-use Rattle.rank_core.proofs.Words.{nat_tests, map_map, either, ◌≡◌, ℕ, zero, suc, ◌+◌, ◌-◌, ◌*◌, ◌<◌, ◌≤◌, refl, sym, ap, subst, ◌∙◌, List, [], ◌∷◌, length, map, replicate, true, false, not, ltb, leb, eqb, ◌||◌, Option, None, Some, add-one, arith, flat_map, slice_get, slice_index, list_any, range_with_len, and_from, and_left, and_parts, and_right, eq-eqb, eqb-true, le-ltb, leb-false, leb-true, lt-leb, not_from_true, or_from, or_parts, length-map, length-replicate, each_in, map_in, passes_at, pieces_long, Header, Var, Post, Put, Part, Region, boxes_few, In, size_of, boxes, fill_bytes, share_begin, header_len, is_sound, end_of, inner_lengths, is_record, lengths, length_of, product, starts_with_zero, without_record, file_limit, most_elements, record_limit, box_post, box_region, fills, find_var, is_record_past, look_fill, records_of, bad_edge, bad_start, bound, bounds, check_var, first_code, asks_too_much, other_shape, some_edge, some_start, end_grows, Look, as_look, posts_of, ArePuts, IsSmall, found_long}
+use Rattle.rank_core.proofs.Words.{nat_tests, map_map, ◌≡◌, ℕ, zero, suc, ◌+◌, ◌-◌, ◌*◌, ◌<◌, ◌≤◌, refl, sym, ap, subst, ◌∙◌, List, [], ◌∷◌, length, map, replicate, true, false, ltb, leb, eqb, ◌||◌, Option, None, Some, arith, flat_map, slice_get, list_any, range_with_len, and_left, and_parts, and_right, eqb-true, leb-true, lt-leb, or_parts, length-map, length-replicate, each_in, map_in, passes_at, pieces_long, Header, Var, Post, Put, Part, Region, boxes_few, In, size_of, boxes, fill_bytes, share_begin, is_sound, inner_lengths, is_record, lengths, length_of, product, starts_with_zero, without_record, most_elements, box_post, box_region, fills, find_var, is_record_past, look_fill, bad_edge, bound, bounds, check_var, asks_too_much, other_shape, some_edge, some_start, end_grows, Look, as_look, posts_of, ArePuts, IsSmall, found_long}
 use Rattle.nc_base.specs.declared.answer.Code.TheVariants as code
 use Rattle.serial_spec.specs.Looks as looks
 use Rattle.serial_spec.specs.RankMachine as machine
@@ -9,10 +9,6 @@ use Rattle.rank_core.proofs.LookLaws.{are_towards, no_puts}
 use Rattle.rank_core.proofs.SeparateLaws.{AreSeparate, IsPostOf}
 
 -- ---- starts and ends within the lengths
-
-one_start : (n s c : ℕ) → s + c ≤ n → bad_start (bound Put 0 n) s c ≡ false
-one_start zero s c h = refl
-one_start (suc n) s c h = grind (arith, nat_tests)
 
 one_edge : (n s c : ℕ) → s + c ≤ n → bad_edge (bound Put 0 n) s c 1 ≡ false
 one_edge zero s c h = and_right (ltb 0 c) false refl
@@ -27,14 +23,7 @@ record AreWithin (ns starts counts : List ℕ) : Type 0 where
 
 all_within : (ns starts counts : List ℕ) → Fits ns starts counts → AreWithin ns starts counts
 all_within [] [] [] h = record { start = refl; edge = refl; starts_long = refl; counts_long = refl }
-all_within (n ∷ ns) (s ∷ starts) (c ∷ counts) h =
-    let r = all_within ns starts counts h.1 in
-    record {
-      start = or_from _ _ (one_start n s c h.0) r.start;
-      edge = or_from _ _ (one_edge n s c h.0) r.edge;
-      starts_long = ap suc r.starts_long;
-      counts_long = ap suc r.counts_long;
-    }
+all_within (n ∷ ns) (s ∷ starts) (c ∷ counts) h = grind (arith, nat_tests, all_within ns starts counts h.1, one_edge)
 all_within xs ys m h = absurd h
 
 no_zero : (n : ℕ) → list_any (λ d. eqb d 0) (replicate n 1) ≡ false
@@ -64,52 +53,26 @@ module _ (header : Header) (v : Var) (number : ℕ) (is : is_record header v ≡
   shape =
       let dims = dims_long header v is in
       let strides = length-replicate {A = ℕ} (length p.count + 1) 1 in
-      let starts = within.starts_long in
-      let counts = within.counts_long in
-      not_from_true _ (and_from _ _ (and_from _ _ (and_from _ _
-      (eq-eqb (suc (length p.start)) (length v.dims) (omega (arith, starts, dims)))
-      (eq-eqb (suc (length p.count)) (length v.dims) (omega (arith, counts, dims))))
-      (eq-eqb (length (replicate (length p.count + 1) 1)) (length v.dims) (omega (arith, strides, counts, dims)))) refl)
+      grind (arith, nat_tests, within.starts_long, within.counts_long, p.start, v.dims, p.count)
 
   starts : some_start (bounds header v 0 Put) region.start region.count ≡ false
   starts = ap (λ (ns : List ℕ). some_start (map (bound Put 0) ns) region.start region.count) (record_lengths (lengths header v) is) ∙ within.start
 
   edges : some_edge (bounds header v 0 Put) region.start region.count region.stride ≡ false
-  edges =
-      (λ i. some_edge (map (bound Put 0) (record_lengths (lengths header v) is i)) region.start region.count (replicate (add-one (length p.count) i) 1)) ∙ within.edge
-
-  records_few : records_of header v region ≤ number + 1
-  records_few =
-      either (λ (n : ℕ). n ≤ number + 1) (not (is_record header v) || eqb (product (1 ∷ p.count)) 0) 0 (number + (1 - 1) * slice_index (replicate (length p.count + 1) 1) 0 + 1)
-      (λ t. omega arith) (λ t. omega arith)
+  edges = grind (arith, nat_tests, record_lengths, region.start, region.count, p.count, within.edge)
 
   small : asks_too_much header v region ≡ false
-  small =
-      let both = or_parts (leb (record_limit header.version) (number + 1)) (leb file_limit (end_of header (header_len header) (number + 1))) past in
-      let records = leb-false (record_limit header.version) (number + 1) both.0 in
-      let file = leb-false file_limit (end_of header (header_len header) (number + 1)) both.1 in
-      let grows = end_grows header (header_len header) (records_of header v region) (number + 1) records_few in
-      or_from _ _ (or_from _ _ (or_from _ _ (le-ltb most_elements (product (1 ∷ p.count)) (omega (arith, few))) refl)
-      (lt-leb (record_limit header.version) (records_of header v region) (omega (arith, records, records_few))))
-      (lt-leb file_limit (end_of header (header_len header) (records_of header v region)) (omega (arith, file, grows)))
+  small = grind (arith, nat_tests, end_grows, header.version, p.count, region)
 
   pub box_accepted : check_var header v (box_region number p) 0 Put ≡ code.Ok
-  box_accepted = λ i. first_code (
-      (shape i, code.EInvalCoords) ∷ (no_zero (length p.count + 1) i, code.EStride) ∷ (starts i, code.EInvalCoords) ∷ (edges i, code.EEdge) ∷ (small i, code.ETooLarge) ∷ [])
+  box_accepted = grind (arith, nat_tests, shape, no_zero (length p.count + 1), starts, edges, small)
 
 -- ---- its bytes
 
 pub box_bytes_long : (v : Var) (p : Part) → length (flat_map (λ m. fill_bytes v) (range_with_len 0 (product p.count))) ≡ product (1 ∷ p.count) * size_of v.kind
-box_bytes_long v p =
-    let all = pieces_long (λ m. fill_bytes v) (size_of v.kind) (λ m. found_long v.kind v.attrs) 0 (product p.count) in
-    let one : product (1 ∷ p.count) ≡ product p.count = omega arith in
-    all ∙ ap (λ (n : ℕ). n * size_of v.kind) (sym one)
+box_bytes_long v p = grind (arith, nat_tests, pieces_long, found_long v.kind v.attrs)
 
 -- ---- the posts
-
-regions_of_boxes : (k : ℕ) (v : Var) (number : ℕ) (parts : List Part) → map (λ q. q.region) (map (box_post k v number) parts) ≡ map (box_region number) parts
-regions_of_boxes k v number [] = refl
-regions_of_boxes k v number (p ∷ parts) = ap (λ (l : List Region). box_region number p ∷ l) (regions_of_boxes k v number parts)
 
 pub few_dims : (header : Header) (k : ℕ) (v : Var) → is_sound header ≡ true → slice_get header.vars k ≡ Some v → length v.dims ≤ 32
 few_dims header k v sound there =

@@ -1,5 +1,5 @@
 -- The boxes of a share of a record are regions of the variable, no two of which share an element.
-use Rattle.rank_core.proofs.Words.{◌≡◌, ℕ, zero, suc, ◌+◌, ◌-◌, ◌*◌, ◌/◌, ◌%◌, ◌<◌, ◌≤◌, refl, sym, ap, subst, ◌∙◌, inl, inr, ◌⊎◌, List, [], ◌∷◌, ◌++◌, length, map, take, drop, replicate, Bool, true, false, ltb, eqb, ◌||◌, Some, add-one, arith, flat_map, slice_get, nat_lt, range_with_len, AllByRecursion, mul-div_cancel, mul-le-mul_left, cases_lt, eqb-true, ltb-false, ltb-true, or_parts, length-append, length-take, length-map, div-add-mod', mod_below, slice_get_within, in_map, each_in, map_in, same_len, each_append, some_factor, Header, Part, Region, no_boxes, In, div_grows, flat_in, in_flat, coordinate_row, box_indices, boxes, in_row, shifted, whole_rows, product, most_elements, row, IsIndex, box_region, is_record_past, coordinates, elements, index_at, coordinates_all, boxes_right, length-coordinates, IsSmall, get_left, get_right, in_at}
+use Rattle.rank_core.proofs.Words.{◌≡◌, ℕ, zero, suc, ◌+◌, ◌-◌, ◌*◌, ◌/◌, ◌%◌, ◌<◌, ◌≤◌, refl, sym, ap, subst, ◌∙◌, inl, inr, ◌⊎◌, List, [], ◌∷◌, ◌++◌, length, map, take, drop, replicate, Bool, true, false, ltb, eqb, ◌||◌, Some, add-one, arith, flat_map, slice_get, range_with_len, AllByRecursion, mul-div_cancel, cases_lt, length-append, length-take, length-map, div-add-mod', mod_below, slice_get_within, in_map, each_in, map_in, same_len, each_append, some_factor, Header, Part, no_boxes, In, div_grows, flat_in, in_flat, coordinate_row, box_indices, boxes, in_row, shifted, whole_rows, product, most_elements, row, IsIndex, box_region, is_record_past, coordinates, elements, index_at, coordinates_all, boxes_right, length-coordinates, IsSmall, get_left, get_right, in_at, nat_tests}
 use Rattle.rank_core.proofs.SeparateLaws.{AreSeparate}
 
 -- ---- how many elements they have
@@ -9,10 +9,7 @@ length-box_indices p = length-map (coordinates p.count) (shifted p.start) ∙ le
 
 all_small : (n : ℕ) (parts : List Part) → length (flat_map box_indices parts) ≤ n → n ≤ most_elements → AllByRecursion IsSmall parts
 all_small n [] h l = tt
-all_small n (p ∷ parts) h l =
-    let both = length-append (box_indices p) (flat_map box_indices parts) in
-    let one = length-box_indices p in
-    (omega (arith, both, one, h, l), all_small n parts (omega (arith, both, h)) l)
+all_small n (p ∷ parts) h l = grind (arith, nat_tests, length-append, length-box_indices, all_small n parts)
 
 pub few_small : (lengths : List ℕ) (from to : ℕ) → from ≤ to → to ≤ product lengths → to - from ≤ most_elements → AllByRecursion IsSmall (boxes lengths from to)
 few_small lengths from to h k few =
@@ -22,8 +19,7 @@ few_small lengths from to h k few =
 
 pub boxes_small : (header : Header) (number : ℕ) (lengths : List ℕ) (from to : ℕ) → from ≤ to → to ≤ product lengths
     → (ltb most_elements (to - from) || is_record_past header number) ≡ false → AllByRecursion IsSmall (boxes lengths from to)
-boxes_small header number lengths from to h k e =
-    few_small lengths from to h k (ltb-false most_elements (to - from) (or_parts (ltb most_elements (to - from)) (is_record_past header number) e).0)
+boxes_small header number lengths from to h k e = grind (arith, nat_tests, few_small)
 
 -- ---- they lie within the lengths
 
@@ -40,12 +36,7 @@ whole_fit [] = tt
 whole_fit (n ∷ lengths) = (omega arith, whole_fit lengths)
 
 rows_fit : (n : ℕ) (lengths : List ℕ) (first last : ℕ) → last ≤ n → AllByRecursion (FitsPart (n ∷ lengths)) (whole_rows lengths first last)
-rows_fit n lengths first last h = by_test (nat_lt first last) refl
-  where
-    by_test : (t : Bool) → nat_lt first last ≡ t
-        → AllByRecursion (FitsPart (n ∷ lengths)) (elim t [ false ↦ [] | true ↦ record { start = first ∷ replicate (length lengths) 0; count = (last - first) ∷ lengths } ∷ [] ])
-    by_test true e = let l = ltb-true first last e in ((omega arith, whole_fit lengths), tt)
-    by_test false e = tt
+rows_fit n lengths first last h = grind (arith, nat_tests, whole_fit lengths)
 
 row_fits : (n : ℕ) (lengths : List ℕ) (i : ℕ) (parts : List Part) → i < n → AllByRecursion (FitsPart lengths) parts → AllByRecursion (FitsPart (n ∷ lengths)) (in_row i parts)
 row_fits n lengths i [] h all = tt
@@ -58,10 +49,7 @@ three P false true a b c x y z = y
 three P false false a b c x y z = z
 
 below_factor : (q n s x : ℕ) → q * s < x → x ≤ n * s → q < n
-below_factor q n s x h k = elim (cases_lt q n) [
-  | inl l ↦ l
-  | inr l ↦ let m : s * n ≤ s * q = omega (arith, mul-le-mul_left s l) in absurd (omega arith)
-]
+below_factor q n s x h k = grind (arith, nat_tests)
 
 abbrev Fitting : List ℕ → Type 0
 Fitting lengths = (from to : ℕ) → from ≤ to → to ≤ product lengths → AllByRecursion (FitsPart lengths) (boxes lengths from to)
@@ -69,9 +57,7 @@ Fitting lengths = (from to : ℕ) → from ≤ to → to ≤ product lengths →
 last_fit : (n : ℕ) (lengths : List ℕ) (q r to : ℕ) → AllByRecursion (FitsPart lengths) (boxes lengths 0 r) → q * product lengths + r ≡ to → to ≤ n * product lengths
     → (0 < r) ⊎ (r ≤ 0) → AllByRecursion (FitsPart (n ∷ lengths)) (in_row q (boxes lengths 0 r))
 last_fit n lengths q r to all e k (inl m) = row_fits n lengths q (boxes lengths 0 r) (below_factor q n (product lengths) to (omega (arith, e, m)) k) all
-last_fit n lengths q r to all e k (inr m) =
-    let none : 0 ≡ r = omega (arith, m) in
-    subst (λ (ps : List Part). AllByRecursion (FitsPart (n ∷ lengths)) (in_row q ps)) (sym (ap (λ (z : ℕ). boxes lengths z r) none ∙ no_boxes lengths r)) tt
+last_fit n lengths q r to all e k (inr m) = grind (arith, nat_tests, in_row, no_boxes, FitsPart)
 
 rows_of : (n : ℕ) (lengths : List ℕ) (from to : ℕ) → Fitting lengths → from < to → to ≤ n * product lengths → AllByRecursion (FitsPart (n ∷ lengths)) (boxes (n ∷ lengths) from to)
 rows_of n lengths from to ih l k =
@@ -88,9 +74,7 @@ rows_of n lengths from to ih l k =
     (in_row (from / size) (boxes lengths (from % size) (to % size)))
     (whole_rows lengths (from / size) (to / size) ++ in_row (to / size) (boxes lengths 0 (to % size)))
     (in_row (from / size) (boxes lengths (from % size) size) ++ whole_rows lengths (from / size + 1) (to / size) ++ in_row (to / size) (boxes lengths 0 (to % size)))
-    (λ e. let same = ap (λ (q : ℕ). q * product lengths) (eqb-true (from / product lengths) (to / product lengths) e) in
-    row_fits n lengths (from / size) (boxes lengths (from % size) (to % size)) first
-    (ih (from % size) (to % size) (omega (arith, front, back, same, l)) (omega (arith, high))))
+    (λ e. grind (arith, nat_tests, row_fits))
     (each_append (FitsPart (n ∷ lengths)) (whole_rows lengths (from / size) (to / size)) (in_row (to / size) (boxes lengths 0 (to % size)))
     (rows_fit n lengths (from / size) (to / size) whole) last)
     (each_append (FitsPart (n ∷ lengths)) (in_row (from / size) (boxes lengths (from % size) size) ++ whole_rows lengths (from / size + 1) (to / size)) (in_row (to / size) (boxes lengths 0 (to % size)))
@@ -99,19 +83,8 @@ rows_of n lengths from to ih l k =
     (rows_fit n lengths (from / size + 1) (to / size) whole)) last)
 
 pub boxes_fit : (lengths : List ℕ) → Fitting lengths
-boxes_fit [] from to h k = by_test (nat_lt from to)
-  where
-    by_test : (t : Bool) → AllByRecursion (FitsPart []) (elim t [ true ↦ record { start = []; count = [] } ∷ [] | false ↦ [] ])
-    by_test true = (tt, tt)
-    by_test false = tt
-boxes_fit (n ∷ lengths) from to h k =
-    let rest : Fitting lengths = λ x y l m. boxes_fit lengths x y l m in
-    elim (cases_lt from to) [
-      | inl l ↦ rows_of n lengths from to rest l k
-      | inr l ↦
-          let same : from ≡ to = omega arith in
-          subst (AllByRecursion (FitsPart (n ∷ lengths))) (sym (ap (λ (z : ℕ). boxes (n ∷ lengths) z to) same ∙ no_boxes (n ∷ lengths) to)) tt
-    ]
+boxes_fit [] from to h k = grind (arith, nat_tests)
+boxes_fit (n ∷ lengths) from to h k = grind (arith, nat_tests, boxes_fit lengths, rows_of, no_boxes, Fitting, FitsPart)
 
 -- ---- no index stands twice
 
@@ -142,13 +115,10 @@ not_in_both xs ys a once i j =
     let p = in_at xs a i in
     let q = in_at ys a j in
     let l = slice_get_within xs p.0 a p.1 in
-    let same = once p.0 (length xs + q.0) a (get_left xs ys p.0 l ∙ p.1) (get_right xs ys q.0 (length xs + q.0) refl ∙ q.1) in
-    omega (arith, l, same)
+    grind (arith, nat_tests, get_left xs ys p.0 l, get_right xs ys q.0 (length xs + q.0))
 
 later_once : (xs ys : List (List ℕ)) → StandOnce (xs ++ ys) → StandOnce ys
-later_once xs ys once i j a e f =
-    let same = once (length xs + i) (length xs + j) a (get_right xs ys i (length xs + i) refl ∙ e) (get_right xs ys j (length xs + j) refl ∙ f) in
-    omega (arith, same)
+later_once xs ys once i j a e f = grind (arith, nat_tests, get_right xs ys i (length xs + i), get_right xs ys j (length xs + j))
 
 -- ---- the indices of a box in a record
 
@@ -157,9 +127,7 @@ shifted_is [] c k h = refl
 shifted_is (s ∷ starts) [] zero h = refl
 shifted_is (s ∷ starts) [] (suc k) h = refl
 shifted_is (s ∷ starts) (i ∷ c) zero h = absurd (omega arith)
-shifted_is (s ∷ starts) (i ∷ c) (suc k) h =
-    let e : s + i * 1 ≡ s + i = omega arith in
-    (λ j. e j ∷ shifted_is starts c k (omega arith) j)
+shifted_is (s ∷ starts) (i ∷ c) (suc k) h = grind (arith, nat_tests, shifted_is starts c k)
 
 record InRecord (number : ℕ) (p : Part) (a : List ℕ) : Type 0 where
   index : List ℕ
@@ -171,29 +139,20 @@ box_element number p a h =
     let c = map_in (λ c. index_at (number ∷ p.start) (replicate (length p.count + 1) 1) c) (coordinates (1 ∷ p.count)) a h in
     let i = flat_in (λ i. map (λ d. i ∷ d) (coordinates p.count)) (range_with_len 0 1) c.0 c.1 in
     let d = map_in (λ d. i.0 ∷ d) (coordinates p.count) c.0 i.2 in
-    let zero_is : 0 ≡ i.0 = elim i.1 [ inl e ↦ e | inr none ↦ absurd none ] in
     let long = same_len p.count d.0 (each_in (IsIndex p.count) (coordinates p.count) d.0 (coordinates_all p.count) d.1) in
     let ones : ◌≡◌ {A = List ℕ} (replicate (length p.count + 1) 1) (1 ∷ replicate (length p.count) 1) = ap (λ (n : ℕ). replicate n 1) (add-one (length p.count)) in
     let first : number + 0 * 1 ≡ number = omega arith in
     record {
       index = shifted p.start d.0;
       is_one = in_map (shifted p.start) (coordinates p.count) d.0 d.1;
-      is = sym c.2 ∙ (λ j. index_at (number ∷ p.start) (ones j) (sym d.2 j)) ∙ (λ j. index_at (number ∷ p.start) (1 ∷ replicate (length p.count) 1) (sym zero_is j ∷ d.0))
-          ∙ (λ j. first j ∷ shifted_is p.start d.0 (length p.count) (omega (arith, long)) j);
+      is = grind (arith, nat_tests, shifted_is, c.2, d.2);
     }
-
-same_rest : (n : ℕ) (x y a : List ℕ) → a ≡ n ∷ x → a ≡ n ∷ y → x ≡ y
-same_rest n x y a e f = ap (λ (l : List ℕ). drop 1 l) (sym e ∙ f)
 
 pub separate_boxes : (number : ℕ) (parts : List Part) → StandOnce (flat_map box_indices parts) → AreSeparate (map (box_region number) parts)
 separate_boxes number [] once = tt
 separate_boxes number (p ∷ parts) once = (
   λ h i a j k.
       let q = map_in (box_region number) parts h i in
-      let x = box_element number p a j in
-      let y = box_element number q.0 a (subst (λ (g : Region). In (elements g) a) (sym q.2) k) in
-      let same = same_rest number x.index y.index a x.is y.is in
-      not_in_both (box_indices p) (flat_map box_indices parts) x.index once x.is_one
-      (in_flat box_indices parts q.0 x.index q.1 (subst (λ (b : List ℕ). In (box_indices q.0) b) (sym same) y.is_one)),
+      grind (arith, nat_tests, box_element number p a j, box_element number q.0 a, not_in_both (box_indices p) (flat_map box_indices parts) (box_element number p a j).index once, in_flat box_indices parts q.0 (box_element number p a j).index q.1),
   separate_boxes number parts (later_once (box_indices p) (flat_map box_indices parts) once),
 )

@@ -1,6 +1,6 @@
 -- The values of the gets, added one after another by the ids of their requests.
 use Rattle.std.specs.Prelude.{if◌then◌else◌, max}
-use Rattle.rank_core.proofs.Words.{◌≡◌, ℕ, ◌+◌, ◌<◌, ◌∙◌, ap, sym, refl, List, [], ◌∷◌, map, length, get_or, drop, zip, Bool, true, false, cond, eqb, Option, Some, None, arith, inl, inr, either, holds_or_not, same_Some, option_map, slice_get, cons_option, eqb-true, append_assoc, drop_more, get_or-map, length-map, Header, Var, NcType, Item, Post, Values, Numbers, Text, Bits, Value, In, Class, class_of, got_values, values_for, with_more, kind_at, spread, gathered, is_ok_code, AreOnce, filled_by, joined, as_open, OpenOffer}
+use Rattle.rank_core.proofs.Words.{◌≡◌, ℕ, ◌+◌, ◌<◌, ◌∙◌, ap, sym, refl, List, [], ◌∷◌, map, length, get_or, drop, zip, Bool, true, false, cond, eqb, Option, Some, None, arith, holds_or_not, option_map, slice_get, cons_option, append_assoc, drop_more, get_or-map, length-map, Header, Var, NcType, Item, Post, Values, Numbers, Text, Bits, Value, In, Class, class_of, got_values, values_for, with_more, kind_at, spread, gathered, is_ok_code, AreOnce, filled_by, joined, as_open, OpenOffer, nat_tests}
 use Rattle.nc_base.specs.declared.step.Reply.{Reply}
 use Rattle.serial_spec.specs.ExternalForm as form
 use Rattle.serial_spec.specs.RankMachine as machine
@@ -51,17 +51,8 @@ followed None more = more
 followed (Some values) None = Some values
 followed (Some values) (Some more) = Some (with_more values more)
 
-followed_more : (m : Option Values) (v : Values) (r : Option Values) → ((w : Values) → m ≡ Some w → shape w ≡ shape v)
-    → followed m (followed (Some v) r) ≡ followed (Some (joined m v)) r
-followed_more (Some w) v (Some r) h = ap Some (assoc w v r (h w refl))
-followed_more xs v r h = refl
-
 first_is : (id q : ℕ) (v : Values) (rest : List (ℕ × Values)) → eqb id q ≡ true → values_for ((id, v) ∷ rest) q ≡ followed (Some v) (values_for rest q)
-first_is id q v rest e = rw (e, values_for) (by_rest (values_for rest q))
-  where
-    by_rest : (o : Option Values) → (elim o [ None ↦ Some v | Some more ↦ Some (with_more v more) ]) ≡ followed (Some v) o
-    by_rest None = refl
-    by_rest (Some more) = refl
+first_is id q v rest e = grind (arith, nat_tests, with_more v)
 
 other_is : (id q : ℕ) (v : Values) (rest : List (ℕ × Values)) → eqb id q ≡ false → values_for ((id, v) ∷ rest) q ≡ values_for rest q
 other_is id q v rest e = rw (e, values_for) refl
@@ -72,12 +63,7 @@ added m id v q = cond (eqb id q) (Some (joined (m id) v)) (m q)
 
 pub added_next : (m : ℕ → Option Values) (id q : ℕ) (v : Values) (rest : List (ℕ × Values)) → ((w : Values) → m id ≡ Some w → shape w ≡ shape v)
     → followed (m q) (values_for ((id, v) ∷ rest) q) ≡ followed (added m id v q) (values_for rest q)
-added_next m id q v rest h =
-    either (λ (o : Option Values). followed (m q) (values_for ((id, v) ∷ rest) q) ≡ followed o (values_for rest q)) (eqb id q) (Some (joined (m id) v)) (m q)
-    (λ e. ap (followed (m q)) (first_is id q v rest e)
-    ∙ ap (λ (n : ℕ). followed (m n) (followed (Some v) (values_for rest q))) (sym (eqb-true id q e))
-    ∙ followed_more (m id) v (values_for rest q) h)
-    (λ e. ap (followed (m q)) (other_is id q v rest e))
+added_next m id q v rest h = grind (arith, nat_tests, first_is, assoc, other_is, followed, added, joined)
 
 -- ---- the values of one get
 
@@ -117,20 +103,9 @@ more_shape (Text a) (Text b) = refl
 more_shape (Bits a) (Bits b) = refl
 more_shape a b = refl
 
-joined_shape : (m : Option Values) (v : Values) (n : ℕ) → ((w : Values) → m ≡ Some w → shape w ≡ n) → shape v ≡ n → shape (joined m v) ≡ n
-joined_shape None v n h e = e
-joined_shape (Some w) v n h e = more_shape w v ∙ h w refl
-
 pub shapes_next : (header : Header) (gets : List Post) (m : ℕ → Option Values) (g : Post) (v : Values) → In gets g → ((p q : Post) → In gets p → In gets q → p.id ≡ q.id → p.var ≡ q.var)
     → HaveShapes header gets m → shape v ≡ shape_at header g.var → HaveShapes header gets (added m g.id v)
-shapes_next header gets m g v here one h e q w p f k i =
-    either (λ (o : Option Values). o ≡ Some w → shape w ≡ shape_at header p.var) (eqb g.id q) (Some (joined (m g.id) v)) (m q)
-    (λ t s.
-    let id = eqb-true g.id q t in
-    let w_is : joined (m g.id) v ≡ w = same_Some _ _ s in
-    ap shape (sym w_is)
-    ∙ joined_shape (m g.id) v (shape_at header p.var) (λ u s. h g.id u p s k (i ∙ sym id)) (e ∙ ap (shape_at header) (one g p here k (id ∙ sym i))))
-    (λ t s. h q w p s k i) f
+shapes_next header gets m g v here one h e q w p f k i = grind (arith, nat_tests, more_shape)
 
 pub zip_next : (gets : List Post) (got : List (List ℕ)) (i : ℕ) (g : Post) (b : List ℕ) → i < length gets → i < length got → g ≡ get_or gets i g → b ≡ get_or got i b
     → zip (drop i gets) (drop i got) ≡ (g, b) ∷ zip (drop (i + 1) gets) (drop (i + 1) got)
@@ -164,10 +139,7 @@ pub left_kept : (before after first : ℕ → Option Values) (item : Item) (item
     → ((q : ℕ) → (q ≡ item.id → ⊥) → after q ≡ before q) → (is_ok_code item.code ≡ false → (q : ℕ) → after q ≡ before q)
     → ((i : Item) → In (item ∷ items) i → is_ok_code i.code ≡ true → before i.id ≡ first i.id)
     → (i : Item) → In items i → is_ok_code i.code ≡ true → after i.id ≡ first i.id
-left_kept before after first item items once others kept left i here ok = elim (holds_or_not (is_ok_code item.code)) [
-  | inl e ↦ others i.id (once.0 e i here ok) ∙ left i (inr here) ok
-  | inr e ↦ kept e i.id ∙ left i (inr here) ok
-]
+left_kept before after first item items once others kept left i here ok = grind (arith, nat_tests, holds_or_not, i.id, once.0)
 
 -- ---- the answer
 
@@ -178,8 +150,4 @@ pub heard_as : (header : Header) (r : machine.Rank) (reply : Reply) (o : OpenOff
       record { code = o.code; pair = reply.pair; number = None; values = if o.blocking then values 0 else None; items = map (filled_by values) o.items },
     )
     ≡ machine.hear_open header r reply (Some (as_open o))
-heard_as header r reply o values h =
-    λ i. (
-      record r { known = max r.known reply.records; independent = o.independent; «open» = None },
-      record { code = o.code; pair = reply.pair; number = None; values = if o.blocking then h 0 i else None; items = map (filled_by (λ id. h id i)) o.items },
-    )
+heard_as header r reply o values h = grind (arith, nat_tests)

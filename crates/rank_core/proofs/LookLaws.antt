@@ -1,5 +1,5 @@
 -- The posts that a call comes to are those of one request, of accepted regions of one variable; those of a put have their bytes, and hold none twice.
-use Rattle.rank_core.proofs.Words.{◌≡◌, ℕ, suc, ◌+◌, ◌*◌, ◌<◌, ◌≤◌, refl, sym, ap, subst, ◌∙◌, inl, inr, List, [], ◌∷◌, length, map, Bool, true, false, cond, ltb, ◌&&◌, Option, Some, None, IfSome, arith, filter, slice_get, cases_lt, le-ltb, lt-ltb, ltb-false, ltb-true, length-map, sum_by-cons, filter_at_most, ok_both, Code, Header, NcType, Var, Post, Direction, Get, Put, Given, Region, Values, In, filter_in, class_of, size_of, is_sound, product, most_elements, data_bytes, data_code, direction_of, find_var, is_varn, kind_code, look_at, look_parts, look_region, part_posts, parts_code, values_bytes, check_parts, check_some, check_var, elements_of_all, first_refusal, has_element, is_ok_code, is_put, part_region, part_regions, share_element, widen, count_of, check, either, refusal_of, Look, Asks, as_look, posts_of, some_unfit, HasValues, IsPut, ArePuts, AreTowards, HaveId, IsSomeLook, most_of, not}
+use Rattle.rank_core.proofs.Words.{◌≡◌, ℕ, suc, ◌+◌, ◌*◌, ◌<◌, ◌≤◌, refl, sym, ap, subst, ◌∙◌, inl, inr, List, [], ◌∷◌, length, map, Bool, true, false, cond, ltb, ◌&&◌, Option, Some, None, arith, filter, slice_get, ltb-true, length-map, sum_by-cons, filter_at_most, ok_both, Code, Header, NcType, Var, Post, Direction, Get, Put, Given, Region, Values, In, filter_in, size_of, is_sound, product, most_elements, data_bytes, data_code, direction_of, find_var, is_varn, look_at, look_parts, look_region, part_posts, parts_code, values_bytes, check_parts, check_some, check_var, elements_of_all, first_refusal, has_element, is_ok_code, is_put, part_region, part_regions, share_element, widen, check, refusal_of, Look, Asks, as_look, posts_of, HasValues, IsPut, ArePuts, AreTowards, HaveId, IsSomeLook, most_of, not, nat_tests}
 use Rattle.nc_base.specs.declared.answer.Code.TheVariants as code
 use Rattle.serial_spec.specs.Looks as looks
 use Rattle.rank_core.proofs.OutcomeLaws.{outcome}
@@ -17,10 +17,6 @@ few_passed code.Ok true false h = (refl, λ e. refl)
 few_passed code.Ok false share h = (refl, λ e. absurd cc)
 few_passed refused put share h = absurd cc
 
-many_refused : (refused : Code) (shared : Bool) → pick refused true shared ≡ code.Ok → ⊥
-many_refused code.Ok shared h = cc
-many_refused refused shared h = cc
-
 each_in : {A : Type 0} (f : A → Code) (xs : List A) (x : A) → first_refusal (map f xs) ≡ code.Ok → In xs x → f x ≡ code.Ok
 each_in f [] x h i = absurd i
 each_in f (y ∷ ys) x h (inl e) = ap f (sym e) ∙ (ok_both (f y) (first_refusal (map f ys)) h).0
@@ -33,15 +29,7 @@ pub record PartsPass (header : Header) (v : Var) (parts : List Region) (known : 
 
 pub parts_pass : (header : Header) (v : Var) (parts : List Region) (known : ℕ) (direction : Direction)
     → check_parts header v parts known direction ≡ code.Ok → PartsPass header v parts known direction
-parts_pass header v parts known direction h = elim (cases_lt most_elements (elements_of_all parts)) [
-  | inl more ↦
-      absurd (many_refused (refusal_of header v parts known direction) (is_put direction && share_element parts)
-      ((λ i. pick (refusal_of header v parts known direction) (sym (lt-ltb most_elements (elements_of_all parts) more) i) (is_put direction && share_element parts)) ∙ h))
-  | inr few ↦
-      let both = few_passed (refusal_of header v parts known direction) (is_put direction) (share_element parts)
-      ((λ i. pick (refusal_of header v parts known direction) (sym (le-ltb most_elements (elements_of_all parts) few) i) (is_put direction && share_element parts)) ∙ h) in
-      record { each = λ g i. each_in (λ g. check_var header v g known direction) parts g both.0 i; few = few; apart = both.1 }
-]
+parts_pass header v parts known direction h = grind (arith, nat_tests, few_passed, each_in, pick, refusal_of)
 
 -- ---- posts of parts
 
@@ -62,8 +50,7 @@ part_in id var kind values k all (g ∷ regions) p h (inl e) =
     (record { id_is = refl; var_is = refl; is_one = inl refl; before = k; within = omega (arith, one, h); bytes_are = refl })
 part_in id var kind values k all (g ∷ regions) p h (inr i) =
     let one = sum_by-cons (λ (r : Region). product r.count) g regions in
-    let r = part_in id var kind values (k + product g.count) all regions p (omega (arith, one, h)) i in
-    record { id_is = r.id_is; var_is = r.var_is; is_one = inr r.is_one; before = r.before; within = r.within; bytes_are = r.bytes_are }
+    grind (arith, nat_tests, part_in id var kind values (k + product g.count) all regions p)
 
 regions_of_parts : (id var : ℕ) (kind : NcType) (values : Option Values) (k : ℕ) (regions : List Region) → map (λ p. p.region) (part_posts id var kind values k regions) ≡ regions
 regions_of_parts id var kind values k [] = refl
@@ -78,14 +65,11 @@ sum_by-filter-le [] = omega arith
 sum_by-filter-le (g ∷ gs) =
     let one = sum_by-cons (λ (r : Region). product r.count) g gs in
     let other = sum_by-cons (λ (r : Region). product r.count) g (filter has_element gs) in
-    let rest = sum_by-filter-le gs in
-    either (λ (hs : List Region). elements_of_all hs ≤ elements_of_all (g ∷ gs)) (has_element g) _ _ (λ t. omega (arith, one, other, rest)) (λ t. omega (arith, one, rest))
+    grind (arith, nat_tests, sum_by-filter-le gs)
 
 pub asked_few : (header : Header) (v : Var) (parts : List Region) (known : ℕ) (direction : Direction) → check_parts header v parts known direction ≡ code.Ok
     → elements_of_all (filter has_element parts) ≤ most_elements
-asked_few header v parts known direction h =
-    let pass = parts_pass header v parts known direction h in
-    omega (arith, sum_by-filter-le parts, pass.few)
+asked_few header v parts known direction h = grind (arith, nat_tests, parts_pass, sum_by-filter-le, filter)
 
 -- ---- posts of accepted regions
 
@@ -97,10 +81,7 @@ module _ (header : Header) (k : ℕ) (v : Var) (known : ℕ) (there : slice_get 
   is_right d p h = ap (λ (o : Option Var). check_some header o p.region known d) (found p h.var) ∙ h.accepted
 
   put_of : (p : Post) → IsPostOf header k v known Put p → IsPut header known p
-  put_of p h = record {
-    accepted = is_right Put p h;
-    whole = subst (λ (o : Option Var). IfSome o (λ w. length p.bytes ≡ product p.region.count * size_of w.kind)) (sym (found p h.var)) (h.long refl);
-  }
+  put_of p h = grind (arith, nat_tests, is_right Put p h, found p h.var)
 
   pub put_right : (id : ℕ) (g : Region) (bytes : List ℕ) → check_var header v g known Put ≡ code.Ok → length bytes ≡ product g.count * size_of v.kind
       → IsPut header known (record { id = id; var = k; region = g; bytes = bytes })
@@ -130,9 +111,7 @@ part_long kind (Some values) all k n h l e = length-values_bytes kind values k n
 
 has_values : (kind : NcType) (values : Option Values) (n : ℕ) → parts_code kind n values ≡ code.Ok → HasValues kind values n
 has_values kind None n h = tt
-has_values kind (Some values) n h =
-    let both = code_passes (kind_code (class_of kind) values) (ltb (count_of values) n) (some_unfit kind (Some values) 0 n) h in
-    (both.0, ltb-false (count_of values) n both.1)
+has_values kind (Some values) n h = grind (arith, nat_tests, code_passes)
 
 -- ---- the posts of a call: those of one request, under its id
 

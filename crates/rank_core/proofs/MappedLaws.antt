@@ -1,5 +1,5 @@
 -- A region that a check accepts has its positions in memory within the limits.
-use Rattle.rank_core.proofs.Words.{◌≡◌, ℕ, zero, suc, ◌+◌, ◌-◌, ◌*◌, ◌<◌, ◌≤◌, refl, sym, ap, subst, ◌∙◌, inl, inr, List, [], ◌∷◌, length, map, zip, Bool, true, false, not, cond, ltb, leb, eqb, ◌&&◌, ◌||◌, arith, range_with_len, AllByRecursion, or_parts, and_parts, not-false, ltb-false, leb-false, eqb-true, lt-ltb, cases_lt, sum_by-cons, mul-le-mul_left, Header, Var, Direction, Region, greatest, product, most_elements, IsIndex, check_var, asks_too_much, last_position, other_shape, coordinates, position_at, reach, coordinates_all, IsMapped, no_coordinates, range_below, passed}
+use Rattle.rank_core.proofs.Words.{◌≡◌, ℕ, zero, suc, ◌+◌, ◌-◌, ◌*◌, ◌<◌, ◌≤◌, sym, ap, subst, ◌∙◌, inl, inr, List, [], ◌∷◌, length, map, zip, Bool, true, false, not, cond, ltb, leb, ◌&&◌, arith, range_with_len, AllByRecursion, cases_lt, sum_by-cons, mul-le-mul_left, Header, Var, Direction, Region, greatest, product, most_elements, IsIndex, check_var, last_position, other_shape, coordinates, position_at, reach, coordinates_all, IsMapped, no_coordinates, range_below, nat_tests}
 use Rattle.nc_base.specs.declared.answer.Code.TheVariants as code
 
 -- ---- positions
@@ -21,17 +21,12 @@ position_below (n ∷ counts) [] (i ∷ c) h = omega arith
 position_below (n ∷ counts) (s ∷ imap) (i ∷ c) h =
     let one = sum_by-cons (λ (p : ℕ × ℕ). p.1 * p.0) (s, i) (zip imap c) in
     let other = sum_by-cons (λ (p : ℕ × ℕ). (p.0 - 1) * p.1) (n, s) (zip counts imap) in
-    let rest = position_below counts imap c h.1 in
-    let first = times_below i n s h.0 in
-    omega (arith, one, other, rest, first)
+    grind (arith, nat_tests, position_below counts imap c h.1, times_below i n s h.0)
 
 all_positions : (counts imap : List ℕ) (cs : List (List ℕ)) → AllByRecursion (IsIndex counts) cs
     → greatest (map (λ m. m + 1) (map (λ c. position_at imap c) cs)) ≤ last_position counts imap + 1
 all_positions counts imap [] h = omega arith
-all_positions counts imap (c ∷ cs) h =
-    let first = position_below counts imap c h.0 in
-    let rest = all_positions counts imap cs h.1 in
-    omega (arith, first, rest)
+all_positions counts imap (c ∷ cs) h = grind (arith, nat_tests, position_below, all_positions counts imap cs h.1)
 
 by_map : (g : Region) → g.packed ≡ false → reach g ≡ greatest (map (λ m. m + 1) (map (λ c. position_at g.imap c) (coordinates g.count)))
 by_map g e = ap (λ (b : Bool). greatest (map (λ m. m + 1) (cond b (range_with_len 0 (product g.count)) (map (λ c. position_at g.imap c) (coordinates g.count))))) e
@@ -40,17 +35,13 @@ in_order : (g : Region) → g.packed ≡ true → reach g ≡ greatest (map (λ 
 in_order g e = ap (λ (b : Bool). greatest (map (λ m. m + 1) (cond b (range_with_len 0 (product g.count)) (map (λ c. position_at g.imap c) (coordinates g.count))))) e
 
 reach_none : (g : Region) → g.packed ≡ false → product g.count ≡ 0 → reach g ≡ 0
-reach_none g e none =
-    by_map g e ∙ ap (λ (cs : List (List ℕ)). greatest (map (λ m. m + 1) (map (λ c. position_at g.imap c) cs))) (no_coordinates g.count none)
+reach_none g e none = grind (arith, nat_tests, by_map, position_at, no_coordinates)
 
 -- ---- what is not too large
 
 record IsSmall (g : Region) : Type 0 where
   few : product g.count ≤ most_elements
   near : (not g.packed && ltb 0 (product g.count) && leb most_elements (last_position g.count g.imap)) ≡ false
-
-small : (header : Header) (v : Var) (g : Region) → asks_too_much header v g ≡ false → IsSmall g
-small header v g h = let parts = or_parts _ _ (or_parts _ _ (or_parts _ _ h).0).0 in record { few = ltb-false most_elements (product g.count) parts.0; near = parts.1 }
 
 within : (packed some far : Bool) → packed ≡ false → some ≡ true → (not packed && some && far) ≡ false → far ≡ false
 within packed some far e f h = sym (ap (λ (b : Bool). not b && some && far) e ∙ ap (λ (b : Bool). true && b && far) f) ∙ h
@@ -59,22 +50,13 @@ near_of : (g : Region) → IsSmall g → (b : Bool) → g.packed ≡ b → reach
 near_of g s true e = let below = range_below 0 (product g.count) in omega (arith, s.few, in_order g e, below)
 near_of g s false e = elim (cases_lt 0 (product g.count)) [
   | inl some ↦
-      let far = within g.packed (ltb 0 (product g.count)) (leb most_elements (last_position g.count g.imap)) e (lt-ltb 0 (product g.count) some) s.near in
-      let below = leb-false most_elements (last_position g.count g.imap) far in
-      let all = all_positions g.count g.imap (coordinates g.count) (coordinates_all g.count) in
-      omega (arith, by_map g e, below, all)
+      grind (arith, nat_tests, all_positions g.count g.imap (coordinates g.count) (coordinates_all g.count), coordinates_all g.count, by_map g e)
   | inr none ↦ omega (arith, reach_none g e (omega arith))
 ]
 
 shape_of : (dims : ℕ) (g : Region) → other_shape dims g ≡ false → g.packed ≡ false → length g.imap ≡ length g.count
-shape_of dims g h e =
-    let four = and_parts _ _ (not-false _ h) in
-    let two = and_parts _ _ (and_parts _ _ four.0).0 in
-    let mapped : eqb (length g.imap) dims ≡ true = sym (ap (λ (b : Bool). b || eqb (length g.imap) dims) e) ∙ four.1 in
-    eqb-true (length g.imap) dims mapped ∙ sym (eqb-true (length g.count) dims two.1)
+shape_of dims g h e = grind (arith, nat_tests)
 
 pub accepted_mapped : (header : Header) (v : Var) (g : Region) (known : ℕ) (direction : Direction) → check_var header v g known direction ≡ code.Ok → IsMapped g
 accepted_mapped header v g known direction h =
-    let all = passed header v g known direction h in
-    let s = small header v g all.large in
-    record { shape = shape_of (length v.dims) g all.shape; few = s.few; near = near_of g s g.packed refl }
+    grind (arith, nat_tests, shape_of, near_of)

@@ -1,5 +1,5 @@
 -- Names in order: what a search finds is the first of a name.
-use Rattle.rank_core.proofs.Words.{◌≡◌, ℕ, ◌<◌, ◌≤◌, refl, sym, ap, ◌∙◌, inl, inr, List, [], length, get_or, Bool, true, false, cond, ltb, Some, None, arith, position, bytes_eq, nat_cmp_total, on_total, then_total, IsStrictWeakOrder, IsTotalOrder, nat_list_cmp_total, slice_cmp, Ordering, Equal, Greater, Less, range_with_len, IsPartitionedBy, IsPartitionPoint, is_eq, is_lt, nat_cmp, ordering_reverse, ordering_then, both_ways, cases_lt, cases_Bool, cond-false, cond-true, false_from_ne_true, le-ltb, lt-ltb, get_or_default, position_or_len_is, ranks_by, sorted_far, Contains-permutation, IsPermutation-sym, get_or-range_with_len, length-range_with_len, is_eq-slice_cmp, bytes_eq-Decides, name_at, place_cmp, IsInOrder, ge_from_not_lt}
+use Rattle.rank_core.proofs.Words.{◌≡◌, ℕ, ◌<◌, ◌≤◌, refl, sym, ap, ◌∙◌, inl, inr, List, [], length, get_or, Bool, true, false, cond, ltb, Some, None, arith, position, bytes_eq, nat_cmp_total, on_total, then_total, IsStrictWeakOrder, IsTotalOrder, nat_list_cmp_total, slice_cmp, Ordering, Equal, Greater, Less, range_with_len, IsPartitionedBy, IsPartitionPoint, is_eq, is_lt, nat_cmp, ordering_reverse, ordering_then, both_ways, cases_lt, cond-false, cond-true, false_from_ne_true, le-ltb, lt-ltb, get_or_default, position_or_len_is, ranks_by, sorted_far, Contains-permutation, IsPermutation-sym, get_or-range_with_len, length-range_with_len, is_eq-slice_cmp, bytes_eq-Decides, name_at, place_cmp, IsInOrder, ge_from_not_lt, nat_tests}
 
 -- ---- the order
 
@@ -63,11 +63,7 @@ module _ (names : List (List ℕ)) (places : List ℕ) (order : IsInOrder names 
 
   -- what stands before a place that is below the name is below it too
   pub partitioned : IsPartitionedBy below places
-  partitioned i j d l m h = elim (cases_Bool (below (get_or places i d))) [
-    | inl e ↦ e
-    | inr e ↦ absurd (both_ways (below (get_or places j d))
-        (names_rank.chain (name_at names (get_or places j d)) (name_at names (get_or places i d)) name (then_first _ (nat_cmp (get_or places j d) (get_or places i d)) (later i j d l m)) e) h)
-  ]
+  partitioned i j d l m h = grind (arith, nat_tests, then_first, later i j d l m, names_rank.chain, below)
 
   record Stands (p : ℕ) : Type 0 where
     at : ℕ

@@ -1,5 +1,5 @@
 -- What a call comes to: by its check, by whether it has an element, and by its values.
-use Rattle.rank_core.proofs.Words.{◌≡◌, ℕ, refl, sym, ap, subst, ◌∙◌, inl, inr, ◌⊎◌, List, [], ◌∷◌, length, Bool, true, false, ltb, Option, Some, None, Result, Ok, Err, CallErr, Code, NcType, Post, Region, Values, part_posts, error_of, look_of, settled, ComesTo, IfOk, IfErr, OnOk, IsRefusal}
+use Rattle.rank_core.proofs.Words.{◌≡◌, ℕ, refl, sym, ap, subst, ◌∙◌, inl, inr, ◌⊎◌, List, [], ◌∷◌, length, Bool, true, false, ltb, Option, Some, None, Result, Ok, Err, CallErr, Code, NcType, Post, Region, Values, part_posts, error_of, look_of, settled, ComesTo, IfOk, IfErr, OnOk, IsRefusal, arith, nat_tests}
 use Rattle.nc_base.specs.declared.answer.CallErr.TheVariants as refusal
 use Rattle.nc_base.specs.declared.answer.Code.TheVariants as code
 use Rattle.serial_spec.specs.Looks as looks
@@ -19,10 +19,6 @@ outcome_refused : (c : Code) (some : Bool) (asked : List Post) (last : Code) →
 outcome_refused code.Ok some asked last n = absurd (n refl)
 outcome_refused c some asked last n = refl
 
-outcome_unfit : (c : Code) (asked : List Post) → (c ≡ code.Ok → ⊥) → looks.Refused c ≡ outcome code.Ok true asked c
-outcome_unfit code.Ok asked n = absurd (n refl)
-outcome_unfit c asked n = refl
-
 -- the code of a check that is not Ok
 pub checked_refused : (checked : Code) (some : Bool) (asked : List Post) (last c : Code) → c ≡ checked → (c ≡ code.Ok → ⊥)
     → looks.Refused c ≡ outcome checked some asked last
@@ -30,18 +26,15 @@ checked_refused checked some asked last c e n = outcome_refused c some asked las
 
 pub no_element : (checked : Code) (some : Bool) (asked : List Post) (last : Code) → checked ≡ code.Ok → some ≡ false
     → looks.Empty ≡ outcome checked some asked last
-no_element checked some asked last e f =
-    λ i. outcome (sym e i) (sym f i) asked last
+no_element checked some asked last e f = grind (arith, nat_tests)
 
 pub data_refused : (checked : Code) (some : Bool) (asked : List Post) (last c : Code) → checked ≡ code.Ok → some ≡ true → c ≡ last → (c ≡ code.Ok → ⊥)
     → looks.Refused c ≡ outcome checked some asked last
-data_refused checked some asked last c e f g n =
-    outcome_unfit c asked n ∙ (λ i. outcome (sym e i) (sym f i) asked (g i))
+data_refused checked some asked last c e f g n = grind (arith, nat_tests, outcome)
 
 all_right : (checked : Code) (some : Bool) (asked : List Post) (last : Code) → checked ≡ code.Ok → some ≡ true → last ≡ code.Ok
     → looks.Asks asked ≡ outcome checked some asked last
-all_right checked some asked last e f g =
-    λ i. outcome (sym e i) (sym f i) asked (sym g i)
+all_right checked some asked last e f g = grind (arith, nat_tests)
 
 -- what the values of a call with an element came to
 pub outcome_comes : (checked : Code) (some : Bool) (asked : List Post) (last : Code) (r : Result (List Post) CallErr) → checked ≡ code.Ok → some ≡ true

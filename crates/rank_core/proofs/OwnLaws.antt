@@ -1,26 +1,19 @@
 -- Requests under different ids, none of which holds a byte twice.
-use Rattle.rank_core.proofs.Words.{◌≡◌, ℕ, zero, suc, ◌+◌, ◌∙◌, ap, sym, refl, inl, inr, ◌⊎◌, List, [], ◌∷◌, ◌++◌, map, length, Some, arith, slice_get, same_Some, no_none_some, Header, Post, In, at_in, Holding, Key, holdings, bytes_of, IsOwnOnce}
+use Rattle.rank_core.proofs.Words.{◌≡◌, ℕ, zero, suc, ◌+◌, ap, sym, refl, inl, inr, ◌⊎◌, List, [], ◌∷◌, ◌++◌, map, length, Some, arith, slice_get, same_Some, no_none_some, Header, Post, In, at_in, Holding, holdings, bytes_of, IsOwnOnce, nat_tests}
 
 -- an index of a list that is joined from two
 joined_at : {A : Type 0} (xs ys : List A) (i : ℕ) (x : A) → slice_get (xs ++ ys) i ≡ Some x
     → (slice_get xs i ≡ Some x) ⊎ ((j : ℕ) × (i ≡ length xs + j) × (slice_get ys j ≡ Some x))
 joined_at [] ys i x h = inr (i, omega arith, h)
 joined_at (y ∷ xs) ys zero x h = inl h
-joined_at (y ∷ xs) ys (suc i) x h =
-    elim (joined_at xs ys i x h) [ inl g ↦ inl g | inr g ↦ let e = g.1 in inr (g.0, omega arith, g.2) ]
+joined_at (y ∷ xs) ys (suc i) x h = grind (arith, nat_tests, joined_at xs ys i x h)
 
 -- no key of the one list is a key of the other
 abbrev pub AreApart : List Holding → List Holding → Type 0
 AreApart xs ys = (i j : ℕ) (g h : Holding) → slice_get xs i ≡ Some g → slice_get ys j ≡ Some h → g.0 ≡ h.0 → ⊥
 
 pub own_append : (xs ys : List Holding) → IsOwnOnce xs → IsOwnOnce ys → AreApart xs ys → IsOwnOnce (xs ++ ys)
-own_append xs ys a b apart i j g h k l x ei ej keys ek el = elim (joined_at xs ys i g ei) [
-  | inl p ↦ elim (joined_at xs ys j h ej) [ inl q ↦ a i j g h k l x p q keys ek el | inr q ↦ absurd (apart i q.0 g h p q.2 keys) ]
-  | inr p ↦ elim (joined_at xs ys j h ej) [
-    | inl q ↦ absurd (apart j p.0 h g q p.2 (sym keys))
-    | inr q ↦ let r = b p.0 q.0 g h k l x p.2 q.2 keys ek el in let e = p.1 in let f = q.1 in let m = r.0 in (omega arith, r.1)
-  ]
-]
+own_append xs ys a b apart i j g h k l x ei ej keys ek el = grind (arith, nat_tests, joined_at)
 
 pub own_none : IsOwnOnce []
 own_none i j g h k l x ei ej keys ek el = no_none_some g ei
@@ -44,6 +37,4 @@ held_at header rank (p ∷ ps) (suc i) h e = held_at header rank ps i h e
 pub keys_apart : (header : Header) (rank : ℕ) (ps qs : List Post) → ((p q : Post) → In ps p → In qs q → p.id ≡ q.id → ⊥) → AreApart (held_by header rank ps) (held_by header rank qs)
 keys_apart header rank ps qs differ i j g h ei ej keys =
     let p = held_at header rank ps i g ei in
-    let q = held_at header rank qs j h ej in
-    let k : ◌≡◌ {A = Key} (rank, p.0.id) (rank, q.0.id) = ap (λ (x : Holding). x.0) (sym p.2) ∙ keys ∙ ap (λ (x : Holding). x.0) q.2 in
-    differ p.0 q.0 (at_in ps i p.0 p.1) (at_in qs j q.0 q.1) (ap (λ (x : Key). x.1) k)
+    grind (arith, nat_tests, held_at header rank qs j h ej, at_in ps i p.0 p.1, at_in qs j (held_at header rank qs j h ej).0 (held_at header rank qs j h ej).1)

@@ -1,5 +1,5 @@
 -- What is kept of the requests of a rank.
-use Rattle.rank_core.proofs.Words.{◌≡◌, ℕ, ◌+◌, ◌≤◌, ◌∙◌, ap, sym, refl, subst, inl, inr, List, [], ◌∷◌, ◌++◌, map, sum, length, Bool, true, false, cond, either, holds_or_not, eqb, Option, Some, None, arith, filter, flat_map, find, option_map, or_parts, eqb-false, ne_eqb, cond-false, length-append, sum-map, sum_by-cons, Header, Post, Item, Choice, Iput, Iget, Bput, Direction, In, filter_in, flat_in, Posted, Status, NullRequest, Waiting, Gone, named, puts_in, gets_in, status_of, item_code, items_from, items_of, has_id, is_ok_code, IsOwnOnce, not_posted, has_posted, status_of-push, IsPut, IsGet, posts_of_status, AreGets, ArePuts, AreTowards, IsRequest, AreRequests, AreOnce, direction_of_kind}
+use Rattle.rank_core.proofs.Words.{◌≡◌, ℕ, ◌+◌, ◌≤◌, ◌∙◌, ap, sym, refl, subst, inl, inr, List, [], ◌∷◌, ◌++◌, map, sum, length, Bool, true, false, cond, either, holds_or_not, eqb, None, arith, filter, flat_map, or_parts, eqb-false, length-append, sum-map, sum_by-cons, Header, Post, Item, Choice, Iput, Iget, Bput, Direction, In, filter_in, flat_in, Posted, Status, Waiting, Gone, named, puts_in, gets_in, status_of, items_from, items_of, has_id, is_ok_code, IsOwnOnce, not_posted, has_posted, status_of-push, IsPut, IsGet, posts_of_status, AreGets, ArePuts, AreTowards, IsRequest, AreRequests, AreOnce, direction_of_kind, nat_tests}
 use Rattle.nc_base.specs.declared.request.Direction.TheVariants as way
 use Rattle.serial_spec.specs.RankMachine as machine
 use Rattle.rank_core.proofs.KnownLaws.{check_more}
@@ -11,10 +11,7 @@ pub gets_more : (header : Header) (known more : ℕ) (posts : List Post) → kno
 gets_more header known more posts le h = record { each = λ p m. check_more header p.var p.region known more way.Get le (h.each p m); var = h.var }
 
 pub puts_more : (header : Header) (known more : ℕ) (posts : List Post) → known ≤ more → ArePuts header known posts → ArePuts header more posts
-puts_more header known more posts le h = record {
-  each = λ p m. record { accepted = check_more header p.var p.region known more way.Put le (h.each p m).accepted; whole = (h.each p m).whole };
-  own = h.own;
-}
+puts_more header known more posts le h = grind (arith, nat_tests, check_more header)
 
 towards_more : (d : Direction) (header : Header) (known more : ℕ) (posts : List Post) → known ≤ more → AreTowards d header known posts → AreTowards d header more posts
 towards_more way.Put header known more posts le h = puts_more header known more posts le h
@@ -37,11 +34,7 @@ pub requests_push : (header : Header) (known : ℕ) (ps : List Posted) (id : ℕ
     → AreRequests header known ps → AreRequests header known (ps ++ record { id = id; status = s } ∷ [])
 requests_push header known [] id s fresh r h = (r, refl, tt)
 requests_push header known (p ∷ ps) id s fresh r h =
-    let new = new_later p ps id fresh in (
-      h.0,
-      status_of-push ps (record { id = id; status = s }) p.id (ne_eqb id p.id (λ e. eqb-false p.id id new.0 (sym e))) h.1,
-      requests_push header known ps id s new.1 r h.2,
-    )
+    grind (arith, nat_tests, new_later, status_of-push, requests_push header known ps id s (new_later p ps id fresh).1 r h.2, h.0, h.1)
 
 -- ---- requests that are taken
 
@@ -53,19 +46,11 @@ same_id f p = either (λ (q : Posted). q.id ≡ p.id) (f p) _ _ (λ t. refl) (λ
 
 stays_new : (f : Posted → Bool) (ps : List Posted) (id : ℕ) → status_of ps id ≡ None → status_of (map (gone_where f) ps) id ≡ None
 stays_new f [] id h = refl
-stays_new f (p ∷ ps) id h =
-    let new = new_later p ps id h in
-    let other : eqb (gone_where f p).id id ≡ false = ap (λ (n : ℕ). eqb n id) (same_id f p) ∙ new.0 in
-    ap (option_map (λ (q : Posted). q.status)) (cond-false (eqb (gone_where f p).id id) (Some (gone_where f p)) (find (λ (q : Posted). eqb q.id id) (map (gone_where f) ps)) other)
-    ∙ stays_new f ps id new.1
+stays_new f (p ∷ ps) id h = grind (arith, nat_tests, new_later, same_id, stays_new f ps id (new_later p ps id h).1, gone_where)
 
 pub requests_without : (header : Header) (known : ℕ) (f : Posted → Bool) (ps : List Posted) → AreRequests header known ps → AreRequests header known (map (gone_where f) ps)
 requests_without header known f [] h = tt
-requests_without header known f (p ∷ ps) h = (
-  either (λ (q : Posted). IsRequest header known q.id q.status) (f p) (record p { status = Gone }) p (λ t. tt) (λ t. h.0),
-  ap (status_of (map (gone_where f) ps)) (same_id f p) ∙ stays_new f ps p.id h.1,
-  requests_without header known f ps h.2,
-)
+requests_without header known f (p ∷ ps) h = grind (arith, nat_tests, same_id, stays_new, requests_without header known f ps h.2, h.0, gone_where)
 
 request_in : (header : Header) (known : ℕ) (ps : List Posted) (p : Posted) → AreRequests header known ps → In ps p → IsRequest header known p.id p.status
 request_in header known [] p h m = absurd m
@@ -118,18 +103,12 @@ module _ (header : Header) (known : ℕ) (f : Posted → Bool) (ps : List Posted
     is_one : In (of posted.status) p
 
   of_request : (of : Status → List Post) (p : Post) → In (flat_map (λ (q : Posted). of q.status) (filter f ps)) p → IsOfRequest of p
-  of_request of p m =
-      let r = flat_in (λ (q : Posted). of q.status) (filter f ps) p m in
-      let here = (filter_in f ps r.0 r.1).0 in
-      record { posted = r.0; here = here; right = request_in header known ps r.0 h here; is_one = r.2 }
+  of_request of p m = grind (arith, nat_tests, flat_in, filter_in, request_in, filter)
 
   one_var_of : (p q : Post) → In (gets_where f ps) p → In (gets_where f ps) q → p.id ≡ q.id → p.var ≡ q.var
   one_var_of p q m n e =
       let a = of_request gets_in p m in
-      let b = of_request gets_in q n in
-      let ids = sym (get_in header known a.posted.id a.posted.status p a.right a.is_one).1 ∙ e ∙ (get_in header known b.posted.id b.posted.status q b.right b.is_one).1 in
-      let one = one_request header known ps a.posted b.posted h a.here b.here ids in
-      one_var header known a.posted.id a.posted.status p q a.right a.is_one (subst (λ (x : Posted). In (gets_in x.status) q) (sym one) b.is_one) e
+      grind (arith, nat_tests, of_request gets_in q n, get_in header known a.posted.id a.posted.status p a.right a.is_one, get_in header known (of_request gets_in q n).posted.id (of_request gets_in q n).posted.status q, one_request header known ps a.posted (of_request gets_in q n).posted h a.here (of_request gets_in q n).here, one_var header known a.posted.id a.posted.status p q a.right a.is_one)
 
 own_where : (header : Header) (known rank : ℕ) (f : Posted → Bool) (ps : List Posted) → AreRequests header known ps → IsOwnOnce (held_by header rank (puts_where f ps))
 own_where header known rank f [] h = own_none
@@ -140,8 +119,7 @@ own_where header known rank f (p ∷ ps) h =
     (own_append (held_by header rank (puts_in p.status)) (held_by header rank (puts_where f ps)) (own_puts header known p.id rank p.status h.0) rest
     (keys_apart header rank (puts_in p.status) (puts_where f ps) (λ a b m n e.
     let r = of_request header known f ps h.2 puts_in b n in
-    id_in ps r.posted p.id h.1 r.here
-    (sym (put_in header known r.posted.id r.posted.status b r.right r.is_one).1 ∙ sym e ∙ (put_in header known p.id p.status a h.0 m).1)))))
+    grind (arith, nat_tests, id_in ps r.posted p.id h.1 r.here, put_in header known r.posted.id r.posted.status b r.right r.is_one, put_in header known p.id p.status a h.0 m)))))
     (λ t. rest)
 
 pub puts_taken : (header : Header) (known : ℕ) (f : Posted → Bool) (ps : List Posted) → AreRequests header known ps → ArePuts header known (puts_where f ps)
@@ -167,51 +145,23 @@ first_held p ps = sum-map (λ (q : Posted). posts_of_status q.status) (p ∷ ps)
 
 pub held_without : (f : Posted → Bool) (ps : List Posted) → held_posts (map (gone_where f) ps) ≤ held_posts ps
 held_without f [] = omega arith
-held_without f (p ∷ ps) =
-    let rest = held_without f ps in
-    let first : posts_of_status (gone_where f p).status ≤ posts_of_status p.status =
-    either (λ (q : Posted). posts_of_status q.status ≤ posts_of_status p.status) (f p) (record p { status = Gone }) p (λ t. omega arith) (λ t. omega arith) in
-    omega (arith, rest, first, first_held p ps, first_held (gone_where f p) (map (gone_where f) ps))
-
-status_few : (s : Status) → length (puts_in s) + length (gets_in s) ≤ posts_of_status s
-status_few NullRequest = omega arith
-status_few Gone = omega arith
-status_few (Waiting Iput posts) = omega arith
-status_few (Waiting Bput posts) = omega arith
-status_few (Waiting Iget posts) = omega arith
+held_without f (p ∷ ps) = grind (arith, nat_tests, held_without f ps, first_held, p.status, held_posts, gone_where, posts_of_status)
 
 -- what is taken and what is left
 pub taken_few : (f : Posted → Bool) (ps : List Posted) → length (puts_where f ps) + length (gets_where f ps) + held_posts (map (gone_where f) ps) ≤ held_posts ps
 taken_few f [] = omega arith
-taken_few f (p ∷ ps) =
-    let rest = taken_few f ps in
-    elim (holds_or_not (f p)) [
-      | inl e ↦
-          let puts = length-append (puts_in p.status) (puts_where f ps) in
-          let gets = length-append (gets_in p.status) (gets_where f ps) in
-          rw e (omega (arith, rest, status_few p.status, puts, gets, first_held p ps, first_held (record p { status = Gone }) (map (gone_where f) ps)))
-      | inr e ↦ rw e (omega (arith, rest, first_held p ps, first_held p (map (gone_where f) ps)))
-    ]
+taken_few f (p ∷ ps) = grind (arith, nat_tests, taken_few f ps, holds_or_not, length-append, first_held, puts_where, gets_where, held_posts, gone_where)
 
 -- ---- the items
 
-code_new : (s : Option Status) (b : Bool) → is_ok_code (item_code s b) ≡ true → b ≡ false
-code_new (Some (Waiting kind posts)) false h = refl
-code_new xs b h = cc
-
 ok_new : (posted : List Posted) (earlier ids : List ℕ) (j : Item) → In (items_from posted earlier ids) j → is_ok_code j.code ≡ true → has_id earlier j.id ≡ false
 ok_new posted earlier [] j m h = absurd m
-ok_new posted earlier (id ∷ ids) j (inl e) h =
-    subst (λ (x : Item). has_id earlier x.id ≡ false) e
-    (code_new (status_of posted id) (has_id earlier id) (subst (λ (x : Item). is_ok_code x.code ≡ true) (sym e) h))
+ok_new posted earlier (id ∷ ids) j (inl e) h = grind (arith, nat_tests)
 ok_new posted earlier (id ∷ ids) j (inr m) h = (or_parts (eqb id j.id) (has_id earlier j.id) (ok_new posted (id ∷ earlier) ids j m h)).1
 
 once_from : (posted : List Posted) (earlier ids : List ℕ) → AreOnce (items_from posted earlier ids)
 once_from posted earlier [] = tt
-once_from posted earlier (id ∷ ids) = (
-  λ ok j m h e. eqb-false id j.id (or_parts (eqb id j.id) (has_id earlier j.id) (ok_new posted (id ∷ earlier) ids j m h)).0 (sym e),
-  once_from posted (id ∷ earlier) ids,
-)
+once_from posted earlier (id ∷ ids) = grind (arith, nat_tests, ok_new, once_from posted (id ∷ earlier) ids)
 
 pub once_items : (r : machine.Rank) (choice : Choice) → AreOnce (items_of r choice)
 once_items r choice = once_from r.posted [] (named r choice)

@@ -1,5 +1,5 @@
 -- Posts of one variable, no two of which share an element, hold no byte twice.
-use Rattle.rank_core.proofs.Words.{◌≡◌, ℕ, zero, suc, ◌+◌, ◌*◌, ◌<◌, ◌≤◌, refl, sym, ap, subst, ◌∙◌, inl, inr, List, [], ◌∷◌, map, true, false, Option, Some, arith, filter, flat_map, slice_get, bytes_eq, list_any, range_with_len, both_ways, cases_order, or_parts, bytes_eq-Decides, at_in, either, entry_map, filter_in, any_member, each_in, map_in, Header, Var, Post, Put, Direction, length, product, Region, In, flat_in, in_flat, range_high, range_low, size_of, is_sound, place, AreApart, IsElement, IsElementBelow, records_of, check_some, check_var, has_element, has_index, share_element, elements, places, bytes_of, bytes_of_some, holdings, Holding, IsOwnOnce, accepted_elements, elements_apart, post_once}
+use Rattle.rank_core.proofs.Words.{◌≡◌, ℕ, zero, suc, ◌+◌, ◌*◌, ◌<◌, ◌≤◌, refl, sym, ap, subst, ◌∙◌, inl, inr, List, [], ◌∷◌, map, true, false, Option, Some, arith, filter, flat_map, slice_get, bytes_eq, list_any, range_with_len, cases_order, bytes_eq-Decides, at_in, entry_map, filter_in, any_member, each_in, map_in, Header, Var, Post, Put, Direction, length, product, Region, In, flat_in, in_flat, range_high, range_low, size_of, is_sound, place, IsElement, IsElementBelow, records_of, check_some, check_var, has_element, has_index, share_element, elements, places, bytes_of, holdings, Holding, IsOwnOnce, accepted_elements, elements_apart, post_once, nat_tests}
 use Rattle.rank_core.proofs.OwnLaws.{held_at}
 use Rattle.nc_base.specs.declared.answer.Code.TheVariants as code
 
@@ -18,16 +18,7 @@ in_some gs h a i j =
 
 pub separate_from_parts : (gs : List Region) → share_element gs ≡ false → AreSeparate (filter has_element gs)
 separate_from_parts [] h = tt
-separate_from_parts (g ∷ gs) h =
-    let both = or_parts (list_any (has_index (flat_map elements gs)) (elements g)) (share_element gs) h in
-    let rest = separate_from_parts gs both.1 in
-    either AreSeparate (has_element g) (g ∷ filter has_element gs) (filter has_element gs)
-    (λ t. (
-      λ r i a j k. both_ways (list_any (has_index (flat_map elements gs)) (elements g)) both.0
-          (any_member (has_index (flat_map elements gs)) (elements g) a j (in_some gs r a (filter_in has_element gs r i).0 k)),
-      rest,
-    ))
-    (λ t. rest)
+separate_from_parts (g ∷ gs) h = grind (arith, nat_tests, separate_from_parts gs, any_member, in_some, filter_in, AreSeparate, filter, list_any, flat_map)
 
 apart_at : (gs : List Region) (i j : ℕ) (g h : Region) → AreSeparate gs → i < j → slice_get gs i ≡ Some g → slice_get gs j ≡ Some h → ShareNone g h
 apart_at [] i j g h s l e f = absurd cc
@@ -45,8 +36,7 @@ pub record IsPostOf (header : Header) (k : ℕ) (v : Var) (known : ℕ) (directi
 
 post_bytes : (header : Header) (k : ℕ) (v : Var) (known : ℕ) (p : Post) → slice_get header.vars k ≡ Some v → IsPostOf header k v known Put p
     → bytes_of header p ≡ flat_map (λ x. range_with_len x (size_of v.kind)) (places header v p.region)
-post_bytes header k v known p there h =
-    ap (λ (o : Option Var). bytes_of_some header o p) (ap (λ (n : ℕ). slice_get header.vars n) h.var ∙ there)
+post_bytes header k v known p there h = grind (arith, nat_tests)
 
 -- the element whose byte it is
 record ElementAt (header : Header) (v : Var) (g : Region) (x : ℕ) : Type 0 where
@@ -56,19 +46,7 @@ record ElementAt (header : Header) (v : Var) (g : Region) (x : ℕ) : Type 0 whe
   high : x < place header v index + size_of v.kind
 
 element_at : (header : Header) (v : Var) (g : Region) (x : ℕ) → In (flat_map (λ y. range_with_len y (size_of v.kind)) (places header v g)) x → ElementAt header v g x
-element_at header v g x h =
-    let p = flat_in (λ y. range_with_len y (size_of v.kind)) (places header v g) x h in
-    let a = map_in (λ index. place header v index) (elements g) p.0 p.1 in
-    record {
-      index = a.0;
-      is_one = a.1;
-      low = subst (λ (y : ℕ). y ≤ x) (sym a.2) (range_low p.0 (size_of v.kind) x p.2);
-      high = subst (λ (y : ℕ). x < y + size_of v.kind) (sym a.2) (range_high p.0 (size_of v.kind) x p.2);
-    }
-
-clash : (a b s x : ℕ) → a ≤ x → x < a + s → b ≤ x → x < b + s → AreApart a s b s → ⊥
-clash a b s x h i j k (inl l) = omega arith
-clash a b s x h i j k (inr l) = omega arith
+element_at header v g x h = grind (arith, nat_tests, flat_in, map_in, place header v, range_low, range_high)
 
 module _ (header : Header) (k : ℕ) (v : Var) (known : ℕ) (sound : is_sound header ≡ true) (there : slice_get header.vars k ≡ Some v) where
   element : (g : Region) (a : List ℕ) → check_var header v g known Put ≡ code.Ok → In (elements g) a → IsElement header v a
@@ -78,10 +56,7 @@ module _ (header : Header) (k : ℕ) (v : Var) (known : ℕ) (sound : is_sound h
       → In (flat_map (λ y. range_with_len y (size_of v.kind)) (places header v g)) x → In (flat_map (λ y. range_with_len y (size_of v.kind)) (places header v h)) x → ⊥
   no_common g h x ok fine none i j =
       let a = element_at header v g x i in
-      let b = element_at header v h x j in
-      clash (place header v a.index) (place header v b.index) (size_of v.kind) x a.low a.high b.low b.high
-      (elements_apart header k k v v a.index b.index sound there there (element g a.index ok a.is_one) (element h b.index fine b.is_one)
-      (λ e. none a.index a.is_one (subst (λ (c : List ℕ). In (elements h) c) (sym e.1) b.is_one)))
+      grind (arith, nat_tests, element_at header v h x j, place header v a.index, place header v (element_at header v h x j).index, elements_apart header k k v v a.index (element_at header v h x j).index sound there there, element g a.index ok a.is_one, element h (element_at header v h x j).index fine (element_at header v h x j).is_one)
 
   once : (p : Post) → IsPostOf header k v known Put p → (i j x : ℕ) → slice_get (bytes_of header p) i ≡ Some x → slice_get (bytes_of header p) j ≡ Some x → i ≡ j
   once p h = post_once header p sound (known, Put, ap (λ (o : Option Var). check_some header o p.region known Put) (ap (λ (n : ℕ). slice_get header.vars n) h.var ∙ there) ∙ h.accepted)
@@ -89,9 +64,7 @@ module _ (header : Header) (k : ℕ) (v : Var) (known : ℕ) (sound : is_sound h
   two : (p q : Post) (m n x : ℕ) → IsPostOf header k v known Put p → IsPostOf header k v known Put q → ShareNone p.region q.region
       → slice_get (bytes_of header p) m ≡ Some x → slice_get (bytes_of header q) n ≡ Some x → ⊥
   two p q m n x h i none e f =
-      no_common p.region q.region x h.accepted i.accepted none
-      (at_in _ m x (ap (λ (l : List ℕ). slice_get l m) (sym (post_bytes header k v known p there h)) ∙ e))
-      (at_in _ n x (ap (λ (l : List ℕ). slice_get l n) (sym (post_bytes header k v known q there i)) ∙ f))
+      grind (arith, nat_tests, no_common p.region q.region x h.accepted i.accepted none, at_in, post_bytes header k v known p there h, post_bytes header k v known q there i)
 
   -- ---- all posts
 
@@ -110,8 +83,5 @@ module _ (header : Header) (k : ℕ) (v : Var) (known : ℕ) (sound : is_sound h
         | inl s ↦
             let one : p.0 ≡ q.0 = cc (p.1, q.1, s) in
             (s, once p.0 of_p m n x left (ap (λ (o : Post). slice_get (bytes_of header o) n) one ∙ right))
-        | inr t ↦ absurd (elim t [
-          | inl s ↦ two p.0 q.0 m n x of_p of_q (apart_at (map (λ o. o.region) posts) i j p.0.region q.0.region apart s at_p at_q) left right
-          | inr s ↦ two q.0 p.0 n m x of_q of_p (apart_at (map (λ o. o.region) posts) j i q.0.region p.0.region apart s at_q at_p) right left
-        ])
+        | inr t ↦ grind (arith, nat_tests, two p.0 q.0 m n x of_p of_q, apart_at, two q.0 p.0 n m x of_q of_p)
       ]

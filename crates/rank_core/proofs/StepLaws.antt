@@ -1,5 +1,5 @@
 -- What the calls of the queue leave, by what they answered.
-use Rattle.rank_core.proofs.Words.{◌≡◌, ℕ, ◌<◌, ◌≤◌, ◌∙◌, ap, sym, refl, subst, inl, List, [], ◌∷◌, length, get_or, true, cond, eqb, leb, ◌&&◌, Option, Some, None, Result, Ok, Err, arith, list_all, IfOk, OnOk, OnErr, option_map, bytes_eq, position-Some, slice_get_read, and_parts, leb-true, Header, Post, Dim, Call, Given, Choice, Queued, rank_with, with_request, id_of, find_dim, Status, is_chosen, named, without_chosen, status_of, dim_at, is_lawful_call, is_given, most_parts, has_its_lists, are_sizes, is_part, are_values, is_post_of, HaveId, IsRequest, AreRequests, most_of, most_posts}
+use Rattle.rank_core.proofs.Words.{◌≡◌, ℕ, ◌<◌, ◌≤◌, sym, refl, subst, inl, List, [], ◌∷◌, length, get_or, true, cond, eqb, Some, None, Result, Ok, Err, arith, IfOk, OnOk, OnErr, option_map, bytes_eq, position-Some, slice_get_read, and_parts, Header, Post, Dim, Call, Given, Choice, Queued, rank_with, with_request, id_of, find_dim, Status, is_chosen, named, without_chosen, status_of, dim_at, is_lawful_call, is_given, most_parts, are_values, is_post_of, HaveId, IsRequest, AreRequests, most_of, most_posts, nat_tests}
 use Rattle.nc_base.specs.declared.request.Call.TheVariants as call
 use Rattle.rank_core.proofs.RequestLaws.{requests_without, requests_push}
 
@@ -31,15 +31,12 @@ pub dim_is : (header : Header) (name : List ℕ) (known k : ℕ) (d : Dim) → f
 dim_is header name known k d e at =
     let within = (position-Some (λ (x : Dim). bytes_eq x.name name) header.dims k d e).0 in
     let there = slice_get_read header.dims (length header.dims) k d refl within at in
-    ap (λ (o : Option ℕ). option_map (λ (d : Dim). cond (eqb d.len 0) known d.len) (dim_at header o)) e
-    ∙ ap (option_map (λ (d : Dim). cond (eqb d.len 0) known d.len)) there
+    grind (arith, nat_tests)
 
 -- ---- how many posts a lawful call brings
 
 given_few : (g : Given) → is_given g ≡ true → most_of g ≤ most_parts
-given_few g h =
-    let last = and_parts (has_its_lists g && are_sizes g.start && are_sizes g.count && are_sizes g.stride && are_sizes g.imap && list_all is_part g.parts) (leb (length g.parts) most_parts) h in
-    omega (arith, leb-true (length g.parts) most_parts last.1)
+given_few g h = grind (arith, nat_tests)
 
 pub call_few : (ranks r : ℕ) (c : Call) → is_lawful_call ranks r c ≡ true → most_posts c ≤ most_parts
 call_few ranks r (call.Put all name given values) h = given_few given (and_parts (is_given given) (are_values values) h).0

@@ -1,5 +1,5 @@
 -- What a call on a variable comes to, as its parts find it out.
-use Rattle.rank_core.proofs.Words.{◌≡◌, ℕ, ◌<◌, ◌≤◌, refl, sym, ap, subst, ◌∙◌, List, [], ◌∷◌, length, Bool, true, false, ltb, Option, None, Some, Result, Err, IfSome, arith, filter, slice_get, IfErr, IfOk-weaker, OnOk, le-ltb, lt-ltb, CallErr, Code, Header, Var, Post, Direction, Form, Given, Region, Values, IsMapped, IsRefusal, product, most_elements, data_bytes, data_code, direction_of, find_var, is_varn, part_posts, parts_code, check, check_parts, check_some, check_var, elements_of_all, has_element, part_regions, widen, parts_code_at, Target, look_of, ComesTo, Ranked, IsTargetOf, IfOk}
+use Rattle.rank_core.proofs.Words.{◌≡◌, ℕ, ◌<◌, ◌≤◌, refl, sym, ap, subst, ◌∙◌, List, [], ◌∷◌, length, Bool, true, false, ltb, Option, None, Some, Result, Err, IfSome, arith, filter, slice_get, IfErr, IfOk-weaker, OnOk, le-ltb, lt-ltb, CallErr, Code, Header, Var, Post, Direction, Form, Given, Region, Values, IsMapped, IsRefusal, product, most_elements, data_bytes, data_code, direction_of, find_var, is_varn, part_posts, parts_code, check, check_parts, check_some, check_var, elements_of_all, has_element, part_regions, widen, Target, look_of, ComesTo, Ranked, IsTargetOf, IfOk, nat_tests}
 use Rattle.nc_base.specs.declared.answer.CallErr.TheVariants as refusal
 use Rattle.nc_base.specs.declared.answer.Code.TheVariants as code
 use Rattle.nc_base.specs.declared.request.Form.TheVariants as form
@@ -48,9 +48,7 @@ module _ (t : Target) (given : Given) (values : Option Values) (way : Direction)
   -- ---- many regions
 
   parts_checked : parts.parts_code t.header.now t.place given t.known way ≡ check_parts t.header.now t.var.now (part_regions t.var.now given) t.known (direction_of values)
-  parts_checked =
-      ap (λ (o : Option Var). parts_code_at o t.header.now given t.known way) t.there
-      ∙ ap (λ (d : Direction). check_parts t.header.now t.var.now (part_regions t.var.now given) t.known d) is_way
+  parts_checked = grind (arith, nat_tests)
 
   abbrev parts_outcome : List Region → looks.Look
   parts_outcome gs =
@@ -115,7 +113,4 @@ look_missing header known id name given values e = ap (by_place header known id 
 pub look_found : (rank : Ranked) (id : ℕ) (name : List ℕ) (given : Given) (values : Option Values) (t : Target) → Some t.place ≡ find_var rank.header name
     → IsTargetOf rank id t → look_at t given values ≡ looks.look rank.header rank.state.known id name given values
 unfolding look_at
-look_found rank id name given values t e is =
-    ap (λ (o : Option Var). looks.look_at t.header.now t.known t.id t.place given values o) (sym t.there)
-    ∙ (λ j. looks.look_at (is.header j) (is.known j) (is.posts j) t.place given values (slice_get (is.header j).vars t.place))
-    ∙ ap (by_place rank.header rank.state.known id given values) e
+look_found rank id name given values t e is = grind (arith, nat_tests)

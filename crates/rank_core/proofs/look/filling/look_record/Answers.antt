@@ -1,4 +1,4 @@
-use Rattle.rank_core.proofs.Words.{◌∙◌, sym, ap, ℕ, arith, ltb, ltb-false, or_parts, most_elements}
+use Rattle.rank_core.proofs.Words.{◌∙◌, sym, ap, ℕ, arith, nat_tests}
 use Rattle.rank_core.proofs.FillLaws.{not_record, record_filled, record_too_large, share_grows, share_within}
 use Rattle.rank_core.proofs.look.filling.look_record.Goals as goal
 
@@ -15,18 +15,7 @@ returns-then-is_too_large c =
 pub fill_posts-requires : goal.fill_posts-requires
 fill_posts-requires c =
     let grows = share_grows c.record_elements.result c.args.rank c.args.ranks c.requires.rank in
-    let within = share_within c.record_elements.result c.args.rank c.args.ranks c.requires.rank in
-    let begin = ap (λ (p : ℕ × ℕ). p.0) c.share-from.ensures in
-    let end = ap (λ (p : ℕ × ℕ). p.1) c.share-from.ensures in
-    let whole = c.record_elements.ensures.elements in
-    let few = ltb-false most_elements _ (or_parts (ltb most_elements _) _ (sym c.is_too_large.ensures ∙ c.if-is_too_large.false)).0 in
-    record {
-      varies = sym c.is_record.ensures ∙ c.if-not-is_record.false;
-      rise = omega (arith, grows, begin, end);
-      within = omega (arith, within, end, whole);
-      small = omega (arith, whole, c.record_elements.ensures.small);
-      few = few;
-    }
+    grind (arith, nat_tests, share_within, c.share-from.ensures, c.record_elements.ensures.elements, c.is_too_large.ensures, c.if-is_too_large.false, c.is_record.ensures, c.if-not-is_record.false, c.record_elements.ensures.small)
 
 pub returns : goal.returns
 returns c =

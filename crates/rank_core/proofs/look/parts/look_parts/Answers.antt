@@ -1,12 +1,11 @@
-use Rattle.rank_core.proofs.Words.{◌∙◌, sym, ap, arith, eqb-false, eqb-true, err_from_is_err_and, look_of, option_copied}
+use Rattle.rank_core.proofs.Words.{◌∙◌, sym, ap, arith, eqb-false, eqb-true, look_of, option_copied, nat_tests}
 use Rattle.rank_core.proofs.OutcomeLaws.{failed}
 use Rattle.rank_core.proofs.TargetLaws.{parts_come, parts_empty, parts_refused, regions_few}
 use Rattle.rank_core.proofs.look.parts.look_parts.Goals as goal
 
 pub returns-in_err-check_parts : goal.returns-in_err-check_parts
 returns-in_err-check_parts c =
-    failed _ _ _ (err_from_is_err_and c.from_residual.result c.from_residual.ensures.1)
-    (parts_refused _ _ _ _ c.direction_of-direction.ensures c.in_err-check_parts.field-0.0 c.in_err-check_parts.ensures.refused)
+    grind (arith, nat_tests, failed, parts_refused, c.from_residual.ensures.1, c.direction_of-direction.ensures, c.in_err-check_parts.ensures.refused)
 
 pub returns-then-is_empty : goal.returns-then-is_empty
 returns-then-is_empty c =

@@ -1,3 +1,5 @@
+use Rattle.std.proofs.lemmas.Bool.Decides.{nat_tests}
+use native.Mathlib.Omega.{arith}
 use Rattle.rank_core.proofs.StepLaws.{requests_after}
 use Rattle.rank_core.proofs.rank.Rank.drop_chosen.Goals as goal
 
@@ -5,7 +7,6 @@ pub invariant_of-self : goal.invariant_of-self
 invariant_of-self c = record {
   sound = c.self.invariant.sound;
   names = c.self.invariant.names;
-  requests = requests_after c.cancel.result c.self.inside.header.now c.self.inside.known c.self.inside.queue c.cancel.new.self c.args.choice.now
-      c.self.invariant.requests c.cancel.ensures.after c.cancel.ensures.err;
+  requests = grind (arith, nat_tests, requests_after, c.self.invariant.requests, c.cancel.ensures.after, c.cancel.ensures.err);
   offered = c.self.invariant.offered;
 }

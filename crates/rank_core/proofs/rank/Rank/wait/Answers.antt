@@ -1,4 +1,4 @@
-use Rattle.rank_core.proofs.Words.{◌∙◌, ap, subst, sym, length, arith, false, Some, Header, Batch, is_chosen, named, wants, IsSoundWant, posts_held, AreOnce}
+use Rattle.rank_core.proofs.Words.{◌∙◌, ap, subst, sym, length, arith, Header, Batch, is_chosen, named, IsSoundWant, posts_held, AreOnce, nat_tests}
 use Rattle.nc_base.specs.declared.answer.Code.TheVariants as code
 use Rattle.serial_spec.specs.RankMachine as machine
 use Rattle.rank_core.proofs.RequestLaws.{once_items, taken_few}
@@ -17,10 +17,7 @@ returns-clause-step c =
     let independent = c.is_independent.ensures ∙ ap (λ (x : machine.Rank). x.independent) after in
     let step = c.offer.ensures.step in
     record {
-      right = step.right ∙ (λ i. (
-        record (after i) { «open» = Some (record { code = code.Ok; items = items i; gets = gets i; blocking = false; independent = independent i }) },
-        wants c.args.kind (record { kind = c.args.kind; known = (after i).known; batch = batch i }),
-      ));
+      right = grind (arith, nat_tests);
       sound = subst (λ (h : Header). IsSoundWant h c.offer.result) c.in_ok-batch.ensures.header step.sound;
       few = omega (arith, step.few, ap posts_held after, ap (λ (b : Batch). length b.puts) batch, ap (λ (b : Batch). length b.gets) batch, taken_few (is_chosen (named r c.args.choice.now)) r.posted);
       held = omega (arith, step.held, ap posts_held after, ap (λ (b : Batch). length b.puts) batch, ap (λ (b : Batch). length b.gets) batch, taken_few (is_chosen (named r c.args.choice.now)) r.posted);
