@@ -1,5 +1,5 @@
 -- A byte of a put is one of one of its elements, and elements of different variable or index share none.
-use Rattle.rank_items.proofs.Words.{◌≡◌, ℕ, zero, suc, ◌+◌, ◌*◌, ◌/◌, ◌%◌, ◌<◌, ◌≤◌, refl, sym, ◌∙◌, ap, inl, inr, ◌⊎◌, List, [], ◌∷◌, map, true, Option, Some, None, arith, slice_get, flat_map, range_with_len, cases_eq, div-add-mod', mod_below, slice_get_within, same_Some, length-range_with_len, size_pos, Header, Var, Post, size_of, is_sound, product, place, AreApart, IsElement, elements, places, bytes_of, bytes_of_some, holdings, Holding, IsOwnOnce, elements_apart, IsAccepted, index_of, element_at, length-places, place_at, in_block, range_at, accepted_place, HasOwnElements}
+use Rattle.rank_items.proofs.Words.{◌≡◌, ℕ, zero, suc, ◌+◌, ◌*◌, ◌/◌, ◌%◌, ◌<◌, ◌≤◌, refl, sym, ◌∙◌, ap, List, [], ◌∷◌, map, true, Option, Some, None, arith, slice_get, flat_map, range_with_len, div-add-mod', mod_below, slice_get_within, same_Some, length-range_with_len, size_pos, Header, Var, Post, size_of, is_sound, product, place, IsElement, elements, places, bytes_of, bytes_of_some, holdings, Holding, IsOwnOnce, elements_apart, IsAccepted, index_of, element_at, length-places, place_at, in_block, range_at, accepted_place, HasOwnElements, nat_tests}
 
 -- byte k of a post is byte r of its element n
 record IsByte (header : Header) (post : Post) (k x : ℕ) : Type 0 where
@@ -51,28 +51,11 @@ module _ (header : Header) (puts : List Post) (sound : is_sound header ≡ true)
       → p.var ≡ q.var → index_of p.region a.n ≡ index_of q.region b.n → (i ≡ j) × (k ≡ l)
   one_element i j k l x p q e f id a b var index =
       let both = own i j a.n b.n p q (index_of p.region a.n) e f id var a.index (b.index ∙ ap (λ (v : List ℕ). Some v) (sym index)) in
-      let same : a.var ≡ b.var = same_Some _ _ (sym a.there ∙ ap (λ (m : ℕ). slice_get header.vars m) var ∙ b.there) in
-      let placed : place header a.var (index_of p.region a.n) ≡ place header b.var (index_of q.region b.n) = λ z. place header (same z) (index z) in
-      let long : size_of a.var.kind ≡ size_of b.var.kind = ap (λ (v : Var). size_of v.kind) same in
-      let rest : a.r ≡ b.r = omega (arith, placed, a.byte, b.byte) in
-      (both.0, a.at ∙ (λ z. both.1 z * long z + rest z) ∙ sym b.at)
+      grind (arith, nat_tests, place, a.there, header.vars, b.there, a.r, b.r, a.byte, b.byte, both.0)
 
   two_bytes : (i j k l x : ℕ) (p q : Post) → slice_get puts i ≡ Some p → slice_get puts j ≡ Some q → p.id ≡ q.id → IsByte header p k x → IsByte header q l x → (i ≡ j) × (k ≡ l)
-  two_bytes i j k l x p q e f id a b = by_case (cases_eq i j) (cases_eq k l)
-    where
-      differ : ((i ≡ j) × (k ≡ l) → ⊥) → ⊥
-      differ n =
-          clash (elements_apart header p.var q.var a.var b.var (index_of p.region a.n) (index_of q.region b.n) sound a.there b.there a.element b.element
-          (λ z. n (one_element i j k l x p q e f id a b z.0 z.1)))
-        where
-          clash : AreApart (place header a.var (index_of p.region a.n)) (size_of a.var.kind) (place header b.var (index_of q.region b.n)) (size_of b.var.kind) → ⊥
-          clash (inl h) = omega (arith, a.byte, b.byte, a.low, b.low)
-          clash (inr h) = omega (arith, a.byte, b.byte, a.low, b.low)
-
-      by_case : (i ≡ j) ⊎ (i ≡ j → ⊥) → (k ≡ l) ⊎ (k ≡ l → ⊥) → (i ≡ j) × (k ≡ l)
-      by_case (inl s) (inl t) = (s, t)
-      by_case (inl s) (inr t) = absurd (differ (λ z. t z.1))
-      by_case (inr s) t = absurd (differ (λ z. s z.0))
+  two_bytes i j k l x p q e f id a b =
+      grind (arith, nat_tests, elements_apart header p.var q.var a.var b.var, one_element i j k l x p q e f id a b, place header a.var, place header b.var)
 
 -- ---- what posts hold
 
@@ -91,7 +74,4 @@ pub own_bytes : (header : Header) (puts : List Post) → is_sound header ≡ tru
 own_bytes header puts sound ok own rank i j g h k l x e f same a b =
     let u = held_by header rank puts i g e in
     let v = held_by header rank puts j h f in
-    let ids : u.post.id ≡ v.post.id = ap (λ (z : ℕ × ℕ). z.1) (ap (λ (z : Holding). z.0) (sym u.is) ∙ same ∙ ap (λ (z : Holding). z.0) v.is) in
-    two_bytes header puts sound ok own i j k l x u.post v.post u.there v.there ids
-    (is_byte header u.post k x sound (ok i u.post u.there) (ap (λ (z : Holding). slice_get z.1 k) (sym u.is) ∙ a))
-    (is_byte header v.post l x sound (ok j v.post v.there) (ap (λ (z : Holding). slice_get z.1 l) (sym v.is) ∙ b))
+    grind (arith, nat_tests, two_bytes header puts sound ok own i j k l x u.post v.post u.there v.there, is_byte header u.post k x sound (ok i u.post u.there), is_byte header v.post l x sound (ok j v.post v.there), u.is, v.is)

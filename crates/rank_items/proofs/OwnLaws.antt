@@ -1,11 +1,10 @@
 -- An element that stood twice would hold its first byte twice.
-use Rattle.rank_items.proofs.Words.{◌≡◌, ℕ, zero, suc, ◌*◌, ◌≤◌, refl, sym, ap, ◌∙◌, List, [], ◌∷◌, map, true, Option, Some, arith, slice_get, flat_map, is_some, range_with_len, length-range_with_len, size_pos, same_factor, Header, Var, Post, size_of, place, elements, places, bytes_of, bytes_of_some, holdings, Holding, IsOwnOnce, HasOwnElements, entry_map, get_left, get_right, value_of_some}
+use Rattle.rank_items.proofs.Words.{◌≡◌, ℕ, zero, suc, ◌*◌, ◌≤◌, refl, sym, ap, ◌∙◌, List, [], ◌∷◌, map, true, Option, Some, arith, slice_get, flat_map, is_some, range_with_len, length-range_with_len, size_pos, same_factor, Header, Var, Post, size_of, place, elements, places, bytes_of, bytes_of_some, holdings, Holding, IsOwnOnce, HasOwnElements, entry_map, get_left, get_right, value_of_some, nat_tests}
 
 -- ---- blocks of one length
 
 range_first : (a n : ℕ) → 1 ≤ n → slice_get (range_with_len a n) 0 ≡ Some a
-range_first a zero h = absurd (omega arith)
-range_first a (suc n) h = refl
+range_first a n h = grind (arith, nat_tests)
 
 -- the first byte of block k
 block_first : (n : ℕ) → 1 ≤ n → (xs : List ℕ) (k m x : ℕ) → m ≡ k * n → slice_get xs k ≡ Some x → slice_get (flat_map (λ y. range_with_len y n) xs) m ≡ Some x

@@ -1,5 +1,5 @@
 -- The words of this crate's proofs, from where they stand.
-pub use Rattle.list_laws.proofs.Std.{List, None, Option, Some, [], ap, arith, cases_eq, div-add-mod', flat_map, inl, inr, is_some, length-range_with_len, map, mod_below, range_with_len, refl, same_Some, slice_get, slice_get_within, suc, sym, true, zero, ℕ, ◌%◌, ◌*◌, ◌+◌, ◌/◌, ◌<◌, ◌∙◌, ◌∷◌, ◌≡◌, ◌≤◌, ◌⊎◌}
+pub use Rattle.list_laws.proofs.Std.{List, None, Option, Some, [], ap, arith, cases_eq, div-add-mod', flat_map, inl, inr, is_some, length-range_with_len, map, mod_below, range_with_len, refl, same_Some, slice_get, slice_get_within, suc, sym, true, zero, ℕ, ◌%◌, ◌*◌, ◌+◌, ◌/◌, ◌<◌, ◌∙◌, ◌∷◌, ◌≡◌, ◌≤◌, ◌⊎◌, nat_tests}
 pub use Rattle.list_laws.proofs.Common.{entry_map, get_left, get_right, same_factor, value_of_some}
 pub use Rattle.list_laws.proofs.Types.{Header, Post, Var}
 pub use Rattle.rank_items.specs.Own.{HasOwnElements}
