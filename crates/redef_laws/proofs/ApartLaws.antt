@@ -1,11 +1,11 @@
 -- The variables of a redefined header stand apart.
-use Rattle.redef_laws.proofs.Words.{◌≡◌, ℕ, ◌+◌, ◌<◌, ◌≤◌, List, length, Bool, true, false, Some, None, refl, sym, ap, ◌∙◌, inl, inr, arith, cases_lt, holds_or_not, subst, slice_get, nat_tests, slab_below, each_at, Header, Var, Extra, is_record, slab, vsize, recsize, share, sharing, header_len, is_sound, AreApart, added, fixed_order, begins_by_number, begin_of_number, redefined_header, at_begin, shares_by, fixed_then_record, record_then_fixed, no_sharing_from}
+use Rattle.redef_laws.proofs.Words.{◌≡◌, ℕ, ◌+◌, ◌<◌, ◌≤◌, List, length, Bool, true, false, Some, None, refl, sym, ap, ◌∙◌, inl, inr, arith, cases_lt, holds_or_not, subst, slice_get, nat_tests, slab_below, each_at, Header, Var, Extra, is_record, slab, recsize, share, sharing, header_len, is_sound, AreApart, added, fixed_order, begins_by_number, redefined_header, at_begin, shares_by, fixed_then_record, record_then_fixed, no_sharing_from}
 use Rattle.redef_laws.proofs.GrownLaws.{IsFitVar, IsFit}
 use Rattle.redef_laws.proofs.RebegunLaws.{rebegun, rebegun_at, rebegun_recsize, rebegun_len}
 use Rattle.redef_laws.proofs.BeginLaws.{at_number, fixed_apart, found_is, front_grows, record_apart, vsizes}
-use Rattle.redef_laws.proofs.PlaceLaws.{new_records, first_place, old_place_of, new_from, old_records, new_numbers, fixed_numbers, first_up, in_fixed, in_new, in_old, IsFixedPlace, IsNewPlace, fixed_place, old_place, new_place, any_place, begin_is, old_first_low}
+use Rattle.redef_laws.proofs.PlaceLaws.{new_records, first_place, old_place_of, old_records, new_numbers, fixed_numbers, first_up, in_fixed, in_new, in_old, IsFixedPlace, IsNewPlace, fixed_place, old_place, new_place, any_place, begin_is, old_first_low}
 use Rattle.redef_laws.proofs.KeptLaws.{old_recsize}
-use Rattle.redef_laws.proofs.SharingLaws.{slab_some, AreOrdered, ordered_apart, recsize_of_two, old_pair, old_room}
+use Rattle.redef_laws.proofs.SharingLaws.{slab_some, AreOrdered, recsize_of_two, old_pair, old_room}
 
 -- ---- where the variables of one kind lie
 
@@ -32,11 +32,6 @@ module _ (header : Header) (n : ℕ) where
   new_at k v b p l =
       let f = new_place header n k v p.there p.kind l in subst (IsNewPlace header n k v) (found_is (begins_by_number header n) k f.0 b f.2 p.found) f.1
 
-  new_two : (i j : ℕ) (v w : Var) (b c : ℕ) → IsFound header n i v true b → IsFound header n j w true c → n ≤ i → n ≤ j → (i ≡ j → ⊥) → AreApart b (vsize header v) c (vsize header w)
-  new_two i j v w b c p q l m other =
-      record_apart header header.vars (new_from header n) (new_records header n) i j v w b c (new_numbers header n) p.there q.there
-      (in_new header n i v p.there p.kind l) (in_new header n j w q.there q.kind m) other (new_at i v b p l).at (new_at j w c q m).at
-
   -- record variables begin past the fixed ones
   record_low : (k : ℕ) (v : Var) (b : ℕ) → IsFound header n k v true b → first_place header n ≤ b
   record_low k v b p = elim (cases_lt k n) [ inl l ↦ omega (arith, old_at k v b p l) | inr l ↦ omega (arith, (new_at k v b p l).low) ]
@@ -59,56 +54,20 @@ module _ (old : Header) (extras : List Extra) (sound : is_sound old ≡ true) (i
   old_two : j < length old.vars → Ordered (added old extras) v b w c
   old_two m =
       let header = added old extras in
-      let n = length old.vars in
-      let size = record_size in
-      let below = old_recsize old extras sound in
-      let first = old_at header n i v b p (omega arith) in
-      let second = old_at header n j w c q m in
-      let low = old_first_low header n (i, v) (in_old header n i v p.there p.kind (omega arith)) in
-      let low' = old_first_low header n (j, w) (in_old header n j w q.there q.kind m) in
-      elim (old_pair old extras i j v w sound (omega arith) m p.there q.there p.kind q.kind (λ same. absurd (omega arith))) [
-        | inl h ↦ inl (omega arith, omega arith)
-        | inr h ↦ inr (omega arith, omega arith)
-      ]
+      grind (arith, nat_tests, record_size, old_recsize old extras sound, old_at header (length old.vars) i v b p, old_at header (length old.vars) j w c q m, old_first_low header (length old.vars) (i, v), in_old header (length old.vars) i v p.there p.kind, old_first_low header (length old.vars) (j, w) (in_old header (length old.vars) j w q.there q.kind m), in_old header (length old.vars) j w q.there q.kind m, old_pair old extras i j v w sound)
 
   -- an old record variable and a new one
   old_then_new : i < length old.vars → length old.vars ≤ j → Ordered (added old extras) v b w c
   old_then_new m k =
       let header = added old extras in
-      let n = length old.vars in
-      let size = record_size in
-      let first = old_at header n i v b p m in
-      let low = old_first_low header n (i, v) (in_old header n i v p.there p.kind m) in
-      let room = old_room old extras i v sound m p.there p.kind in
-      let below = slab_below header w in
-      let second = new_at header n j w c q k in
-      let from = second.low in
-      let to = second.high in
-      inl (omega arith, omega arith)
+      grind (arith, nat_tests, record_size, old_at header (length old.vars) i v b p m, old_first_low header (length old.vars) (i, v) (in_old header (length old.vars) i v p.there p.kind m), in_old header (length old.vars) i v p.there p.kind m, old_room old extras i v sound m p.there p.kind, slab_below header w, new_at header (length old.vars) j w c q k)
 
   both_new : length old.vars ≤ i → Ordered (added old extras) v b w c
   both_new m =
-      let header = added old extras in
-      let n = length old.vars in
-      let size = record_size in
-      let first = new_at header n i v b p m in
-      let second = new_at header n j w c q (omega arith) in
-      let below = slab_below header v in
-      let below' = slab_below header w in
-      let low = first.low in
-      let high = first.high in
-      let low' = second.low in
-      let high' = second.high in
-      elim (new_two header n i j v w b c p q m (omega arith) (λ same. absurd (omega arith))) [
-        | inl h ↦ inl (omega arith, omega arith)
-        | inr h ↦ inr (omega arith, omega arith)
-      ]
+      grind (arith, nat_tests, added old extras, record_size, new_at (added old extras) (length old.vars) i v b p m, new_at (added old extras) (length old.vars) j w c q, slab_below (added old extras) v, slab_below (added old extras) w, record_apart, new_records, new_numbers, in_new, Ordered)
 
   records_two : Ordered (added old extras) v b w c
-  records_two = elim (cases_lt i (length old.vars)) [
-    | inl m ↦ elim (cases_lt j (length old.vars)) [ inl k ↦ old_two k | inr k ↦ old_then_new m k ]
-    | inr m ↦ both_new m
-  ]
+  records_two = grind (arith, nat_tests, old_two, old_then_new, both_new, old.vars, Ordered)
 
 -- ---- any two variables
 
@@ -121,15 +80,12 @@ two_apart old extras i j v w b c sound fit l false false p q =
     let header = added old extras in
     apart_fixed b (slab header v) c (slab header w) (recsize header) (fixed_two header (length old.vars) i j v w b c p q (λ same. absurd (omega arith)))
 two_apart old extras i j v w b c sound fit l false true p q =
-    let past = first_up (added old extras) (length old.vars) in
     grind (arith, nat_tests, (fixed_at (added old extras) (length old.vars) i v b p).high, record_low (added old extras) (length old.vars) j w c q, fixed_then_record)
 two_apart old extras i j v w b c sound fit l true false p q =
-    let past = first_up (added old extras) (length old.vars) in
     grind (arith, nat_tests, (fixed_at (added old extras) (length old.vars) j w c q).high, record_low (added old extras) (length old.vars) i v b p, record_then_fixed)
 two_apart old extras i j v w b c sound fit l true true p q =
     let header = added old extras in
-    ordered_apart b (slab header v) c (slab header w) (recsize header)
-    (slab_some header w (each_at (IsFitVar header.version header.dims) header.vars j w fit.vars q.there)) (records_two old extras sound i j v w b c l p q)
+    grind (arith, nat_tests, slab_some header w (each_at (IsFitVar header.version header.dims) header.vars j w fit.vars q.there), each_at (IsFitVar header.version header.dims) header.vars j w fit.vars q.there, records_two old extras sound i j v w b c l p q)
 
 -- ---- the whole header
 
@@ -142,19 +98,7 @@ pub record IsPlaced (header : Header) (n k : ℕ) (x v : Var) : Type 0 where
 pub placed : (header : Header) (n k : ℕ) (x : Var) → slice_get (rebegun (begins_by_number header n) 0 header.vars) k ≡ Some x → (v : Var) × IsPlaced header n k x v
 placed header n k x h =
     let found = begins_by_number header n in
-    let here = rebegun_at found 0 header.vars k x h in
-    let place = any_place header n k here.0 here.1 in
-    let plain : 0 + k ≡ k = omega arith in
-    let begin : begin_of_number found (0 + k) ≡ place.0 = ap (λ (m : ℕ). begin_of_number found m) plain ∙ begin_is found k place.0 place.1 in
-    let same : at_begin here.0 place.0 ≡ x = sym (ap (λ (b : ℕ). at_begin here.0 b) begin) ∙ here.2 in
-    let own : place.0 ≡ x.begin = ap (λ (y : Var). y.begin) same in (
-      here.0,
-      record {
-        there = here.1;
-        found = place.1 ∙ ap (λ (b : ℕ). Some (k, b)) own;
-        same = sym (ap (λ (b : ℕ). at_begin here.0 b) own) ∙ same;
-      },
-    )
+    grind (arith, nat_tests, rebegun_at found 0 header.vars k x h, any_place header n k (rebegun_at found 0 header.vars k x h).0 (rebegun_at found 0 header.vars k x h).1, begin_is found k, at_begin (rebegun_at found 0 header.vars k x h).0, x.begin)
 
 past_header : (header : Header) (n k : ℕ) (x v : Var) → IsPlaced header n k x v → header_len header ≤ x.begin
 past_header header n k x v p = elim (holds_or_not (is_record header v)) [

@@ -4,7 +4,7 @@
 --     Numbers vars list      each variable of the list stands with its number
 --     fixed_begin, map_begin, record_begin      what is found for a variable of the list
 --     fixed_apart, record_apart                 two variables of the list stand apart
-use Rattle.redef_laws.proofs.Words.{◌≡◌, ℕ, zero, suc, ◌+◌, ◌≤◌, List, [], ◌∷◌, map, Bool, true, false, cond, Option, Some, None, refl, sym, ap, subst, ◌∙◌, inl, inr, arith, ◌==◌, filter, find, sum_by, slice_get, enumerate_from, AllByRecursion, sum_by-cons, leb-true, eqb-true, eqb_tells, ne_eqb, equal_true, Header, Var, slab, vsize, AreApart, inserted_by, Numbered, begins_before, by_begin, begin_at, fixed_begins, front_after, record_begins, In, nat_tests, no_both}
+use Rattle.redef_laws.proofs.Words.{◌≡◌, ℕ, zero, suc, ◌+◌, ◌≤◌, List, [], ◌∷◌, map, Bool, true, false, cond, Option, Some, None, refl, sym, ap, ◌∙◌, inl, inr, arith, ◌==◌, filter, find, sum_by, slice_get, enumerate_from, AllByRecursion, sum_by-cons, leb-true, eqb-true, eqb_tells, ne_eqb, Header, Var, slab, vsize, AreApart, inserted_by, Numbered, begins_before, by_begin, begin_at, fixed_begins, front_after, record_begins, In, nat_tests}
 use Rattle.redef_laws.proofs.Orders.{in_sorted}
 
 -- ---- members and numbers
@@ -56,8 +56,7 @@ pub same_var : (vars : List Var) (k m : ℕ) (v w : Var) → slice_get vars k �
 same_var vars k m v w g f e = let there = ap (λ (n : ℕ). slice_get vars n) e in cc
 
 pub in_tail : (p : Numbered) (list : List Numbered) (k : ℕ) (v : Var) → (p.0 == k) ≡ false → In (p ∷ list) (k, v) → In list (k, v)
-in_tail p list k v e (inl h) = no_both (p.0 == k) (equal_true p.0 k (ap (λ (q : Numbered). q.0) h)) e
-in_tail p list k v e (inr h) = h
+in_tail p list k v e xs = grind (arith, nat_tests)
 
 found_if : (m k b : ℕ) (rest : List (ℕ × ℕ)) → (m == k) ≡ true → at_number ((m, b) ∷ rest) k ≡ Some (k, b)
 found_if m k b rest e = let same = eqb-true m k e in ap (λ (t : Bool). cond t (Some (m, b)) (at_number rest k)) e ∙ ap (λ (n : ℕ). Some (n, b)) same
@@ -106,55 +105,32 @@ module _ (begins : ℕ → List Numbered → List (ℕ × ℕ)) (place : ℕ →
   placed x [] k v all g h = absurd h
   placed x (p ∷ list) k v all g h = elim (eqb_tells p.0 k) [
     | inl e ↦
-        (let same : p.1 ≡ v = same_var vars k p.0 v p.1 g all.0 e.1 in (
-          place x p.1,
-          record {
-            at = found_at x p list k ∙ found_if p.0 k (place x p.1) (begins (place x p.1 + size p.1) list) e.0;
-            low = past x p.1;
-            high = omega (arith, ap size same, ends x p list, grows (place x p.1 + size p.1) list);
-            up = subst (λ (w : Var). floor w ≤ place x p.1) same (rises x p.1);
-          },
-        ))
+        (let same : p.1 ≡ v = same_var vars k p.0 v p.1 g all.0 e.1 in grind (arith, nat_tests, found_at x p list k, found_if p.0 k (place x p.1) (begins (place x p.1 + size p.1) list) e.0))
     | inr e ↦
-        (let later = placed (place x p.1 + size p.1) list k v all.1 g (in_tail p list k v e.0 h) in (
-          later.0,
-          record {
-            at = found_at x p list k ∙ found_on p.0 k (place x p.1) (begins (place x p.1 + size p.1) list) e.0 ∙ later.1.at;
-            low = omega (arith, past x p.1, later.1.low);
-            high = omega (arith, later.1.high, ends x p list);
-            up = later.1.up;
-          },
-        ))
+        (let later = placed (place x p.1 + size p.1) list k v all.1 g (in_tail p list k v e.0 h) in grind (arith, nat_tests, found_at, found_on, later.0, later.1.at, later.1.low, later.1.high, later.1.up))
   ]
 
   two_placed : (x : ℕ) (list : List Numbered) (k m : ℕ) (v w : Var) (b c : ℕ) → Numbers vars list
       → slice_get vars k ≡ Some v → slice_get vars m ≡ Some w → In list (k, v) → In list (m, w) → (k ≡ m → ⊥)
       → at_number (begins x list) k ≡ Some (k, b) → at_number (begins x list) m ≡ Some (m, c) → AreApart b (size v) c (size w)
   two_placed x [] k m v w b c all g f h i other e d = absurd h
-  two_placed x (p ∷ list) k m v w b c all g f h i other e d = elim (eqb_tells p.0 k) [
-    | inl y ↦ elim (eqb_tells p.0 m) [
-      | inl z ↦ absurd (other (sym y.1 ∙ z.1))
-      | inr z ↦
-          inl (lower m v w b c f (in_tail p list m w z.0 i) (tail_begin p (place x p.1) m c _ z.0 (there m c d)) (same_var vars k p.0 v p.1 g all.0 y.1) (head_begin p (place x p.1) k b _ y.0 (there k b e)))
-    ]
-    | inr y ↦ elim (eqb_tells p.0 m) [
-      | inl z ↦
-          inr (lower k w v c b g (in_tail p list k v y.0 h) (tail_begin p (place x p.1) k b _ y.0 (there k b e)) (same_var vars m p.0 w p.1 f all.0 z.1) (head_begin p (place x p.1) m c _ z.0 (there m c d)))
-      | inr z ↦
-          two_placed (place x p.1 + size p.1) list k m v w b c all.1 g f (in_tail p list k v y.0 h) (in_tail p list m w z.0 i) other
-          (tail_begin p (place x p.1) k b _ y.0 (there k b e)) (tail_begin p (place x p.1) m c _ z.0 (there m c d))
-    ]
-  ]
-    where
-      there : (n a : ℕ) → at_number (begins x (p ∷ list)) n ≡ Some (n, a) → at_number ((p.0, place x p.1) ∷ begins (place x p.1 + size p.1) list) n ≡ Some (n, a)
-      there n a o = sym (found_at x p list n) ∙ o
-
-      lower : (n : ℕ) (u y : Var) (a z : ℕ) → slice_get vars n ≡ Some y → In list (n, y) → at_number (begins (place x p.1 + size p.1) list) n ≡ Some (n, z)
-          → p.1 ≡ u → a ≡ place x p.1 → a + size u ≤ z
-      lower n u y a z there in_list at same begin =
-          let later = placed (place x p.1 + size p.1) list n y all.1 there in_list in
-          let is = found_is (begins (place x p.1 + size p.1) list) n z later.0 at later.1.at in
-          omega (arith, begin, is, later.1.low, ap size same)
+  two_placed x (p ∷ list) k m v w b c all g f h i other e d =
+      grind (
+        arith,
+        nat_tests,
+        in_tail p list m w,
+        tail_begin p (place x p.1) m c,
+        same_var vars k p.0 v p.1 g all.0,
+        head_begin p (place x p.1) k b,
+        in_tail p list k v,
+        tail_begin p (place x p.1) k b,
+        same_var vars m p.0 w p.1 f all.0,
+        head_begin p (place x p.1) m c,
+        two_placed (place x p.1 + size p.1) list k m v w b c all.1 g f,
+        found_at x p list,
+        placed (place x p.1 + size p.1) list,
+        found_is (begins (place x p.1 + size p.1) list),
+      )
 
 pub fixed_begin : (header : Header) (vars : List Var) (front : ℕ) (list : List Numbered) (k : ℕ) (v : Var) → Numbers vars list → slice_get vars k ≡ Some v → In list (k, v)
     → (b : ℕ) × IsBegin (fixed_begins header) (slab header) (λ w. w.begin) (front_after header) front list k v b

@@ -1,6 +1,6 @@
 -- Each element of an old variable lies in one of its slabs, as far from the slab's beginning in the new file as in the old one;
 -- and each byte of a slab is a byte of an element.
-use Rattle.redef_laws.proofs.Words.{◌≡◌, ℕ, zero, suc, ◌+◌, ◌*◌, ◌/◌, ◌%◌, ◌<◌, ◌≤◌, refl, sym, ◌∙◌, ap, subst, inl, inr, List, [], ◌∷◌, map, Bool, true, false, true≢false, holds_or_not, cond, Some, arith, row_fits, div-add-mod', div_below, mod_below, nat_tests, zip, slice_get, MatchBool, ◌==◌, some_factor, Header, Var, Slab, slabs, slabs_of, size_of, is_sound, product, lengths, starts_with_zero, without_record, is_record, slab, inner_lengths, recsize, place, row, record_of, within_record, HasRecord, IsIndex, IsElementBelow, known_lengths, KeepsVars, Moves, row_below, known_of, index_is_element, In, in_flat, first_slab, in_record, in_zip}
+use Rattle.redef_laws.proofs.Words.{◌≡◌, ℕ, suc, ◌+◌, ◌*◌, ◌/◌, ◌%◌, ◌<◌, ◌≤◌, refl, sym, ◌∙◌, ap, subst, inl, inr, List, [], ◌∷◌, map, Bool, true, false, true≢false, holds_or_not, cond, Some, arith, row_fits, div-add-mod', div_below, mod_below, nat_tests, zip, slice_get, MatchBool, ◌==◌, some_factor, Header, Var, Slab, slabs, slabs_of, size_of, is_sound, product, lengths, starts_with_zero, without_record, is_record, slab, inner_lengths, recsize, place, row, record_of, within_record, HasRecord, IsIndex, IsElementBelow, known_lengths, KeepsVars, Moves, row_below, known_of, index_is_element, In, in_flat, first_slab, in_record, in_zip}
 use Rattle.redef_laws.proofs.SlabLaws.{in_row, slab_in}
 
 -- ---- places
@@ -78,16 +78,7 @@ element_in : (old new : Header) → is_sound old ≡ true → KeepsVars old new 
     → IsIndex (known_lengths old v old.records) index → HasSlab old new (place old v index) (place new w index) (size_of v.kind)
 element_in old new sound keeps k v w index h g i =
     let r = has_row old v old.records index (index_is_element old k v old.records index sound h i) in
-    let s : Slab = in_record (recsize old) (recsize new) r.of (first_slab old (v, w)) in (
-      s,
-      in_flat (slabs_of old new) (zip old.vars new.vars) (v, w) s (in_zip old.vars new.vars k v w h g) (in_row old new (v, w) s (record { row = r.of; once = r.once; below = r.below; is = refl })),
-      record {
-        off = r.at * size_of v.kind;
-        old = r.place v.begin (recsize old) (size_of v.kind);
-        new = new_place old new v w index (kept old new keeps k v w h g) ∙ r.place w.begin (recsize new) (size_of v.kind);
-        inside = row_fits r.at (size_of v.kind) (product (inner_lengths old v)) (size_of v.kind) r.inside (omega arith);
-      },
-    )
+    grind (arith, nat_tests, in_flat (slabs_of old new) (zip old.vars new.vars) (v, w), in_zip old.vars new.vars k v w h g, in_row old new (v, w) (in_record (recsize old) (recsize new) r.of (first_slab old (v, w))), new_place old new v w index (kept old new keeps k v w h g), kept old new keeps k v w h g, row_fits r.at (size_of v.kind) (product (inner_lengths old v)) (size_of v.kind) r.inside, r.once, r.below, r.place, v.begin, w.begin)
 
 pub element_in_slab : (old new : Header) → is_sound old ≡ true → KeepsVars old new → (from to size : ℕ) → Moves old new from to size → HasSlab old new from to size
 element_in_slab old new sound keeps from to size (k, v, w, index, h, g, i, f, t, s) = grind (arith, nat_tests, element_in old new sound keeps k v w index h g i)
@@ -107,27 +98,19 @@ index_of_row (n ∷ lens) q h =
 -- ---- an index within the inner lengths is one below the known lengths
 
 known_some : (known n i : ℕ) → i < n → i < known_of known n
-known_some known zero i h = absurd (omega arith)
-known_some known (suc n) i h = grind (arith, nat_tests)
+known_some known n i h = grind (arith, nat_tests)
 
 known_inner : (known : ℕ) (lens index : List ℕ) → IsIndex lens index → IsIndex (map (known_of known) lens) index
 known_inner known [] [] h = tt
 known_inner known (n ∷ lens) (i ∷ index) h = (known_some known n i h.0, known_inner known lens index h.1)
 known_inner known xs ys h = absurd h
 
-known_fixed : (known : ℕ) (lens index : List ℕ) → starts_with_zero lens ≡ false → IsIndex (without_record lens) index → IsIndex (map (known_of known) lens) index
-known_fixed known [] index e h = h
-known_fixed known (zero ∷ lens) index e h = absurd cc
-known_fixed known (suc n ∷ lens) index e h = known_inner known (suc n ∷ lens) index h
-
 not_zero : (n : ℕ) → (suc n == 0) ≡ true → ⊥
 not_zero n e = grind (arith, nat_tests)
 
 known_record : (known : ℕ) (lens index : List ℕ) (r : ℕ) → starts_with_zero lens ≡ true → r < known → IsIndex (without_record lens) index
     → IsIndex (map (known_of known) lens) (r ∷ index)
-known_record known [] index r e l h = absurd cc
-known_record known (zero ∷ lens) index r e l h = (l, known_inner known lens index h)
-known_record known (suc n ∷ lens) index r e l h = absurd (not_zero n e)
+known_record known lens index r e l h = grind (arith, nat_tests, known_inner, not_zero)
 
 -- ---- each byte of a slab is an element's
 
@@ -153,21 +136,7 @@ record IsAtRow (lens : List ℕ) (known r q : ℕ) : Type 0 where
 
 at_row : (lens : List ℕ) (known r q : ℕ) → (starts_with_zero lens ≡ false → r ≡ 0) → (starts_with_zero lens ≡ true → r < known) → q < product (without_record lens) → IsAtRow lens known r q
 at_row lens known r q once below l =
-    let found = index_of_row (without_record lens) q l in
-    elim (holds_or_not (starts_with_zero lens)) [
-      | inr e ↦
-          record {
-            index = found.0;
-            within = known_fixed known lens found.0 e found.1;
-            place = λ begin step size. omega (arith, fixed_place lens begin step size found.0 e, ap (λ (x : ℕ). x * step) (once e), ap (λ (x : ℕ). x * size) found.2);
-          }
-      | inl e ↦
-          record {
-            index = r ∷ found.0;
-            within = known_record known lens found.0 r e (below e) found.1;
-            place = λ begin step size. record_place lens begin step size (r ∷ found.0) e ∙ ap (λ (x : ℕ). begin + r * step + x * size) found.2;
-          }
-    ]
+    grind (arith, nat_tests, index_of_row (without_record lens) q l, holds_or_not (starts_with_zero lens), known_inner, place, fixed_place lens, known_record known lens (index_of_row (without_record lens) q l).0 r, record_place lens)
 
 pub slab_bytes : (old new : Header) → KeepsVars old new → (s : Slab) → In (slabs old new) s → HasBytes old new s
 slab_bytes old new keeps s h d l =

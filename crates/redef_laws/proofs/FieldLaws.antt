@@ -1,11 +1,10 @@
 -- Tests of numbers and lists, and which numbers fit their fields.
-use Rattle.redef_laws.proofs.Words.{◌≡◌, ℕ, ◌^◌, ◌<◌, List, [], ◌∷◌, Bool, true, false, ◌&&◌, arith, ◌==◌, AllByRecursion, small_field, begin_width, fits_field, fits_count, nat_tests}
+use Rattle.redef_laws.proofs.Words.{◌≡◌, ℕ, ◌^◌, ◌<◌, List, [], ◌∷◌, Bool, true, false, ◌&&◌, arith, ◌==◌, AllByRecursion, small_field, begin_width, fits_field, nat_tests}
 
 -- ---- tests
 
 pub not_both : (a b : Bool) → (a && b) ≡ false → a ≡ true → b ≡ false
-not_both true b h e = h
-not_both false b h e = cc
+not_both a b h e = grind (arith, nat_tests)
 
 -- ---- each of a list
 
@@ -14,10 +13,6 @@ each_both P Q R f [] h g = tt
 each_both P Q R f (x ∷ xs) h g = (f x h.0 g.0, each_both P Q R f xs h.1 g.1)
 
 -- ---- fields
-
--- a number that fits in 32 bits, or in 64 where the version has them
-pub count_fits : (version n : ℕ) → n < 2 ^ 62 → ((version == 5) ≡ false → n < 2 ^ 31) → fits_count version n ≡ true
-count_fits version n l h = grind (arith, nat_tests, small_field)
 
 pub begin_fits : (version n : ℕ) → n < 2 ^ 62 → ((version == 1) ≡ true → n < 2 ^ 31) → fits_field (begin_width version) n ≡ true
 begin_fits version n l h = grind (arith, nat_tests, small_field)

@@ -1,5 +1,5 @@
 -- A header that can be redefined has the facts that extras keep, and so has the new header.
-use Rattle.redef_laws.proofs.Words.{◌≡◌, ℕ, ◌+◌, ◌<◌, ◌≤◌, List, [], ◌∷◌, length, drop, Bool, true, false, cond, Some, None, refl, sym, ap, ◌∙◌, arith, nat_le, ◌==◌, count_by, position, list_all, position_from, AllByRecursion, position_from-zero, length-filter, or_parts, not-false, leb-true, ltb-false, leb-false, eqb-true, passes_each, fails_each, each_weaker, and_first, and_second, both_none, none_of_test, none_before_map, neither_some, Header, Dim, Attr, Var, most_dims, most_dims_of_var, record_limit, sharing, is_version, header_len, all_ones, first_check, two_record_dims, record_later, is_record_id, bad_id, measure, is_sound, counts_are_small, fits_count, is_writable_dim, is_writable_attr, is_writable_list, is_redefinable, is_redefinable_var, no_fault, nat_tests}
+use Rattle.redef_laws.proofs.Words.{◌≡◌, ℕ, ◌+◌, ◌<◌, ◌≤◌, List, [], ◌∷◌, length, drop, Bool, true, false, cond, Some, None, refl, sym, ap, ◌∙◌, arith, nat_le, ◌==◌, count_by, position, list_all, position_from, AllByRecursion, position_from-zero, length-filter, or_parts, not-false, leb-true, ltb-false, leb-false, eqb-true, passes_each, fails_each, each_weaker, and_first, and_second, both_none, none_of_test, none_before_map, Header, Dim, Attr, Var, most_dims, most_dims_of_var, record_limit, sharing, is_version, header_len, all_ones, two_record_dims, record_later, is_record_id, bad_id, measure, is_sound, counts_are_small, fits_count, is_writable_dim, is_writable_attr, is_writable_list, is_redefinable, is_redefinable_var, no_fault, nat_tests}
 use Rattle.redef_laws.proofs.GrownLaws.{IsTyped, HasFitLength, IsFitVar, IsFit, is_record_dim}
 
 -- ---- the checks of a sound header
@@ -16,9 +16,6 @@ pub record IsChecked (header : Header) : Type 0 where
 
 pub checked : (header : Header) → is_sound header ≡ true → IsChecked header
 checked header h = grind (arith, nat_tests, none_of_test, and_second, both_none, or_parts, no_fault, none_before_map, not-false)
-
-pub passes_checks : (header : Header) → IsChecked header → first_check header ≡ None
-passes_checks header c = grind (arith, nat_tests, neither_some)
 
 -- ---- searches that find nothing
 
@@ -45,13 +42,9 @@ pub record IsOpened (old : Header) : Type 0 where
   pub fit : IsFit old
   pub dim_names : AllByRecursion (λ d. fits_count old.version (length d.name) ≡ true) old.dims
 
-fit_attr : (version : ℕ) (a : Attr) → is_writable_attr version a ≡ true → IsTyped version a
-fit_attr version a h = grind (arith, nat_tests, and_second, and_first, eqb-true)
-
 fit_attrs : (version : ℕ) (attrs : List Attr) → is_writable_list version (is_writable_attr version) attrs ≡ true → AllByRecursion (IsTyped version) attrs
 fit_attrs version attrs h =
-    each_weaker (λ a. is_writable_attr version a ≡ true) (IsTyped version) (fit_attr version) attrs
-    (passes_each (is_writable_attr version) attrs (and_second (fits_count version (length attrs)) _ h))
+    grind (arith, nat_tests, each_weaker, and_first, eqb-true, passes_each (is_writable_attr version) attrs, and_second (fits_count version (length attrs)))
 
 fit_dim : (version : ℕ) (d : Dim) → is_writable_dim version d ≡ true → HasFitLength version d
 fit_dim version d h = grind (arith, nat_tests, and_second, and_first, leb-true)

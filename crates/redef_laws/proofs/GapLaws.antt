@@ -1,5 +1,5 @@
 -- The bytes between slabs.
-use Rattle.redef_laws.proofs.Words.{◌≡◌, ℕ, zero, suc, ◌+◌, ◌-◌, ◌<◌, ◌≤◌, refl, ◌∙◌, ap, inl, inr, List, [], ◌∷◌, ◌++◌, length, Bool, true, false, cond, ◌&&◌, ◌||◌, arith, append-nil, div_below, filter, flat_map, nat_le, nat_lt, ◌==◌, range_with_len, list_any, length-range_with_len, or_left, or_cases, lt-ltb, le-ltb, le-leb, lt-leb, and_right, equal_above, equal_true, range_append, DiskCall, Slab, run_before, runs, stores, first_of, In, HaveSame, range_low, range_high, in_either, filter_same, filter_none, filter_all, gaps, IsRisen, filter-append, any_member, nat_tests, either, not}
+use Rattle.redef_laws.proofs.Words.{◌≡◌, ℕ, zero, suc, ◌+◌, ◌-◌, ◌<◌, ◌≤◌, refl, ◌∙◌, ap, inl, inr, List, [], ◌∷◌, ◌++◌, length, Bool, true, false, cond, ◌&&◌, ◌||◌, arith, append-nil, div_below, filter, flat_map, nat_le, nat_lt, ◌==◌, range_with_len, list_any, length-range_with_len, or_cases, lt-ltb, le-ltb, le-leb, lt-leb, and_right, equal_above, equal_true, range_append, DiskCall, Slab, run_before, runs, stores, first_of, In, HaveSame, range_low, range_high, in_either, filter_same, filter_none, filter_all, gaps, IsRisen, filter-append, any_member, nat_tests, either, not}
 use Rattle.redef_laws.proofs.ChainLaws.{risen_past}
 
 -- x is one of the slab's bytes in the new file
@@ -67,23 +67,13 @@ bare_gaps a b end (s ∷ ss) h k l =
     parts = let low = h.2 in let last = l s (inl refl) in omega arith
 
     none_before : filter (is_bare (s ∷ ss)) before ≡ before
-    none_before = filter_all (is_bare (s ∷ ss)) before
-        (λ y m. bare_before a s.to y (s ∷ ss) (h.0, h.1, omega arith, h.3, h.4) (let low = h.2 in let high = range_high b (s.to - b) y m in omega arith))
+    none_before = grind (arith, nat_tests, filter_all, bare_before, range_high, h.0, h.1, h.3, h.4, h.2)
 
     all_inside : filter (is_bare (s ∷ ss)) inside ≡ []
-    all_inside = filter_none (is_bare (s ∷ ss)) inside (λ y m.
-        let low = h.2 in
-        let first = range_low (b + (s.to - b)) s.len y m in
-        let last = range_high (b + (s.to - b)) s.len y m in
-        ap not (or_left (covers y s) (list_any (λ t. covers y t) ss) (covered_inside y s (omega arith) (omega arith))))
+    all_inside = grind (arith, nat_tests, filter_none, range_low, range_high, covered_inside, h.2, covers)
 
     same_past : filter (is_bare (s ∷ ss)) past ≡ filter (is_bare ss) (range_with_len (s.to + s.len) left)
-    same_past =
-        filter_same (is_bare (s ∷ ss)) (is_bare ss) past (λ y m.
-        let low = h.2 in
-        let first = range_low (b + (s.to - b) + s.len) left y m in
-        ap (λ c. not (c || list_any (λ t. covers y t) ss)) (uncovered_past y s (omega arith)))
-        ∙ ap (λ n. filter (is_bare ss) (range_with_len n left)) (let low = h.2 in omega arith)
+    same_past = grind (arith, nat_tests, filter_same, range_low, uncovered_past, h.2, not, list_any, covers, filter, is_bare)
 
 -- ---- runs of bytes
 
@@ -96,9 +86,6 @@ run_starts x ((y ∷ ys) ∷ others) =
 run_apart : (x y : ℕ) (ys : List ℕ) (others : List (List ℕ)) → x + 1 < y → run_before x ((y ∷ ys) ∷ others) ≡ (x ∷ []) ∷ (y ∷ ys) ∷ others
 run_apart x y ys others h = ap (λ b. cond b ((x ∷ y ∷ ys) ∷ others) ((x ∷ []) ∷ (y ∷ ys) ∷ others)) (equal_above y (x + 1) h)
 
-run_next : (x : ℕ) (ys : List ℕ) (others : List (List ℕ)) → run_before x (((x + 1) ∷ ys) ∷ others) ≡ (x ∷ (x + 1) ∷ ys) ∷ others
-run_next x ys others = ap (λ b. cond b ((x ∷ (x + 1) ∷ ys) ∷ others) ((x ∷ []) ∷ ((x + 1) ∷ ys) ∷ others)) (equal_true (x + 1) (x + 1) refl)
-
 -- a number that none follows at once is a run
 run_alone : (x : ℕ) (rest : List ℕ) → ((y : ℕ) → In rest y → x + 1 < y) → run_before x (runs rest) ≡ (x ∷ []) ∷ runs rest
 run_alone x [] h = refl
@@ -107,9 +94,7 @@ run_alone x (y ∷ ys) h = grind (arith, nat_tests, run_starts y (runs ys), run_
 -- numbers one after another, and then a greater one, or none
 run_of_range : (a n : ℕ) (rest : List ℕ) → ((y : ℕ) → In rest y → a + suc n < y) → runs (range_with_len a (suc n) ++ rest) ≡ range_with_len a (suc n) ∷ runs rest
 run_of_range a zero rest h = run_alone a rest (λ y m. let l = h y m in omega arith)
-run_of_range a (suc n) rest h =
-    ap (run_before a) (run_of_range (a + 1) n rest (λ y m. let l = h y m in omega arith))
-    ∙ run_next a (range_with_len (a + 1 + 1) n) (runs rest)
+run_of_range a (suc n) rest h = grind (arith, nat_tests, run_of_range (a + 1) n rest, equal_true, range_with_len)
 
 -- ---- gaps, each behind a byte that is in none
 

@@ -1,8 +1,8 @@
 -- What a header keeps while extras are added to it.
-use Rattle.redef_laws.proofs.Words.{◌≡◌, ℕ, suc, ◌*◌, ◌<◌, ◌≤◌, List, [], ◌∷◌, ◌++◌, length, drop, map, Bool, true, false, ◌&&◌, Option, Some, None, refl, sym, ap, subst, arith, length-append, not, nat_lt, nat_le, ◌==◌, is_none, unwrap_or, filter, slice_get, bytes_eq, list_any, list_all, AllByRecursion, length-map, filter-append, le-leb, leb-true, ltb-true, ltb-false, leb-false, eqb-true, slice_get_within, fails_each, each_weaker, each_push, each_later, each_map, and_first, and_second, Header, Dim, Attr, Var, NcType, Extra, RedefErr, most_dims, most_vars, file_limit, record_limit, size_of, length_of, is_record_id, fits_count, is_type, find_dim, is_lawful_extra, is_whole_extra, with_var_attr, with_extra, added, dim_id, is_taken, is_unknown, has_bad_shape, is_one_too_many, has_bad_kind, extra_fault, extras_from, get_left, nat_tests, told_else, some_or_none, no_both, entry_below, position_below, inl, inr, both_none}
+use Rattle.redef_laws.proofs.Words.{◌≡◌, ℕ, suc, ◌*◌, ◌<◌, ◌≤◌, List, [], ◌∷◌, ◌++◌, length, drop, map, Bool, true, false, ◌&&◌, Option, Some, None, refl, arith, length-append, not, nat_lt, nat_le, ◌==◌, is_none, filter, slice_get, list_any, list_all, AllByRecursion, length-map, filter-append, le-leb, leb-true, ltb-true, ltb-false, leb-false, eqb-true, slice_get_within, fails_each, each_weaker, each_push, each_later, each_map, and_first, and_second, Header, Dim, Attr, Var, NcType, Extra, most_dims, most_vars, file_limit, record_limit, size_of, length_of, is_record_id, fits_count, is_type, find_dim, is_lawful_extra, is_whole_extra, with_var_attr, with_extra, added, dim_id, is_unknown, has_bad_shape, is_one_too_many, has_bad_kind, extra_fault, extras_from, get_left, nat_tests, told_else, some_or_none, no_both, entry_below, position_below, small_field}
 use Rattle.nc_base.specs.declared.script.Extra.TheVariants as extra
 use Rattle.nc_base.specs.declared.errors.RedefErr.TheVariants as redef
-use Rattle.redef_laws.proofs.FieldLaws.{not_both, each_both, count_fits}
+use Rattle.redef_laws.proofs.FieldLaws.{not_both, each_both}
 
 -- ---- the facts
 
@@ -48,22 +48,11 @@ pub record HasNoFault (h : Header) (e : Extra) : Type 0 where
   pub room : is_one_too_many h e ≡ false
   pub kind : has_bad_kind h e ≡ false
 
-no_fault_of : (h : Header) (k : ℕ) (e : Extra) → extra_fault h k e ≡ None → HasNoFault h e
-no_fault_of h k e none =
-    let a = told_else (is_taken h e) (redef.Taken k) _ none in
-    let b = told_else (is_unknown h e) (redef.Unknown k) _ a.1 in
-    let c = told_else (has_bad_shape h e) (redef.Shape k) _ b.1 in
-    let d = told_else (is_one_too_many h e) (redef.TooMany k) _ c.1 in
-    record { known = b.0; shape = c.0; room = d.0; kind = (told_else (has_bad_kind h e) (redef.Kind k) _ d.1).0 }
-
 -- ---- one more dimension
-
-more_dims : (dims : List Dim) (d : Dim) (id : ℕ) → id < length dims → is_record_at (dims ++ d ∷ []) id ≡ is_record_at dims id
-more_dims dims d id h = ap (λ (o : Option Dim). length_of o == 0) (get_left dims (d ∷ []) id h)
 
 fit_with_dim : (version : ℕ) (dims : List Dim) (d : Dim) (ids : List ℕ) (kind : NcType) (attrs : List Attr) → IsFitShape version dims ids kind attrs
     → IsFitShape version (dims ++ d ∷ []) ids kind attrs
-fit_with_dim version dims d ids kind attrs fit = grind (arith, nat_tests, length-append, each_weaker, each_both, more_dims, each_later)
+fit_with_dim version dims d ids kind attrs fit = grind (arith, nat_tests, length-append, each_weaker, each_both, get_left, each_later)
 
 no_record : (dims : List Dim) → list_any (λ (e : Dim). e.len == 0) dims ≡ false → filter is_record_dim dims ≡ []
 no_record [] h = refl
@@ -74,7 +63,7 @@ one_record_still : (dims : List Dim) (d : Dim) → length (filter is_record_dim 
 one_record_still dims d l h = grind (arith, nat_tests, filter-append, length-append, no_record, not_both)
 
 length_fits : (version : ℕ) (d : Dim) → nat_lt d.len (record_limit 5) ≡ true → (not (version == 5) && nat_le (record_limit version) d.len) ≡ false → HasFitLength version d
-length_fits version d lawful h = grind (arith, nat_tests, ltb-true, count_fits, leb-false, not_both)
+length_fits version d lawful h = grind (arith, nat_tests, ltb-true, small_field, leb-false, not_both)
 
 with_dim : (h : Header) (d : Dim) → IsFit h → HasNoFault h (extra.Dim d) → is_lawful_extra (extra.Dim d) ≡ true → IsFit (with_extra h (extra.Dim d))
 with_dim h d fit none lawful =
@@ -97,20 +86,11 @@ record IsKnownDim (dims : List Dim) (name : List ℕ) (id : ℕ) : Type 0 where
   dim : Dim
   there : slice_get dims id ≡ Some dim
 
-known_dim : (h : Header) (name : List ℕ) → is_none (find_dim h name) ≡ false → IsKnownDim h.dims name (dim_id h name)
-known_dim h name e = elim (some_or_none (find_dim h name)) [
-  | inl none ↦ no_both (is_none (find_dim h name)) (ap is_none none) e
-  | inr found ↦
-      (let there = entry_below h.dims found.0 (position_below (λ (d : Dim). bytes_eq d.name name) h.dims found.0 found.1) in
-      subst (IsKnownDim h.dims name) (sym (ap (λ (o : Option ℕ). unwrap_or o 0) found.1)) (record { dim = there.0; there = there.1 }))
-]
-
 ids_known : (h : Header) (names : List (List ℕ)) → AllByRecursion (λ n. is_none (find_dim h n) ≡ false) names → AllByRecursion (λ n. dim_id h n < length h.dims) names
-ids_known h names all = grind (arith, nat_tests, each_weaker, known_dim, slice_get_within)
+ids_known h names all = grind (arith, nat_tests, each_weaker, some_or_none, no_both, entry_below, position_below, slice_get_within)
 
 later_mapped : {A B : Type 0} (P : B → Type 0) (f : A → B) (xs : List A) → AllByRecursion P (map f (drop 1 xs)) → AllByRecursion P (drop 1 (map f xs))
-later_mapped P f [] h = tt
-later_mapped P f (x ∷ xs) h = h
+later_mapped P f xs h = grind (arith, nat_tests)
 
 fit_new_var : (h : Header) (kind : NcType) (name : List ℕ) (names : List (List ℕ)) → HasNoFault h (extra.Var kind name names) → is_lawful_extra (extra.Var kind name names) ≡ true
     → IsFitShape h.version h.dims (map (dim_id h) names) kind []
@@ -148,43 +128,28 @@ attr_long : (name : List ℕ) (a : Attr) (vs : List Var) → length (with_var_at
 attr_long name a [] = refl
 attr_long name a (v ∷ vs) = grind (arith, nat_tests, attr_long name a vs)
 
-fit_with_attr : (version : ℕ) (dims : List Dim) (a : Attr) (ids : List ℕ) (kind : NcType) (attrs : List Attr) → IsTyped version a
-    → IsFitShape version dims ids kind attrs → IsFitShape version dims ids kind (attrs ++ a ∷ [])
-fit_with_attr version dims a ids kind attrs t fit = grind (arith, nat_tests, typed, each_push)
-
 -- ---- all extras
 
 one_more : (h : Header) (e : Extra) → IsFit h → HasNoFault h e → is_lawful_extra e ≡ true → is_whole_extra e ≡ true → IsFit (with_extra h e)
 one_more h (extra.Dim d) fit none lawful whole = with_dim h d fit none lawful
 one_more h (extra.Var kind name names) fit none lawful whole = with_var h kind name names fit none lawful
 one_more h (extra.Att None a) fit none lawful whole = grind (arith, nat_tests, each_push, typed h None a none whole)
-one_more h (extra.Att (Some owner) a) fit none lawful whole = grind (arith, nat_tests, attr_long, attr_pushed, fit_with_attr, typed h (Some owner) a none whole)
+one_more h (extra.Att (Some owner) a) fit none lawful whole = grind (arith, nat_tests, attr_long, attr_pushed, each_push, typed h (Some owner) a none whole)
 
 no_first : (h : Header) (k : ℕ) (e : Extra) (extras : List Extra) → extras_from h k (e ∷ extras) ≡ None
     → (extra_fault h k e ≡ None) × (extras_from (with_extra h e) (suc k) extras ≡ None)
-no_first h k e extras none = by_fault (extra_fault h k e) none
-  where
-    by_fault : (o : Option RedefErr) → elim o as (λ u. Option RedefErr) [ Some fault ↦ Some fault | None ↦ extras_from (with_extra h e) (suc k) extras ] ≡ None
-        → (o ≡ None) × (extras_from (with_extra h e) (suc k) extras ≡ None)
-    by_fault (Some fault) g = absurd cc
-    by_fault None g = (refl, g)
+no_first h k e extras none = grind (arith, nat_tests)
 
 pub all_more : (h : Header) (k : ℕ) (extras : List Extra) → IsFit h → extras_from h k extras ≡ None → list_all is_lawful_extra extras ≡ true
     → list_all is_whole_extra extras ≡ true → IsFit (added h extras)
 all_more h k [] fit none lawful whole = fit
 all_more h k (e ∷ extras) fit none lawful whole =
-    let first = no_first h k e extras none in
-    all_more (with_extra h e) (suc k) extras
-    (one_more h e fit (no_fault_of h k e first.0) (and_first (is_lawful_extra e) _ lawful) (and_first (is_whole_extra e) _ whole))
-    first.1 (and_second (is_lawful_extra e) _ lawful) (and_second (is_whole_extra e) _ whole)
+    grind (arith, nat_tests, no_first, all_more (with_extra h e) (suc k) extras, one_more, told_else, and_first, and_second)
 
 pub record HasVersionOf (old new : Header) : Type 0 where
   pub version : new.version ≡ old.version
   pub records : new.records ≡ old.records
 
-one_same : (h : Header) (e : Extra) → HasVersionOf h (with_extra h e)
-one_same h e = grind (arith, nat_tests)
-
 pub all_same : (h : Header) (extras : List Extra) → HasVersionOf h (added h extras)
 all_same h [] = record { version = refl; records = refl }
-all_same h (e ∷ extras) = grind (arith, nat_tests, all_same (with_extra h e) extras, one_same)
+all_same h (e ∷ extras) = grind (arith, nat_tests, all_same (with_extra h e) extras)

@@ -1,5 +1,5 @@
 -- The old variables in the header with what is added: their begins, slabs and records.
-use Rattle.redef_laws.proofs.Words.{◌≡◌, ℕ, zero, suc, ◌+◌, ◌*◌, ◌<◌, ◌≤◌, List, [], ◌∷◌, ◌++◌, length, Bool, true, false, cond, Some, None, refl, sym, ap, subst, ◌∙◌, arith, nat_lt, sum_by, slice_get, bytes_eq, enumerate_from, nat_tests, sum_by-cons, sum_by-filter_both, lt-ltb, entry_below, Header, Attr, Var, NcType, Extra, size_of, product, lengths, starts_with_zero, without_record, is_record, round_up, slab, vsize, recsize, record_share, record_variables, is_sound, Numbered, with_var_attr, with_extra, added, records_in, old_of, begins_by_number, redefined_keeps, in_front, recsize_below, either}
+use Rattle.redef_laws.proofs.Words.{◌≡◌, ℕ, zero, suc, ◌+◌, ◌<◌, ◌≤◌, List, [], ◌∷◌, ◌++◌, length, Bool, true, false, cond, Some, None, refl, sym, ap, subst, ◌∙◌, arith, sum_by, slice_get, bytes_eq, enumerate_from, nat_tests, sum_by-cons, sum_by-filter_both, lt-ltb, entry_below, Header, Attr, Var, Extra, lengths, is_record, round_up, slab, vsize, recsize, record_share, record_variables, is_sound, Numbered, with_var_attr, with_extra, added, records_in, old_of, begins_by_number, redefined_keeps, in_front, recsize_below, either}
 use Rattle.nc_base.specs.declared.script.Extra.TheVariants as extra
 use Rattle.redef_laws.proofs.RebegunLaws.{rebegun_at}
 use Rattle.redef_laws.proofs.BeginLaws.{vsizes}
@@ -35,9 +35,6 @@ pub record IsKept (old header : Header) (v w : Var) : Type 0 where
   pub kind : is_record header w ≡ is_record old v
   pub slab : slab header w ≡ slab old v
 
-slab_of : (ls ls' : List ℕ) (kind kind' : NcType) → ls ≡ ls' → kind ≡ kind' → product (without_record ls) * size_of kind ≡ product (without_record ls') * size_of kind'
-slab_of ls ls' kind kind' e f = ap (λ (ns : List ℕ). product (without_record ns) * size_of kind) e ∙ ap (λ (k : NcType). product (without_record ls') * size_of k) f
-
 one_var : (header : Header) (k : ℕ) (x y : Var) → slice_get header.vars k ≡ Some x → slice_get header.vars k ≡ Some y → x ≡ y
 one_var header k x y e f = cc
 
@@ -48,17 +45,8 @@ kept_var old extras k v sound g =
     let moved = redefined_keeps old extras sound k v g in
     let found = rebegun_at (begins_by_number header (length old.vars)) 0 header.vars k moved.0 moved.1 in
     let there = begin_kept old extras k v g in
-    let same : there.0 ≡ found.0 = one_var header k there.0 found.0 there.1 found.1 in
     let long : lengths header found.0 ≡ lengths old v = ap (λ (w : Var). lengths header w) found.2 ∙ moved.3 in
-    let kind : found.0.kind ≡ v.kind = ap (λ (w : Var). w.kind) found.2 ∙ moved.2 in (
-      found.0,
-      found.1,
-      record {
-        begin = sym (ap (λ (w : Var). w.begin) same) ∙ there.2;
-        kind = ap (λ (ns : List ℕ). starts_with_zero ns) long;
-        slab = slab_of (lengths header found.0) (lengths old v) found.0.kind v.kind long kind;
-      },
-    )
+    grind (arith, nat_tests, found.2, moved.2, found.1, there.2)
 
 -- the old variable of a number
 pub old_var : (old : Header) (extras : List Extra) (k : ℕ) (w : Var) → is_sound old ≡ true → k < length old.vars → slice_get (added old extras).vars k ≡ Some w
@@ -81,7 +69,6 @@ old_sizes old header n a (o ∷ os) [] e kept = let found = kept 0 o refl in abs
 old_sizes old header n a (o ∷ os) (w ∷ vs) e kept =
     let rest = old_sizes old header n (a + 1) os vs (omega arith) (λ k v g. kept (suc k) v g) in
     let found = kept 0 o refl in
-    let there : Some w ≡ Some found.0 = found.1 in
     let same : found.0 ≡ w = cc in
     let own = subst (λ (y : Var). IsKept old header o y) same found.2 in
     let later = records_in header (enumerate_from (a + 1) vs) in

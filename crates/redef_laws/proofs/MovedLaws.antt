@@ -1,5 +1,5 @@
 -- A file in which each slab stands at its new place is the redefined one: the redefined file is such a file, and there is no other.
-use Rattle.redef_laws.proofs.Words.{◌≡◌, ℕ, ◌+◌, ◌-◌, ◌<◌, ◌≤◌, refl, sym, ◌∙◌, ap, subst, inl, inr, ◌⊎◌, List, [], ◌∷◌, get_or, true, arith, cases_lt, same_number_lists, get_or-take, and_first, Header, Extra, Slab, slabs, at, header_len, is_sound, is_writable, redefined, KeepsVars, IsRedefined, redefined_keeps, read_at, redefined_is, In, IsApplied, new_end, IsMoved, nat_tests, AreApart, Moves}
+use Rattle.redef_laws.proofs.Words.{◌≡◌, ℕ, ◌+◌, ◌-◌, ◌<◌, ◌≤◌, refl, sym, ◌∙◌, ap, subst, inl, inr, ◌⊎◌, List, [], ◌∷◌, get_or, true, arith, cases_lt, same_number_lists, get_or-take, Header, Extra, Slab, slabs, at, header_len, is_sound, redefined, KeepsVars, IsRedefined, redefined_keeps, read_at, redefined_is, In, IsApplied, new_end, IsMoved, nat_tests}
 use Rattle.redef_laws.proofs.ShiftLaws.{sound_before}
 use Rattle.redef_laws.proofs.ElementSlabs.{element_in_slab, slab_bytes}
 pub use Rattle.serial_spec.proofs.SpellingLaws.{writable_is_sound}

@@ -1,5 +1,5 @@
 -- A sound header that was read can be redefined: what is spelled fits its field, and the reader bounds the lengths.
-use Rattle.redef_laws.proofs.Words.{◌≡◌, ℕ, ◌+◌, ◌*◌, ◌^◌, ◌<◌, List, [], ◌∷◌, ◌++◌, length, take, drop, Bool, true, false, cond, ◌&&◌, Some, None, refl, sym, ap, subst, ◌∙◌, inl, inr, arith, append_assoc, length-append, nat_le, ◌==◌, list_all, AllByRecursion, Width, w32, w64, byte_len, to_be_bytes, take-append_seam, take-append-drop, and_from, or_parts, lt-ltb, le-leb, ltb-false, width_long, drop_on, back_4, back_8, each_passes, passes_each, and_first, and_second, equal_true, Header, Dim, Attr, Var, HeaderErr, file_limit, size_of, round_up, count_width, begin_width, tag, magic, Joined, ◌▹◌, Exactly, Each, Number, Padded, NameOf, ListOf, DimensionOf, AttributeOf, VariableOf, RecordsOf, all_ones, Field, Magic, Records, Tag, Count, NameLength, Block, DimLength, Dimensions, Attributes, Variables, Ask, One, Many, stands, asked, the_header, many, block, wrong, wrong_at, after_field, field_number, field_len, field_fault, version_of, big_endian, fits_field, fits_count, is_type, is_sound, is_writable_dim, is_writable_attr, is_writable_list, is_redefinable, is_redefinable_var, EndsWrong, ends_later, fault_only, BeginsWith, right_number, no_fault, some_or_none, nat_tests, small_count}
+use Rattle.redef_laws.proofs.Words.{◌≡◌, ℕ, ◌+◌, ◌*◌, ◌^◌, ◌<◌, List, [], ◌∷◌, ◌++◌, length, take, drop, Bool, true, false, cond, ◌&&◌, Some, None, refl, sym, ap, subst, ◌∙◌, inl, inr, arith, append_assoc, length-append, nat_le, ◌==◌, list_all, AllByRecursion, Width, w32, w64, byte_len, to_be_bytes, take-append_seam, take-append-drop, and_from, or_parts, lt-ltb, le-leb, ltb-false, width_long, drop_on, each_passes, passes_each, and_first, and_second, equal_true, Header, Dim, Attr, Var, HeaderErr, file_limit, round_up, count_width, begin_width, tag, magic, Joined, ◌▹◌, Exactly, Each, Number, Padded, NameOf, ListOf, DimensionOf, AttributeOf, VariableOf, RecordsOf, all_ones, Field, Magic, Records, Tag, Count, NameLength, Block, DimLength, Dimensions, Attributes, Variables, Ask, One, Many, stands, asked, the_header, many, block, wrong, wrong_at, after_field, field_number, field_len, field_fault, version_of, big_endian, fits_field, fits_count, is_sound, is_writable_dim, is_writable_attr, is_writable_list, is_redefinable, is_redefinable_var, EndsWrong, ends_later, fault_only, BeginsWith, right_number, no_fault, some_or_none, nat_tests, small_count}
 use Rattle.nc_base.specs.declared.errors.HeaderErr.TheVariants as fault
 use Rattle.redef_laws.proofs.FitLaws.{checked}
 use Rattle.redef_laws.proofs.FieldLaws.{each_both}
@@ -19,40 +19,21 @@ each_fits P test f (x ∷ xs) bytes h = and_from (test x) (list_all test xs) (f 
 
 list_fits : {A : Type 0} (version t : ℕ) (P : A → List ℕ → Type 0) (test : A → Bool) → ((x : A) (bytes : List ℕ) → P x bytes → test x ≡ true)
     → (xs : List A) (bytes : List ℕ) → ListOf version t P xs bytes → is_writable_list version test xs ≡ true
-list_fits {A} version t P test f xs bytes (inl (e, g)) =
-    subst (λ (ys : List A). is_writable_list version test ys ≡ true) (sym e) (and_from (fits_count version 0) true (small_count version 0 (omega arith)) refl)
-list_fits version t P test f xs bytes (inr h) =
-    and_from (fits_count version (length xs)) (list_all test xs) (number_fits (count_width version) (length xs) h.first.rest h.first.second) (each_fits P test f xs h.rest h.second)
+list_fits version t ys test f xs bytes n = grind (arith, nat_tests, small_count, number_fits, each_fits)
 
 attr_fits : (version : ℕ) (a : Attr) (bytes : List ℕ) → AttributeOf version a bytes → is_writable_attr version a ≡ true
-attr_fits version a bytes (whole, h) =
-    let named = h.first.first in
-    let name = name_fits version a.name named.front named.first in
-    let kind = named.second.0 in
-    let count = number_fits (count_width version) a.count h.first.rest h.first.second in
-    grind (arith, nat_tests, and_from, name, kind, count, equal_true (length a.bytes) (a.count * size_of a.kind) whole)
+attr_fits version a bytes (whole, h) = grind (arith, nat_tests, name_fits, number_fits, equal_true)
 
 var_fits : (header : Header) (v : Var) (bytes : List ℕ) → VariableOf header.version v bytes → is_redefinable_var header v ≡ true
 var_fits header v bytes h =
     let version = header.version in
-    let typed = h.first.first in
-    let listed = typed.first in
-    let shaped = listed.first in
-    let counted = shaped.first in
-    let name = name_fits version v.name counted.front counted.first in
-    let few = number_fits (count_width version) (length v.dims) counted.rest counted.second in
-    let dims = each_fits (λ id. Number (count_width version) id) (λ id. fits_count version id) (λ id part p. number_fits (count_width version) id part p) v.dims shaped.rest shaped.second in
-    let attrs = list_fits version 12 (AttributeOf version) (is_writable_attr version) (attr_fits version) v.attrs listed.rest listed.second in
-    let kind = typed.second.0 in
-    grind (arith, nat_tests, and_from, name, few, dims, attrs, kind, number_fits (begin_width version) v.begin h.rest h.second)
+    grind (arith, nat_tests, name_fits version v.name h.first.first.first.first.first.front h.first.first.first.first.first.first, number_fits (count_width version) (length v.dims) h.first.first.first.first.first.rest, each_fits, list_fits version 12 (AttributeOf version) (is_writable_attr version) (attr_fits version) v.attrs, attr_fits version, number_fits (begin_width version) v.begin h.rest h.second, h.first.first, h.first.first.first, h.first.first.first.first, h.first.first.first.first.first, h.first.first.first.first.first.second, h.first.first.first.first.rest, h.first.first.first.first.second, h.first.first.first.rest)
 
 records_fit : (version n : ℕ) (bytes : List ℕ) → RecordsOf version n bytes → (n == all_ones version) ≡ false → fits_count version n ≡ true
-records_fit version n bytes (inl h) e = number_fits (count_width version) n bytes h
-records_fit version n bytes (inr h) e = absurd (let is = equal_true n (all_ones version) h.0 in cc)
+records_fit version n bytes xs e = grind (arith, nat_tests)
 
 dim_fits : (version : ℕ) (d : Dim) (bytes : List ℕ) → DimensionOf version d bytes → (fits_count version (length d.name) && fits_count version d.len) ≡ true
-dim_fits version d bytes h =
-    and_from (fits_count version (length d.name)) (fits_count version d.len) (name_fits version d.name h.front h.first) (number_fits (count_width version) d.len h.rest h.second)
+dim_fits version d bytes h = grind (arith, nat_tests, name_fits, number_fits)
 
 -- ---- the fields that the reader comes to
 
@@ -95,8 +76,7 @@ field_passes v asks rest later f G a long go b x text more e p clean =
     (told.0, subst (λ (n : ℕ). Clean v b later (x + n)) (sym len) (subst (λ (next : List Ask). Clean v b next (x + field_len v f)) told.1 step.1))
 
 back_by : (t : Bool) (n : ℕ) → 2 * n < 256 ^ byte_len (cond t w64 w32) → (big_endian (to_be_bytes (cond t w64 w32) n) ≡ n) × (length (to_be_bytes (cond t w64 w32) n) ≡ byte_len (cond t w64 w32))
-back_by true n h = let less : 2 * n < 2 ^ 64 = h in (back_8 n (omega (arith, less)), refl)
-back_by false n h = let less : 2 * n < 2 ^ 32 = h in (back_4 n (omega (arith, less)), refl)
+back_by t n h = grind (arith, nat_tests)
 
 -- a number of the width of counts
 number_passes : (v n : ℕ) (asks rest later : List Ask) (f : Field) (G : Type 0) → asked asks ≡ Some (f, rest) → field_len v f ≡ byte_len (count_width v)
@@ -174,8 +154,7 @@ magic_passes : (v : ℕ) (rest : List Ask) → Passes v (One Magic ∷ rest) res
 magic_passes v rest = field_passes v (One Magic ∷ rest) rest rest Magic (Unit {0}) refl (λ text p. ap (λ (t : List ℕ). length t) p) (λ b x text p here right. (tt, refl))
 
 records_long : (v n : ℕ) (text : List ℕ) → RecordsOf v n text → length text ≡ byte_len (count_width v)
-records_long v n text (inl h) = ap (λ (t : List ℕ). length t) h.1 ∙ width_long (v == 5) n
-records_long v n text (inr h) = ap (λ (t : List ℕ). length t) h.1 ∙ width_long (v == 5) n
+records_long v n text xs = grind (arith, nat_tests)
 
 records_pass : (v n : ℕ) (rest : List Ask) → Passes v (One Records ∷ rest) rest (RecordsOf v n) (Unit {0})
 records_pass v n rest = field_passes v (One Records ∷ rest) rest rest Records (Unit {0}) refl (records_long v n) (λ b x text p here right. (tt, refl))
@@ -218,11 +197,7 @@ dims_fit : (version : ℕ) (dims : List Dim) (bytes : List ℕ) → ListOf versi
     → is_writable_list version (is_writable_dim version) dims ≡ true
 dims_fit version dims bytes h within =
     let spelled = list_fits version 10 (DimensionOf version) (λ d. fits_count version (length d.name) && fits_count version d.len) (dim_fits version) dims bytes h in
-    and_from (fits_count version (length dims)) _ (and_first _ _ spelled)
-    (each_passes (is_writable_dim version) dims
-    (each_both (λ d. (fits_count version (length d.name) && fits_count version d.len) ≡ true) IsWithinLimit (λ d. is_writable_dim version d ≡ true)
-    (λ d p q. and_from (fits_count version (length d.name) && fits_count version d.len) (nat_le d.len file_limit) p q) dims
-    (passes_each (λ d. fits_count version (length d.name) && fits_count version d.len) dims (and_second _ _ spelled)) within))
+    grind (arith, nat_tests, and_first, each_passes, each_both, passes_each, and_second, IsWithinLimit)
 
 pub opened : (header : Header) (bytes : List ℕ) (len : ℕ) → BeginsWith bytes header len → is_sound header ≡ true → is_redefinable header ≡ true
 opened header bytes len h sound =

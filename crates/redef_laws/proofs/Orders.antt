@@ -25,10 +25,7 @@ pairs_map R f (x ∷ xs) h = ((λ y m. let r = map_in f xs y m in subst (λ z. R
 
 pub pairs_append : {X : Type 0} (R : X → X → Type 0) (xs ys : List X) → Pairwise R xs → Pairwise R ys → ((x y : X) → In xs x → In ys y → R x y) → Pairwise R (xs ++ ys)
 pairs_append R [] ys h k f = k
-pairs_append R (x ∷ xs) ys h k f = (
-  (λ y m. elim (in_either xs ys y m) [ inl g ↦ h.0 y g | inr g ↦ f x y (inl refl) g ]),
-  pairs_append R xs ys h.1 k (λ z y m n. f z y (inr m) n),
-)
+pairs_append R (x ∷ xs) ys h k f = grind (arith, nat_tests, in_either xs ys, pairs_append R xs ys h.1 k)
 
 pub reverse_in : {X : Type 0} (xs : List X) (x : X) → In (reverse xs) x → In xs x
 reverse_in [] x h = h
@@ -60,9 +57,7 @@ pairs_range a (suc n) = ((λ q m. let low = range_low (a + 1) n q m in omega ari
 pub pairs_flat : {X Y : Type 0} (R : Y → Y → Type 0) (f : X → List Y) (xs : List X) → ((x : X) → In xs x → Pairwise R (f x))
     → Pairwise (λ x y. (s t : Y) → In (f x) s → In (f y) t → R s t) xs → Pairwise R (flat_map f xs)
 pairs_flat R f [] own h = tt
-pairs_flat R f (x ∷ xs) own h =
-    pairs_append R (f x) (flat_map f xs) (own x (inl refl)) (pairs_flat R f xs (λ y m. own y (inr m)) h.1)
-    (λ s t m n. let r = flat_in f xs t n in h.0 r.0 r.1 s t m r.2)
+pairs_flat R f (x ∷ xs) own h = grind (arith, nat_tests, pairs_append, pairs_flat R f xs, flat_in, Pairwise, flat_map)
 
 -- ---- sorted lists
 
@@ -121,7 +116,4 @@ same_pairs {X} R turn (x ∷ xs) (y ∷ ys) h k m = λ i. heads i ∷ same_pairs
     ]
 
     tail : (u v : X) (us vs : List X) → ((w : X) → In us w → R u w) → u ≡ v → ((w : X) → In (u ∷ us) w → In (v ∷ vs) w) → (w : X) → In us w → In vs w
-    tail u v us vs past e into w n = elim (into w (inr n)) [
-      | inl f ↦ let own = subst (λ (z : X). R u z) (sym (e ∙ f)) (past w n) in absurd (turn u u own own)
-      | inr i ↦ i
-    ]
+    tail u v us vs past e into w n = grind (arith, nat_tests)

@@ -1,7 +1,7 @@
 -- Where each variable of a redefined header begins.
 --     fixed_place, old_place, new_place     of a fixed variable, an old record variable, a new one
 --     any_place                             each number has a begin
-use Rattle.redef_laws.proofs.Words.{◌≡◌, ℕ, ◌+◌, ◌-◌, ◌<◌, ◌≤◌, min, List, [], ◌∷◌, ◌++◌, map, true, false, Option, Some, None, refl, sym, ap, subst, ◌∙◌, inl, inr, ◌⊎◌, arith, cases_lt, holds_or_not, not, nat_lt, nat_le, fold, slice_get, unwrap_or, enumerate_from, AllByRecursion, find-append, not-true, lt-ltb, le-leb, leb-true, ltb-true, ltb-false, each_append, each_weaker, in_filter, in_map, map_in, Header, Var, slab, vsize, is_record, header_len, least, Numbered, fixed_of, records_in, old_of, new_of, by_begin, fixed_order, fixed_begins, front_after, first_record, record_begins, begins_by_number, begin_of_number, In, in_left, in_right, nat_tests}
+use Rattle.redef_laws.proofs.Words.{◌≡◌, ℕ, ◌+◌, ◌-◌, ◌<◌, ◌≤◌, min, List, [], ◌∷◌, ◌++◌, map, true, false, Option, Some, None, refl, ap, subst, inl, inr, ◌⊎◌, arith, holds_or_not, not, nat_lt, nat_le, fold, slice_get, unwrap_or, enumerate_from, AllByRecursion, find-append, not-true, lt-ltb, le-leb, leb-true, ltb-true, ltb-false, each_append, each_weaker, in_filter, in_map, map_in, Header, Var, slab, vsize, is_record, header_len, least, Numbered, fixed_of, records_in, old_of, new_of, by_begin, fixed_order, fixed_begins, front_after, first_record, record_begins, begins_by_number, begin_of_number, In, in_left, in_right, nat_tests}
 use Rattle.redef_laws.proofs.FieldLaws.{each_both}
 use Rattle.redef_laws.proofs.BeginLaws.{IsBegin, record_end, in_numbered, each_filter, each_filtered, each_by_begin, in_by_begin, Numbers, numbers_of, at_number, fixed_begin, HasNone, fixed_none, mapped_begins, map_begin, map_none, vsizes, record_begin}
 
@@ -80,14 +80,7 @@ not_fixed header n k v g e =
     (each_fixed (λ p. not (is_record header p.1) ≡ true) header n (each_filtered (λ (p : Numbered). not (is_record header p.1)) (numbered header)))
   where
     other : (p : Numbered) → slice_get header.vars p.0 ≡ Some p.1 → is_record header p.1 ≡ false → p.0 ≡ k → ⊥
-    other p there plain same =
-        let found = ap (λ (m : ℕ). slice_get header.vars m) same in
-        let var : p.1 ≡ v = cc in
-        let kind = ap (λ (w : Var). is_record header w) var in
-        absurd cc
-
-not_old : (header : Header) (n k : ℕ) → n ≤ k → HasNone k (old_records header n)
-not_old header n k l = grind (arith, nat_tests, each_weaker, ltb-true, each_filtered)
+    other p there plain same = grind (arith, nat_tests)
 
 -- ---- places
 
@@ -97,21 +90,13 @@ first_of a b c k x e = grind (arith, nat_tests, find-append)
 second_of : (a b c : List (ℕ × ℕ)) (k : ℕ) (x : ℕ × ℕ) → at_number a k ≡ None → at_number b k ≡ Some x → at_number (a ++ b ++ c) k ≡ Some x
 second_of a b c k x none e = grind (arith, nat_tests, find-append)
 
-third_of : (a b c : List (ℕ × ℕ)) (k : ℕ) (x : ℕ × ℕ) → at_number a k ≡ None → at_number b k ≡ None → at_number c k ≡ Some x → at_number (a ++ b ++ c) k ≡ Some x
-third_of a b c k x none none' e = grind (arith, nat_tests, find-append)
-
 abbrev pub IsFixedPlace : Header → ℕ → ℕ → Var → ℕ → Type 0
 IsFixedPlace header n k v b = IsBegin (fixed_begins header) (slab header) (λ w. w.begin) (front_after header) (header_len header) (fixed_order header n) k v b
 
 pub fixed_place : (header : Header) (n k : ℕ) (v : Var) → slice_get header.vars k ≡ Some v → is_record header v ≡ false
     → (b : ℕ) × IsFixedPlace header n k v b × (at_number (begins_by_number header n) k ≡ Some (k, b))
 fixed_place header n k v g e =
-    let found = fixed_begin header header.vars (header_len header) (fixed_order header n) k v (fixed_numbers header n) g (in_fixed header n k v g e) in (
-      found.0,
-      found.1,
-      first_of (fixed_begins header (header_len header) (fixed_order header n)) (mapped_begins (old_place_of header n) (placed_records header n))
-          (record_begins header (new_from header n) (new_records header n)) k (k, found.0) found.1.at,
-    )
+    let found = fixed_begin header header.vars (header_len header) (fixed_order header n) k v (fixed_numbers header n) g (in_fixed header n k v g e) in grind (arith, nat_tests, first_of, found.0, found.1, found.1.at)
 
 pub old_place : (header : Header) (n k : ℕ) (v : Var) → slice_get header.vars k ≡ Some v → is_record header v ≡ true → k < n
     → at_number (begins_by_number header n) k ≡ Some (k, old_place_of header n v)
@@ -128,22 +113,12 @@ IsNewPlace header n k v b = IsBegin (record_begins header) (vsize header) (λ w.
 pub new_place : (header : Header) (n k : ℕ) (v : Var) → slice_get header.vars k ≡ Some v → is_record header v ≡ true → n ≤ k
     → (b : ℕ) × IsNewPlace header n k v b × (at_number (begins_by_number header n) k ≡ Some (k, b))
 new_place header n k v g e l =
-    let found = record_begin header header.vars (new_from header n) (new_records header n) k v (new_numbers header n) g (in_new header n k v g e l) in (
-      found.0,
-      found.1,
-      third_of (fixed_begins header (header_len header) (fixed_order header n)) (mapped_begins (old_place_of header n) (placed_records header n))
-          (record_begins header (new_from header n) (new_records header n)) k (k, found.0)
-          (fixed_none header (header_len header) (fixed_order header n) k (not_fixed header n k v g e))
-          (map_none (old_place_of header n) (placed_records header n) k (each_by_begin (λ p. p.0 ≡ k → ⊥) (old_records header n) (not_old header n k l))) found.1.at,
-    )
+    let found = record_begin header header.vars (new_from header n) (new_records header n) k v (new_numbers header n) g (in_new header n k v g e l) in grind (arith, nat_tests, find-append, fixed_none header (header_len header) (fixed_order header n) k (not_fixed header n k v g e), not_fixed header n k v g e, map_none (old_place_of header n) (placed_records header n) k, each_by_begin, each_weaker, each_filtered, ltb-true, found.0, found.1, found.1.at, old_records)
 
 pub any_place : (header : Header) (n k : ℕ) (v : Var) → slice_get header.vars k ≡ Some v → (b : ℕ) × (at_number (begins_by_number header n) k ≡ Some (k, b))
 any_place header n k v g = elim (holds_or_not (is_record header v)) [
   | inr e ↦ (let found = fixed_place header n k v g e in (found.0, found.2))
-  | inl e ↦ elim (cases_lt k n) [
-    | inl l ↦ (old_place_of header n v, old_place header n k v g e l)
-    | inr l ↦ (let found = new_place header n k v g e l in (found.0, found.2))
-  ]
+  | inl e ↦ grind (arith, nat_tests, old_place header n k v g e, new_place header n k v g e)
 ]
 
 pub begin_is : (found : List (ℕ × ℕ)) (k b : ℕ) → at_number found k ≡ Some (k, b) → begin_of_number found k ≡ b
@@ -162,19 +137,13 @@ min_each (x ∷ xs) a y (inr h) = min_each xs (min a x) y h
 
 min_is : (xs : List ℕ) (a : ℕ) → (fold (λ x y. min x y) a xs ≡ a) ⊎ In xs (fold (λ x y. min x y) a xs)
 min_is [] a = inl refl
-min_is (x ∷ xs) a = elim (min_is xs (min a x)) [
-  | inr h ↦ inr (inr h)
-  | inl s ↦ elim (cases_lt x a) [ inl l ↦ inr (inl (sym (s ∙ omega arith))) | inr l ↦ inl (s ∙ omega arith) ]
-]
+min_is (x ∷ xs) a = grind (arith, nat_tests, min_is xs (min a x))
 
 pub least_low : (xs : List ℕ) (y : ℕ) → In xs y → unwrap_or (least xs) 0 ≤ y
-least_low [] y h = absurd h
-least_low (x ∷ xs) y (inl e) = let l = min_low xs x in omega arith
-least_low (x ∷ xs) y (inr h) = min_each xs x y h
+least_low xs y h = grind (arith, nat_tests, min_low, min_each)
 
 least_in : (xs : List ℕ) (y : ℕ) → In xs y → In xs (unwrap_or (least xs) 0)
-least_in [] y h = absurd h
-least_in (x ∷ xs) y h = elim (min_is xs x) [ inl e ↦ inl (sym e) | inr g ↦ inr g ]
+least_in xs y h = grind (arith, nat_tests, min_is)
 
 pub old_first_low : (header : Header) (n : ℕ) (p : Numbered) → In (old_records header n) p → old_first header n ≤ p.1.begin
 old_first_low header n p h =

@@ -1,7 +1,7 @@
 -- Where the old variables begin in a redefined header: no lower than before, and in the same order.
-use Rattle.redef_laws.proofs.Words.{◌≡◌, ℕ, ◌+◌, ◌-◌, ◌<◌, ◌≤◌, refl, sym, ◌∙◌, ap, List, [], ◌∷◌, ◌++◌, map, Bool, true, false, Option, Some, arith, nat_tests, find-append, leb-true, leb-false, begins_before, slice_get, find, not, nat_lt, ◌==◌, unwrap_or, enumerate_from, option_or, lt-ltb, eqb_tells, holds_or_not, inl, inr, Header, Var, is_record, slab, header_len, least, Numbered, fixed_of, old_of, new_of, by_begin, fixed_order, begin_at, fixed_begins, front_after, first_record, record_begins, begins_by_number, begin_of_number, In, in_filter, in_numbered}
-use Rattle.redef_laws.proofs.BeginLaws.{at_number, in_by_begin, each_by_begin, each_filter, fixed_begin, found_is, head_begin, in_tail, mapped_begins, Numbers, numbers_of, same_var, tail_begin}
-use Rattle.redef_laws.proofs.PlaceLaws.{begin_is, first_of, first_place, fixed_end, fixed_place, in_old, new_from, new_records, numbered, old_first, old_first_low, old_place, old_place_of, old_records, placed_records}
+use Rattle.redef_laws.proofs.Words.{◌≡◌, ℕ, ◌+◌, ◌-◌, ◌<◌, ◌≤◌, refl, sym, ◌∙◌, ap, List, [], ◌∷◌, ◌++◌, map, true, false, Option, Some, arith, nat_tests, find-append, leb-true, leb-false, begins_before, slice_get, not, ◌==◌, unwrap_or, enumerate_from, option_or, lt-ltb, holds_or_not, inl, inr, Header, Var, is_record, slab, header_len, least, Numbered, fixed_of, old_of, new_of, by_begin, fixed_order, begin_at, fixed_begins, front_after, first_record, begins_by_number, begin_of_number, In, in_filter, in_numbered}
+use Rattle.redef_laws.proofs.BeginLaws.{at_number, in_by_begin, each_by_begin, each_filter, fixed_begin, found_is, head_begin, in_tail, Numbers, numbers_of, same_var, tail_begin}
+use Rattle.redef_laws.proofs.PlaceLaws.{begin_is, first_of, first_place, fixed_end, fixed_place, in_old, new_records, numbered, old_first, old_first_low, old_place, old_place_of, old_records}
 use Rattle.redef_laws.proofs.Orders.{Orders, Pairwise, pairs_by_place, sorted_pairs}
 
 -- ---- fixed variables
@@ -12,33 +12,26 @@ AreOrdered vars = Pairwise (λ v w. v.1.begin ≤ w.1.begin) vars
 begins_order : Orders begins_before (λ v w. Unit {0}) (λ v w. v.1.begin ≤ w.1.begin)
 begins_order = record { passed = λ v w u e. leb-true v.1.begin w.1.begin e; failed = λ v w u e. (let l = leb-false v.1.begin w.1.begin e in omega arith); on = λ v w x l m. omega (arith, l, m) }
 
-by_begin_ordered : (vars : List Numbered) → AreOrdered (by_begin vars)
-by_begin_ordered vars =
-    sorted_pairs begins_before (λ v w. Unit {0}) (λ v w. v.1.begin ≤ w.1.begin) begins_order vars (pairs_by_place (λ v w. Unit {0}) vars (λ i j v w l e f. tt))
-
 -- The lower of two variables in order is placed lower.
 fixed_rise : (header : Header) (vars : List Var) (front : ℕ) (list : List Numbered) (k m : ℕ) (u x : Var) (b c : ℕ) → Numbers vars list → AreOrdered list
     → slice_get vars k ≡ Some u → slice_get vars m ≡ Some x → In list (k, u) → In list (m, x) → u.begin < x.begin
     → at_number (fixed_begins header front list) k ≡ Some (k, b) → at_number (fixed_begins header front list) m ≡ Some (m, c) → b ≤ c
 fixed_rise header vars front [] k m u x b c all ordered at at' h g l e f = absurd h
 fixed_rise header vars front (p ∷ list) k m u x b c all ordered at at' h g l e f =
-    let here = begin_at front p.1 in
-    let next = here + slab header p.1 in
-    let rest = fixed_begins header next list in
-    elim (eqb_tells p.0 k) [
-      | inl i ↦ elim (eqb_tells p.0 m) [
-        | inl j ↦ absurd (omega (arith, ap (λ (v : Var). v.begin) (sym (same_var vars k p.0 u p.1 at all.0 i.1) ∙ same_var vars m p.0 x p.1 at' all.0 j.1)))
-        | inr j ↦
-            (let found = fixed_begin header vars next list m x all.1 at' (in_tail p list m x j.0 g) in
-            omega (arith, head_begin p here k b rest i.0 e, found_is rest m c found.0 (tail_begin p here m c rest j.0 f) found.1.at, found.1.low))
-      ]
-      | inr i ↦ elim (eqb_tells p.0 m) [
-        | inl j ↦ absurd (omega (arith, ordered.0 (k, u) (in_tail p list k u i.0 h), ap (λ (v : Var). v.begin) (same_var vars m p.0 x p.1 at' all.0 j.1)))
-        | inr j ↦
-            fixed_rise header vars next list k m u x b c all.1 ordered.1 at at' (in_tail p list k u i.0 h) (in_tail p list m x j.0 g) l
-            (tail_begin p here k b rest i.0 e) (tail_begin p here m c rest j.0 f)
-      ]
-    ]
+    grind (
+      arith,
+      nat_tests,
+      same_var vars k p.0 u p.1 at all.0,
+      same_var vars m p.0 x p.1 at' all.0,
+      fixed_begin header vars ((begin_at front p.1) + slab header p.1) list m x all.1 at',
+      in_tail p list m x,
+      head_begin p (begin_at front p.1) k b (fixed_begins header ((begin_at front p.1) + slab header p.1) list),
+      found_is (fixed_begins header ((begin_at front p.1) + slab header p.1) list) m c,
+      tail_begin p (begin_at front p.1) m c (fixed_begins header ((begin_at front p.1) + slab header p.1) list),
+      in_tail p list k u,
+      fixed_rise header vars ((begin_at front p.1) + slab header p.1) list k m u x b c all.1 ordered.1 at at',
+      tail_begin p (begin_at front p.1) k b (fixed_begins header ((begin_at front p.1) + slab header p.1) list),
+    )
 
 fixed_begins-append : (header : Header) (front : ℕ) (vars others : List Numbered)
     → fixed_begins header front (vars ++ others) ≡ fixed_begins header front vars ++ fixed_begins header (front_after header front vars) others
@@ -54,10 +47,7 @@ fixed_is_old : (header : Header) (n k : ℕ) (v : Var) → slice_get header.vars
 fixed_is_old header n k v h l e = grind (arith, nat_tests, in_by_begin, in_numbered header.vars k v h, lt-ltb k n l, in_filter)
 
 fixed_numbers : (header : Header) (n : ℕ) → Numbers header.vars (by_begin (old_fixed header n))
-fixed_numbers header n =
-    each_by_begin (λ p. slice_get header.vars p.0 ≡ Some p.1) (old_fixed header n)
-    (each_filter (λ (p : Numbered). slice_get header.vars p.0 ≡ Some p.1) (λ p. nat_lt p.0 n) (fixed_of header (numbered header))
-    (each_filter (λ (p : Numbered). slice_get header.vars p.0 ≡ Some p.1) (λ p. not (is_record header p.1)) (numbered header) (numbers_of header.vars)))
+fixed_numbers header n = grind (arith, nat_tests, each_by_begin, each_filter, fixed_of, numbered, numbers_of, old_fixed, not)
 
 fixed_found : (header : Header) (n k b : ℕ) → at_number (fixed_begins header (header_len header) (by_begin (old_fixed header n))) k ≡ Some (k, b)
     → begin_of_number (begins_by_number header n) k ≡ b
@@ -68,9 +58,7 @@ fixed_found header n k b h =
     ap (λ (bs : List (ℕ × ℕ)). at_number bs k) (fixed_begins-append header (header_len header) old others)
     ∙ find-append (λ q. q.0 == k) (fixed_begins header (header_len header) old) (fixed_begins header (front_after header (header_len header) old) others)
     ∙ ap (λ o. option_or o (at_number (fixed_begins header (front_after header (header_len header) old) others) k)) h in
-    begin_is (begins_by_number header n) k b
-    (first_of (fixed_begins header (header_len header) (fixed_order header n)) (mapped_begins (old_place_of header n) (placed_records header n))
-    (record_begins header (new_from header n) (new_records header n)) k (k, b) fixed)
+    grind (arith, nat_tests, begin_is, first_of, new_records)
 
 -- ---- the laws
 
@@ -105,12 +93,6 @@ begins_rise header n k m v w h g i j same l = elim (holds_or_not (is_record head
       let first = fixed_is_old header n k v h i e in
       let second = fixed_is_old header n m w g j (sym same ∙ e) in
       let one = fixed_begin header header.vars (header_len header) list k v numbers h first in
-      let two = fixed_begin header header.vars (header_len header) list m w numbers g second in
-      omega (
-        arith,
-        fixed_found header n k one.0 one.1.at,
-        fixed_found header n m two.0 two.1.at,
-        fixed_rise header header.vars (header_len header) list k m v w one.0 two.0 numbers (by_begin_ordered (old_fixed header n)) h g first second l one.1.at two.1.at,
-      ))
+      grind (arith, nat_tests, fixed_begin header header.vars (header_len header) list m w numbers g second, fixed_found header n k one.0 one.1.at, fixed_found header n m (fixed_begin header header.vars (header_len header) list m w numbers g second).0, fixed_rise header header.vars (header_len header) list k m v w one.0, sorted_pairs, begins_order, pairs_by_place))
   | inl e ↦ grind (arith, nat_tests, record_begin_is header n k v h i e, record_begin_is header n m w g j (sym same ∙ e))
 ]

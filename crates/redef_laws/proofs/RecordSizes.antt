@@ -1,5 +1,5 @@
 -- A record grows by the variables that are added to it.
-use Rattle.redef_laws.proofs.Words.{◌≡◌, ℕ, suc, ◌*◌, ◌≤◌, refl, ◌∙◌, ap, List, [], ◌∷◌, ◌++◌, map, Bool, true, false, cond, Some, None, arith, sum_by-cons, slice_get, filter, sum_by, Header, Var, size_of, product, without_record, starts_with_zero, lengths, is_record, slab, recsize, record_size, round_up, KeepsVars, nat_tests}
+use Rattle.redef_laws.proofs.Words.{◌≡◌, ℕ, suc, ◌*◌, ◌≤◌, refl, ap, List, [], ◌∷◌, ◌++◌, map, Some, None, arith, sum_by-cons, slice_get, filter, sum_by, Header, Var, size_of, product, without_record, starts_with_zero, lengths, is_record, slab, recsize, record_size, round_up, KeepsVars, nat_tests}
 
 pub same_slab : (old new : Header) (v w : Var) → w.kind ≡ v.kind → lengths new w ≡ lengths old v → slab new w ≡ slab old v
 same_slab old new v w kind lens = λ t. product (without_record (lens t)) * size_of (kind t)
@@ -22,19 +22,7 @@ sizes_more old new (v ∷ vs) [] h = absurd (let e : None ≡ Some (h 0 v refl).
 sizes_more old new (v ∷ vs) (y ∷ ws) h =
     let rest = sizes_more old new vs ws (λ k x e. h (suc k) x e) in
     let found = h 0 v refl in
-    let there : Some y ≡ Some found.0 = found.1 in
-    let same : y ≡ found.0 = cc in
-    let lens = ap (λ (x : Var). lengths new x) same ∙ found.3 in (
-      rest.0,
-      ap (λ (t : Bool). map (λ x. slab new x) (cond t (y ∷ filter (λ x. is_record new x) ws) (filter (λ x. is_record new x) ws))) (same_record old new v y lens)
-          ∙ by_kind rest.0 (same_slab old new v y (ap (λ (x : Var). x.kind) same ∙ found.2) lens) rest.1 (is_record old v),
-    )
-  where
-    by_kind : (more : List ℕ) → slab new y ≡ slab old v → sizes_in new ws ≡ sizes_in old vs ++ more → (t : Bool)
-        → map (λ x. slab new x) (cond t (y ∷ filter (λ x. is_record new x) ws) (filter (λ x. is_record new x) ws))
-        ≡ map (λ x. slab old x) (cond t (v ∷ filter (λ x. is_record old x) vs) (filter (λ x. is_record old x) vs)) ++ more
-    by_kind more size e true = λ i. size i ∷ e i
-    by_kind more size e false = e
+    grind (arith, nat_tests, same_record, same_slab, found.1, found.0, found.3, rest.0, found.2, rest.1, filter)
 
 -- ---- their sum
 
@@ -44,7 +32,6 @@ sum_grows (n ∷ xs) ys = omega (arith, sum_grows xs ys, sum_by-cons (λ n. roun
 
 size_grows : (xs ys : List ℕ) → record_size xs ≤ record_size (xs ++ ys)
 size_grows (n ∷ []) (m ∷ ys) =
-    let up : n ≤ round_up 4 n = omega arith in
     omega (arith, sum_by-cons (λ n. round_up 4 n) n (m ∷ ys))
 size_grows (n ∷ m ∷ xs) ys = sum_grows (n ∷ m ∷ xs) ys
 size_grows k ys = omega arith

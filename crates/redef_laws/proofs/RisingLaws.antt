@@ -1,5 +1,5 @@
 -- The slabs of the old variables as they rise: they are all slabs, and each begins above those before it.
-use Rattle.redef_laws.proofs.Words.{◌≡◌, ℕ, ◌+◌, ◌<◌, ◌≤◌, refl, sym, ◌∙◌, ap, subst, inl, inr, ◌↔◌, List, map, Bool, true, false, true≢false, holds_or_not, in_range, range_high, Some, reverse, arith, cases_eq, row_fits, filter, flat_map, zip, slice_get, not, range_with_len, not-true, leb-true, leb-false, Header, Var, Slab, highest_first, slabs, slabs_of, stands_above, stands_below, stores, zero_calls, header_len, is_sound, is_record, recsize, slab, slab_fits, In, filter_in, in_filter, in_left, in_right, in_either, in_flat, flat_in, first_slab, fixed_slabs, record_slabs, in_record, slabs_of_record, rising, changes, gaps, IsRisen, new_end, in_map, map_in, zip_in, nat_tests, Option}
+use Rattle.redef_laws.proofs.Words.{◌≡◌, ℕ, ◌+◌, ◌<◌, ◌≤◌, refl, sym, ◌∙◌, ap, inl, inr, ◌↔◌, List, map, Bool, true, false, true≢false, holds_or_not, in_range, range_high, Some, reverse, arith, cases_eq, row_fits, filter, flat_map, zip, slice_get, not, range_with_len, Header, Var, Slab, highest_first, slabs, slabs_of, stands_above, stands_below, stores, zero_calls, header_len, is_sound, is_record, recsize, slab, slab_fits, In, filter_in, in_filter, in_left, in_right, in_either, in_flat, flat_in, first_slab, fixed_slabs, record_slabs, in_record, slabs_of_record, rising, changes, gaps, IsRisen, new_end, in_map, map_in, zip_in, nat_tests, Option}
 use Rattle.serial_spec.specs.Lists.{sorted_by}
 use Rattle.redef_laws.proofs.Orders.{Orders, Pairwise, pairs_append, pairs_by_place, pairs_filter, pairs_flat, pairs_map, pairs_range, pairs_reverse, pairs_weaker, reverse_in, in_reverse, same_pairs, sorted_in, in_sorted, sorted_pairs}
 use Rattle.redef_laws.proofs.SoundVars.{slab_holds, vars_apart}
@@ -33,17 +33,10 @@ record IsOf (old new : Header) (t : Bool) (row : ℕ) (s : Slab) : Type 0 where
   is : in_row old new row (first_slab old var) ≡ s
 
 fixed_of : (old new : Header) (s : Slab) → In (fixed_slabs old new) s → IsOf old new false 0 s
-fixed_of old new s m =
-    let at = map_in (first_slab old) (fixed_pairs old new) s (sorted_in stands_below (map (first_slab old) (fixed_pairs old new)) s m) in
-    let p = filter_in (λ q. not (is_record old q.0)) (pairs old new) at.0 at.1 in
-    record { var = at.0; there = p.0; kind = not-true (is_record old at.0.0) p.1; is = in_place (first_slab old at.0) (recsize old) (recsize new) ∙ at.2 }
+fixed_of old new s m = grind (arith, nat_tests, map_in, sorted_in, filter_in, in_place, not, pairs, first_slab, fixed_pairs, stands_below)
 
 record_of : (old new : Header) (r : ℕ) (s : Slab) → In (slabs_of_record old new r) s → IsOf old new true r s
-record_of old new r s m =
-    let at = map_in (in_row old new r) (record_slabs old new) s m in
-    let first = map_in (first_slab old) (record_pairs old new) at.0 (sorted_in stands_below (map (first_slab old) (record_pairs old new)) at.0 at.1) in
-    let p = filter_in (λ q. is_record old q.0) (pairs old new) first.0 first.1 in
-    record { var = first.0; there = p.0; kind = p.1; is = ap (in_row old new r) first.2 ∙ at.2 }
+record_of old new r s m = grind (arith, nat_tests, map_in, sorted_in, filter_in, pairs, in_row)
 
 -- ---- the slabs as they rise are all slabs
 
@@ -62,22 +55,7 @@ rising_in old new s h = elim (in_either (fixed_slabs old new) (flat_map (slabs_o
 in_rising : (old new : Header) (s : Slab) → In (slabs old new) s → In (rising old new) s
 in_rising old new s h =
     let found = flat_in (slabs_of old new) (pairs old new) s h in
-    let p = found.0 in
-    let r = row_of old new p s found.2 in
-    elim (holds_or_not (is_record old p.0)) [
-      | inr e ↦
-          in_left (fixed_slabs old new) (flat_map (slabs_of_record old new) (records old)) s
-          (in_sorted stands_below (map (first_slab old) (fixed_pairs old new)) s
-          (subst (In (map (first_slab old) (fixed_pairs old new))) (sym (in_place (first_slab old p) (recsize old) (recsize new)) ∙ ap (λ q. in_row old new q (first_slab old p)) (sym (r.once e)) ∙ r.is)
-          (in_map (first_slab old) (fixed_pairs old new) p (in_filter (λ q. not (is_record old q.0)) (pairs old new) p found.1 (ap not e)))))
-      | inl e ↦
-          in_right (fixed_slabs old new) (flat_map (slabs_of_record old new) (records old)) s
-          (in_flat (slabs_of_record old new) (records old) r.row s (in_range 0 old.records r.row (omega arith) (omega (arith, r.below e)))
-          (subst (In (slabs_of_record old new r.row)) r.is
-          (in_map (in_row old new r.row) (record_slabs old new) (first_slab old p)
-          (in_sorted stands_below (map (first_slab old) (record_pairs old new)) (first_slab old p)
-          (in_map (first_slab old) (record_pairs old new) p (in_filter (λ q. is_record old q.0) (pairs old new) p found.1 e))))))
-    ]
+    grind (arith, nat_tests, row_of old new found.0 s found.2, holds_or_not (is_record old found.0.0), in_left (fixed_slabs old new) (flat_map (slabs_of_record old new) (records old)) s, in_sorted stands_below (map (first_slab old) (fixed_pairs old new)) s, in_place (first_slab old found.0) (recsize old) (recsize new), in_map (first_slab old) (fixed_pairs old new) found.0, in_filter, in_right (fixed_slabs old new) (flat_map (slabs_of_record old new) (records old)) s, in_flat (slabs_of_record old new) (records old) (row_of old new found.0 s found.2).row s, in_range 0 old.records (row_of old new found.0 s found.2).row, in_map (in_row old new (row_of old new found.0 s found.2).row) (record_slabs old new) (first_slab old found.0), in_sorted stands_below (map (first_slab old) (record_pairs old new)) (first_slab old found.0), in_map (first_slab old) (record_pairs old new) found.0, found.1, in_row, first_slab, not, pairs, fixed_slabs)
 
 -- both lists of slabs have the same members
 pub rising_all : (old new : Header) (s : Slab) → In (rising old new) s ↔ In (slabs old new) s
@@ -89,20 +67,13 @@ different : (m n : ℕ) → m ≤ n → (m ≡ n → ⊥) → m < n
 different m n h k = grind (arith, nat_tests, cases_eq m n)
 
 below_orders : Orders stands_below Differ Below
-below_orders = record {
-  passed = λ s t d e. different s.from t.from (leb-true s.from t.from e) d;
-  failed = λ s t d e. leb-false s.from t.from e;
-  on = λ s t u l m. omega (arith, l, m);
-}
+below_orders = grind (arith, nat_tests, different)
 
 module _ (old new : Header) (sound : is_sound old ≡ true) where
   firsts_differ : Pairwise (λ p q. Differ (first_slab old p) (first_slab old q)) (pairs old new)
   firsts_differ = pairs_by_place (λ p q. Differ (first_slab old p) (first_slab old q)) (pairs old new) (λ i j p q l e f h.
       let a = (zip_at old.vars new.vars i p e).0 in
-      let b = (zip_at old.vars new.vars j q f).0 in
-      begins_differ (recsize old) 0 p.0.begin (slab old p.0) q.0.begin (slab old q.0) 0 0 0 0 (is_record old p.0) (is_record old q.0)
-      (vars_apart old i j p.0 q.0 sound a b (λ g. absurd (omega (arith, g, l)))) (slab_holds old i p.0 sound a) (slab_holds old j q.0 sound b)
-      (λ g. (refl, refl)) (λ g. (refl, refl)) (inr (inl (refl, refl))) (ap (λ n. n + 0) h))
+      grind (arith, nat_tests, zip_at old.vars new.vars j q f, begins_differ (recsize old) 0 p.0.begin (slab old p.0) q.0.begin (slab old q.0) 0 0 0 0 (is_record old p.0), vars_apart old i j p.0 q.0 sound a ((zip_at old.vars new.vars j q f).0), slab_holds old i p.0 sound a, slab_holds old j q.0 sound ((zip_at old.vars new.vars j q f).0)))
 
   kind_ascends : (t : Var × Var → Bool) → Pairwise Below (sorted_by stands_below (map (first_slab old) (filter t (pairs old new))))
   kind_ascends t =
@@ -119,10 +90,7 @@ module _ (old new : Header) (sound : is_sound old ≡ true) where
       let fits = slab_fits old b.0 q.0 b.1 e in
       elim (cases_eq a.0 b.0) [
         | inl g ↦ omega (arith, some, fits, ap (λ (v : Var). v.begin) (one_var (slice_get old.vars a.0) p.0 q.0 a.1 (ap (λ (i : ℕ). slice_get old.vars i) g ∙ b.1)))
-        | inr g ↦ elim (holds_or_not (is_record old p.0)) [
-          | inl f ↦ omega (arith, (vars_apart old a.0 b.0 p.0 q.0 sound a.1 b.1 g).both_records f e, some, fits, slab_holds old a.0 p.0 sound a.1)
-          | inr f ↦ omega (arith, (vars_apart old a.0 b.0 p.0 q.0 sound a.1 b.1 g).record_last f e, some, fits)
-        ]
+        | inr g ↦ grind (arith, nat_tests, holds_or_not (is_record old p.0), vars_apart old a.0 b.0 p.0 q.0 sound a.1 b.1 g, slab_holds old a.0 p.0 sound a.1)
       ]
     where
       one_var : (o : Option Var) (v w : Var) → o ≡ Some v → o ≡ Some w → v ≡ w
@@ -147,24 +115,16 @@ module _ (old new : Header) (sound : is_sound old ≡ true) where
       (pairs_weaker (λ r q. r < q) (λ r q. (s t : Slab) → In (slabs_of_record old new r) s → In (slabs_of_record old new q) t → Below s t) (records old)
       (λ r q i j l s t m n.
       let a = record_of old new r s m in
-      let b = record_of old new q t n in
-      let rows = row_fits r (recsize old) q (recsize old) l (omega arith) in
-      omega (arith, rows, next_below a.var b.var a.there b.there b.kind, ap (λ (x : Slab). x.from) a.is, ap (λ (x : Slab). x.from) b.is))
+      grind (arith, nat_tests, record_of old new q t n, row_fits r (recsize old) q (recsize old) l, next_below a.var (record_of old new q t n).var a.there (record_of old new q t n).there, a.is))
       (pairs_range 0 old.records)))
       (λ s t m n.
       let r = flat_in (slabs_of_record old new) (records old) t n in
-      let a = fixed_of old new s m in
-      let b = record_of old new r.0 t r.2 in
-      omega (arith, fixed_low a.var b.var a.there b.there a.kind b.kind, ap (λ (x : Slab). x.from) a.is, ap (λ (x : Slab). x.from) b.is))
+      grind (arith, nat_tests, fixed_of old new s m, record_of old new r.0 t r.2, fixed_low (fixed_of old new s m).var (record_of old new r.0 t r.2).var (fixed_of old new s m).there))
 
 -- ---- the laws
 
 above_orders : Orders stands_above Differ (λ s t. Below t s)
-above_orders = record {
-  passed = λ s t d e. different t.from s.from (leb-true t.from s.from e) (λ g. d (sym g));
-  failed = λ s t d e. leb-false t.from s.from e;
-  on = λ s t u l m. omega (arith, l, m);
-}
+above_orders = grind (arith, nat_tests, different)
 
 module _ (old new : Header) (raised : IsRaised old new) where
   pub rising_risen : IsRisen (header_len old) (header_len new) (rising old new)

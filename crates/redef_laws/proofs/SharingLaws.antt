@@ -1,5 +1,5 @@
 -- No two variables of a redefined header share a byte, and none has one of the header.
-use Rattle.redef_laws.proofs.Words.{lengths, cases_eq, size_pos, mul-le, ◌≡◌, ℕ, ◌+◌, ◌<◌, ◌≤◌, List, [], ◌∷◌, length, drop, map, Bool, true, false, cond, Some, sym, ap, ◌∙◌, inl, inr, ◌⊎◌, arith, ◌==◌, sum_by, slice_get, AllByRecursion, nat_tests, length-map, sum_by-cons, ltb-true, slab_below, each_in, Header, Dim, Var, Extra, size_of, product, length_of, without_record, is_record, slab, vsize, recsize, record_variables, is_sound, Numbered, added, recsize_shared, shares_by, count_two, In, filter_in, each_map, equal_above}
+use Rattle.redef_laws.proofs.Words.{size_pos, ◌≡◌, ℕ, ◌+◌, ◌<◌, ◌≤◌, List, [], ◌∷◌, length, drop, map, true, false, Some, ap, inl, inr, ◌⊎◌, arith, ◌==◌, slice_get, AllByRecursion, nat_tests, length-map, sum_by-cons, ltb-true, slab_below, each_in, Header, Dim, Var, Extra, length_of, is_record, slab, vsize, recsize, record_variables, is_sound, Numbered, added, recsize_shared, count_two, In, filter_in, each_map, equal_above}
 use Rattle.serial_spec.specs.Layout.{record_slabs}
 use Rattle.redef_laws.proofs.GrownLaws.{IsFitVar, is_record_at}
 use Rattle.redef_laws.proofs.SoundVars.{inner_holds, vars_apart}
@@ -15,11 +15,7 @@ lengths_later dims [] h = tt
 lengths_later dims (id ∷ ids) h = each_map (λ n. (n == 0) ≡ false) (λ id. length_of (slice_get dims id)) ids h
 
 pub slab_some : (header : Header) (v : Var) → IsFitVar header.version header.dims v → 0 < slab header v
-slab_some header v fit =
-    let holds = inner_holds (lengths header v) (lengths_later header.dims v.dims fit.later) in
-    let some = size_pos v.kind in
-    let whole = mul-le 1 1 (product (without_record (lengths header v))) (size_of v.kind) holds some in
-    omega arith
+slab_some header v fit = grind (arith, nat_tests, inner_holds, lengths_later, size_pos)
 
 -- ---- two record variables
 
@@ -27,14 +23,10 @@ slab_some header v fit =
 abbrev pub AreOrdered : ℕ → ℕ → ℕ → ℕ → ℕ → Type 0
 AreOrdered a n b m size = ((a + n ≤ b) × (b + m ≤ a + size)) ⊎ ((b + m ≤ a) × (a + n ≤ b + size))
 
-pub ordered_apart : (a n b m size : ℕ) → 0 < m → AreOrdered a n b m size → shares_by true true a n b m size ≡ false
-ordered_apart a n b m size some xs = grind (arith, nat_tests)
-
 -- two record variables of a sound header
 pub sound_records : (header : Header) (i j : ℕ) (v w : Var) → is_sound header ≡ true → slice_get header.vars i ≡ Some v → slice_get header.vars j ≡ Some w
     → is_record header v ≡ true → is_record header w ≡ true → (i ≡ j → ⊥) → AreOrdered v.begin (slab header v) w.begin (slab header w) (recsize header)
-sound_records header i j v w sound g f d e other =
-    elim ((vars_apart header i j v w sound g f other).both_records d e) [ inl t ↦ inl (t.next, t.last) | inr t ↦ inr (t.next, t.last) ]
+sound_records header i j v w sound g f d e other = grind (arith, nat_tests, vars_apart header i j v w sound g f other)
 
 -- ---- the size of a record
 
@@ -44,9 +36,7 @@ pub recsize_of_two : (header : Header) (n i j : ℕ) (v w : Var) → i < j → s
 recsize_of_two header n i j v w l g f d e =
     let two = count_two (λ x. is_record header x) header.vars i j v w l g f d e in
     let long = length-map (record_variables header header.vars) (λ x. slab header x) in
-    recsize_shared header
-    ∙ ap (λ (t : Bool). sum_by (λ x. cond t (slab header x) (vsize header x)) (record_variables header header.vars)) (equal_above (length (record_slabs header)) 1 (omega arith))
-    ∙ sym (all_sizes header n)
+    grind (arith, nat_tests, recsize_shared, equal_above, all_sizes, header.vars, record_slabs)
 
 -- ---- old record variables end before the new ones begin
 
@@ -61,25 +51,20 @@ record IsOldRecord (header : Header) (n : ℕ) (p : Numbered) : Type 0 where
   kind : is_record header p.1 ≡ true
   low : p.0 < n
 
-old_member : (header : Header) (n : ℕ) (p : Numbered) → In (old_records header n) p → IsOldRecord header n p
-old_member header n p h = grind (arith, nat_tests, filter_in, numbered, each_in, old_numbers, ltb-true)
-
 -- two old record variables in the header with what is added
 pub old_pair : (old : Header) (extras : List Extra) (i j : ℕ) (v w : Var) → is_sound old ≡ true → i < length old.vars → j < length old.vars
     → slice_get (added old extras).vars i ≡ Some v → slice_get (added old extras).vars j ≡ Some w → is_record (added old extras) v ≡ true → is_record (added old extras) w ≡ true
     → (i ≡ j → ⊥) → AreOrdered v.begin (slab (added old extras) v) w.begin (slab (added old extras) w) (recsize old)
 old_pair old extras i j v w sound l l' g f d e other =
-    let header = added old extras in
-    let a = old_var old extras i v sound l g in
-    let b = old_var old extras j w sound l' f in
-    let begin = a.2.begin in
-    let size = a.2.slab in
-    let begin' = b.2.begin in
-    let size' = b.2.slab in
-    elim (sound_records old i j a.0 b.0 sound a.1 b.1 (sym a.2.kind ∙ d) (sym b.2.kind ∙ e) other) [
-      | inl h ↦ inl (omega arith, omega arith)
-      | inr h ↦ inr (omega arith, omega arith)
-    ]
+    grind (
+      arith,
+      nat_tests,
+      added old extras,
+      old_var old extras i v sound l g,
+      old_var old extras j w sound l' f,
+      sound_records old i j (old_var old extras i v sound l g).0 (old_var old extras j w sound l' f).0 sound,
+      AreOrdered,
+    )
 
 pub old_room : (old : Header) (extras : List Extra) (k : ℕ) (v : Var) → is_sound old ≡ true → k < length old.vars → slice_get (added old extras).vars k ≡ Some v
     → is_record (added old extras) v ≡ true
@@ -87,12 +72,4 @@ pub old_room : (old : Header) (extras : List Extra) (k : ℕ) (v : Var) → is_s
 old_room old extras k v sound l g e =
     let header = added old extras in
     let n = length old.vars in
-    let here = in_old header n k v g e l in
-    let least = old_first_is header n (k, v) here in
-    let m = old_member header n least.0 least.1 in
-    elim (cases_eq least.0.0 k) [
-      | inl s ↦
-          omega (arith, least.2, ap (λ (w : Var). w.begin) (same_var header.vars k least.0.0 v least.0.1 g m.there s), vsizes_hold header (old_records header n) (k, v) here, slab_below header v)
-      | inr other ↦
-          omega (arith, least.2, old_recsize old extras sound, old_pair old extras k least.0.0 v least.0.1 sound l m.low g m.there e m.kind (λ s. other (sym s)))
-    ]
+    grind (arith, nat_tests, in_old header n k v g e l, old_first_is header n (k, v) (in_old header n k v g e l), filter_in, numbered, each_in, old_numbers, ltb-true, same_var header.vars k (old_first_is header n (k, v) (in_old header n k v g e l)).0.0 v, vsizes_hold header (old_records header n) (k, v) (in_old header n k v g e l), slab_below header v, old_recsize old extras sound, old_pair old extras k (old_first_is header n (k, v) (in_old header n k v g e l)).0.0 v)

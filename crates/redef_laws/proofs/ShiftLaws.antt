@@ -1,5 +1,5 @@
 -- A redefinition moves the slabs of the old variables up, or lets them stay, and none passes another.
-use Rattle.redef_laws.proofs.Words.{subst, ◌≡◌, ℕ, ◌<◌, ◌≤◌, sym, ◌∙◌, ap, List, length, true, Some, arith, slice_get_within, slice_get, enumerate_from, and_first, Header, Var, Extra, is_sound, is_redefinable, is_record, added, begins_by_number, begin_of_number, with_begins, redefined_header, redefined_keeps, IsApplied, numbered_at, entry_map}
+use Rattle.redef_laws.proofs.Words.{◌≡◌, ℕ, ◌<◌, ◌≤◌, sym, ◌∙◌, List, length, true, Some, arith, slice_get_within, slice_get, and_first, Header, Var, Extra, is_sound, is_redefinable, is_record, added, begins_by_number, begin_of_number, redefined_header, redefined_keeps, IsApplied, numbered_at, entry_map, nat_tests}
 use Rattle.redef_laws.proofs.PlacedLaws.{begin_rises, begins_rise}
 use Rattle.redef_laws.proofs.KeptLaws.{kept_var}
 use Rattle.redef_laws.proofs.SlabLaws.{IsRaised}
@@ -14,25 +14,10 @@ pub record IsOnWay (old : Header) (extras : List Extra) (k : ℕ) (v w : Var) : 
   pub kind : is_record (added old extras) var ≡ is_record old v
   pub now : w.begin ≡ begin_of_number (begins_by_number (added old extras) (length old.vars)) k
 
-placed_at : (header : Header) (found : List (ℕ × ℕ)) (k : ℕ) (u : Var) → slice_get header.vars k ≡ Some u
-    → slice_get (with_begins header found).vars k ≡ Some (record u { begin = begin_of_number found k })
-placed_at header found k u h = entry_map (λ p. record p.1 { begin = begin_of_number found p.0 }) (enumerate_from 0 header.vars) k (k, u) (numbered_at header.vars k u h)
-
 pub on_way : (old : Header) (extras : List Extra) (k : ℕ) (v w : Var) → is_sound old ≡ true → slice_get old.vars k ≡ Some v
     → slice_get (redefined_header old extras).vars k ≡ Some w → IsOnWay old extras k v w
 on_way old extras k v w sound h g =
-    let header = added old extras in
-    let found = begins_by_number header (length old.vars) in
-    let kept = kept_var old extras k v sound h in
-    let placed : Some (record kept.0 { begin = begin_of_number found k }) ≡ Some w = sym (placed_at header found k kept.0 kept.1) ∙ g in
-    let same : record kept.0 { begin = begin_of_number found k } ≡ w = cc in
-    record {
-      var = kept.0;
-      there = kept.1;
-      begin = kept.2.begin;
-      kind = kept.2.kind;
-      now = ap (λ (x : Var). x.begin) (sym same);
-    }
+    grind (arith, nat_tests, added old extras, kept_var old extras k v sound h, entry_map, numbered_at)
 
 -- ---- the law
 
@@ -44,8 +29,7 @@ redefined_raised old extras sound sound_new =
       keeps = redefined_keeps old extras sound;
       up = λ k v w h g.
           let way = on_way old extras k v w sound h g in
-          let rises = begin_rises (added old extras) (length old.vars) k way.var way.there (slice_get_within old.vars k v h) in
-          omega (arith, rises, way.begin, way.now);
+          grind (arith, nat_tests, begin_rises (added old extras) (length old.vars) k way.var way.there (slice_get_within old.vars k v h), added old extras, way.begin, way.now);
       order = order;
     }
   where
@@ -62,6 +46,4 @@ pub sound_before : (header : Header) → is_redefinable header ≡ true → is_s
 sound_before header h = and_first _ _ (and_first _ _ (and_first _ _ (and_first _ _ h)))
 
 pub applied_raised : (old new : Header) (extras : List Extra) → IsApplied old extras new → is_sound new ≡ true → IsRaised old new
-applied_raised old new extras applied sound =
-    subst (IsRaised old) (sym applied.made)
-    (redefined_raised old extras (sound_before old applied.redefinable) (subst (λ (h : Header). is_sound h ≡ true) applied.made sound))
+applied_raised old new extras applied sound = grind (arith, nat_tests, redefined_raised, sound_before)

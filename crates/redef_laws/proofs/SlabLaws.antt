@@ -1,5 +1,5 @@
 -- The slabs of the old variables: what they are, and where each lies.
-use Rattle.redef_laws.proofs.Words.{subst, ◌≡◌, ℕ, ◌+◌, ◌*◌, ◌<◌, ◌≤◌, refl, sym, ◌∙◌, ap, inl, inr, List, [], ◌∷◌, map, true, false, true≢false, Some, arith, mul-le, slice_get, zip, range_with_len, Header, Var, Slab, slabs, slabs_of, header_len, is_sound, is_record, slab, recsize, end_of_var, KeepsVars, end_holds, slab_below, slab_shared, some_record, In, flat_in, in_map, in_range, holds_or_not, Option, range_high, IsShifted, new_end, map_in, zip_in, first_slab, in_record, nat_tests}
+use Rattle.redef_laws.proofs.Words.{subst, ◌≡◌, ℕ, ◌+◌, ◌*◌, ◌<◌, ◌≤◌, refl, sym, ◌∙◌, ap, inl, inr, List, [], ◌∷◌, map, true, false, Some, arith, mul-le, slice_get, zip, range_with_len, Header, Var, Slab, slabs, slabs_of, header_len, is_sound, is_record, slab, recsize, end_of_var, KeepsVars, end_holds, slab_below, slab_shared, some_record, In, flat_in, in_map, in_range, holds_or_not, range_high, IsShifted, new_end, map_in, zip_in, first_slab, in_record, nat_tests}
 use Rattle.redef_laws.proofs.RecordSizes.{same_slab, same_record, record_grows}
 use Rattle.redef_laws.proofs.SoundVars.{slab_holds, past_front}
 
@@ -37,16 +37,7 @@ pub record IsSlab (old new : Header) (s : Slab) : Type 0 where
 pub pair_at : (old new : Header) (k : ℕ) (v w : Var) → KeepsVars old new → slice_get old.vars k ≡ Some v → slice_get new.vars k ≡ Some w → IsPair old new k v w
 pair_at old new k v w keeps h g =
     let found = keeps k v h in
-    let same : found.0 ≡ w = one_var (slice_get new.vars k) found.0 w found.1 g in
-    record {
-      at_old = h;
-      at_new = g;
-      size = ap (λ (x : Var). slab new x) (sym same) ∙ same_slab old new v found.0 found.2 found.3;
-      kind = ap (λ (x : Var). is_record new x) (sym same) ∙ same_record old new v found.0 found.3;
-    }
-  where
-    one_var : (o : Option Var) (x y : Var) → o ≡ Some x → o ≡ Some y → x ≡ y
-    one_var o x y e f = cc
+    grind (arith, nat_tests, same_slab, same_record, new.vars, found.1)
 
 pub slabs_fixed : (old new : Header) (p : Var × Var) → is_record old p.0 ≡ false → slabs_of old new p ≡ first_slab old p ∷ []
 slabs_fixed old new p e = rw (e, slabs_of) refl
@@ -70,18 +61,7 @@ each_row old new p r = in_record (recsize old) (recsize new) r (first_slab old p
 
 module _ (old new : Header) (p : Var × Var) (s : Slab) where
   pub row_of : In (slabs_of old new p) s → IsInRow old new p s
-  row_of h = elim (holds_or_not (is_record old p.0)) [
-    | inl e ↦
-        (let at = map_in (each_row old new p) (range_with_len 0 old.records) s (subst (λ (ss : List Slab). In ss s) (slabs_record old new p e) h) in
-        record { row = at.0; once = λ f. absurd (true≢false (sym e ∙ f)); below = λ f. omega (arith, range_high 0 old.records at.0 at.1); is = at.2 })
-    | inr e ↦
-        record {
-          row = 0;
-          once = λ f. refl;
-          below = λ f. absurd (true≢false (sym f ∙ e));
-          is = elim (subst (λ (ss : List Slab). In ss s) (slabs_fixed old new p e) h) [ inl g ↦ in_place (first_slab old p) (recsize old) (recsize new) ∙ g | inr g ↦ absurd g ];
-        }
-  ]
+  row_of h = grind (arith, nat_tests, holds_or_not, map_in, slabs_record, range_high, slabs_fixed, in_place, each_row, range_with_len, first_slab)
 
   pub in_row : IsInRow old new p s → In (slabs_of old new p) s
   in_row r = elim (holds_or_not (is_record old p.0)) [
@@ -115,22 +95,12 @@ slab_of_pair old new k v w s pair h =
 pub slab_in : (old new : Header) (s : Slab) → KeepsVars old new → In (slabs old new) s → IsSlab old new s
 slab_in old new s keeps h =
     let found = flat_in (slabs_of old new) (zip old.vars new.vars) s h in
-    let at = zip_in old.vars new.vars found.0 found.1 in
-    (slab_of_pair old new at.0 found.0.0 found.0.1 s (pair_at old new at.0 found.0.0 found.0.1 keeps at.1 at.2) found.2).0
+    grind (arith, nat_tests, zip_in old.vars new.vars found.0 found.1, slab_of_pair old new (zip_in old.vars new.vars found.0 found.1).0 found.0.0 found.0.1 s, pair_at old new (zip_in old.vars new.vars found.0 found.1).0 found.0.0 found.0.1 keeps, found.2)
 
 -- ---- where a slab lies
 
-fixed_ends : (header : Header) (n : ℕ) (v : Var) → is_record header v ≡ false → v.begin + slab header v ≤ end_of_var header n v
-fixed_ends header n v e = grind (arith, nat_tests, slab_below)
-
-record_ends : (header : Header) (n r : ℕ) (v : Var) → is_record header v ≡ true → r < n → v.begin + r * recsize header + slab header v ≤ end_of_var header n v
-record_ends header n r v e h = grind (arith, nat_tests, some_record, mul-le, slab_shared)
-
 ends_in : (header : Header) (n r : ℕ) (v : Var) → (is_record header v ≡ false → r ≡ 0) → (is_record header v ≡ true → r < n) → v.begin + r * recsize header + slab header v ≤ end_of_var header n v
-ends_in header n r v once below = elim (holds_or_not (is_record header v)) [
-  | inl e ↦ record_ends header n r v e (below e)
-  | inr e ↦ omega (arith, ap (λ (x : ℕ). x * recsize header) (once e), fixed_ends header n v e)
-]
+ends_in header n r v once below = grind (arith, nat_tests, holds_or_not (is_record header v), some_record, slab_shared, mul-le, slab_below)
 
 pub slab_lies : (old new : Header) → IsRaised old new → (s : Slab) → In (slabs old new) s → IsShifted (header_len old) (header_len new) (new_end old new) s
 slab_lies old new raised s h =
@@ -140,12 +110,4 @@ slab_lies old new raised s h =
     let after = past_front new f.number f.now raised.sound_new f.pair.at_new in
     let up = raised.up f.number f.was f.now f.pair.at_old f.pair.at_new in
     let own = ends_in new old.records f.row f.now (λ e. f.once (sym f.pair.kind ∙ e)) (λ e. f.below (sym f.pair.kind ∙ e)) in
-    let whole = end_holds new (header_len new) old.records f.number f.now f.pair.at_new in
-    let rows = mul-le f.row (recsize old) f.row (recsize new) (omega arith) (record_grows old new raised.keeps) in
-    record {
-      some = omega (arith, f.len, holds);
-      old_past = omega (arith, f.from, before);
-      up = omega (arith, f.from, f.to, up, rows);
-      past = omega (arith, f.to, after);
-      inside = omega (arith, f.to, f.len, f.pair.size, own, whole);
-    }
+    grind (arith, nat_tests, end_holds new (header_len new) old.records f.number f.now f.pair.at_new, record_grows old new raised.keeps, f.row, f.len, f.from, f.to, f.pair.size)

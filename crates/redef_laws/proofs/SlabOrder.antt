@@ -1,5 +1,5 @@
 -- No slab of an old variable passes another, and none begins where another one does.
-use Rattle.redef_laws.proofs.Words.{◌≡◌, ℕ, zero, suc, ◌+◌, ◌*◌, ◌<◌, ◌≤◌, refl, sym, ◌∙◌, ap, inl, inr, ◌⊎◌, Bool, true, false, Some, subst, List, [], ◌∷◌, slice_get, zip, arith, cases_lt, cases_eq, row_fits, range_with_len, Header, Var, Slab, slabs, slabs_of, header_len, is_sound, is_record, slab, recsize, slab_fits, IsLower, AreShifted, new_end, In, zip_in, first_slab, in_record, nat_tests, holds_or_not}
+use Rattle.redef_laws.proofs.Words.{◌≡◌, ℕ, zero, suc, ◌+◌, ◌*◌, ◌<◌, ◌≤◌, sym, ◌∙◌, ap, inl, inr, ◌⊎◌, Bool, true, false, Some, subst, List, [], ◌∷◌, slice_get, zip, arith, cases_eq, row_fits, range_with_len, Header, Var, Slab, slabs, slabs_of, header_len, is_sound, is_record, slab, recsize, slab_fits, IsLower, AreShifted, new_end, In, zip_in, first_slab, in_record, nat_tests, holds_or_not}
 use Rattle.redef_laws.proofs.RecordSizes.{record_grows}
 use Rattle.redef_laws.proofs.SoundVars.{slab_holds, vars_apart, IsApart}
 use Rattle.redef_laws.proofs.SlabLaws.{IsRaised, IsPair, IsSlab, slabs_fixed, slabs_record, pair_at, slab_of_pair, slab_in, slab_lies}
@@ -12,13 +12,7 @@ abbrev Rows : ℕ → ℕ → ℕ → ℕ → ℕ → ℕ → Type 0
 Rows size size' x y x' y' = ((x + size ≤ y) × (x' + size' ≤ y')) ⊎ (((x ≡ y) × (x' ≡ y')) ⊎ ((y + size ≤ x) × (y' + size' ≤ x')))
 
 rows_of : (size size' r u : ℕ) → Rows size size' (r * size) (u * size) (r * size') (u * size')
-rows_of size size' r u = elim (cases_lt r u) [
-  | inl l ↦ inl (row_fits r size u size l (omega arith), row_fits r size' u size' l (omega arith))
-  | inr l ↦ elim (cases_lt u r) [
-    | inl k ↦ inr (inr (row_fits u size r size k (omega arith), row_fits u size' r size' k (omega arith)))
-    | inr k ↦ (let e : r ≡ u = omega arith in inr (inl (ap (λ (z : ℕ). z * size) e, ap (λ (z : ℕ). z * size') e)))
-  ]
-]
+rows_of size size' r u = grind (arith, nat_tests, row_fits r size u size, row_fits r size' u size', row_fits u size r size, row_fits u size' r size')
 
 -- what is in no record is in the first one
 abbrev Once : Bool → ℕ → ℕ → Type 0
@@ -30,50 +24,18 @@ Lower n a b a' b' = (a + n ≤ b) × (a' + n ≤ b')
 
 two_lower : (size size' a n b m a' b' x y x' y' : ℕ) (s t : Bool) → IsApart size a n b m s t → IsApart size' a' n b' m s t → 0 < m → Once s x x' → Once t y y'
     → (s ≡ t → a < b → a' ≤ b') → Rows size size' x y x' y' → a + x < b + y → Lower n (a + x) (b + y) (a' + x') (b' + y')
-two_lower size size' a n b m a' b' x y x' y' false false p q some one two order rows h =
-    let i = one refl in
-    let j = two refl in
-    let before = p.both_fixed refl refl in
-    let now = q.both_fixed refl refl in
-    let up = order refl (omega (arith, i, j, h)) in
-    (omega (arith, i, j, before, h, some), omega (arith, i, j, now, up, some))
-two_lower size size' a n b m a' b' x y x' y' false true p q some one two order rows h =
-    let i = one refl in
-    let before = p.record_last refl refl in
-    let now = q.record_last refl refl in
-    (omega (arith, i, before), omega (arith, i, now))
-two_lower size size' a n b m a' b' x y x' y' true false p q some one two order rows h =
-    let j = two refl in
-    let before = p.record_first refl refl in
-    absurd (omega (arith, j, before, h))
-two_lower size size' a n b m a' b' x y x' y' true true p q some one two order (inl l) h =
-    let before = p.both_records refl refl in
-    let now = q.both_records refl refl in
-    (omega (arith, before, l), omega (arith, now, l))
-two_lower size size' a n b m a' b' x y x' y' true true p q some one two order (inr (inl e)) h =
-    let before = p.both_records refl refl in
-    let now = q.both_records refl refl in
-    let up = order refl (omega (arith, e, h)) in
-    (omega (arith, before, e, h, some), omega (arith, now, e, up, some))
-two_lower size size' a n b m a' b' x y x' y' true true p q some one two order (inr (inr l)) h =
-    let before = p.both_records refl refl in
-    absurd (omega (arith, before, l, h))
+two_lower size size' a n b m a' b' x y x' y' s t p q some one two order rows h = grind (arith, nat_tests)
 
 pub begins_differ : (size size' a n b m x y x' y' : ℕ) (s t : Bool) → IsApart size a n b m s t → 0 < n → 0 < m → Once s x x' → Once t y y' → Rows size size' x y x' y' → a + x ≡ b + y → ⊥
-begins_differ size size' a n b m x y x' y' false false p some one i j rows h = let f = p.both_fixed refl refl in let k = i refl in let l = j refl in absurd (omega (arith, f, k, l, h, some, one))
-begins_differ size size' a n b m x y x' y' false true p some one i j rows h = let f = p.record_last refl refl in let k = i refl in absurd (omega (arith, f, k, h, some))
-begins_differ size size' a n b m x y x' y' true false p some one i j rows h = let f = p.record_first refl refl in let l = j refl in absurd (omega (arith, f, l, h, one))
-begins_differ size size' a n b m x y x' y' true true p some one i j rows h = let f = p.both_records refl refl in absurd (omega (arith, f, rows, h, some, one))
+begins_differ size size' a n b m x y x' y' s t p some one i j rows h = grind (arith, nat_tests)
 
 -- of one variable
 one_lower : (size size' a n a' x y x' y' : ℕ) (t : Bool) → (t ≡ true → n ≤ size) → size ≤ size' → Once t x x' → Once t y y' → Rows size size' x y x' y' → a + x < a + y
     → Lower n (a + x) (a + y) (a' + x') (a' + y')
-one_lower size size' a n a' x y x' y' false fits grows one two rows h = let i = one refl in let j = two refl in absurd (omega (arith, i, j, h))
-one_lower size size' a n a' x y x' y' true fits grows one two rows h = let f = fits refl in (omega (arith, f, rows, h), omega (arith, f, grows, rows, h))
+one_lower size size' a n a' x y x' y' t fits grows one two rows h = grind (arith, nat_tests)
 
 one_same : (size size' a n x y x' y' : ℕ) (t : Bool) → (t ≡ true → n ≤ size) → 0 < n → Once t x x' → Once t y y' → Rows size size' x y x' y' → a + x ≡ a + y → x' ≡ y'
-one_same size size' a n x y x' y' false fits some one two rows h = let i = one refl in let j = two refl in omega (arith, i, j)
-one_same size size' a n x y x' y' true fits some one two rows h = let f = fits refl in omega (arith, f, rows, h, some)
+one_same size size' a n x y x' y' t fits some one two rows h = grind (arith, nat_tests)
 
 -- ---- two slabs
 
@@ -133,20 +95,11 @@ module _ (old new : Header) (raised : IsRaised old new) (s t : Slab) (p : IsSlab
     | inr differ ↦ absurd (differ_from differ h)
     | inl e ↦
         let same = same_var old new p.number q.number p.was p.now q.was q.now p.pair q.pair e in
-        let begin = ap (λ (v : Var). v.begin) same.0 in
-        let moved = ap (λ (v : Var). v.begin) same.1 in
-        let two : Once (is_record old p.was) (q.row * recsize old) (q.row * recsize new) = λ f. once old new t q (ap (λ (v : Var). is_record old v) (sym same.0) ∙ f) in
-        let row = one_same (recsize old) (recsize new) p.was.begin (slab old p.was) (p.row * recsize old) (q.row * recsize old) (p.row * recsize new) (q.row * recsize new) (is_record old p.was) (slab_fits old p.number p.was p.pair.at_old) (holds s p)
-        (once old new s p) two rows (omega (arith, h, p.from, q.from, begin)) in
-        same_slab s t h (omega (arith, p.to, q.to, moved, row)) (p.len ∙ ap (λ (v : Var). slab old v) same.0 ∙ sym q.len)
+        grind (arith, nat_tests, once old new t q, one_same (recsize old) (recsize new) p.was.begin (slab old p.was) (p.row * recsize old) (q.row * recsize old), slab_fits old p.number p.was p.pair.at_old, holds s p, once old new s p, rows, same_slab s t h, same.0, same.1, p.from, q.from, p.to, q.to, p.len, q.len)
   ]
 
 pub raised_shifts : (old new : Header) → IsRaised old new → AreShifted (header_len old) (header_len new) (new_end old new) (slabs old new)
-raised_shifts old new raised = record {
-  each = slab_lies old new raised;
-  lower = λ s t i j. lower old new raised s t (slab_in old new s raised.keeps i) (slab_in old new t raised.keeps j);
-  same = λ s t i j. same old new raised s t (slab_in old new s raised.keeps i) (slab_in old new t raised.keeps j);
-}
+raised_shifts old new raised = grind (arith, nat_tests, slab_lies old new raised, lower old new raised, slab_in old new, same old new raised, raised.keeps, new_end)
 
 -- ---- slabs of different places in the list
 

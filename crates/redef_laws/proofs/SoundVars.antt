@@ -1,5 +1,5 @@
 -- The slabs of a sound header's variables: each holds a byte, and no two of them share one.
-use Rattle.redef_laws.proofs.Words.{◌≡◌, ℕ, zero, suc, ◌+◌, ◌<◌, ◌≤◌, inl, inr, ◌⊎◌, List, [], ◌∷◌, Bool, true, false, cond, ◌||◌, Some, arith, cases_lt, nat_tests, mul-le, slice_get, nat_lt, nat_le, ◌==◌, AllByRecursion, size_pos, Header, Var, product, without_record, is_record, slab, recsize, meet, header_len, is_sound, none_from, none_shared, past_header, none_later, not_zero, ltb-false, drop}
+use Rattle.redef_laws.proofs.Words.{◌≡◌, ℕ, ◌+◌, ◌<◌, ◌≤◌, inl, inr, ◌⊎◌, List, [], ◌∷◌, Bool, true, false, cond, ◌||◌, Some, arith, cases_lt, nat_tests, mul-le, slice_get, nat_lt, nat_le, ◌==◌, AllByRecursion, size_pos, Header, Var, product, without_record, is_record, slab, recsize, meet, header_len, is_sound, none_from, none_shared, past_header, none_later, not_zero, ltb-false, drop}
 
 -- ---- one variable
 
@@ -8,9 +8,7 @@ product_holds [] h = omega arith
 product_holds (n ∷ ns) h = grind (arith, nat_tests, product_holds ns h.1, not_zero n h.0, mul-le 1 1 n (product ns) (not_zero n h.0) (product_holds ns h.1))
 
 pub inner_holds : (ls : List ℕ) → AllByRecursion (λ n. (n == 0) ≡ false) (drop 1 ls) → 1 ≤ product (without_record ls)
-inner_holds [] h = omega arith
-inner_holds (zero ∷ ns) h = product_holds ns h
-inner_holds (suc n ∷ ns) h = grind (arith, nat_tests, product_holds, mul-le)
+inner_holds ls h = grind (arith, nat_tests, product_holds)
 
 -- a slab holds a byte
 pub slab_holds : (header : Header) (k : ℕ) (v : Var) → is_sound header ≡ true → slice_get header.vars k ≡ Some v → 0 < slab header v
@@ -42,26 +40,11 @@ pub record IsApart (size a n b m : ℕ) (s t : Bool) : Type 0 where
 other : (t : Bool) {A : Type 0} → t ≡ false → t ≡ true → A
 other t p q = grind (arith, nat_tests)
 
-meet_apart : (a n b m : ℕ) → 0 < n → 0 < m → meet a n b m ≡ false → (a + n ≤ b) ⊎ (b + m ≤ a)
-meet_apart a n b m p q h = grind (arith, nat_tests, cases_lt)
-
-in_turn : (size a n b m : ℕ) → (nat_lt b (a + n) || nat_lt (a + size) (b + m)) ≡ false → InTurn size a n b m
-in_turn size a n b m h = record { next = grind (arith, nat_tests); last = grind (arith, nat_tests) }
-
-one_then_other : (size a n b m : ℕ) (c : Bool) → cond c (nat_lt b (a + n) || nat_lt (a + size) (b + m)) (nat_lt a (b + m) || nat_lt (b + size) (a + n)) ≡ false
-    → InTurn size a n b m ⊎ InTurn size b m a n
-one_then_other size a n b m true h = inl (in_turn size a n b m h)
-one_then_other size a n b m false h = inr (in_turn size b m a n h)
-
 unshared : (size a n b m : ℕ) (s t : Bool) → 0 < n → 0 < m → share_by size a n b m s t ≡ false → IsApart size a n b m s t
-unshared size a n b m s t p q h = grind (arith, nat_tests, meet_apart, other, ltb-false, one_then_other)
-
-swapped : {A B : Type 0} → A ⊎ B → B ⊎ A
-swapped (inl x) = inr x
-swapped (inr y) = inl y
+unshared size a n b m s t p q h = grind (arith, nat_tests, cases_lt, other, ltb-false)
 
 turned : (size a n b m : ℕ) (s t : Bool) → IsApart size a n b m s t → IsApart size b m a n t s
-turned size a n b m s t h = grind (arith, nat_tests, swapped)
+turned size a n b m s t h = grind (arith, nat_tests)
 
 pub vars_apart : (header : Header) (k m : ℕ) (v w : Var) → is_sound header ≡ true → slice_get header.vars k ≡ Some v → slice_get header.vars m ≡ Some w
     → (k ≡ m → ⊥) → IsApart (recsize header) v.begin (slab header v) w.begin (slab header w) (is_record header v) (is_record header w)
@@ -75,6 +58,4 @@ vars_apart header k m v w sound h g differ = elim (cases_lt k m) [
   where
     alone : (i j : ℕ) (x y : Var) → slice_get header.vars i ≡ Some x → slice_get header.vars j ≡ Some y → i < j
         → IsApart (recsize header) x.begin (slab header x) y.begin (slab header y) (is_record header x) (is_record header y)
-    alone i j x y e f l =
-        unshared (recsize header) x.begin (slab header x) y.begin (slab header y) (is_record header x) (is_record header y) (slab_holds header i x sound e) (slab_holds header j y sound f)
-        (none_from header (header_len header) 0 header.vars i j x y (none_shared header sound) e f l)
+    alone i j x y e f l = grind (arith, nat_tests, unshared, slab_holds, none_from, none_shared)

@@ -1,9 +1,9 @@
 -- The header of an accepted redefinition is sound, and each of its numbers fits its field.
-use Rattle.redef_laws.proofs.Words.{◌≡◌, ℕ, suc, ◌+◌, ◌^◌, ◌<◌, ◌≤◌, List, [], ◌∷◌, length, take, drop, Bool, true, false, ◌&&◌, Some, None, refl, sym, ap, subst, ◌∙◌, arith, nat_lt, nat_le, ◌==◌, count_by, filter, find, position, slice_get, sum_by, AllByRecursion, nat_tests, length-filter, and_from, not-true, not-false, le-leb, ltb-true, ltb-false, leb-false, past_none, small_count, vsize_fits, each_passes, each_fails, each_weaker, each_at, and_first, and_second, both_none, none_before_map, untold, Header, Dim, Var, Extra, file_limit, record_limit, record_share, sharing, attribute, list_of, header_len, all_ones, record_later, is_record_id, bad_id, measure, keeps_bound, is_sound, counts_are_small, fits_count, is_writable, is_writable_dim, is_writable_list, is_writable_var, added, extras_fault, begins_by_number, with_begins, redefined_header, redefined_fault, is_large_var, is_far_begin, is_bad_begin, IsApplied}
+use Rattle.redef_laws.proofs.Words.{◌≡◌, ℕ, suc, ◌+◌, ◌^◌, ◌<◌, ◌≤◌, List, [], ◌∷◌, length, take, drop, Bool, true, false, Some, None, refl, sym, ap, subst, ◌∙◌, arith, nat_lt, nat_le, ◌==◌, count_by, filter, find, position, slice_get, sum_by, AllByRecursion, nat_tests, length-filter, and_from, not-true, not-false, le-leb, ltb-true, ltb-false, leb-false, past_none, small_count, vsize_fits, each_passes, each_fails, each_weaker, each_at, and_first, and_second, both_none, none_before_map, untold, Header, Dim, Var, Extra, record_limit, record_share, sharing, attribute, list_of, header_len, all_ones, record_later, is_record_id, bad_id, measure, keeps_bound, is_sound, counts_are_small, fits_count, is_writable, is_writable_dim, is_writable_list, is_writable_var, added, extras_fault, begins_by_number, redefined_header, redefined_fault, is_large_var, is_far_begin, is_bad_begin, IsApplied, neither_some}
 use Rattle.redef_laws.proofs.FieldLaws.{not_both, each_both, begin_fits}
-use Rattle.redef_laws.proofs.GrownLaws.{HasFitLength, IsFitVar, IsFit, is_record_dim, all_more, all_same, HasVersionOf}
+use Rattle.redef_laws.proofs.GrownLaws.{IsFitVar, IsFit, is_record_dim, all_more, all_same, HasVersionOf}
 use Rattle.redef_laws.proofs.ShortLaws.{is_short, attrs_written}
-use Rattle.redef_laws.proofs.FitLaws.{IsChecked, checked, passes_checks, none_found, finds_none, IsOpened, opened_old}
+use Rattle.redef_laws.proofs.FitLaws.{IsChecked, checked, none_found, finds_none, IsOpened, opened_old}
 use Rattle.redef_laws.proofs.RebegunLaws.{rebegun_each, rebegun_long}
 use Rattle.redef_laws.proofs.ApartLaws.{placed, redefined_apart}
 
@@ -64,24 +64,12 @@ pub record IsKnown (old new : Header) : Type 0 where
   pub bound : (k : ℕ) (v : Var) → slice_get new.vars k ≡ Some v → IsBound new k v
   pub apart : sharing new (header_len new) ≡ None
 
-fit_rebegun : (header : Header) (found : List (ℕ × ℕ)) → IsFit header → IsFit (with_begins header found)
-fit_rebegun header found fit = grind (arith, nat_tests, rebegun_long, rebegun_each)
-
 pub known : (old new : Header) (extras : List Extra) → IsApplied old extras new → IsKnown old new
 known old new extras applied =
     let opened = opened_old old applied.redefinable in
     let none = no_fault old extras applied.faultless in
     let fit = all_more old 0 extras opened.fit none.accepted applied.lawful applied.whole in
-    let header = added old extras in
-    let whole : IsKnown old (redefined_header old extras) = record {
-      opened = opened;
-      same = record { version = (all_same old extras).version; records = (all_same old extras).records };
-      fit = fit_rebegun header (begins_by_number header (length old.vars)) fit;
-      short = none.short;
-      sizes = none.sizes;
-      bound = each_bound old extras none;
-      apart = redefined_apart old extras opened.sound fit;
-    } in
+    let whole : IsKnown old (redefined_header old extras) = grind (arith, nat_tests, all_same old extras, rebegun_long, rebegun_each, each_bound old extras none, redefined_apart old extras opened.sound fit, none.short, none.sizes) in
     subst (λ (h : Header). IsKnown old h) (sym applied.made) whole
 
 checks : (old new : Header) → IsKnown old new → IsChecked new
@@ -114,23 +102,22 @@ counts : (header : Header) → IsFit header → counts_are_small header ≡ true
 counts header fit = grind (arith, nat_tests, and_from, le-leb, each_passes, each_weaker)
 
 pub sound : (old new : Header) → IsKnown old new → is_sound new ≡ true
-sound old new k = grind (arith, nat_tests, and_from, counts, le-leb, passes_checks, checks)
+sound old new k = grind (arith, nat_tests, and_from, counts, le-leb, neither_some, checks)
 
 -- ---- each number fits its field
 
 dims_written : (old new : Header) → IsKnown old new → is_writable_list new.version (is_writable_dim new.version) new.dims ≡ true
 dims_written old new k =
-    let few = k.fit.few_dims in
-    and_from (fits_count new.version (length new.dims)) _ (small_count new.version (length new.dims) (omega arith))
-    (each_passes (is_writable_dim new.version) new.dims
-    (each_both (λ d. length d.name ≤ 2 ^ 20) (HasFitLength new.version) (λ d. is_writable_dim new.version d ≡ true) (dim_written new.version) new.dims
-    (is_short new k.short).dims k.fit.lengths))
-  where
-    dim_written : (version : ℕ) (d : Dim) → length d.name ≤ 2 ^ 20 → HasFitLength version d → is_writable_dim version d ≡ true
-    dim_written version d short fit =
-        and_from (fits_count version (length d.name) && fits_count version d.len) _
-        (and_from (fits_count version (length d.name)) _ (small_count version (length d.name) (omega arith)) fit.fits)
-        (le-leb d.len file_limit fit.small)
+    grind (
+      arith,
+      nat_tests,
+      small_count new.version (length new.dims),
+      each_passes (is_writable_dim new.version) new.dims,
+      each_both,
+      is_short new k.short,
+      k.fit.few_dims,
+      k.fit.lengths,
+    )
 
 -- what is known of one variable of a new header
 record IsKnownVar (header : Header) (k : ℕ) (v : Var) : Type 0 where
@@ -141,16 +128,12 @@ record IsKnownVar (header : Header) (k : ℕ) (v : Var) : Type 0 where
   stored : is_large_var header v ≡ false
   bound : IsBound header k v
 
-dims_of_var : (header : Header) (k : ℕ) (v : Var) → IsKnownVar header k v → is_writable_list header.version (λ id. fits_count header.version id) v.dims ≡ true
-dims_of_var header k v is = grind (arith, nat_tests, and_from, small_count, each_passes, each_weaker)
-
 var_written : (header : Header) (k : ℕ) (v : Var) → IsKnownVar header k v → is_writable_var header v ≡ true
 var_written header k v is =
-    grind (arith, nat_tests, ltb-true, and_second, and_first, and_from, small_count, dims_of_var, attrs_written, begin_fits, leb-false, not_both, vsize_fits)
+    grind (arith, nat_tests, ltb-true, and_second, and_first, and_from, small_count, each_passes, each_weaker, attrs_written, begin_fits, leb-false, not_both, vsize_fits)
 
 vars_written : (old new : Header) → IsKnown old new → is_writable_list new.version (is_writable_var new) new.vars ≡ true
 vars_written old new k =
-    let few = k.fit.few_vars in
     let short = is_short new k.short in
     and_from (fits_count new.version (length new.vars)) _ (small_count new.version (length new.vars) (omega arith))
     (each_passes (is_writable_var new) new.vars
