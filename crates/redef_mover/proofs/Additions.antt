@@ -1,5 +1,5 @@
 -- The additions, one after another.
-use Rattle.redef_mover.proofs.Words.{◌≡◌, ℕ, suc, ◌+◌, ◌<◌, ◌≤◌, List, [], ◌∷◌, length, get_or, drop, fold, Bool, false, Option, Some, None, ap, arith, length-append, nat_tests, drop_more, drop_all, Header, Extra, RedefErr, most_dims, first_true, with_extra, extra_fault, extras_from, extras_fault, added}
+use Rattle.redef_mover.proofs.Words.{◌≡◌, ℕ, suc, ◌+◌, ◌<◌, ◌≤◌, List, ◌∷◌, length, get_or, drop, fold, Option, Some, None, ap, arith, length-append, nat_tests, drop_more, drop_all, Header, Extra, RedefErr, most_dims, with_extra, extra_fault, extras_from, extras_fault, added}
 use Rattle.nc_base.specs.declared.script.Extra.TheVariants as extra
 use Rattle.nc_base.specs.declared.errors.RedefErr.TheVariants as redef
 
@@ -11,12 +11,9 @@ pub extras_stops : (header : Header) (k : ℕ) (e : Extra) (es : List Extra) (f 
     → extras_from header k (e ∷ es) ≡ Some f
 extras_stops header k e es f h = ap (λ (o : Option RedefErr). elim o [ Some g ↦ Some g | None ↦ extras_from (with_extra header e) (suc k) es ]) h
 
-fourth_passes : (a b c d e : Bool) (p q r s t : RedefErr) → first_true ((a, Some p) ∷ (b, Some q) ∷ (c, Some r) ∷ (d, Some s) ∷ (e, Some t) ∷ []) None ≡ None → d ≡ false
-fourth_passes a b c d e p q r s t h = grind (arith, nat_tests)
-
 -- no dimension is added where there are as many as can be
 pub few_still : (header : Header) (k : ℕ) (e : Extra) → extra_fault header k e ≡ None → length header.dims ≤ most_dims → length (with_extra header e).dims ≤ most_dims
-few_still header k e h few = grind (arith, nat_tests, fourth_passes, length-append)
+few_still header k e h few = grind (arith, nat_tests, length-append)
 
 -- after the first k extras
 pub record AddedSoFar (header : Header) (extras : List Extra) (k : ℕ) (new : Header) : Type 0 where

@@ -1,5 +1,5 @@
 -- From the laws of a redefinition to what a relocation asks and promises.
-use Rattle.redef_mover.proofs.Words.{◌≡◌, ◌↔◌, ℕ, ◌<◌, ◌∙◌, ap, List, [], arith, filter, flat_map, reverse, and_first, Header, Extra, Slab, highest_first, move_calls, slabs, zero_calls, header_len, redefined, sound_end, In, IsApplied, applied_falls, applied_moved, applied_risen, applied_shifted, applied_zeros, rising_all, changes, gaps, rising, new_end, IsMoved, all_calls, gap_calls, slab_calls, carried, carry_calls, IsCarriable, relocation_calls, nat_tests}
+use Rattle.redef_mover.proofs.Words.{◌≡◌, ◌↔◌, ℕ, ◌<◌, ◌∙◌, ap, List, arith, filter, reverse, and_first, Header, Extra, Slab, highest_first, slabs, zero_calls, header_len, redefined, sound_end, In, IsApplied, applied_falls, applied_moved, applied_risen, applied_shifted, applied_zeros, rising_all, changes, gaps, rising, new_end, IsMoved, gap_calls, carried, carry_calls, IsCarriable, relocation_calls, nat_tests}
 use Rattle.nc_base.specs.declared.script.Extra.TheVariants as extra
 use Rattle.redef_laws.proofs.WrittenLaws.{written}
 use Rattle.redef_mover.proofs.CarryLaws.{carried_is}
@@ -24,28 +24,12 @@ pub record HasLaws (old new : Header) : Type 0 where
 pub has_laws : (old new : Header) → (extras : List Extra) × IsApplied old extras new → HasLaws old new
 has_laws old new (extras, h) =
     let ready = written old new extras h in
-    let count = same_records old new extras h in
-    record {
-      carriable = record {
-        sound = and_first _ _ (and_first _ _ (and_first _ _ (and_first _ _ h.redefinable)));
-        writable = ready;
-        low = sound_end new old.records (and_first _ _ (and_first _ _ (and_first _ _ (and_first _ _ ready)))) (omega arith);
-        risen = applied_risen old new extras h;
-        inside = λ s i. ((applied_shifted old new extras h).each s ((rising_all old new s).0 i)).inside;
-      };
-      all = λ s. rising_all old new s;
-      falls = applied_falls old new extras h;
-      zeros = λ z some. applied_zeros old new extras h z some;
-      moved = λ file left m. applied_moved old new extras h file left m;
-    }
+    grind (arith, nat_tests, same_records old new extras h, and_first, sound_end new old.records, applied_risen old new extras h, applied_shifted old new extras h, rising_all old new, applied_falls old new extras h, applied_zeros old new extras h, applied_moved old new extras h, h.redefinable)
 
 -- ---- what a relocation promises
 
 pub relocated : (old new : Header) → HasLaws old new → (file : List ℕ) → carried old new file ≡ redefined file old new
 relocated old new h file = h.moved file (carried old new file) (carried_is old new file h.carriable (λ s. (h.all s).1) (λ s. (h.all s).0))
 
-moves_called : (z : ℕ) (old new : Header) → HasLaws old new → move_calls z old new ≡ all_calls z (reverse (rising old new))
-moves_called z old new h = ap (λ ss. flat_map (slab_calls z) ss) h.falls
-
 pub relocation_called : (z : ℕ) (old new : Header) (file : List ℕ) → HasLaws old new → 0 < z → carry_calls z old new file ≡ relocation_calls z old new file
-relocation_called z old new file h l = grind (arith, nat_tests, moves_called z old new h)
+relocation_called z old new file h l = grind (arith, nat_tests)

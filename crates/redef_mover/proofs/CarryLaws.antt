@@ -23,10 +23,7 @@ up_moved file (s ∷ ss) = slab_moved (up_moved file ss) s
 
 up_long : (file : List ℕ) (b end : ℕ) (ss : List Slab) → AreSpaced b end ss → end ≤ length file → length (up_moved file ss) ≡ length file
 up_long file b end [] h l = refl
-up_long file b end (s ∷ ss) h l =
-    let rest = up_long file (s.to + s.len) end ss h.1 l in
-    let inside = spaced_low (s.to + s.len) end ss h.1 in
-    moved_long (up_moved file ss) s (omega arith) ∙ rest
+up_long file b end (s ∷ ss) h l = grind (arith, nat_tests, up_long file (s.to + s.len) end ss h.1 l, spaced_low, moved_long, up_moved)
 
 -- a slab that stays needs no move
 one_moved : (file : List ℕ) (s : Slab) (t : Bool) → (s.from == s.to) ≡ t → s.to + s.len ≤ length file
@@ -56,26 +53,16 @@ up_before file b end (s ∷ ss) x h l =
 
 up_after : (file : List ℕ) (b end : ℕ) (ss : List Slab) (x : ℕ) → AreSpaced b end ss → end ≤ x → at (up_moved file ss) x ≡ at file x
 up_after file b end [] x h l = refl
-up_after file b end (s ∷ ss) x h l =
-    let inside = spaced_low (s.to + s.len) end ss h.1 in
-    moved_after (up_moved file ss) s x (omega arith) ∙ up_after file (s.to + s.len) end ss x h.1 l
+up_after file b end (s ∷ ss) x h l = grind (arith, nat_tests, spaced_low, moved_after, up_after file (s.to + s.len) end ss x h.1 l, up_moved)
 
 -- the bytes of a slab are moved before another slab takes their place
 up_inside : (file : List ℕ) (a b end : ℕ) (ss : List Slab) (s : Slab) (d : ℕ) → IsRisen a b ss → AreSpaced b end ss → In ss s → d < s.len
     → at (up_moved file ss) (s.to + d) ≡ at file (s.from + d)
 up_inside file a b end [] s d r h i l = absurd i
-up_inside file a b end (t ∷ ss) s d r h (inl e) l =
-    subst (λ (u : Slab). d < u.len → at (up_moved file (t ∷ ss)) (u.to + d) ≡ at file (u.from + d)) e
-    (λ m.
-    let up : t.from ≤ t.to = r.3 in
-    let same : t.from + (t.to + d - t.to) ≡ t.from + d = omega arith in
-    moved_inside (up_moved file ss) t (t.to + d) (omega arith) (omega arith)
-    ∙ ap (λ (x : ℕ). at (up_moved file ss) x) same
-    ∙ up_before file (t.to + t.len) end ss (t.from + d) h.1 (omega arith)) l
+up_inside file a b end (t ∷ ss) s d r h (inl e) l = grind (arith, nat_tests, at, moved_inside, up_before, r.3, up_moved)
 up_inside file a b end (t ∷ ss) s d r h (inr i) l =
     let low = spaced_from (t.to + t.len) end ss s h.1 i in
-    moved_after (up_moved file ss) t (s.to + d) (omega arith)
-    ∙ up_inside file (t.from + t.len) (t.to + t.len) end ss s d r.4 h.1 i l
+    grind (arith, nat_tests, moved_after, up_inside file (t.from + t.len) (t.to + t.len) end ss s d r.4 h.1 i l)
 
 -- ---- zeros in the gaps
 
@@ -116,9 +103,7 @@ bare_zero : (file : List ℕ) (b end : ℕ) (ss : List Slab) (x : ℕ) → AreSp
 bare_zero file b end [] x h l m bare = cleared_inside file b (end - b) x l (omega arith)
 bare_zero file b end (s ∷ ss) x h l m bare = elim (bare s (inl refl)) [
   | inl k ↦
-      (let low : b ≤ s.to = h.0 in
-      cleared_beside (cleared file (b, s.to - b)) (gaps (s.to + s.len) end ss) x (λ g i. inl (omega (arith, k, gap_low (s.to + s.len) end ss g h.1 i)))
-      ∙ cleared_inside file b (s.to - b) x l (omega arith))
+      (grind (arith, nat_tests, cleared_beside, gap_low, cleared_inside, h.1))
   | inr k ↦ bare_zero (cleared file (b, s.to - b)) (s.to + s.len) end ss x h.1 k m (λ t i. bare t (inr i))
 ]
 

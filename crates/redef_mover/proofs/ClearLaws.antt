@@ -1,5 +1,5 @@
 -- The bytes of a file with zeros in a gap, and the windows of a gap.
-use Rattle.redef_mover.proofs.Words.{◌≡◌, ℕ, zero, suc, ◌+◌, ◌-◌, ◌*◌, ◌<◌, ◌≤◌, min, refl, sym, ◌∙◌, ap, subst, List, [], ◌∷◌, ◌++◌, length, map, take, drop, get_or, arith, flat_map, replicate, range_with_len, drop_of_length-le, drop_more, length-replicate, take-replicate, same_file, Slab, stores, at, written, at-written_before, at-written_after, length-written_inside, at-written_inside, gaps, Shift, Slabs, behind, cleared, further, gaps_before, listed, slab_of, slabs_at, AreClearable, AreSpaced, windows_of, count_is, stores_before, cases_lt, nat_tests}
+use Rattle.redef_mover.proofs.Words.{◌≡◌, ℕ, zero, suc, ◌+◌, ◌-◌, ◌*◌, ◌<◌, ◌≤◌, min, refl, sym, ◌∙◌, ap, List, [], ◌∷◌, ◌++◌, length, map, take, drop, get_or, arith, flat_map, replicate, range_with_len, drop_of_length-le, drop_more, length-replicate, take-replicate, same_file, Slab, stores, at, written, at-written_before, at-written_after, length-written_inside, at-written_inside, gaps, Shift, Slabs, behind, cleared, further, gaps_before, listed, slab_of, slabs_at, AreClearable, AreSpaced, windows_of, count_is, stores_before, nat_tests}
 use Rattle.redef_mover.proofs.MovesLaws.{map_id, no_further}
 
 -- ---- one gap
@@ -26,13 +26,6 @@ cleared_inside file x n y h k = let bytes = zeros_long n in at-written_inside fi
 
 -- ---- one window more
 
-both_cleared : (file : List ℕ) (x a b c : ℕ) → c ≡ a + b → x + c ≤ length file → cleared (cleared file (x, a)) (x + a, b) ≡ cleared file (x, c)
-both_cleared file x a b c e h =
-    let first = cleared_long file x a (omega arith) in
-    let both = cleared_long (cleared file (x, a)) (x + a) b (omega arith) in
-    let whole = cleared_long file x c h in
-    grind (arith, nat_tests, same_file, cases_lt, cleared_before, cleared_inside, cleared_after)
-
 -- the bytes of a window are zeros
 pub window_zeros : (zeros bytes : List ℕ) (n : ℕ) → zeros ≡ replicate (length zeros) 0 → n ≤ length zeros → bytes ≡ take n zeros → bytes ≡ replicate n 0
 window_zeros zeros bytes n e h k = k ∙ ap (λ (zs : List ℕ). take n zs) e ∙ take-replicate {X = ℕ} n (length zeros) 0 h
@@ -43,7 +36,7 @@ zeros_count bytes n e = ap (λ (b : List ℕ). length b) e ∙ zeros_long n
 pub window_cleared : (file bytes : List ℕ) (x len z j n place from : ℕ) → x + len ≤ length file → j * z < len → n ≡ min z (len - j * z) → bytes ≡ replicate n 0
     → from ≡ 0 → place ≡ x + j * z → written (cleared file (x, min len (j * z))) (place - from) bytes ≡ cleared file (x, min len ((j + 1) * z))
 window_cleared file bytes x len z j n place from h l k b f e =
-    grind (arith, nat_tests, both_cleared file x (min len (j * z)) n (min len ((j + 1) * z)) (omega arith) (omega arith))
+    grind (arith, nat_tests, cleared_long, same_file, cleared_before, cleared_inside, cleared_after, cleared)
 
 -- ---- the stores so far
 
@@ -103,12 +96,10 @@ above slabs r = flat_map (slabs_at slabs.step slabs.records.items) (range_with_l
 
 pub next_record : (slabs : Slabs) (xs : List Shift) (r a b : ℕ) → xs ≡ slabs.records.items → r < slabs.count → a ≡ r * slabs.step.old → b ≡ r * slabs.step.new
     → above slabs r ≡ map (further a b) (map slab_of xs) ++ above slabs (r + 1)
-next_record slabs xs r a b is l e f =
-    subst (λ (ss : List Shift). above slabs r ≡ map (further a b) (map slab_of ss) ++ above slabs (r + 1)) (sym is) (grind (arith, nat_tests))
+next_record slabs xs r a b is l e f = grind (arith, nat_tests)
 
 pub fixed_first : (slabs : Slabs) (xs : List Shift) (a b : ℕ) → xs ≡ slabs.fixed.items → a ≡ 0 → b ≡ 0 → listed slabs ≡ map (further a b) (map slab_of xs) ++ above slabs 0
-fixed_first slabs xs a b is e f =
-    subst (λ (ss : List Shift). listed slabs ≡ map (further a b) (map slab_of ss) ++ above slabs 0) (sym is) (grind (arith, nat_tests, map_id, no_further))
+fixed_first slabs xs a b is e f = grind (arith, nat_tests, map_id, no_further)
 
 -- the slabs in front can be cleared
 pub front_clearable : (long z room at end : ℕ) (ss others all : List Slab) → all ≡ ss ++ others → AreSpaced at end all → end ≤ long → min z end ≤ room

@@ -1,5 +1,5 @@
 -- A relocation that was cut off: what it may have changed of a file.
-use Rattle.redef_mover.proofs.Words.{◌≡◌, ℕ, ◌+◌, ◌-◌, ◌<◌, ◌≤◌, max, inl, inr, sym, ◌∙◌, ap, subst, List, [], ◌∷◌, length, get_or, Option, Some, None, arith, IfSome, IsTrue, nat_tests, common_steps, Header, PartlyWritten, after, BothTold, In, changes, gaps, new_end, IsMoved, Slab, at, longer, canon, header_len, redefined, IsLengthened, IsTornRedefinition, at-longer, at-written_after, get_or-written_within, length-written_inside, longer_long, IsBeside, IsKept, IsOutside, IsUnmoved, AreSpaced, IsPartlyCarried, IsPartlyRewritten, KeepsPlaces, told_as}
+use Rattle.redef_mover.proofs.Words.{◌≡◌, ℕ, ◌+◌, ◌-◌, ◌<◌, ◌≤◌, max, inl, inr, sym, ◌∙◌, ap, subst, List, [], ◌∷◌, length, get_or, Option, Some, None, arith, IfSome, IsTrue, nat_tests, common_steps, Header, PartlyWritten, after, BothTold, In, changes, gaps, new_end, IsMoved, Slab, at, longer, header_len, redefined, IsLengthened, IsTornRedefinition, at-longer, at-written_after, get_or-written_within, length-written_inside, longer_long, IsBeside, IsKept, IsOutside, IsUnmoved, AreSpaced, IsPartlyCarried, IsPartlyRewritten, KeepsPlaces, told_as}
 use Rattle.redef_mover.proofs.ClearLaws.{spaced_low}
 use Rattle.redef_mover.proofs.CarryLaws.{carried_is, gap_beside, gap_high, gap_low, spaced_from}
 use Rattle.redef_mover.proofs.AppliedLaws.{HasLaws, relocated}
@@ -71,7 +71,6 @@ way_grown b end ss file left l = grind (arith, nat_tests, at-longer)
 way_kept : (b end : ℕ) (ss : List Slab) (P : ℕ → Type 0) (file mid left : List ℕ) → ((x : ℕ) → Spared b end ss x → P x) → IsOnWay b end ss file mid → IsKept P mid left
     → IsOnWay b end ss file left
 way_kept b end ss P file mid left f w k =
-    let same = k.len in
     let long = w.long in
     let short = w.short in
     record { long = omega arith; short = omega arith; spared = λ x h. k.kept x (f x h) ∙ w.spared x h }
@@ -152,10 +151,7 @@ module _ (ss : List Slab) (head : List ℕ) (end : ℕ) (spaced : AreSpaced (len
   by_head : (held mid now : Option (List ℕ)) (place : ℕ) → place ≡ 0 → IfSome mid (λ file. end ≤ length file)
       → BothTold (IsOnWay (length head) end ss) held mid → BothTold (PartlyWritten place head) mid now → BothTold (IsPartlyRewritten ss head end) held now
   by_head None mid now place p room w q = subst (λ (m : Option (List ℕ)). BothTold (PartlyWritten place head) m now) w q
-  by_head (Some file) mid now place p room w q =
-      let t : BothTold (PartlyWritten place head) (Some w.0) now = subst (λ (m : Option (List ℕ)). BothTold (PartlyWritten place head) m now) w.1 q in
-      let l : end ≤ length w.0 = subst (λ (m : Option (List ℕ)). IfSome m (λ f. end ≤ length f)) w.1 room in
-      (t.0, t.1, way_headed file w.0 t.0 place p l w.2 t.2)
+  by_head (Some file) mid now place p room w q = grind (arith, nat_tests, way_headed file w.0)
 
   pub cut_headed : (held grown moved cleared now : Option (List ℕ)) (place : ℕ) → place ≡ 0 → grown ≡ after (λ file. longer file end) held → BothTold (IsLengthened end) held grown
       → BothTold (IsKept (IsUnmoved ss)) grown moved → BothTold (IsKept (IsBeside (gaps (length head) end ss))) moved cleared
@@ -165,27 +161,12 @@ module _ (ss : List Slab) (head : List ℕ) (end : ℕ) (spaced : AreSpaced (len
 
 -- ---- what a relocation promises
 
-head_at : (old new : Header) (file : List ℕ) → IsMoved old new file (redefined file old new) → (x : ℕ) → x < header_len new → at (canon new) x ≡ at (redefined file old new) x
-head_at old new file m x l = grind (arith, nat_tests, common_steps)
-
 is_moved : (old new : Header) (file : List ℕ) → HasLaws old new → IsMoved old new file (redefined file old new)
 is_moved old new file h = subst (λ (f : List ℕ). IsMoved old new file f) (relocated old new h file) (carried_is old new file h.carriable (λ s. (h.all s).1) (λ s. (h.all s).0))
 
 torn : (old new : Header) (file left : List ℕ) → HasLaws old new → IsPartlyCarried old new file left
     → IsTornRedefinition (header_len new) (new_end old new) file (redefined file old new) left
-torn old new file left h p =
-    let m = is_moved old new file h in
-    let whole = m.long in
-    let most = p.short in
-    record {
-      long = p.long;
-      short = omega arith;
-      head = λ x l. elim (p.head x l) [ inl e ↦ inl e | inr e ↦ inr (e ∙ head_at old new file m x l) ];
-      past = λ x l k. p.past x l;
-    }
-
-keeps : (old new : Header) (file left : List ℕ) → HasLaws old new → IsPartlyCarried old new file left → KeepsPlaces old new file left
-keeps old new file left h p s i e d l = grind (arith, nat_tests)
+torn old new file left h p = grind (arith, nat_tests, is_moved, common_steps, p.short, p.long, p.head, p.past, new_end)
 
 pub relocation_torn : (old new : Header) (held now : Option (List ℕ)) → HasLaws old new → BothTold (IsPartlyCarried old new) held now
     → BothTold (λ file left. IsTornRedefinition (header_len new) (new_end old new) file (redefined file old new) left) held now
@@ -195,5 +176,4 @@ relocation_torn old new held now h b =
 
 pub relocation_keeps : (old new : Header) (held now : Option (List ℕ)) → HasLaws old new → BothTold (IsPartlyCarried old new) held now
     → BothTold (KeepsPlaces old new) held now
-relocation_keeps old new held now h b =
-    told_as (IsPartlyCarried old new) (KeepsPlaces old new) held now (λ file left p. keeps old new file left h p) b
+relocation_keeps old new held now h b = grind (arith, nat_tests, told_as)

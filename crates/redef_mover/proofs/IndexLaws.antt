@@ -1,5 +1,5 @@
 -- The index of a header's names, and what an addition makes of it.
-use Rattle.redef_mover.proofs.Words.{◌≡◌, ◌∙◌, ℕ, zero, suc, ◌+◌, ◌<◌, ◌≤◌, List, [], ◌∷◌, ◌++◌, length, get_or, map, position, set, Bool, true, false, cond, ◌&&◌, ◌||◌, Option, Some, None, is_some, bytes_eq, refl, sym, ap, subst, arith, nat_eq, Bor, BTreeMap, BTreeSet, tied_then, slice_cmp, position_from, prefix_len, option_or, option_cmp, is_eq, nat_cmp, ordering_then, ltb-false, nat_tests, same_from_decides, position_from-zero, list_any-append, find_at, position-Some, btree_map_updates_str, is_eq-slice_cmp, get_or_from_slice_get, slice_get_past, bytes_eq-Decides, position_map, second_counts, none_last, no_false, equal_below, equal_suc, entry_below, entry_set, entry_set_other, position_below, Attr, Dim, Header, Var, find_var, attrs_of_var, has_attr, with_var_attr, place_of, has_name, is_same, attrs_among, attrs_at, given, IsIndexOf, NameIndex, not, nat_lt, slice_get}
+use Rattle.redef_mover.proofs.Words.{◌≡◌, ◌∙◌, ℕ, zero, suc, ◌+◌, ◌<◌, ◌≤◌, List, [], ◌∷◌, ◌++◌, length, get_or, map, position, set, Bool, true, false, cond, ◌&&◌, ◌||◌, Option, Some, None, is_some, bytes_eq, refl, sym, ap, subst, arith, Bor, BTreeMap, BTreeSet, tied_then, slice_cmp, position_from, prefix_len, option_or, option_cmp, is_eq, nat_cmp, ordering_then, ltb-false, nat_tests, same_from_decides, position_from-zero, list_any-append, find_at, position-Some, btree_map_updates_str, is_eq-slice_cmp, get_or_from_slice_get, slice_get_past, bytes_eq-Decides, position_map, second_counts, none_last, no_false, equal_below, equal_suc, entry_below, entry_set, entry_set_other, position_below, Attr, Dim, Header, Var, find_var, attrs_of_var, has_attr, with_var_attr, place_of, has_name, is_same, attrs_among, attrs_at, given, IsIndexOf, NameIndex, not, nat_lt, slice_get}
 use Rattle.std.specs.BTreeMap as tree
 use Rattle.std.specs.BTreeSet as sorted
 
@@ -69,9 +69,6 @@ pub names_next : (owner : Option ℕ) (first more : List Attr) (a : Attr) (begun
     → (o : Option ℕ) (q : List ℕ) → has_name new o q ≡ (has_name begun o q || (is_same owner o && has_attr more q))
 names_next owner first more a begun old new next known put o q = grind (arith, nat_tests, bytes_eq a.name q, attr_pushed first a q)
 
-suc_same : (n j : ℕ) → nat_eq (suc n) (suc j) ≡ nat_eq n j
-suc_same n j = grind (arith, nat_tests, same_from_decides)
-
 -- a variable more
 pub attrs_pushed : (attrs : List Attr) (vs : List Var) (v : Var) (o : Option ℕ) (q : List ℕ)
     → has_attr (attrs_among attrs (vs ++ v ∷ []) o) q ≡ (has_attr (attrs_among attrs vs o) q || (is_same (Some (length vs)) o && has_attr v.attrs q))
@@ -79,7 +76,7 @@ attrs_pushed attrs vs v None q = or_last (has_attr attrs q)
 attrs_pushed attrs [] v (Some zero) q = refl
 attrs_pushed attrs [] v (Some (suc j)) q = ap (λ (t : Bool). t && has_attr v.attrs q) (sym (equal_below 0 (suc j) (omega arith)))
 attrs_pushed attrs (w ∷ vs) v (Some zero) q = grind (arith, nat_tests, or_last (has_attr w.attrs q), equal_suc (length vs))
-attrs_pushed attrs (w ∷ vs) v (Some (suc j)) q = grind (arith, nat_tests, attrs_pushed attrs vs v (Some j) q, suc_same (length vs) j)
+attrs_pushed attrs (w ∷ vs) v (Some (suc j)) q = grind (arith, nat_tests, attrs_pushed attrs vs v (Some j) q, same_from_decides)
 
 -- the attributes of the first variables, and of one more
 pub owners_next : (attrs : List Attr) (vs more : List Var) (v : Var) (k : ℕ) (old new : BTreeSet (Option ℕ × Bor (List ℕ))) → more ≡ vs ++ v ∷ [] → k ≡ length vs
@@ -117,16 +114,8 @@ var_indexed header index next v name named bare is put dims attrs =
       vars =
           places_next (λ (w : Var). w.name) header.vars (header.vars ++ v ∷ []) v (length header.vars) index.vars next.vars refl refl is.vars
           (λ q. put q ∙ ap (λ (n : List ℕ). option_or (place_of index.vars q) (cond (bytes_eq n q) (Some (length header.vars)) None)) (sym named));
-      attrs = λ o q.
-          ap (λ m. has_name m o q) attrs ∙ is.attrs o q
-          ∙ or_last (has_attr (attrs_at header o) q)
-          ∙ ap (λ (t : Bool). has_attr (attrs_at header o) q || t) (sym (and_last (is_same (Some (length header.vars)) o)) ∙ ap (λ (l : List Attr). is_same (Some (length header.vars)) o && has_attr l q) (sym bare))
-          ∙ sym (attrs_pushed header.attrs header.vars v o q);
+      attrs = grind (arith, nat_tests, or_last, attrs_pushed, is.attrs, has_name, attrs_at, is_same);
     }
-  where
-    and_last : (t : Bool) → (t && false) ≡ false
-    and_last true = refl
-    and_last false = refl
 
 pub attr_indexed : (header : Header) (index next : NameIndex) (a : Attr) → IsIndexOf header index
     → ((o : Option ℕ) (q : List ℕ) → has_name next.attrs o q ≡ (has_name index.attrs o q || (is_same None o && bytes_eq a.name q)))
@@ -143,10 +132,6 @@ names_given : (vs : List Var) (k : ℕ) (v w : Var) → slice_get vs k ≡ Some 
 names_given [] k v w there same = refl
 names_given (x ∷ vs) zero v w there same = grind (arith, nat_tests)
 names_given (x ∷ vs) (suc k) v w there same = ap (λ (ns : List (List ℕ)). x.name ∷ ns) (names_given vs k v w there same)
-
-attrs_given : (attrs : List Attr) (vs : List Var) (k : ℕ) (v : Var) (a : Attr) → slice_get vs k ≡ Some v → (o : Option ℕ) (q : List ℕ)
-    → (has_attr (attrs_among attrs vs o) q || (is_same (Some k) o && bytes_eq a.name q)) ≡ has_attr (attrs_among attrs (set vs k (record v { attrs = v.attrs ++ a ∷ [] })) o) q
-attrs_given attrs vs k v a there o q = grind (arith, nat_tests, or_last, slice_get, bytes_eq, set, attr_pushed, entry_set, entry_set_other, no_false)
 
 pub var_attr_indexed : (header : Header) (index next : NameIndex) (k : ℕ) (a : Attr) → k < length header.vars → IsIndexOf header index
     → ((o : Option ℕ) (q : List ℕ) → has_name next.attrs o q ≡ (has_name index.attrs o q || (is_same (Some k) o && bytes_eq a.name q)))
@@ -165,9 +150,7 @@ var_attr_indexed header index next k a below is put dims vars =
           ∙ sym (position_map (λ (n : List ℕ). bytes_eq n q) (λ (x : Var). x.name) header.vars)
           ∙ ap (position (λ (n : List ℕ). bytes_eq n q)) (sym (names_given header.vars k v w there.1 refl))
           ∙ position_map (λ (n : List ℕ). bytes_eq n q) (λ (x : Var). x.name) (set header.vars k w);
-      attrs = λ o q.
-          put o q ∙ ap (λ (t : Bool). t || (is_same (Some k) o && bytes_eq a.name q)) (is.attrs o q)
-          ∙ attrs_given header.attrs header.vars k v a there.1 o q;
+      attrs = grind (arith, nat_tests, or_last, attr_pushed, entry_set, entry_set_other, no_false, slice_get, bytes_eq, set, a.name, is.attrs, is_same);
     })
 
 -- the first variable of the name

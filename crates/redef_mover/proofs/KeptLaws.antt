@@ -1,19 +1,10 @@
 -- What the moves and the zeros keep of a file.
-use Rattle.redef_mover.proofs.Words.{◌≡◌, ℕ, ◌+◌, ◌≤◌, inl, inr, refl, sym, ◌∙◌, subst, List, [], ◌∷◌, ◌++◌, length, Option, Some, None, Result, Ok, Err, arith, IfSome, OnOk, OnErr, IsTrue, PartlyWritten, after, BothTold, In, in_left, changes, Slab, at, written, at-written_before, at-written_after, length-written_inside, IsBeside, IsKept, IsOutside, IsUnmoved, cleared, slab_moved, window, nat_tests, ◌-◌, eqb-true}
+use Rattle.redef_mover.proofs.Words.{◌≡◌, ℕ, ◌+◌, ◌≤◌, inl, inr, refl, sym, subst, List, [], ◌∷◌, ◌++◌, length, Option, Some, None, Result, Ok, Err, arith, IfSome, OnOk, OnErr, IsTrue, PartlyWritten, after, BothTold, In, in_left, changes, Slab, at, written, at-written_before, at-written_after, length-written_inside, IsBeside, IsKept, IsOutside, IsUnmoved, cleared, slab_moved, window, nat_tests, ◌-◌, eqb-true}
 use Rattle.redef_mover.proofs.ClearLaws.{cleared_after, cleared_before, cleared_long}
 use Rattle.redef_mover.proofs.SlabLaws.{moved_after, moved_before, moved_long}
 use Rattle.redef_mover.proofs.WindowLaws.{upper}
 
 -- ---- files
-
-still : (P : ℕ → Type 0) (file : List ℕ) → IsKept P file file
-still P file = record { len = refl; kept = λ x h. refl }
-
-twice : (P : ℕ → Type 0) (old mid left : List ℕ) → IsKept P old mid → IsKept P mid left → IsKept P old left
-twice P old mid left a b = record { len = b.len ∙ a.len; kept = λ x h. b.kept x h ∙ a.kept x h }
-
-fewer : (P Q : ℕ → Type 0) (old left : List ℕ) → ((x : ℕ) → Q x → P x) → IsKept P old left → IsKept Q old left
-fewer P Q old left f a = record { len = a.len; kept = λ x h. a.kept x (f x h) }
 
 write_beside : (file bytes : List ℕ) (place x : ℕ) → IsOutside place (length bytes) x → at (written file place bytes) x ≡ at file x
 write_beside file bytes place x (inl h) = at-written_before file bytes place x h
@@ -30,13 +21,13 @@ part_keeps file bytes left place room p = grind (arith, nat_tests, length-writte
 -- ---- files that may be told
 
 pub kept_same : (P : ℕ → Type 0) (held now : Option (List ℕ)) → now ≡ held → BothTold (IsKept P) held now
-kept_same xs held now e = grind (arith, nat_tests, still)
+kept_same xs held now e = grind (arith, nat_tests)
 
 pub kept_twice : (P : ℕ → Type 0) (held mid now : Option (List ℕ)) → BothTold (IsKept P) held mid → BothTold (IsKept P) mid now → BothTold (IsKept P) held now
-kept_twice xs held mid now a b = grind (arith, nat_tests, twice)
+kept_twice xs held mid now a b = grind (arith, nat_tests)
 
 pub kept_of : (P Q : ℕ → Type 0) (held now : Option (List ℕ)) → ((x : ℕ) → Q x → P x) → BothTold (IsKept P) held now → BothTold (IsKept Q) held now
-kept_of xs ys held now f a = grind (arith, nat_tests, fewer)
+kept_of xs ys held now f a = grind (arith, nat_tests)
 
 -- one change more, which keeps more
 pub kept_more : (P Q : ℕ → Type 0) (held mid now : Option (List ℕ)) → ((x : ℕ) → Q x → P x) → BothTold (IsKept Q) held mid → BothTold (IsKept P) mid now
@@ -84,11 +75,7 @@ pub upper_kept : (held now : Option (List ℕ)) (z j size : ℕ) (s : Slab) → 
     → now ≡ after (λ file. slab_moved file (upper z s j)) held → BothTold (IsKept (IsOutside s.to s.len)) held now
 upper_kept None now z j size s long room e = e
 upper_kept (Some file) now z j size s long room e =
-    (slab_moved file (upper z s j), e, record { len = moved_long file (upper z s j) (omega arith); kept = by_side })
-  where
-    by_side : (x : ℕ) → IsOutside s.to s.len x → at (slab_moved file (upper z s j)) x ≡ at file x
-    by_side x (inl l) = moved_before file (upper z s j) x (omega arith)
-    by_side x (inr l) = moved_after file (upper z s j) x (omega arith)
+    grind (arith, nat_tests, moved_long file (upper z s j), at (slab_moved file (upper z s j)), at file, moved_before file (upper z s j), moved_after file (upper z s j))
 
 -- ---- gaps
 

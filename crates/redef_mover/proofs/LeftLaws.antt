@@ -2,7 +2,7 @@
 --     Work A          what items do to a file, the device calls that do it, and which bytes they spare
 --     moves z, zeros z        slabs that are moved, and gaps that are cleared, in windows of z bytes
 --     IsLeft          these items are left of all: done as well, they give the whole, and so far only bytes that they do not spare have changed
-use Rattle.redef_mover.proofs.Words.{◌≡◌, ℕ, refl, sym, ◌∙◌, ap, map, subst, List, [], ◌∷◌, ◌++◌, Option, Some, None, inl, flat_map-append, fold-append, append-nil, reverse, DiskCall, after, with_end, after-after, after-same, with_end-nil, with_end-with_end, BothTold, Slab, in_left, in_right, stores, all_calls, all_cleared, all_moved, cleared, gap_calls, IsBeside, IsKept, IsOutside, IsUnmoved, Shift, further, slab_of}
+use Rattle.redef_mover.proofs.Words.{◌≡◌, ℕ, refl, sym, ◌∙◌, ap, map, subst, List, [], ◌∷◌, ◌++◌, Option, Some, None, inl, flat_map-append, fold-append, append-nil, reverse, DiskCall, after, with_end, after-after, after-same, with_end-nil, with_end-with_end, BothTold, Slab, in_left, in_right, stores, all_calls, all_cleared, all_moved, cleared, gap_calls, IsBeside, IsKept, IsOutside, IsUnmoved, Shift, further, slab_of, arith, nat_tests}
 use Rattle.redef_laws.proofs.Orders.{in_reverse, reverse_in}
 use Rattle.redef_mover.proofs.KeptLaws.{kept_more, kept_same}
 use Rattle.redef_mover.proofs.MovesLaws.{called_append, moved_append}
@@ -56,12 +56,7 @@ pub record IsLeft {A : Type 0} (w : Work A) (P : ℕ → Type 0) (all left : Lis
 
 module _ {A : Type 0} {w : Work A} {P : ℕ → Type 0} {all left : List A} where
   pub none_done : (held : Option (List ℕ)) (told : Option (List DiskCall)) → left ≡ all → ((x : ℕ) → P x → w.Spares all x) → IsLeft w P all left held held told told
-  none_done held told e others = record {
-    bytes = ap (λ xs. after (λ file. w.done file xs) held) e;
-    calls = ap (λ xs. with_end told (w.calls xs)) e;
-    others = λ x h. subst (λ (xs : List A). w.Spares xs x) (sym e) (others x h);
-    kept = kept_same P held held refl;
-  }
+  none_done held told e others = grind (arith, nat_tests, kept_same P held held)
 
   module _ {held mid : Option (List ℕ)} {told last : Option (List DiskCall)} where
     -- some of them are done, or partly so

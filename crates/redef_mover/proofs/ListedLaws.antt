@@ -1,5 +1,5 @@
 -- The lists of the code stand for all slabs of the old variables.
-use Rattle.redef_mover.proofs.Words.{◌≡◌, ℕ, ◌+◌, ◌*◌, ◌^◌, ◌<◌, ◌≤◌, inl, inr, refl, ap, subst, List, [], ◌∷◌, ◌++◌, length, map, get_or, arith, flat_map, range_with_len, Header, Slab, recsize, In, fixed_slabs, record_slabs, rising, slabs_of_record, IsRisen, Shift, Slabs, further, listed, slab_of, AreSteps, nat_tests}
+use Rattle.redef_mover.proofs.Words.{◌≡◌, ℕ, ◌+◌, ◌*◌, ◌^◌, ◌<◌, ◌≤◌, inl, inr, refl, subst, List, [], ◌∷◌, ◌++◌, length, map, arith, flat_map, range_with_len, Header, Slab, recsize, In, fixed_slabs, record_slabs, rising, slabs_of_record, IsRisen, Shift, Slabs, further, listed, slab_of, AreSteps, nat_tests}
 use Rattle.redef_mover.proofs.MovesLaws.{in_record, record_listed}
 
 no_slabs : {A B : Type 0} (f : A → List B) (xs : List A) → ((x : A) → f x ≡ []) → flat_map f xs ≡ []
@@ -36,11 +36,10 @@ steps_are old new slabs a b e none risen short r l = by_records slabs.records.it
     by_records : (xs : List Shift) → slabs.records.items ≡ xs → (r * slabs.step.old < 2 ^ 64) × (r * slabs.step.new < 2 ^ 64)
     by_records [] k = let count : slabs.count ≡ 0 = none k in absurd (omega arith)
     by_records (x ∷ xs) k =
-        let some : 0 < length slabs.records.items = omega (arith, ap (λ (ys : List Shift). length ys) k) in
-        let there = record_listed slabs slabs.records.items r (r * slabs.step.old) (r * slabs.step.new)
-        (further (r * slabs.step.old) (r * slabs.step.new) (slab_of (get_or slabs.records.items 0 first))) refl l refl refl
-        (in_record (r * slabs.step.old) (r * slabs.step.new) slabs.records.items 0 first some) in
-        let risen_there = subst (λ (ss : List Slab). In ss (further (r * slabs.step.old) (r * slabs.step.new) (slab_of (get_or slabs.records.items 0 first)))) e there in
-        let high = short (further (r * slabs.step.old) (r * slabs.step.new) (slab_of (get_or slabs.records.items 0 first))) risen_there in
-        let up = risen_up a b (rising old new) (further (r * slabs.step.old) (r * slabs.step.new) (slab_of (get_or slabs.records.items 0 first))) risen risen_there in
-        (omega arith, omega arith)
+        grind (
+          arith,
+          nat_tests,
+          record_listed slabs slabs.records.items r (r * slabs.step.old) (r * slabs.step.new),
+          in_record (r * slabs.step.old) (r * slabs.step.new) slabs.records.items 0 first,
+          risen_up a b (rising old new),
+        )

@@ -58,11 +58,8 @@ fixed_last slabs xs n a b is e f g =
 -- ---- each slab is one of those listed
 
 pub fixed_listed : (slabs : Slabs) (xs : List Shift) (a b : ℕ) (s : Slab) → xs ≡ slabs.fixed.items → a ≡ 0 → b ≡ 0 → In (map (further a b) (map slab_of xs)) s → In (listed slabs) s
-fixed_listed slabs xs a b s is e f =
-    subst (λ (ss : List Shift). In (map (further a b) (map slab_of ss)) s → In (listed slabs) s) (sym is) (λ h. grind (arith, nat_tests, in_left, map_id, no_further))
+fixed_listed slabs xs a b s is e f = grind (arith, nat_tests, in_left, map_id, no_further)
 
 pub record_listed : (slabs : Slabs) (xs : List Shift) (r a b : ℕ) (s : Slab) → xs ≡ slabs.records.items → r < slabs.count → a ≡ r * slabs.step.old → b ≡ r * slabs.step.new
     → In (map (further a b) (map slab_of xs)) s → In (listed slabs) s
-record_listed slabs xs r a b s is l e f =
-    subst (λ (ss : List Shift). In (map (further a b) (map slab_of ss)) s → In (listed slabs) s) (sym is)
-    (λ h. grind (arith, nat_tests, in_range 0 slabs.count r (omega arith) (omega arith), in_right, in_flat))
+record_listed slabs xs r a b s is l e f = grind (arith, nat_tests, in_range 0 slabs.count r, in_right, in_flat)

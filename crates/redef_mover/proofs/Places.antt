@@ -1,5 +1,5 @@
 -- The loops that place the variables, of which some are left.
-use Rattle.redef_mover.proofs.Words.{◌≡◌, ℕ, ◌+◌, ◌-◌, ◌^◌, ◌<◌, ◌≤◌, List, [], ◌∷◌, ◌++◌, length, drop, get_or, map, min, fold, Bool, true, false, cond, Option, Some, None, refl, sym, ap, subst, ◌∙◌, arith, ◌&&◌, MatchOption, filter, not, unwrap_or, enumerate_from, append_assoc, drop_more, drop_all, map-append, append-nil, get_or-map, length-map, sum_by-cons, Header, Var, Byte, header_len, is_record, slab, vsize, least, Numbered, fixed_begins, front_after, begin_at, first_record, record_begins, by_begin, fixed_order, begins_by_number, capped, capped_sum, capped_both, NumberedVar, Place, Side, Old, New, on_side, records_at, fixed_var, record_var, pairs, capped_pairs, vsizes, nat_tests}
+use Rattle.redef_mover.proofs.Words.{◌≡◌, ℕ, ◌+◌, ◌-◌, ◌<◌, ◌≤◌, List, [], ◌∷◌, ◌++◌, length, drop, get_or, map, min, fold, Bool, true, false, cond, Option, Some, None, refl, sym, ap, ◌∙◌, arith, ◌&&◌, MatchOption, filter, not, unwrap_or, enumerate_from, append_assoc, drop_more, drop_all, map-append, append-nil, get_or-map, length-map, sum_by-cons, Header, Var, Byte, header_len, is_record, slab, vsize, least, Numbered, fixed_begins, front_after, begin_at, first_record, record_begins, by_begin, fixed_order, begins_by_number, capped, capped_sum, capped_both, NumberedVar, Place, Side, Old, New, on_side, records_at, fixed_var, record_var, pairs, capped_pairs, vsizes, nat_tests}
 
 -- ---- the variables that two tests choose, from number k on
 
@@ -40,8 +40,7 @@ module _ {A : Type 0} (f : Numbered → A) (p q : Numbered → Bool) (vars : Lis
 
   pub passed : (v : Var) (now after whole : List A) → k < length vars → v ≡ get_or vars k v → (p (k, v) && q (k, v)) ≡ false → after ≡ now
       → now ++ map f (left p q vars k) ≡ whole → after ++ map f (left p q vars (k + 1)) ≡ whole
-  passed v now after whole h there test same so_far =
-      ap (λ (xs : List A). xs ++ map f (left p q vars (k + 1))) same ∙ ap (λ (xs : List Numbered). now ++ map f xs) (sym (left_passed p q vars k v h there test)) ∙ so_far
+  passed v now after whole h there test same so_far = grind (arith, nat_tests, left_passed, left)
 
   pub all_pushed : (now whole : List A) → length vars ≤ k → now ++ map f (left p q vars k) ≡ whole → now ≡ whole
   all_pushed now whole h so_far = sym (append-nil now) ∙ ap (λ (xs : List Numbered). now ++ map f xs) (sym (left_none p q vars k h)) ∙ so_far
@@ -55,14 +54,9 @@ least_on (Some n) ns = Some (fold (λ a b. min a b) n ns)
 abbrev pub begins : List Numbered → List ℕ
 begins vars = map (λ (w : Numbered). w.1.begin) vars
 
-lesser_next : (now : Option ℕ) (x n : ℕ) (ns : List ℕ) → MatchOption now (n ≡ x) (λ m. n ≡ min m x) → least_on (Some n) ns ≡ least_on now (x ∷ ns)
-lesser_next None x n ns h = ap (λ (m : ℕ). Some (fold (λ a b. min a b) m ns)) h
-lesser_next (Some a) x n ns h = ap (λ (m : ℕ). Some (fold (λ b c. min b c) m ns)) h
-
 pub least_next : (p q : Numbered → Bool) (vars : List Var) (k : ℕ) (v : Var) (now : Option ℕ) (n : ℕ) → k < length vars → v ≡ get_or vars k v → (p (k, v) && q (k, v)) ≡ true
     → MatchOption now (n ≡ v.begin) (λ m. n ≡ min m v.begin) → least_on (Some n) (begins (left p q vars (k + 1))) ≡ least_on now (begins (left p q vars k))
-least_next p q vars k v now n h there test lesser =
-    lesser_next now v.begin n (begins (left p q vars (k + 1))) lesser ∙ ap (λ (ws : List Numbered). least_on now (begins ws)) (sym (left_taken p q vars k v h there test))
+least_next p q vars k v now n h there test lesser = grind (arith, nat_tests, fold, left_taken, least_on, begins, left)
 
 pub least_whole : (now : Option ℕ) → least_on now [] ≡ now
 least_whole None = refl
@@ -195,18 +189,12 @@ module _ (c : Header → ℕ → Placing) (f : Header → Numbered → NumberedV
       → ((header : Header) (v : Numbered) (n m : ℕ) → item ≡ f header v → first ≡ capped n → front ≡ capped m
       → (begin ≡ capped ((c header n).begin m v)) × (next ≡ capped ((c header n).step m v)))
       → IsSoFar c f order first k old now front → IsSoFar c f order first (k + 1) old after next
-  next_so_far k now after front begin next item within there push number told so_far = record {
-    placed = λ header vars n e g.
-        let v = get_or vars k nobody in
-        let one = next_of (f header) order vars k item within there e in
-        place_next (c header n) (drop k vars) (drop (k + 1) vars) v _ _ now after (record { number = item.number; begin = begin }) front next one.left push
-        (ap (λ (i : NumberedVar). i.number) one.is ∙ number header v) (λ m h. told header v n m one.is g h) (so_far.placed header vars n e g);
-  }
+  next_so_far k now after front begin next item within there push number told so_far =
+      grind (arith, nat_tests, nobody, next_of, place_next, item.number, so_far.placed, get_or)
 
   pub whole_so_far : (k : ℕ) (now : List Place) (front : ℕ) → length order ≤ k → IsSoFar c f order first k old now front → (header : Header) (vars : List Numbered) (n : ℕ)
       → order ≡ map (f header) vars → first ≡ capped n → (pairs now ≡ pairs old ++ capped_pairs ((c header n).begins n vars)) × (front ≡ capped ((c header n).end n vars))
-  whole_so_far k now front past so_far header vars n e g =
-      place_whole (c header n) (drop k vars) _ _ now front (none_left (f header) order vars k past e) (so_far.placed header vars n e g)
+  whole_so_far k now front past so_far header vars n e g = grind (arith, nat_tests, place_whole, none_left, so_far.placed, pairs, capped_pairs, capped)
 
 abbrev pub FixedSoFar : List NumberedVar → ℕ → ℕ → List Place → List Place → ℕ → Type 0
 FixedSoFar order first k old now front = IsSoFar (λ header n. fixed_placing header) fixed_var order first k old now front
@@ -215,12 +203,7 @@ pub fixed_next : (order : List NumberedVar) (first k : ℕ) (old now after : Lis
     → ((m : ℕ) → front ≡ capped m → begin ≡ capped (first_record m (Some item.begin))) → next ≡ capped (begin + item.len)
     → after ≡ now ++ record { number = item.number; begin = begin } ∷ []
     → FixedSoFar order first k old now front → FixedSoFar order first (k + 1) old after next
-fixed_next order first k old now after front begin next item within there at to push so_far =
-    next_so_far (λ header n. fixed_placing header) fixed_var order first old k now after front begin next item within there push (λ header v. refl)
-    (λ header v n m is e g.
-    let begun : begin ≡ capped (begin_at m v.1) = at m g ∙ ap (λ (i : NumberedVar). capped (first_record m (Some i.begin))) is in
-    (begun, to ∙ (λ i. capped (begun i + (is i).len)) ∙ capped_both (begin_at m v.1) (slab header v.1)))
-    so_far
+fixed_next order first k old now after front begin next item within there at to push so_far = grind (arith, nat_tests, next_so_far, capped_both)
 
 abbrev pub OldSoFar : List NumberedVar → ℕ → ℕ → ℕ → List Place → List Place → ℕ → Type 0
 OldSoFar order first least k old now end = IsSoFar (λ header m. old_placing header m least) record_var order first k old now end
@@ -229,10 +212,7 @@ pub old_next : (order : List NumberedVar) (first least k : ℕ) (old now after :
     → begin ≡ capped (first + (item.begin - least)) → next ≡ capped (end + item.len)
     → after ≡ now ++ record { number = item.number; begin = begin } ∷ []
     → OldSoFar order first least k old now end → OldSoFar order first least (k + 1) old after next
-old_next order first least k old now after end begin next item within there at to push so_far =
-    next_so_far (λ header m. old_placing header m least) record_var order first old k now after end begin next item within there push (λ header v. refl)
-    (λ header v n m is e g. (at ∙ (λ i. capped (e i + ((is i).begin - least))) ∙ capped_sum n (v.1.begin - least), to ∙ (λ i. capped (g i + (is i).len)) ∙ capped_both m (vsize header v.1)))
-    so_far
+old_next order first least k old now after end begin next item within there at to push so_far = grind (arith, nat_tests, next_so_far, capped_sum, capped_both)
 
 pub record NewSoFar (header : Header) (n first k : ℕ) (old now : List Place) (begin : ℕ) : Type 0 where
   pub placed : (m : ℕ) → first ≡ capped m
@@ -246,20 +226,13 @@ pub new_next : (header : Header) (n first k : ℕ) (v : Var) (old now after : Li
     → after ≡ now ++ record { number = k; begin = begin } ∷ []
     → NewSoFar header n first k old now begin → NewSoFar header n first (k + 1) old after next
 new_next header n first k v old now after begin next bytes within there test sized to push so_far = record {
-  placed = λ m e.
-      place_next (new_placing header) (records_left header n New k) (records_left header n New (k + 1)) (k, v) _ _ now after (record { number = k; begin = begin }) begin next
-      (left_taken (λ w. is_record header w.1) (on_side n New) header.vars k v within there test) push refl
-      (λ x g. (g, to ∙ (λ i. capped (g i + sized i)) ∙ capped_both x (vsize header v))) (so_far.placed m e);
+  placed = grind (arith, nat_tests, place_next (new_placing header) (records_left header n New k) (records_left header n New (k + 1)) (k, v), left_taken, capped_both);
 }
 
 pub new_passed : (header : Header) (n first k : ℕ) (v : Var) (old now : List Place) (begin : ℕ) → k < length header.vars → v ≡ get_or header.vars k v
     → (is_record header v && on_side n New (k, v)) ≡ false
     → NewSoFar header n first k old now begin → NewSoFar header n first (k + 1) old now begin
-new_passed header n first k v old now begin within there test so_far = record {
-  placed = λ m e.
-      subst (λ (vs : List Numbered). AreLeft (new_placing header) vs (pairs old ++ capped_pairs (record_begins header m (records_at header n New))) (m + vsizes header (records_at header n New)) now begin)
-      (left_passed (λ w. is_record header w.1) (on_side n New) header.vars k v within there test) (so_far.placed m e);
-}
+new_passed header n first k v old now begin within there test so_far = grind (arith, nat_tests, left_passed)
 
 pub new_whole : (header : Header) (n first k : ℕ) (old now : List Place) (begin : ℕ) → length header.vars ≤ k → NewSoFar header n first k old now begin
     → (m : ℕ) → first ≡ capped m → pairs now ≡ pairs old ++ capped_pairs (record_begins header m (records_at header n New))

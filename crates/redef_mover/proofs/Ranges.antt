@@ -43,10 +43,8 @@ times k found = count_by (λ b. b.0 == k) found
 times_member : (found : List (ℕ × ℕ)) (i : ℕ) (d : ℕ × ℕ) → i < length found → 1 ≤ times (get_or found i d).0 found
 times_member [] i d h = absurd (omega arith)
 times_member (b ∷ found) zero d h =
-    let here : (b.0 == b.0) ≡ true = grind (arith, nat_tests) in
     let one = sum_by-cons (λ (x : ℕ × ℕ). cond (x.0 == b.0) 1 0) b found in
-    let is : cond (b.0 == b.0) 1 0 ≡ 1 = ap {B = ℕ} (λ (t : Bool). cond t 1 0) here in
-    omega (arith, one, is)
+    grind (arith, nat_tests)
 times_member (b ∷ found) (suc i) d h =
     let rest = times_member found i d (omega arith) in
     let one = sum_by-cons (λ (x : ℕ × ℕ). cond (x.0 == (get_or found i d).0) 1 0) b found in

@@ -1,5 +1,5 @@
 -- The header with its new begins, and why there is none.
-use Rattle.redef_mover.proofs.Words.{◌≡◌, ℕ, zero, suc, ◌+◌, ◌-◌, ◌*◌, ◌^◌, List, [], ◌∷◌, length, take, Bool, true, false, cond, Option, Some, None, refl, sym, ap, ◌∙◌, arith, sum_by, find, option_map, slice_get, nat_lt, nat_le, not, ◌==◌, if◌then◌else◌, prefix_len, option_or, nat_tests, sum_by-cons, found_passes, found_fails, none_before_map, rebegun_len, Header, Var, Extra, LayoutErr, RedefErr, file_limit, keeps_bound, is_record, slab, vsize, record_share, record_size, is_large_var, size_fault, is_far_begin, is_bad_begin, begin_of_number, with_begins, begins_by_number, extras_fault, added, redefined_header, redefined_fault, capped, capped_pairs, ◌&&◌, ◌||◌}
+use Rattle.redef_mover.proofs.Words.{◌≡◌, ℕ, zero, suc, ◌+◌, ◌-◌, ◌*◌, ◌^◌, List, [], ◌∷◌, length, take, Bool, false, cond, Option, Some, None, refl, sym, ap, ◌∙◌, arith, sum_by, find, option_map, slice_get, nat_lt, nat_le, not, ◌==◌, if◌then◌else◌, prefix_len, option_or, nat_tests, sum_by-cons, found_passes, found_fails, none_before_map, rebegun_len, Header, Var, Extra, RedefErr, file_limit, keeps_bound, is_record, slab, vsize, record_share, record_size, is_large_var, size_fault, is_far_begin, is_bad_begin, begin_of_number, with_begins, begins_by_number, extras_fault, added, redefined_header, redefined_fault, capped, capped_pairs, ◌&&◌, ◌||◌}
 use Rattle.nc_base.specs.declared.errors.LayoutErr.TheVariants as layout
 use Rattle.nc_base.specs.declared.errors.RedefErr.TheVariants as redef
 use Rattle.serial_spec.specs.Layout.{record_slabs}
@@ -70,15 +70,9 @@ bad_is header found b =
           | Some v ↦ not (not (is_far_begin (with_begins header found) v) && keeps_bound (with_begins header found) (sum_by (λ w. record_share (with_begins header found) w) (take b.0 (with_begins header found).vars)) v)
         ] ≡ bad_of header found b.0 o
     by_var None = refl
-    by_var (Some v) =
-        ap (λ (m : ℕ). bad_by header v (begin_of_number found m) (sum_by (λ w. record_share header w) (take b.0 (rebegun found 0 header.vars))) (record_slabs (with_begins header found))) (let e : 0 + b.0 ≡ b.0 = omega arith in e)
-        ∙ ap (λ (m : ℕ). bad_by header v (begin_of_number found b.0) m (record_slabs (with_begins header found))) (begun_sum_front (λ w. record_share header w) (λ w c. refl) found 0 header.vars b.0)
-        ∙ ap (λ (ns : List ℕ). bad_by header v (begin_of_number found b.0) (sum_by (λ w. record_share header w) (take b.0 header.vars)) ns) (rebegun_slabs header found 0 header.vars)
+    by_var (Some v) = grind (arith, nat_tests, begun_sum_front, rebegun_slabs header found 0 header.vars)
 
 -- ---- capped begins
-
-far_capped : (n : ℕ) → nat_le (2 ^ 31) (capped n) ≡ nat_le (2 ^ 31) n
-far_capped n = grind (arith, nat_tests)
 
 sum_capped : (n m : ℕ) → nat_lt (capped n + m) (2 ^ 62) ≡ nat_lt (n + m) (2 ^ 62)
 sum_capped n m = grind (arith, nat_tests)
@@ -88,7 +82,7 @@ two_capped n m k = grind (arith, nat_tests, sum_capped n (m + k))
 
 bad_capped : (header : Header) (v : Var) (begin before : ℕ) (slabs : List ℕ) → bad_by header v (capped begin) before slabs ≡ bad_by header v begin before slabs
 unfolding bad_by
-bad_capped header v begin before slabs = grind (arith, nat_tests, far_capped begin, sum_capped begin (vsize header v), two_capped)
+bad_capped header v begin before slabs = grind (arith, nat_tests, sum_capped begin (vsize header v), two_capped)
 
 number_capped : (found : List (ℕ × ℕ)) (k : ℕ) → begin_of_number (capped_pairs found) k ≡ capped (begin_of_number found k)
 number_capped [] k = refl
@@ -100,26 +94,15 @@ same_bad header found b =
   where
     by_var : (o : Option Var) → bad_of header (capped_pairs found) b.0 o ≡ bad_of header found b.0 o
     by_var None = no_var header (capped_pairs found) b.0 ∙ sym (no_var header found b.0)
-    by_var (Some v) =
-        one_var header (capped_pairs found) b.0 v
-        ∙ ap (λ (n : ℕ). bad_by header v n (sum_by (λ w. record_share header w) (take b.0 header.vars)) (record_slabs header)) (number_capped found b.0)
-        ∙ bad_capped header v (begin_of_number found b.0) (sum_by (λ w. record_share header w) (take b.0 header.vars)) (record_slabs header)
-        ∙ sym (one_var header found b.0 v)
+    by_var (Some v) = grind (arith, nat_tests, one_var, number_capped, bad_capped, header.vars, bad_by, take, record_slabs)
 
 -- ---- the first that is out of range
-
-under_test : {A B : Type 0} (f : A → B) (t : Bool) (x y : A) (o p : Option A) → f x ≡ f y → option_map f o ≡ option_map f p
-    → option_map f (cond t (Some x) o) ≡ option_map f (cond t (Some y) p)
-under_test f true x y o p e rest = ap (λ z. Some z) e
-under_test f false x y o p e rest = rest
 
 pub same_first : (header : Header) (all found : List (ℕ × ℕ)) (f : ℕ → RedefErr)
     → option_map (λ (b : ℕ × ℕ). f b.0) (find (is_bad_begin (with_begins header (capped_pairs all))) (capped_pairs found))
     ≡ option_map (λ (b : ℕ × ℕ). f b.0) (find (is_bad_begin (with_begins header all)) found)
 same_first header all [] f = refl
-same_first header all (b ∷ found) f =
-    ap (λ (t : Bool). option_map (λ (x : ℕ × ℕ). f x.0) (cond t (Some (b.0, capped b.1)) (find (is_bad_begin (with_begins header (capped_pairs all))) (capped_pairs found)))) (same_bad header all b)
-    ∙ under_test (λ (x : ℕ × ℕ). f x.0) (is_bad_begin (with_begins header all) b) (b.0, capped b.1) b _ _ refl (same_first header all found f)
+same_first header all (b ∷ found) f = grind (arith, nat_tests, same_bad header all b, same_first header all found f)
 
 pub none_first : (header : Header) (found : List (ℕ × ℕ)) → find (is_bad_begin (with_begins header (capped_pairs found))) (capped_pairs found) ≡ None
     → find (is_bad_begin (with_begins header found)) found ≡ None
@@ -134,17 +117,8 @@ good_small header v begin before slabs h = grind (arith, nat_tests)
 -- where no begin is out of range, each is below 2^62
 number_same : (header : Header) (found : List (ℕ × ℕ)) (k : ℕ) (v : Var) → find (is_bad_begin (with_begins header found)) found ≡ None → slice_get header.vars k ≡ Some v
     → begin_of_number (capped_pairs found) k ≡ begin_of_number found k
-number_same header found k v none there = number_capped found k ∙ by_place (find (λ (b : ℕ × ℕ). b.0 == k) found) refl
-  where
-    by_place : (o : Option (ℕ × ℕ)) → find (λ (b : ℕ × ℕ). b.0 == k) found ≡ o → capped (begin_of_number found k) ≡ begin_of_number found k
-    by_place None e = let zero_begin : begin_of_number found k ≡ 0 = ap (λ (p : Option (ℕ × ℕ)). elim p [ None ↦ 0 | Some x ↦ x.1 ]) e in omega arith
-    by_place (Some b) e =
-        let passes = found_passes (λ (x : ℕ × ℕ). x.0 == k) found b e in
-        let same : b.0 ≡ k = grind (arith, nat_tests) in
-        let good = sym (found_fails (is_bad_begin (with_begins header found)) (λ (x : ℕ × ℕ). x.0 == k) found b none e) ∙ bad_is header found b in
-        good_small header v (begin_of_number found k) (sum_by (λ w. record_share header w) (take k header.vars)) (record_slabs header)
-        (sym (one_var header found k v) ∙ ap (λ (p : Option Var). bad_of header found k p) (sym there)
-        ∙ ap (λ (n : ℕ). bad_of header found n (slice_get header.vars n)) (sym same) ∙ sym good)
+number_same header found k v none there =
+    grind (arith, nat_tests, number_capped found k, found_passes, found_fails, bad_is header found, good_small header v, one_var header found k v)
 
 begun_same : (found : List (ℕ × ℕ)) (n : ℕ) (vars : List Var) → ((j : ℕ) (v : Var) → slice_get vars j ≡ Some v → begin_of_number (capped_pairs found) (n + j) ≡ begin_of_number found (n + j))
     → rebegun (capped_pairs found) n vars ≡ rebegun found n vars
@@ -179,26 +153,16 @@ past_extras : (old : Header) (extras : List Extra) → extras_fault old extras �
     → redefined_fault old extras ≡ layout_part (redefined_header old extras) (added old extras) (length old.vars)
 past_extras old extras h = ap (λ (o : Option RedefErr). fault_by o (layout_part (redefined_header old extras) (added old extras) (length old.vars))) h
 
--- the first of two faults, each told as one of a redefinition
-first_told : (a : Option LayoutErr) (o : Option (ℕ × ℕ)) (e : RedefErr) → Some e ≡ option_map (λ x. redef.Layout x) a
-    → option_map (λ x. redef.Layout x) (option_or a (option_map (λ (b : ℕ × ℕ). layout.BeginRange b.0) o)) ≡ Some e
-first_told None o e h = cc
-first_told (Some x) o e h = sym h
-
-second_told : (a : Option LayoutErr) (o : Option (ℕ × ℕ)) → a ≡ None
-    → option_map (λ x. redef.Layout x) (option_or a (option_map (λ (b : ℕ × ℕ). layout.BeginRange b.0) o)) ≡ option_map (λ (b : ℕ × ℕ). redef.Layout (layout.BeginRange b.0)) o
-second_told a o h = grind (arith, nat_tests)
-
 pub fault_of_size : (old new : Header) (extras : List Extra) (e : RedefErr) → extras_fault old extras ≡ None → new ≡ added old extras → Some e ≡ option_map (λ x. redef.Layout x) (size_fault new)
     → redefined_fault old extras ≡ Some e
 fault_of_size old new extras e none made told =
-    grind (arith, nat_tests, past_extras old extras none, size_kept (added old extras) (begins_by_number (added old extras) (length old.vars)), first_told)
+    grind (arith, nat_tests, past_extras old extras none, size_kept (added old extras) (begins_by_number (added old extras) (length old.vars)))
 
 past_sizes : (old new : Header) (extras : List Extra) → extras_fault old extras ≡ None → new ≡ added old extras → option_map (λ x. redef.Layout x) (size_fault new) ≡ None
     → redefined_fault old extras
     ≡ option_map (λ (b : ℕ × ℕ). redef.Layout (layout.BeginRange b.0)) (find (is_bad_begin (redefined_header old extras)) (begins_by_number (added old extras) (length old.vars)))
 past_sizes old new extras none made small =
-    grind (arith, nat_tests, past_extras old extras none, size_kept (added old extras) (begins_by_number (added old extras) (length old.vars)), second_told, none_before_map)
+    grind (arith, nat_tests, past_extras old extras none, size_kept (added old extras) (begins_by_number (added old extras) (length old.vars)), none_before_map)
 
 module _ (old new left : Header) (extras : List Extra) (places : List (ℕ × ℕ)) (none : extras_fault old extras ≡ None) (made : new ≡ added old extras)
     (small : option_map (λ x. redef.Layout x) (size_fault new) ≡ None) (placed : places ≡ capped_pairs (begins_by_number new (length old.vars))) (begun : left ≡ with_begins new places) where
@@ -219,11 +183,7 @@ module _ (old new left : Header) (extras : List Extra) (places : List (ℕ × �
   pub no_fault : find (is_bad_begin left) places ≡ None → (redefined_fault old extras ≡ None) × (left ≡ redefined_header old extras)
   no_fault good =
       let header = added old extras in
-      let found = begins_by_number header (length old.vars) in
-      let exact = none_first header found ((λ i. find (is_bad_begin (sym left_is i)) (sym same i)) ∙ good) in (
-        past_sizes old new extras none made small ∙ ap (λ (o : Option (ℕ × ℕ)). option_map (λ (b : ℕ × ℕ). redef.Layout (layout.BeginRange b.0)) o) exact,
-        left_is ∙ capped_none header found exact,
-      )
+      grind (arith, nat_tests, none_first header (begins_by_number header (length old.vars)), left_is, same, past_sizes old new extras none made small, capped_none header (begins_by_number header (length old.vars)))
 
 pub length_kept : (header left : Header) (found : List (ℕ × ℕ)) → left ≡ with_begins header found → length left.vars ≡ length header.vars
 length_kept header left found e = ap (λ (h : Header). length h.vars) e ∙ rebegun_long found 0 header.vars

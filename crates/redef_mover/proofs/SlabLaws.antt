@@ -4,17 +4,13 @@ use Rattle.redef_mover.proofs.Words.{◌≡◌, ℕ, ◌+◌, ◌-◌, ◌<◌, 
 -- ---- one slab
 
 pub moved_long : (file : List ℕ) (s : Slab) → s.to + s.len ≤ length file → length (slab_moved file s) ≡ length file
-moved_long file s h =
-    let bytes = read_long file s.from s.len in
-    length-written_inside file s.to (read file s.from s.len) (omega arith)
+moved_long file s h = grind (arith, nat_tests, read_long, length-written_inside, read, slab_moved)
 
 pub moved_before : (file : List ℕ) (s : Slab) (x : ℕ) → x < s.to → at (slab_moved file s) x ≡ at file x
 moved_before file s x h = at-written_before file (read file s.from s.len) s.to x h
 
 pub moved_after : (file : List ℕ) (s : Slab) (x : ℕ) → s.to + s.len ≤ x → at (slab_moved file s) x ≡ at file x
-moved_after file s x h =
-    let bytes = read_long file s.from s.len in
-    at-written_after file (read file s.from s.len) s.to x (omega arith)
+moved_after file s x h = grind (arith, nat_tests, read_long, at-written_after, read, slab_moved)
 
 pub moved_inside : (file : List ℕ) (s : Slab) (x : ℕ) → s.to ≤ x → x < s.to + s.len → at (slab_moved file s) x ≡ at file (s.from + (x - s.to))
 moved_inside file s x h k = grind (arith, nat_tests, read_long, at-written_inside, read_at)
@@ -35,8 +31,4 @@ pub record AreParts (low high whole : Slab) : Type 0 where
 
 pub both_moved : (file : List ℕ) (low high whole : Slab) → AreParts low high whole → whole.to + whole.len ≤ length file
     → slab_moved (slab_moved file high) low ≡ slab_moved file whole
-both_moved file low high whole p h =
-    let first = moved_long file high (omega arith) in
-    let both = moved_long (slab_moved file high) low (omega arith) in
-    let all = moved_long file whole h in
-    grind (arith, nat_tests, same_file, cases_lt, moved_before, moved_inside, moved_after)
+both_moved file low high whole p h = grind (arith, nat_tests, moved_long, same_file, moved_before, moved_inside, moved_after, slab_moved)

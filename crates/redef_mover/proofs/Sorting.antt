@@ -1,5 +1,5 @@
 -- A stable sort by a number leaves just one list: the one that insertion leaves.
-use Rattle.redef_mover.proofs.Words.{◌≡◌, ℕ, ◌≤◌, List, [], ◌∷◌, map, Bool, true, false, cond, refl, sym, ap, subst, ◌∙◌, arith, inl, inr, filter, nat_le, not, ◌==◌, ◌&&◌, eqb_tells, IsNonDecreasingBy, IsStableByKey, ties, nat_cmp, is_lt, nat_tests, filter_agree, get_or_from_slice_get, In}
+use Rattle.redef_mover.proofs.Words.{◌≡◌, ℕ, ◌≤◌, List, [], ◌∷◌, map, Bool, true, cond, refl, sym, ap, subst, ◌∙◌, arith, inl, filter, nat_le, not, ◌==◌, ◌&&◌, IsNonDecreasingBy, IsStableByKey, ties, nat_cmp, is_lt, nat_tests, filter_agree, get_or_from_slice_get, In}
 use Rattle.std.proofs.lemmas.Bool.{eqb-true, leb-true, leb-false}
 use Rattle.std.proofs.lemmas.Option.{slice_get_within}
 use Rattle.serial_spec.proofs.MemberLaws.{filter_in}
@@ -33,50 +33,25 @@ by_key : {A : Type 0} (key : A → ℕ) → Orders (λ x y. nat_le (key x) (key 
 by_key key = record { passed = λ x y d e. leb-true (key x) (key y) e; failed = λ x y d e. (let l = leb-false (key x) (key y) e in omega arith); on = λ x y z l m. omega (arith, l, m) }
 
 pub sorted_rises : {A : Type 0} (key : A → ℕ) (xs : List A) → Rises key (sorted_by key xs)
-sorted_rises key xs =
-    sorted_pairs (λ x y. nat_le (key x) (key y)) (λ x y. Unit {0}) (λ x y. key x ≤ key y) (by_key key) xs (pairs_by_place (λ x y. Unit {0}) xs (λ i j x y l e f. tt))
+sorted_rises key xs = grind (arith, nat_tests, sorted_pairs, by_key key, pairs_by_place)
 
 -- ---- there is one such list
 
 own_key : {A : Type 0} (key : A → ℕ) (x : A) (xs : List A) → of_key key (key x) (x ∷ xs) ≡ x ∷ of_key key (key x) xs
 own_key key x xs = ap (λ (t : Bool). cond t (x ∷ of_key key (key x) xs) (of_key key (key x) xs)) (let e : (key x == key x) ≡ true = grind (arith, nat_tests) in e)
 
-other_key : {A : Type 0} (key : A → ℕ) (n : ℕ) (x : A) (xs : List A) → (key x == n) ≡ false → of_key key n (x ∷ xs) ≡ of_key key n xs
-other_key key n x xs e = ap (λ (t : Bool). cond t (x ∷ of_key key n xs) (of_key key n xs)) e
-
 -- a list that rises begins no higher than what it has
 low_of : {A : Type 0} (key : A → ℕ) (n : ℕ) (x y : A) (zs ys : List A) → Rises key (y ∷ ys) → of_key key n (y ∷ ys) ≡ x ∷ zs → key y ≤ n
 low_of {A} key n x y zs ys r e =
     let found = filter_in (λ z. key z == n) (y ∷ ys) x (subst (λ (l : List A). In l x) (sym e) (inl refl)) in
-    let is = eqb-true (key x) n found.1 in
-    elim found.0 [ inl g ↦ omega (arith, is, ap key g) | inr m ↦ omega (arith, is, r.0 x m) ]
+    grind (arith, nat_tests, eqb-true, found.0, r.0)
 
 pub one_sorted : {A : Type 0} (key : A → ℕ) (xs ys : List A) → Rises key xs → Rises key ys → ((n : ℕ) → of_key key n xs ≡ of_key key n ys) → xs ≡ ys
 one_sorted key [] [] r s same = refl
 one_sorted key [] (y ∷ ys) r s same = let e = same (key y) ∙ own_key key y ys in cc
 one_sorted key (x ∷ xs) [] r s same = let e = sym (own_key key x xs) ∙ same (key x) in cc
-one_sorted {A} key (x ∷ xs) (y ∷ ys) r s same = whole (first equal) (one_sorted key xs ys r.1 s.1)
-  where
-    equal : key x ≡ key y
-    equal =
-        let one = low_of key (key x) x y (of_key key (key x) xs) ys s (sym (same (key x)) ∙ own_key key x xs) in
-        let two = low_of key (key y) y x (of_key key (key y) ys) xs r (same (key y) ∙ own_key key y ys) in
-        omega arith
-
-    first : key x ≡ key y → (x ≡ y) × (of_key key (key x) xs ≡ of_key key (key x) ys)
-    first e =
-        let both : (x ∷ of_key key (key x) xs) ≡ (y ∷ of_key key (key x) ys) =
-        sym (own_key key x xs) ∙ same (key x) ∙ ap (λ (t : Bool). cond t (y ∷ of_key key (key x) ys) (of_key key (key x) ys)) (let f : (key y == key x) ≡ true = grind (arith, nat_tests) in f) in
-        (cc, cc)
-
-    rest : x ≡ y → of_key key (key x) xs ≡ of_key key (key x) ys → (n : ℕ) → of_key key n xs ≡ of_key key n ys
-    rest e here n = elim (eqb_tells (key x) n) [
-      | inl f ↦ ap (λ (m : ℕ). of_key key m xs) (sym f.1) ∙ here ∙ ap (λ (m : ℕ). of_key key m ys) f.1
-      | inr f ↦ sym (other_key key n x xs f.0) ∙ same n ∙ other_key key n y ys (ap (λ z. key z == n) (sym e) ∙ f.0)
-    ]
-
-    whole : (x ≡ y) × (of_key key (key x) xs ≡ of_key key (key x) ys) → (((n : ℕ) → of_key key n xs ≡ of_key key n ys) → xs ≡ ys) → (x ∷ xs) ≡ (y ∷ ys)
-    whole h tails = ap (λ z. z ∷ xs) h.0 ∙ ap (λ zs. y ∷ zs) (tails (rest h.0 h.1))
+one_sorted {A} key (x ∷ xs) (y ∷ ys) r s same =
+    grind (arith, nat_tests, one_sorted key xs ys r.1 s.1, low_of key (key x) x y (of_key key (key x) xs) ys s (sym (same (key x)) ∙ own_key key x xs), own_key key x xs, low_of key (key y) y x (of_key key (key y) ys) xs r (same (key y) ∙ own_key key y ys), own_key key y ys)
 
 -- ---- from what a sort ensures
 

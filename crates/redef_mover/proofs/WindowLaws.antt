@@ -20,11 +20,7 @@ upper z s j =
 
 pub window_moved : (z j : ℕ) (s : Slab) (file : List ℕ) → s.from ≤ s.to → j * z < s.len → s.to + s.len ≤ length file
     → slab_moved (slab_moved file (upper z s j)) (window z s j) ≡ slab_moved file (upper z s (j + 1))
-window_moved z j s file up l h =
-    let more : (j + 1) * z ≡ j * z + z = omega arith in
-    both_moved file (window z s j) (upper z s j) (upper z s (j + 1))
-    (record { up = omega arith; from = omega arith; to = omega arith; first = omega arith; place = omega arith; all = omega arith })
-    (omega arith)
+window_moved z j s file up l h = grind (arith, nat_tests, both_moved file (window z s j) (upper z s j) (upper z s (j + 1)))
 
 pub whole_moved : (z j : ℕ) (s : Slab) (file : List ℕ) → s.len ≤ j * z → slab_moved file (upper z s j) ≡ slab_moved file s
 whole_moved z j s file h = grind (arith, nat_tests)

@@ -1,5 +1,5 @@
 -- The begins that are written, and the numbers of those that are found.
-use Rattle.redef_mover.proofs.Words.{◌≡◌, ℕ, zero, suc, ◌+◌, ◌-◌, ◌<◌, ◌≤◌, List, [], ◌∷◌, ◌++◌, length, take, get_or, map, Bool, true, false, cond, Some, None, refl, sym, ap, ◌∙◌, arith, filter, sum_by, find, nat_lt, nat_le, not, ◌==◌, unwrap_or, enumerate_from, inl, inr, eqb_tells, nat_tests, take_more, take_all, map-append, sum_by-cons, sum_by-append, Header, Var, header_len, is_record, slab, vsize, least, Numbered, fixed_of, records_in, old_of, new_of, begins_before, by_begin, begin_at, fixed_begins, fixed_order, record_begins, front_after, first_record, begins_by_number, begin_of_number, capped, Place, pairs, capped_pairs, HasOneEach, ◌&&◌, set}
+use Rattle.redef_mover.proofs.Words.{◌≡◌, ℕ, zero, suc, ◌+◌, ◌-◌, ◌<◌, ◌≤◌, List, [], ◌∷◌, ◌++◌, length, take, get_or, map, Bool, true, false, cond, refl, ap, ◌∙◌, arith, filter, sum_by, nat_lt, nat_le, not, ◌==◌, unwrap_or, enumerate_from, nat_tests, take_more, take_all, map-append, sum_by-cons, sum_by-append, Header, Var, header_len, is_record, least, Numbered, fixed_of, records_in, old_of, new_of, begins_before, by_begin, fixed_begins, fixed_order, record_begins, front_after, first_record, begins_by_number, begin_of_number, capped, Place, pairs, capped_pairs, HasOneEach, ◌&&◌, set}
 use Rattle.redef_laws.proofs.Orders.{sorted_sum}
 use Rattle.redef_mover.proofs.Places.{Placing, fixed_placing, new_placing, old_placing}
 use Rattle.redef_mover.proofs.Ranges.{times}
@@ -43,33 +43,18 @@ times_cons k b found = sum_by-cons (λ (x : ℕ × ℕ). cond (x.0 == k) 1 0) b 
 
 not_there : (found : List (ℕ × ℕ)) (k begin : ℕ) → times k found ≡ 0 → last_begin found k begin ≡ begin
 not_there [] k begin h = refl
-not_there (b ∷ found) k begin h =
-    let one = times_cons k b found in
-    elim (eqb_tells b.0 k) [
-      | inl e ↦ absurd (omega (arith, one, ap {B = ℕ} (λ (u : Bool). cond u 1 0) e.0, h))
-      | inr e ↦
-          ap (λ (u : Bool). last_begin found k (cond u b.1 begin)) e.0
-          ∙ not_there found k begin (omega (arith, one, ap {B = ℕ} (λ (u : Bool). cond u 1 0) e.0, h))
-    ]
+not_there (b ∷ found) k begin h = grind (arith, nat_tests, times_cons k b found, not_there found k begin)
 
 once : (found : List (ℕ × ℕ)) (k begin : ℕ) → times k found ≡ 1 → last_begin found k begin ≡ begin_of_number found k
 once [] k begin h = absurd (omega arith)
-once (b ∷ found) k begin h =
-    let one = times_cons k b found in
-    elim (eqb_tells b.0 k) [
-      | inl e ↦
-          grind (arith, nat_tests, e.0, not_there found k b.1 (omega (arith, one, ap {B = ℕ} (λ (u : Bool). cond u 1 0) e.0, h)))
-      | inr e ↦
-          grind (arith, nat_tests, e.0, once found k begin (omega (arith, one, ap {B = ℕ} (λ (u : Bool). cond u 1 0) e.0, h)))
-    ]
+once (b ∷ found) k begin h = grind (arith, nat_tests, times_cons k b found, not_there found k b.1, once found k begin)
 
 each_once : (n count : ℕ) (found : List (ℕ × ℕ)) (vars : List Var) → HasOneEach count found → n + length vars ≤ count
     → with_last n found vars ≡ map (λ (v : Numbered). record v.1 { begin = begin_of_number found v.0 }) (enumerate_from n vars)
 each_once n count found [] h l = refl
 each_once n count found (v ∷ vars) h l =
     let inside : nat_lt n count ≡ true = grind (arith, nat_tests) in
-    ap (λ (m : ℕ). record v { begin = m } ∷ with_last (n + 1) found vars) (once found n v.begin (h n ∙ ap {B = ℕ} (λ (t : Bool). cond t 1 0) inside))
-    ∙ ap (λ ws. record v { begin = begin_of_number found n } ∷ ws) (each_once (n + 1) count found vars h (omega arith))
+    grind (arith, nat_tests, once, each_once (n + 1) count found vars h, with_last)
 
 -- ---- place after place
 
@@ -107,8 +92,7 @@ times_placed : (k : ℕ) (c : Placing) (m : ℕ) (vars : List Numbered) → time
 unfolding numbered
 times_placed k c m [] = ap (times k) (c.none m)
 times_placed k c m (v ∷ vars) =
-    ap (times k) (c.next m v vars) ∙ times_cons k (v.0, c.begin m v) (c.begins (c.step m v) vars)
-    ∙ ap (λ (n : ℕ). cond (v.0 == k) 1 0 + n) (times_placed k c (c.step m v) vars) ∙ sym (numbered_cons k v vars)
+    grind (arith, nat_tests, times_cons k (v.0, c.begin m v) (c.begins (c.step m v) vars), times_placed k c (c.step m v) vars, numbered_cons k v vars)
 
 times_capped : (k : ℕ) (found : List (ℕ × ℕ)) → times k (capped_pairs found) ≡ times k found
 times_capped k [] = refl
@@ -147,8 +131,7 @@ times_all k header n m low at =
     let b = map (λ (v : Numbered). (v.0, m + (v.1.begin - low))) (by_begin (old_of n records)) in
     let c = record_begins header at (new_of n records) in
     let in_a : times k a ≡ numbered k (old_of n fixed) + numbered k (new_of n fixed) =
-    times_placed k (fixed_placing header) (header_len header) (fixed_order header n) ∙ numbered_append k (by_begin (old_of n fixed)) (new_of n fixed)
-    ∙ ap (λ (i : ℕ). i + numbered k (new_of n fixed)) (numbered_sorted k (old_of n fixed)) in
+    grind (arith, nat_tests, times_placed k (fixed_placing header) (header_len header) (fixed_order header n), numbered_append k (by_begin (old_of n fixed)) (new_of n fixed), numbered k (new_of n fixed), numbered_sorted k (old_of n fixed)) in
     let kinds : numbered k records + numbered k fixed ≡ numbered k all =
     numbered_parts k (λ (v : Numbered). is_record header v.1) (λ (v : Numbered). not (is_record header v.1)) (λ v. refl) all in
     times_append k (a ++ b) c
@@ -162,9 +145,4 @@ each_placed header n k =
     let records = records_in header (enumerate_from 0 header.vars) in
     let low = least (map (λ (v : Numbered). v.1.begin) (old_of n records)) in
     let first = first_record (front_after header (header_len header) (fixed_order header n)) low in
-    times_capped k (begins_by_number header n)
-    ∙ times_all k header n first (unwrap_or low 0) (first + sum_by (λ (v : Numbered). vsize header v.1) (old_of n records))
-    ∙ numbered_all k 0 header.vars ∙ from_zero k (length header.vars)
-  where
-    from_zero : (i m : ℕ) → ◌≡◌ {A = ℕ} (cond (nat_le 0 i && nat_lt i (0 + m)) 1 0) (cond (nat_lt i m) 1 0)
-    from_zero i m = grind (arith, nat_tests)
+    grind (arith, nat_tests, times_capped k (begins_by_number header n), times_all k header n first (unwrap_or low 0), numbered_all k 0 header.vars)

@@ -1,4 +1,4 @@
-use Rattle.redef_mover.proofs.Words.{◌≡◌, ◌<◌, length, get_or, refl, arith, get_or_default, Place}
+use Rattle.redef_mover.proofs.Words.{◌<◌, length, get_or, arith, get_or_default, Place, nat_tests}
 use Rattle.redef_mover.proofs.Ranges.{place_inside}
 use Rattle.redef_mover.proofs.Written.{last_none, written_next, written_whole}
 use Rattle.redef_mover.proofs.begins.write_begins.Goals as goal
@@ -13,9 +13,7 @@ bounds-vars-place c =
     let empty : Place = record { number = 0; begin = 0 } in
     let p = get_or places i empty in
     let within : i < length places = omega arith in
-    let same : length c.loop-place.vars ≡ length c.args.vars.now = c.loop-place.auto.vars in
-    let below = place_inside (length c.args.vars.now) places i p c.requires within (get_or_default places i empty p within) in
-    omega (arith, below, same)
+    grind (arith, nat_tests, place_inside (length c.args.vars.now) places i p c.requires within (get_or_default places i empty p within), c.loop-place.auto.vars)
 
 pub bounds-vars-place-in-loop-place : goal.bounds-vars-place-in-loop-place
 bounds-vars-place-in-loop-place c = bounds-vars-place c
@@ -31,11 +29,7 @@ loop-place-preserved c =
     let p = get_or places i empty in
     let within : i < length places = omega arith in
     let there = get_or_default places i empty p within in
-    let inside = place_inside (length c.args.vars.now) places i p c.requires within there in
-    let same : length c.loop-place.vars ≡ length c.args.vars.now = c.loop-place.auto.vars in
-    let v = get_or c.loop-place.vars p.number c.index-vars-place.result in
-    written_next c.args.vars.now c.loop-place.vars _ places i p v within there inside
-    (get_or_default c.loop-place.vars p.number c.index-vars-place.result v (omega (arith, inside, same))) refl c.loop-place.invariant
+    grind (arith, nat_tests, place_inside (length c.args.vars.now) places i p c.requires within there, written_next c.args.vars.now c.loop-place.vars, c.loop-place.auto.vars, c.loop-place.invariant)
 
 pub returns : goal.returns
 returns c = written_whole c.args.vars.now c.loop-place.vars c.args.places.now c.loop-place.place-index (omega arith) c.requires c.loop-place.invariant

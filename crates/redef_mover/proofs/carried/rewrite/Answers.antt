@@ -1,4 +1,4 @@
-use Rattle.redef_mover.proofs.Words.{◌≡◌, ◌-◌, arith, length, listed, on_err, on_err_weaker, on_ok_weaker}
+use Rattle.redef_mover.proofs.Words.{◌≡◌, ◌-◌, arith, length, listed, on_err, on_err_weaker, on_ok_weaker, nat_tests}
 use Rattle.redef_mover.proofs.CallsLaws.{rewrite_called}
 use Rattle.redef_mover.proofs.ClearLaws.{spaced_low}
 use Rattle.redef_mover.proofs.CutLaws.{cut_cleared, cut_grown, cut_headed, cut_moved}
@@ -6,14 +6,7 @@ use Rattle.redef_mover.proofs.ToldSteps.{when_ok}
 use Rattle.redef_mover.proofs.carried.rewrite.Goals as goal
 
 pub move_all-requires-clause-slabs : goal.move_all-requires-clause-slabs
-move_all-requires-clause-slabs g c κs within = record {
-  movable = λ s h.
-      let fit = c.requires.slabs.movable s h in
-      let inside = fit.inside in
-      let grown = c.in_ok-grow_to.ensures.len in
-      record { up = fit.up; inside = omega arith; small = fit.small; fits = fit.fits };
-  steps = c.requires.slabs.steps;
-}
+move_all-requires-clause-slabs g c κs within = grind (arith, nat_tests, c.requires.slabs.movable, c.in_ok-grow_to.ensures.len, c.requires.slabs.steps)
 
 pub write_at-requires-clause-high : goal.write_at-requires-clause-high
 write_at-requires-clause-high g c =

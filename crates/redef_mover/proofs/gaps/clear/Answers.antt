@@ -1,5 +1,5 @@
 -- Each window goes on where the one before it ended.
-use Rattle.redef_mover.proofs.Words.{◌≡◌, ◌∙◌, ◌+◌, ◌-◌, ◌*◌, ◌<◌, ◌≤◌, min, refl, sym, ap, subst, ℕ, length, arith, after, with_end, cleared, calls_more, window_inside, windows_reach, stores_more}
+use Rattle.redef_mover.proofs.Words.{◌≡◌, ◌∙◌, ◌+◌, ◌-◌, ◌*◌, ◌<◌, ◌≤◌, min, refl, ap, length, arith, with_end, calls_more, window_inside, windows_reach, stores_more, nat_tests}
 use Rattle.redef_mover.proofs.KeptLaws.{first_kept, kept_long, kept_more, kept_written, outside_part}
 use Rattle.redef_mover.proofs.ClearLaws.{all_stored, window_cleared, window_zeros, zeros_count}
 use Rattle.redef_mover.proofs.ToldSteps.{told_more}
@@ -26,16 +26,7 @@ loop-window-preserved g c =
     }
 
 pub returns-clause-bytes : goal.returns-clause-bytes
-returns-clause-bytes g c =
-    let z = c.args.zeros.window in
-    let len = c.args.len in
-    let count = c.div_ceil-window-end.result in
-    let j = c.loop-window.window in
-    let reach = windows_reach z len count c.requires.some c.div_ceil-window-end.ensures in
-    let same : j ≡ count = omega arith in
-    let far : len ≤ j * z = subst (λ (n : ℕ). len ≤ n * z) (sym same) reach in
-    let whole : min len (j * z) ≡ len = omega (arith, far) in
-    c.loop-window.invariant.bytes ∙ ap (λ (n : ℕ). after (λ file. cleared file (c.args.at, n)) (g.D.Disk.held c.args.disk.now)) whole
+returns-clause-bytes g c = grind (arith, nat_tests, windows_reach, c.div_ceil-window-end.ensures, c.loop-window.invariant.bytes)
 
 pub returns-clause-calls : goal.returns-clause-calls
 returns-clause-calls g c = c.loop-window.invariant.calls

@@ -1,7 +1,7 @@
 -- The first of the slabs that are left ends where the next gap begins.
-use Rattle.redef_mover.proofs.Words.{◌∙◌, ◌-◌, ◌≤◌, refl, sym, ap, length, [], ◌∷◌, arith, Shift, behind, gaps_before}
+use Rattle.redef_mover.proofs.Words.{◌∙◌, ◌-◌, ◌≤◌, sym, ap, length, [], ◌∷◌, arith, Shift, behind, gaps_before, nat_tests}
 use Rattle.redef_mover.proofs.ClearLaws.{first_left, none_after, none_behind, slabs_left}
-use Rattle.redef_mover.proofs.LeftLaws.{alone, none_done, one_gap, part_done, part_kept, whole_bytes, whole_calls}
+use Rattle.redef_mover.proofs.LeftLaws.{alone, none_done, one_gap, part_done, part_kept, whole_calls}
 use Rattle.redef_mover.proofs.gaps.clear_before.Goals as goal
 
 abbrev none : Shift
@@ -27,14 +27,7 @@ overflow_add-at g c =
     omega (arith, (first_left _ _ _ _ _ _ c.args.slabs.now c.loop-slab.slab-index none c.loop-slab-test.true c.loop-slab.invariant.clearable).inside)
 
 pub loop-slab-init : goal.loop-slab-init
-loop-slab-init g c = record {
-  from = c.requires.from;
-  len = refl;
-  clearable = c.requires.clearable;
-  place = refl;
-  left = none_done _ _ refl (λ x h. h);
-  faults = omega arith;
-}
+loop-slab-init g c = grind (arith, nat_tests, none_done, c.requires.from, c.requires.clearable)
 
 pub loop-slab-preserved : goal.loop-slab-preserved
 loop-slab-preserved g c =
@@ -53,14 +46,10 @@ loop-slab-preserved g c =
     }
 
 pub returns-clause-place : goal.returns-clause-place
-returns-clause-place g c =
-    let all : length c.args.slabs.now ≤ c.loop-slab.slab-index = omega arith in
-    none_behind _ _ _ (none_after _ _ _ _ all) c.loop-slab.invariant.place
+returns-clause-place g c = grind (arith, nat_tests, none_behind, none_after, c.loop-slab.invariant.place)
 
 pub returns-clause-bytes : goal.returns-clause-bytes
-returns-clause-bytes g c =
-    let all : length c.args.slabs.now ≤ c.loop-slab.slab-index = omega arith in
-    whole_bytes (ap (λ xs. gaps_before c.loop-slab.at xs) (none_after _ _ _ _ all)) c.loop-slab.invariant.left
+returns-clause-bytes g c = grind (arith, nat_tests, none_after, c.loop-slab.invariant.left)
 
 pub returns-clause-calls : goal.returns-clause-calls
 returns-clause-calls g c =

@@ -1,13 +1,12 @@
 -- The gaps of the fixed variables come first, then those of record after record, then the last one.
-use Rattle.redef_mover.proofs.Words.{◌≡◌, ◌∙◌, ◌-◌, ◌≤◌, refl, ap, [], ◌∷◌, flat_map, range_with_len, ℕ, arith, on_ok_weaker, gaps, Slabs, slabs_at}
+use Rattle.redef_mover.proofs.Words.{◌≡◌, ◌∙◌, ◌-◌, ◌≤◌, refl, [], ◌∷◌, ℕ, arith, on_ok_weaker, gaps, Slabs, nat_tests}
 use Rattle.redef_mover.proofs.KeptLaws.{beside_front, kept_of}
 use Rattle.redef_mover.proofs.ClearLaws.{above, fixed_first, front_clearable, gaps_on, next_record, spaced_on}
-use Rattle.redef_mover.proofs.LeftLaws.{alone, last_bytes, last_calls, last_kept, none_done, one_gap, part_done, part_kept}
+use Rattle.redef_mover.proofs.LeftLaws.{alone, last_calls, last_kept, none_done, one_gap, part_done, part_kept}
 use Rattle.redef_mover.proofs.gaps.clear_gaps.Goals as goal
 
 last_gap : (slabs : Slabs) (r at end : ℕ) → slabs.count ≤ r → gaps at end (above slabs r) ≡ (at, end - at) ∷ []
-last_gap slabs r at end l =
-    ap (λ (n : ℕ). gaps at end (flat_map (slabs_at slabs.step slabs.records.items) (range_with_len r n))) (let none : slabs.count - r ≡ 0 = omega arith in none)
+last_gap slabs r at end l = grind (arith, nat_tests)
 
 pub clear_before-requires-clause-clearable : goal.clear_before-requires-clause-clearable
 clear_before-requires-clause-clearable g c κs within =
@@ -28,10 +27,7 @@ loop-record-init g c =
 pub clear_before-requires-in-loop-record-clause-clearable : goal.clear_before-requires-in-loop-record-clause-clearable
 clear_before-requires-in-loop-record-clause-clearable g c κs within =
     let inside = c.requires.inside in
-    let same = c.loop-record.invariant.len in
-    front_clearable _ _ _ _ c.args.end _ _ _
-    (next_record c.args.slabs.now c.deref-in-loop-record.result.now c.loop-record.record _ _ c.deref-in-loop-record.ensures.value c.loop-record-test.true c.times-offset.ensures.old c.times-offset.ensures.new)
-    c.loop-record.invariant.spaced (omega arith) c.requires.room
+    grind (arith, nat_tests, front_clearable, next_record c.args.slabs.now c.deref-in-loop-record.result.now c.loop-record.record, c.loop-record.invariant.len, c.deref-in-loop-record.ensures.value, c.loop-record-test.true, c.loop-record.invariant.spaced, c.requires.room)
 
 pub loop-record-preserved : goal.loop-record-preserved
 loop-record-preserved g c =
@@ -60,8 +56,7 @@ returns-in_err-at-2-clause-kept g c =
     part_kept _ _ _ _ (gaps_on c.loop-record.at _ c.args.end _ _ _ split refl) (λ x h. h) c.loop-record.invariant.left c.in_err-at-2.ensures.kept
 
 pub returns-clause-bytes : goal.returns-clause-bytes
-returns-clause-bytes g c =
-    on_ok_weaker c.clear.result (last_bytes _ _ (last_gap c.args.slabs.now c.loop-record.record c.loop-record.at c.args.end (omega arith)) c.loop-record.invariant.left) c.clear.ensures.bytes
+returns-clause-bytes g c = grind (arith, nat_tests, last_gap, c.loop-record.invariant.left, c.clear.ensures.bytes)
 
 pub returns-clause-calls : goal.returns-clause-calls
 returns-clause-calls g c =

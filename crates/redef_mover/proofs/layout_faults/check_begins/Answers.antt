@@ -1,4 +1,4 @@
-use Rattle.redef_mover.proofs.Words.{◌<◌, inr, Bool, true, false, List, length, get_or, sym, ap, ◌∙◌, arith, option_map, enumerate_from, get_or_default, length-map, length-enumerate_from, Numbered, Place, is_bad_var}
+use Rattle.redef_mover.proofs.Words.{◌<◌, Bool, true, false, List, length, get_or, ap, ◌∙◌, arith, enumerate_from, get_or_default, length-map, length-enumerate_from, Numbered, Place, is_bad_var, nat_tests}
 use Rattle.nc_base.specs.declared.errors.LayoutErr.TheVariants as layout_fault
 use Rattle.nc_base.specs.declared.errors.RedefErr.TheVariants as fault
 use Rattle.redef_mover.proofs.Ranges.{place_inside, bad_here, find_stops, find_goes_on, find_ends}
@@ -27,8 +27,7 @@ returns-then-as_slice-place-clause-refused c =
     let p = get_or places i empty in
     let within : i < length places = omega arith in
     let there = get_or_default places i empty p within in
-    let bad = bad_here header c.as_slice.result.now places i p true false c.requires within there (c.as_slice.ensures ∙ c.in_ok-bad.ensures) (sym c.if-as_slice-place.true) in
-    inr (ap (λ o. option_map (λ b. fault.Layout (layout_fault.BeginRange b.0)) o) (find_stops header places i p within there bad c.loop-place.invariant))
+    grind (arith, nat_tests, bad_here header c.as_slice.result.now places i p true false c.requires within there, find_stops header places i p within there, c.as_slice.ensures, c.in_ok-bad.ensures, c.if-as_slice-place.true, c.loop-place.invariant)
 
 pub loop-place-preserved : goal.loop-place-preserved
 loop-place-preserved c =
@@ -39,8 +38,7 @@ loop-place-preserved c =
     let p = get_or places i empty in
     let within : i < length places = omega arith in
     let there = get_or_default places i empty p within in
-    let good = bad_here header c.as_slice.result.now places i p false false c.requires within there (c.as_slice.ensures ∙ c.in_ok-bad.ensures) (sym c.if-as_slice-place.false) in
-    find_goes_on header places i p within there good c.loop-place.invariant
+    grind (arith, nat_tests, bad_here header c.as_slice.result.now places i p false false c.requires within there, find_goes_on header places i p within there, c.as_slice.ensures, c.in_ok-bad.ensures, c.if-as_slice-place.false, c.loop-place.invariant)
 
 pub returns-clause-fault : goal.returns-clause-fault
 returns-clause-fault c = find_ends c.args.header.now c.args.places.now c.loop-place.place-index (omega arith) c.loop-place.invariant

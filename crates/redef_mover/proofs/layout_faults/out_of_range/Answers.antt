@@ -1,4 +1,4 @@
-use Rattle.redef_mover.proofs.Words.{List, length, get_or, refl, ap, ◌∙◌, arith, Var}
+use Rattle.redef_mover.proofs.Words.{List, length, get_or, refl, ap, ◌∙◌, arith, Var, nat_tests}
 use Rattle.redef_mover.proofs.Ranges.{ranged_next, ranged_whole}
 use Rattle.redef_mover.proofs.layout_faults.out_of_range.Goals as goal
 
@@ -17,5 +17,4 @@ loop-var-preserved c =
 
 pub returns : goal.returns
 returns c =
-    let same = ap (λ (vs : List Var). length vs) c.as_slice-var-items.ensures in
-    ranged_whole c.args.header.now c.loop-var.var-index c.loop-var.bad c.loop-var.before (omega arith) c.loop-var.invariant
+    grind (arith, nat_tests, ranged_whole c.args.header.now c.loop-var.var-index c.loop-var.bad c.loop-var.before, c.as_slice-var-items.ensures, c.loop-var.invariant)

@@ -1,17 +1,12 @@
 -- The last of the records that are left is moved; the fixed variables come last.
-use Rattle.redef_mover.proofs.Words.{◌≡◌, ◌∙◌, ◌-◌, refl, List, ℕ, arith, reverse, on_ok_weaker, Slab, In, listed, AreMovable}
-use Rattle.redef_mover.proofs.LeftLaws.{last_bytes, last_calls, last_kept, none_done, part_done, part_kept, placed, turned, unturned}
+use Rattle.redef_mover.proofs.Words.{◌≡◌, ◌∙◌, ◌-◌, refl, List, ℕ, arith, reverse, Slab, In, listed, AreMovable, nat_tests}
+use Rattle.redef_mover.proofs.LeftLaws.{last_kept, none_done, part_done, part_kept, placed, turned, unturned}
 use Rattle.redef_mover.proofs.MovesLaws.{fixed_last, fixed_listed, record_first, record_listed}
 use Rattle.redef_mover.proofs.moving.move_all.Goals as goal
 
 some_movable : (long now z room more : ℕ) (some all : List Slab) → AreMovable long z room all → now ≡ long → more ≡ room → ((s : Slab) → In some s → In all s)
     → AreMovable now z more some
-some_movable long now z room more some all h e f within s i =
-    let fit = h s (within s i) in
-    let up = fit.up in
-    let inside = fit.inside in
-    let fits = fit.fits in
-    record { up = up; inside = omega arith; small = fit.small; fits = omega arith }
+some_movable long now z room more some all h e f within s i = grind (arith, nat_tests)
 
 pub move_slabs-requires-clause-movable : goal.move_slabs-requires-clause-movable
 move_slabs-requires-clause-movable g c κs within =
@@ -45,14 +40,10 @@ loop-record-preserved g c =
     }
 
 pub returns-clause-bytes : goal.returns-clause-bytes
-returns-clause-bytes g c =
-    on_ok_weaker c.move_slabs-2.result
-    (last_bytes _ _ (fixed_last c.args.slabs.now c.deref-2.result.now c.loop-record.record 0 0 c.deref-2.ensures.value (omega arith) refl refl) c.loop-record.invariant.left) c.move_slabs-2.ensures.bytes
+returns-clause-bytes g c = grind (arith, nat_tests, fixed_last, c.loop-record.invariant.left, c.move_slabs-2.ensures.bytes)
 
 pub returns-clause-calls : goal.returns-clause-calls
-returns-clause-calls g c =
-    on_ok_weaker c.move_slabs-2.result
-    (last_calls _ _ (fixed_last c.args.slabs.now c.deref-2.result.now c.loop-record.record 0 0 c.deref-2.ensures.value (omega arith) refl refl) c.loop-record.invariant.left) c.move_slabs-2.ensures.calls
+returns-clause-calls g c = grind (arith, nat_tests, fixed_last, c.loop-record.invariant.left, c.move_slabs-2.ensures.calls)
 
 pub returns-in_err-move_slabs-clause-kept : goal.returns-in_err-move_slabs-clause-kept
 returns-in_err-move_slabs-clause-kept g c =

@@ -1,5 +1,5 @@
 -- Each window goes on where the one above it ended.
-use Rattle.redef_mover.proofs.Words.{◌≡◌, ◌∙◌, ◌+◌, ◌*◌, ◌<◌, ◌≤◌, ap, ◌++◌, ℕ, arith, with_end, slab_moved, slab_of, window_calls, calls_more, window_inside, windows_reach}
+use Rattle.redef_mover.proofs.Words.{◌∙◌, ◌+◌, ◌*◌, ◌<◌, ap, ◌++◌, arith, with_end, slab_moved, slab_of, window_calls, calls_more, window_inside, windows_reach, nat_tests}
 use Rattle.redef_mover.proofs.KeptLaws.{kept_more, outside_window, upper_kept}
 use Rattle.redef_mover.proofs.ToldSteps.{told_end, told_more}
 use Rattle.redef_mover.proofs.WindowLaws.{all_called, calls_before, upper, whole_moved, window_called, window_moved}
@@ -25,11 +25,7 @@ loop-number-preserved g c =
 
 pub returns-clause-bytes : goal.returns-clause-bytes
 returns-clause-bytes g c =
-    let reached : c.args.slab.now.len ≤ c.loop-number.number * c.args.size = (let far = windows_reach _ _ _ c.requires.some c.div_ceil-number-end.ensures in
-    let same : c.loop-number.number ≡ c.div_ceil-number-end.result = omega arith in
-    let times : c.loop-number.number * c.args.size ≡ c.div_ceil-number-end.result * c.args.size = ap (λ (n : ℕ). n * c.args.size) same in
-    omega arith) in
-    told_end _ _ _ _ (g.D.Disk.told c.args.disk.now) (λ file e. whole_moved _ _ _ _ reached) c.loop-number.invariant.bytes
+    grind (arith, nat_tests, windows_reach, told_end, whole_moved, c.requires.some, c.div_ceil-number-end.ensures, g.D.Disk.told, c.loop-number.invariant.bytes)
 
 pub returns-clause-calls : goal.returns-clause-calls
 returns-clause-calls g c = c.loop-number.invariant.calls

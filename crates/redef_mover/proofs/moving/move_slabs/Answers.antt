@@ -1,6 +1,6 @@
 -- The last of the slabs that are left is moved.
-use Rattle.redef_mover.proofs.Words.{◌≡◌, ◌∙◌, ◌-◌, ◌<◌, ◌≤◌, refl, sym, subst, ◌++◌, ap, length, List, [], ◌∷◌, get_or, take, ℕ, arith, reverse, Slab, Shift, further, slab_of, AreMovable, IsMovable, take_all}
-use Rattle.redef_mover.proofs.LeftLaws.{none_done, part_done, part_kept, placed, turned, whole_bytes, whole_calls}
+use Rattle.redef_mover.proofs.Words.{◌≡◌, ◌∙◌, ◌-◌, ◌<◌, ◌≤◌, refl, sym, subst, ◌++◌, ap, length, List, [], ◌∷◌, get_or, take, ℕ, arith, reverse, Slab, Shift, further, slab_of, AreMovable, IsMovable, take_all, nat_tests}
+use Rattle.redef_mover.proofs.LeftLaws.{none_done, part_done, part_kept, placed, turned, whole_calls}
 use Rattle.redef_mover.proofs.MovesLaws.{in_record, slab_first}
 use Rattle.redef_mover.proofs.moving.move_slabs.Goals as goal
 
@@ -14,18 +14,12 @@ fit long z room a b k ss s all l e = subst (λ (t : Slab). IsMovable long z room
 pub further-requires : goal.further-requires
 further-requires g c =
     let here = fit _ c.args.size _ c.args.offset.old c.args.offset.new (c.loop-k.k - 1) c.args.slabs.now _ c.requires.movable (omega arith) refl in
-    let up = here.up in
-    let small = here.small in
-    record { old_end = omega arith; end = omega arith }
+    grind (arith, nat_tests)
 
 pub move_changed-requires-clause-movable : goal.move_changed-requires-clause-movable
 move_changed-requires-clause-movable g c κs within =
     let here = fit _ c.args.size _ c.args.offset.old c.args.offset.new (c.loop-k.k - 1) c.args.slabs.now _ c.requires.movable (omega arith) c.further.ensures in
-    let up = here.up in
-    let inside = here.inside in
-    let fits = here.fits in
-    let same = c.loop-k.invariant.len in
-    record { up = up; inside = omega arith; small = here.small; fits = omega arith }
+    grind (arith, nat_tests, c.loop-k.invariant.len)
 
 pub loop-k-init : goal.loop-k-init
 loop-k-init g c = record {
@@ -54,9 +48,7 @@ loop-k-preserved g c =
     }
 
 pub returns-clause-bytes : goal.returns-clause-bytes
-returns-clause-bytes g c =
-    let end : c.loop-k.k ≡ 0 = omega arith in
-    whole_bytes (ap (λ (n : ℕ). reverse (placed c.args.offset.old c.args.offset.new (take n c.args.slabs.now))) end) c.loop-k.invariant.left
+returns-clause-bytes g c = grind (arith, nat_tests, placed, c.loop-k.invariant.left)
 
 pub returns-clause-calls : goal.returns-clause-calls
 returns-clause-calls g c =

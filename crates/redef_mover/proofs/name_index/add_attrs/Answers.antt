@@ -1,4 +1,4 @@
-use Rattle.redef_mover.proofs.Words.{◌∙◌, ◌+◌, ◌<◌, ◌||◌, ◌&&◌, List, ℕ, [], ◌∷◌, ◌++◌, length, take, bytes_eq, sym, ap, arith, take_more, take_all, Attr, has_attr, has_name, is_same}
+use Rattle.redef_mover.proofs.Words.{◌∙◌, ◌+◌, ◌<◌, ◌||◌, ◌&&◌, List, [], ◌∷◌, ◌++◌, length, take, sym, ap, arith, take_more, take_all, Attr, has_attr, has_name, is_same, nat_tests}
 use Rattle.redef_mover.proofs.IndexLaws.{names_next, or_none}
 use Rattle.redef_mover.proofs.name_index.add_attrs.Goals as goal
 
@@ -12,8 +12,7 @@ loop-attr-preserved c =
     let attr = c.attr-item.result in
     let within : k < length attrs = omega arith in
     let more = take_more attrs k attr within ∙ ap (λ (a : Attr). take k attrs ++ a ∷ []) (sym c.attr-item.is) in
-    names_next c.args.owner (take k attrs) (take (k + 1) attrs) attr c.args.names.now c.loop-attr.names c.add_attr.new.names more c.loop-attr.invariant
-    (λ o q. c.in_ok-add_attr.ensures o q ∙ ap (λ (n : List ℕ). has_name c.loop-attr.names o q || (is_same c.args.owner o && bytes_eq n q)) c.as_slice.ensures)
+    grind (arith, nat_tests, names_next c.args.owner (take k attrs) (take (k + 1) attrs) attr c.args.names.now c.loop-attr.names, c.loop-attr.invariant, c.in_ok-add_attr.ensures, c.as_slice.ensures)
 
 pub returns : goal.returns
 returns c =

@@ -1,8 +1,7 @@
+use Rattle.std.proofs.lemmas.Bool.Decides.{nat_tests}
+use native.Mathlib.Omega.{arith}
 use Rattle.redef_mover.proofs.IndexLaws.{absent, put_new}
-use Rattle.redef_mover.proofs.Words.{place_of}
 use Rattle.redef_mover.proofs.name_index.add_place.Goals as goal
 
 pub returns-in_ok-insert : goal.returns-in_ok-insert
-returns-in_ok-insert c =
-    let none = absent (place_of c.args.places.now c.args.name.now) c.contains_key.result c.contains_key.ensures c.if-not-contains_key.true in
-    put_new c.args.places.now c.insert.new.self c.args.name.now c.args.place none c.in_ok-insert.ensures.updates
+returns-in_ok-insert c = grind (arith, nat_tests, absent, put_new, c.if-not-contains_key.true, c.in_ok-insert.ensures.updates)

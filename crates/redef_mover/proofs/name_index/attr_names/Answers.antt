@@ -1,12 +1,9 @@
-use Rattle.redef_mover.proofs.Words.{◌∙◌, ◌+◌, ◌<◌, ◌||◌, ◌&&◌, List, None, get_or, Some, [], ◌∷◌, ◌++◌, length, take, sym, ap, arith, take_more, take_all, length-take-le, Attr, Var, has_attr, attrs_among, has_name, is_same}
+use Rattle.redef_mover.proofs.Words.{◌∙◌, ◌+◌, ◌<◌, ◌||◌, ◌&&◌, List, get_or, Some, [], ◌∷◌, ◌++◌, length, take, sym, ap, arith, take_more, take_all, length-take-le, Attr, Var, has_attr, attrs_among, has_name, is_same, nat_tests}
 use Rattle.redef_mover.proofs.IndexLaws.{owners_next, owners_none}
 use Rattle.redef_mover.proofs.name_index.attr_names.Goals as goal
 
 pub loop-place-init : goal.loop-place-init
-loop-place-init c =
-    let empty = c.new-names.result in
-    owners_none c.args.header.now.attrs empty c.add_attrs.new.names c.new-names.ensures.empty
-    (λ o q. c.in_ok-add_attrs.ensures o q ∙ ap (λ (l : List Attr). has_name empty o q || (is_same None o && has_attr l q)) c.as_slice.ensures)
+loop-place-init c = grind (arith, nat_tests, owners_none, c.in_ok-add_attrs.ensures, c.as_slice.ensures)
 
 pub loop-place-preserved : goal.loop-place-preserved
 loop-place-preserved c =
