@@ -55,8 +55,4 @@ first_is script header n file bytes runners l are e = grind (arith, nat_tests, t
 
 pub first_stands : (script : Script) (header : Header) (n : ℕ) (stand : Stand) → is_sound header ≡ true → is_lawful script ≡ true → n ≡ length script.calls
     → AreFirst script header n stand.runners.items → stand.records ≡ header.records → IsStanding script header [] stand
-first_stands script header n stand sound lawful l are e = record {
-  all = are.long ∙ l ∙ (ranks_lawful script lawful).one_each;
-  records = subst (λ (k : ℕ). k < record_limit header.version) (sym e) (sound_small header sound);
-  each = are.each;
-}
+first_stands script header n stand sound lawful l are e = grind (arith, nat_tests, ranks_lawful script lawful, sound_small header sound)

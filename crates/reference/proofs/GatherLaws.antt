@@ -18,9 +18,7 @@ read_more file into into' old x k e f =
 
 pub range_more : (list list' old : List ℕ) (x k : ℕ) → list ≡ old ++ range_with_len x k → list' ≡ list ++ (x + k) ∷ []
     → list' ≡ old ++ range_with_len x (k + 1)
-range_more list list' old x k e f =
-    then_append old list list' (range_with_len x k) ((x + k) ∷ []) e f
-    ∙ ap (λ (l : List ℕ). old ++ l) (sym (ap (λ (n : ℕ). range_with_len x n) (add-one k) ∙ range_push x k (x + k) refl))
+range_more list list' old x k e f = grind (arith, nat_tests, then_append old list list' (range_with_len x k) ((x + k) ∷ []) e f, range_push x k (x + k))
 
 -- what is gathered, and what the entries that are left give, is the whole
 pub gather_step : {A : Type 0} (f : ℕ → List A) (ps : List ℕ) (k x : ℕ) (out out' whole : List A) → slice_get ps k ≡ Some x → out' ≡ out ++ f x
@@ -40,8 +38,7 @@ next_left {A} xs i x d h e = drop_more xs i d h ∙ ap (λ (y : A). y ∷ drop (
 -- the greatest number so far, and those of the entries that are left
 pub greatest_step : {A : Type 0} (f : A → ℕ) (xs : List A) (i : ℕ) (x : A) (n m k w : ℕ) → i < length xs → x ≡ get_or xs i x → m ≡ f x → k ≡ max n m
     → max n (greatest (map f (drop i xs))) ≡ w → max k (greatest (map f (drop (i + 1) xs))) ≡ w
-greatest_step {A} f xs i x n m k w h e g l so_far =
-    let is = ap (λ (ys : List A). greatest (map f ys)) (next_left xs i x x h e) in omega (arith, is, g, l, so_far)
+greatest_step {A} f xs i x n m k w h e g l so_far = grind (arith, nat_tests, next_left, drop)
 
 pub greatest_end : {A : Type 0} (f : A → ℕ) (xs : List A) (i n w : ℕ) → length xs ≤ i → max n (greatest (map f (drop i xs))) ≡ w → n ≡ w
 greatest_end {A} f xs i n w l h = let none = ap (λ (ys : List A). greatest (map f ys)) (drop_all i xs l) in omega (arith, none, h)

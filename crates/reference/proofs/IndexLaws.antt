@@ -1,5 +1,5 @@
 -- The index of an element, one dimension after another, and how great its entries are.
-use Rattle.reference.proofs.Words.{append-nil, ◌⊎◌, ◌≡◌, ℕ, ◌+◌, ◌-◌, ◌*◌, ◌/◌, ◌%◌, ◌^◌, ◌<◌, ◌≤◌, sym, ap, ◌∙◌, subst, List, [], ◌∷◌, ◌++◌, length, get_or, min, true, Some, arith, slice_get, AllByRecursion, mul-le, same_Some, each_weaker, Header, Var, Region, size_of, product, inner_lengths, is_record, recsize, row, place, record_of, within_record, HasRecord, IsIndex, IsElement, index_at, index_fixed, index_record, product_pos, place_fixed, place_record, places, length-places, place_at, row_below_bytes, is_sound, IsAccepted, coordinates_of, index_of, accepted_place, small_of, wide_records, AreBelow, split, rest, nat_tests}
+use Rattle.reference.proofs.Words.{append-nil, ◌⊎◌, ◌≡◌, ℕ, ◌+◌, ◌-◌, ◌*◌, ◌/◌, ◌%◌, ◌^◌, ◌<◌, ◌≤◌, sym, ◌∙◌, subst, List, [], ◌∷◌, ◌++◌, length, get_or, min, true, Some, arith, slice_get, AllByRecursion, mul-le, same_Some, each_weaker, Header, Var, Region, size_of, product, inner_lengths, is_record, recsize, row, place, record_of, within_record, HasRecord, IsIndex, IsElement, index_at, index_fixed, index_record, product_pos, place_fixed, place_record, places, length-places, place_at, row_below_bytes, is_sound, IsAccepted, coordinates_of, index_of, accepted_place, small_of, wide_records, AreBelow, split, rest, nat_tests}
 
 -- ---- one dimension more
 
@@ -25,8 +25,7 @@ index_step starts counts strides number inner a b c below few e =
 pub first_low : (starts counts strides : List ℕ) (number inner : ℕ) → 1 ≤ length starts → 1 ≤ length counts → 1 ≤ length strides
     → number < product counts → product counts ≤ 2 ^ 20 → inner ≡ min (product (rest counts)) (2 ^ 64 - 1) → AreBelow (2 ^ 62) (index_at starts strides (coordinates_of counts number))
     → get_or starts 0 0 + number / inner * get_or strides 0 0 < 2 ^ 62
-first_low starts counts strides number inner a b c below few e low =
-    (subst (λ (l : List ℕ). AreBelow (2 ^ 62) l) (index_step starts counts strides number inner a b c below few e).is low).0
+first_low starts counts strides number inner a b c below few e low = grind (arith, nat_tests, index_step starts counts strides number inner a b c below few e)
 
 -- all elements of a region that a check accepts are counted
 counted : (header : Header) (k : ℕ) (v : Var) (g : Region) (counts : List ℕ) (n : ℕ) → slice_get header.vars k ≡ Some v → IsAccepted header k g → counts ≡ g.count
@@ -36,13 +35,11 @@ counted header k v g counts n there accepted same e = grind (arith, nat_tests, s
 -- the elements so far are counted, and so are those of which none is left
 pub numbered_place : (header : Header) (k : ℕ) (v : Var) (g : Region) (counts : List ℕ) (n i at : ℕ) → slice_get header.vars k ≡ Some v → IsAccepted header k g → counts ≡ g.count
     → n ≡ min (product counts) (2 ^ 64 - 1) → i < n → at ≡ place header v (index_of g i) → slice_get (places header v g) i ≡ Some at
-numbered_place header k v g counts n i at there accepted same e below is =
-    let count = counted header k v g counts n there accepted same e in place_at header v g i (omega (arith, below, count)) ∙ ap (λ (x : ℕ). Some x) (sym is)
+numbered_place header k v g counts n i at there accepted same e below is = grind (arith, nat_tests, counted, place_at)
 
 pub all_numbered : (header : Header) (k : ℕ) (v : Var) (g : Region) (counts : List ℕ) (n i : ℕ) → slice_get header.vars k ≡ Some v → IsAccepted header k g → counts ≡ g.count
     → n ≡ min (product counts) (2 ^ 64 - 1) → n ≤ i → length (places header v g) ≤ i
-all_numbered header k v g counts n i there accepted same e past =
-    let count = counted header k v g counts n there accepted same e in let long = length-places header v g in omega (arith, past, count, long)
+all_numbered header k v g counts n i there accepted same e past = grind (arith, nat_tests, counted, length-places)
 
 -- ---- none left
 

@@ -1,7 +1,7 @@
 -- The marks of a rank, one call after another.
 use Rattle.std.proofs.lemmas.Bool.Decides.{nat_tests}
 use native.Mathlib.Omega.{arith}
-use Rattle.std.proofs.Common.{◌≡◌, ℕ, ◌+◌, ◌<◌, refl, ◌∙◌, List, ◌++◌, length, get_or, drop, Bool, false, cond, add-one}
+use Rattle.std.proofs.Common.{◌≡◌, ℕ, ◌+◌, ◌<◌, List, ◌++◌, length, get_or, drop, Bool, false, cond, add-one}
 use Rattle.std.proofs.Math.Seq.{drop-cons}
 use Rattle.std.proofs.lemmas.List.{append_cancel_left}
 use Rattle.std.specs.Prelude.{filter, ◌↔◌}
@@ -30,5 +30,4 @@ goes_on A r c k k' independent later x calls before now within there count mode 
 pub stops : (A : Type 0) (r c k : ℕ) (independent : Bool) (x : Call) (calls : List Call) (before : List Mark) → c < length calls → x ≡ get_or calls c x
     → BeginOtherwise r before (own_marks r c k independent x) → (A ↔ (filter (concerns r) before ≡ marks_from r c k independent (drop c calls))) → A → ⊥
 stops A r c k independent x calls before within there begin same a =
-    begin (marks_from r (c + 1) (cond (is_collective x) (k + 1) k) (mode_after independent x) (drop (c + 1) calls))
-    (same.0 a ∙ left_step r c k (cond (is_collective x) (k + 1) k) independent (mode_after independent x) x calls within there refl refl)
+    grind (arith, nat_tests, left_step r c k (cond (is_collective x) (k + 1) k) independent (mode_after independent x) x calls within there)

@@ -1,7 +1,7 @@
 -- The offers of a meeting, one after another.
-use Rattle.reference.proofs.Words.{less_max, ◌≡◌, ℕ, ◌+◌, ◌<◌, inl, inr, refl, ap, ◌∙◌, List, [], ◌∷◌, ◌++◌, length, drop, get_or, map, max, cond, Option, Some, None, append_assoc, arith, flat_map, nat_lt, slice_get, enumerate_from, Pair, Header, Var, Post, Offer, Reply, In, map_in, after_puts, get_post, known_by, meeting, needs, puts_of, told, Setting, greatest, record_limit, needed, needed_by, records_of_some, with_records, check_some, Puts, IsAccepted, passed, records_below, reply_to, IsPut, IsRight, some_limit, known_less, in_either, nat_tests}
+use Rattle.reference.proofs.Words.{less_max, ◌≡◌, ℕ, ◌+◌, ◌<◌, inl, inr, refl, List, [], ◌∷◌, map, max, cond, Option, Some, None, arith, flat_map, nat_lt, slice_get, enumerate_from, Pair, Header, Var, Post, Offer, Reply, In, map_in, after_puts, known_by, meeting, needs, puts_of, told, Setting, greatest, record_limit, needed, needed_by, records_of_some, with_records, check_some, Puts, IsAccepted, passed, records_below, reply_to, IsPut, IsRight, some_limit, known_less, in_either, nat_tests}
 use Rattle.nc_base.specs.declared.answer.Code.TheVariants as code
-use Rattle.reference.proofs.GatherLaws.{greatest_has, next_left}
+use Rattle.reference.proofs.GatherLaws.{greatest_has}
 
 -- ---- the count that ranks know
 
@@ -56,14 +56,4 @@ meeting_is s offers old mid file r records n k m puts pair all d top e g h =
     let next = meeting s offers (record { file = old; records = r }) in
     let f : file ≡ next.0.file = grind (arith, nat_tests) in
     let c : records ≡ next.0.records = grind (arith, nat_tests) in
-    let p : pair ≡ told s (flat_map puts_of (enumerate_from 0 offers)) = d.pair_is ∙ ap (λ (ps : Puts). told s ps) d.puts_are in
-    (f, c, h ∙ (λ i. map (reply_to s (p i) (c i) (f i)) offers))
-
--- ---- the replies
-
-pub reply_step : (header : Header) (pair : Option Pair) (records : ℕ) (file : List ℕ) (offers : List Offer) (i : ℕ) (o : Offer) (got : List (List ℕ)) (all all' : List Reply)
-    → i < length offers → o ≡ get_or offers i o → ((s : Setting) → s.header ≡ header → got ≡ map (get_post s file) o.batch.gets)
-    → all' ≡ all ++ record { pair = pair; records = records; got = got } ∷ []
-    → ((s : Setting) → s.header ≡ header → all ++ map (reply_to s pair records file) (drop i offers) ≡ map (reply_to s pair records file) offers)
-    → (s : Setting) → s.header ≡ header → all' ++ map (reply_to s pair records file) (drop (i + 1) offers) ≡ map (reply_to s pair records file) offers
-reply_step header pair records file offers i o got all all' h e is f so_far s same = grind (arith, nat_tests, next_left offers i o o h e, append_assoc)
+    grind (arith, nat_tests, told s)

@@ -1,5 +1,5 @@
 -- The next step of a legal order finds its ranks at their offers, and leaves each where the order with that step says.
-use Rattle.reference.proofs.Words.{◌≡◌, ℕ, ◌<◌, ◌≢◌, refl, sym, ◌∙◌, ap, subst, inl, inr, List, [], ◌∷◌, ◌++◌, length, Bool, true, cond, Option, None, Some, append_assoc, append_cancel_left, filter-append, filter, IfSome, IsSomeAnd, if_some_at, equal_itself, first_same, Header, Script, Mark, Offer, Reply, IsLegal, concerns, marks, is_lawful, record_limit, hear, Going, hears, less_max, meetings, marks_left, IsOnWay, AsksAlone, hears_keeps, way_beside, way_hears, way_solo, IsAsked, IsPlaced, IsRunner, IsWaiting, going_of, HeardOne, Runner, arith, nat_tests}
+use Rattle.reference.proofs.Words.{◌≡◌, ℕ, ◌<◌, ◌≢◌, refl, subst, inl, inr, List, [], ◌∷◌, ◌++◌, length, true, Option, None, Some, append_cancel_left, filter-append, filter, IfSome, if_some_at, equal_itself, first_same, Header, Script, Mark, Offer, Reply, IsLegal, concerns, marks, is_lawful, record_limit, hear, Going, hears, less_max, meetings, marks_left, IsOnWay, AsksAlone, hears_keeps, way_beside, way_hears, way_solo, IsAsked, IsPlaced, IsRunner, IsWaiting, going_of, HeardOne, Runner, arith, nat_tests}
 use Rattle.nc_base.specs.declared.step.Mark.TheVariants as mark
 
 -- ---- after the reply
@@ -31,14 +31,7 @@ alone_left : (script : Script) (header : Header) (done : List Mark) (r : ℕ) (s
     → Left script done r rest → (own : List Mark) × (mark.Solo r (length s.answers) ∷ own ≡ rest)
 alone_left script header done r s o y rest asks left =
     let way = alone_done script header done r s o y asks in
-    let m = mark.Solo r (length s.answers) in
-    let own = marks_left r (meetings (done ++ m ∷ [])) (hears header s y) None in
-    let front : filter (concerns r) (done ++ m ∷ []) ≡ filter (concerns r) done ++ m ∷ [] =
-    filter-append (concerns r) done (m ∷ []) ∙ ap (λ (b : Bool). filter (concerns r) done ++ cond b (m ∷ []) []) (equal_itself r) in
-    (own, left (m ∷ own) (sym (append_assoc (filter (concerns r) done) (m ∷ []) own) ∙ ap (λ (ms : List Mark). ms ++ own) (sym front) ∙ way.marks))
-
-no_reply : Reply
-no_reply = record { pair = None; records = 0; got = [] }
+    grind (arith, nat_tests, filter, equal_itself, way.marks, filter, marks_left, meetings)
 
 -- the rank holds the offer of the next mark, and after the reply it is where the order with that mark says
 record AtNext (script : Script) (header : Header) (done : List Mark) (m : Mark) (r : ℕ) (s : Going) (held : Option Offer) : Type 0 where
@@ -74,12 +67,7 @@ pub waits_next : (script : Script) (header : Header) (done rest : List Mark) (m 
 waits_next script header done rest m r runner lawful legal own below is =
     let at = runner_at script header done rest m r runner legal own below is in
     let asks = if_some_at (IsAsked header runner.rank.state) runner.held at.offer at.holds is.asked in
-    record {
-      of_header = is.of_header;
-      low = is.low;
-      asked = subst (λ (held : Option Offer). IsSomeAnd held (IsAsked header runner.rank.state)) (sym at.holds) asks;
-      ready = λ y. record { script = script; order = done ++ m ∷ []; r = r; lawful = lawful; one_of = below; way = at.way y };
-    }
+    grind (arith, nat_tests, is.of_header, is.low, runner.rank.state, at.holds, at.way)
 
 running : (script : Script) (header : Header) (done : List Mark) (r : ℕ) (a b : Runner) (o : Offer) (one : HeardOne header a b) → a.held ≡ Some o
     → IfSome a.held (IsAsked header a.rank.state) → a.rank.state.known < record_limit header.version
@@ -89,8 +77,7 @@ running script header done r a b o one e asked low way = grind (arith, nat_tests
 pub heard_next : (script : Script) (header : Header) (done rest : List Mark) (m : Mark) (r : ℕ) (a b : Runner) → IsLegal script (done ++ m ∷ rest) → concerns r m ≡ true
     → r < script.ranks → IsRunner script header done r a → HeardOne header a b → IsRunner script header (done ++ m ∷ []) r b
 heard_next script header done rest m r a b legal own below is one =
-    let at = runner_at script header done rest m r a legal own below is in
-    running script header (done ++ m ∷ []) r a b at.offer one at.holds is.asked is.low (at.way one.reply)
+    grind (arith, nat_tests, runner_at script header done rest m r a legal own below is, running script header (done ++ m ∷ []) r a b)
 
 pub beside_runner : (script : Script) (header : Header) (done : List Mark) (r q n : ℕ) (runner : Runner) → q ≢ r → IsRunner script header done r runner
     → IsRunner script header (done ++ mark.Solo q n ∷ []) r runner

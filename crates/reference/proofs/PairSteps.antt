@@ -1,5 +1,5 @@
 -- The requests that hold a byte, and the least byte that two hold, one holding after another.
-use Rattle.reference.proofs.Words.{◌≡◌, ℕ, ◌+◌, ◌<◌, refl, sym, ap, ◌∙◌, List, [], ◌∷◌, ◌++◌, length, map, drop, get_or, filter, fold, min, Bool, true, false, cond, Option, Some, None, filter-append, list_any, Holding, Key, all_bytes, distinct, has_byte, holders, least, same_key, least_with, lesser_of, arith, nat_tests}
+use Rattle.reference.proofs.Words.{◌≡◌, ℕ, ◌+◌, ◌<◌, refl, sym, ap, ◌∙◌, List, [], ◌∷◌, ◌++◌, length, map, drop, get_or, filter, fold, min, Bool, true, false, cond, Option, Some, None, list_any, Holding, Key, distinct, has_byte, holders, least, same_key, least_with, lesser_of, arith, nat_tests}
 use Rattle.reference.proofs.GatherLaws.{next_left}
 
 -- ---- holders
@@ -37,10 +37,3 @@ least_joined (x ∷ xs) known ys = least_joined xs (Some (lesser_of known x)) ys
 pub least_step : (p : ℕ → Bool) (xs : List ℕ) (i b : ℕ) (s : Bool) (known known' whole : Option ℕ) → i < length xs → b ≡ get_or xs i 0 → s ≡ p b
     → known' ≡ cond s (Some (lesser_of known b)) known → least_with known (filter p (drop i xs)) ≡ whole → least_with known' (filter p (drop (i + 1) xs)) ≡ whole
 least_step p xs i b s known known' whole h e t k w = grind (arith, nat_tests, filter p (drop (i + 1) xs), next_left xs i b 0 h e)
-
-pub held_step : (p : ℕ → Bool) (held : List Holding) (i : ℕ) (h : Holding) (known known' whole : Option ℕ) → i < length held → h ≡ get_or held i h
-    → known' ≡ least_with known (filter p h.1) → least_with known (filter p (all_bytes (drop i held))) ≡ whole
-    → least_with known' (filter p (all_bytes (drop (i + 1) held))) ≡ whole
-held_step p held i h known known' whole l e k w =
-    let rest = all_bytes (drop (i + 1) held) in
-    grind (arith, nat_tests, next_left held i h h l e, filter-append p h.1 rest, least_joined (filter p h.1) known (filter p rest))

@@ -1,5 +1,5 @@
 -- The puts and the gets of a step, one after another.
-use Rattle.reference.proofs.Words.{get, get_post, map, append_assoc, ◌++◌, ◌*◌, take, add-one, drop-drop, written, cells, write_cells, drop_at, ◌≡◌, ℕ, ◌+◌, ◌^◌, ◌<◌, refl, sym, ap, ◌∙◌, List, [], ◌∷◌, length, drop, get_or, fold, max, Option, Some, None, true, arith, slice_get, IfSome, Header, Var, Post, In, longer, after_puts, put_post, Setting, header_len, is_sound, end_of, needed, needed_by, records_of, records_of_some, put, Puts, sound_end, IsAccepted, small_of, nat_tests}
+use Rattle.reference.proofs.Words.{get, get_post, map, append_assoc, ◌++◌, ◌*◌, take, add-one, drop-drop, written, cells, write_cells, drop_at, ◌≡◌, ℕ, ◌+◌, ◌^◌, ◌<◌, refl, List, [], ◌∷◌, length, drop, get_or, fold, max, Option, Some, None, true, arith, slice_get, IfSome, Header, Var, Post, In, put_post, Setting, header_len, is_sound, end_of, needed, needed_by, records_of, records_of_some, put, Puts, sound_end, IsAccepted, small_of, nat_tests}
 use Rattle.reference.proofs.GatherLaws.{greatest_has, next_left}
 
 -- ---- the count
@@ -31,15 +31,6 @@ pub write_step : (header : Header) (puts : Puts) (i : ℕ) (p : ℕ × Post) (fi
     → ((s : Setting) → s.header ≡ header → fold (put_post s) file (drop i puts) ≡ fold (put_post s) old puts)
     → (s : Setting) → s.header ≡ header → fold (put_post s) now (drop (i + 1) puts) ≡ fold (put_post s) old puts
 write_step header puts i p file now old h e a some so_far s same = grind (arith, nat_tests, next_left puts i p p h e, fold)
-
-pub after_all : (header : Header) (puts : Puts) (old mid now : List ℕ) (size n : ℕ) → n ≡ needed_by header puts → size ≡ end_of header (header_len header) n → mid ≡ longer old size
-    → ((s : Setting) → s.header ≡ header → now ≡ fold (put_post s) mid puts) → (s : Setting) → s.header ≡ header → now ≡ after_puts s puts None old
-after_all header puts old mid now size n count end grown all s same =
-    all s same
-    ∙ ap (λ (f : List ℕ). fold (put_post s) f puts)
-    (grown
-    ∙ ap (λ (m : ℕ). longer old m) (end ∙ ap (λ (m : ℕ). end_of header (header_len header) m) count)
-    ∙ ap (λ (h : Header). longer old (end_of h (header_len h) (needed_by h puts))) (sym same))
 
 -- ---- the gets
 

@@ -1,5 +1,5 @@
 -- A rank that goes through its calls, up to its next offer or to its end.
-use Rattle.reference.proofs.Words.{◌≡◌, ℕ, ◌+◌, ◌-◌, ◌<◌, ◌≤◌, sym, ◌∙◌, subst, inl, inr, ◌⊎◌, List, [], ◌∷◌, ◌++◌, length, take, drop, get_or, true, Option, None, Some, arith, take_rest, Header, Answer, Call, Script, Mark, Offer, Want, is_lawful_call, most_parts, Going, advance, IsRight, IsSoundOffer, IsSoundWant, posts_held, answered, asking, IsOnWay, AsksAlone, alone_keeps, meets_keeps, solo_keeps, comes_on, comes_to_end, comes_to_meeting, comes_to_solo, call_lawful, way_answers, way_meets, HasGone, MayGoOn, said_at, nat_tests, common_steps}
+use Rattle.reference.proofs.Words.{◌≡◌, ℕ, ◌+◌, ◌-◌, ◌<◌, ◌≤◌, sym, ◌∙◌, subst, inl, inr, ◌⊎◌, List, [], ◌∷◌, ◌++◌, length, take, drop, get_or, true, None, Some, arith, take_rest, Header, Answer, Call, Script, Mark, Offer, Want, is_lawful_call, most_parts, Going, advance, IsRight, IsSoundOffer, IsSoundWant, posts_held, answered, asking, IsOnWay, AsksAlone, alone_keeps, meets_keeps, solo_keeps, comes_on, comes_to_meeting, comes_to_solo, call_lawful, way_answers, way_meets, HasGone, MayGoOn, said_at, nat_tests, common_steps}
 use Rattle.nc_base.specs.declared.step.Want.TheVariants as want
 use Rattle.serial_spec.specs.RankMachine as machine
 
@@ -80,18 +80,4 @@ module _ (header same : Header) (s t : Going) (next : machine.Rank) (w : Want) (
       }
 
   pub gone_offer : (o : Offer) → IsSoundWant same w → (w ≡ want.Meet o) ⊎ (w ≡ want.Solo o) → HasGone header s (asking t next calls) (Some o)
-  gone_offer o sound kind =
-      let sound_at : (v : Want) → w ≡ v → IsSoundWant header v
-      = λ v is. subst (λ (k : Header). IsSoundWant k v) as_one (subst (λ (x : Want). IsSoundWant same x) is sound) in
-      elim kind [ inl is ↦ gone_meeting o is (sound_at (want.Meet o) is) | inr is ↦ gone_alone o is (sound_at (want.Solo o) is) ]
-
--- a rank that holds no offer has made its calls
-pub gone_over : (header : Header) (s t : Going) (held : Option Offer) → Comes header s t → length t.calls < 1 → held ≡ None → HasGone header s t held
-gone_over header s t held h l e =
-    let none = no_call t.calls l in
-    subst (λ (m : Option Offer). HasGone header s t m) (sym e) (record {
-      known = h.known;
-      arrived = sym (comes_to_end header s t h.advanced none);
-      asked = tt;
-      placed = λ script order r way. (h.kept script order r way, none);
-    })
+  gone_offer o sound kind = grind (arith, nat_tests, gone_meeting o, gone_alone o)

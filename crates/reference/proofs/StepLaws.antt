@@ -1,5 +1,5 @@
 -- The steps of a run: the offers of its ranks, the replies to them, and the ranks that have heard.
-use Rattle.reference.proofs.Words.{◌≡◌, ℕ, zero, suc, ◌+◌, ◌-◌, ◌<◌, ◌≤◌, refl, sym, ◌∙◌, ap, subst, inl, inr, List, [], ◌∷◌, ◌++◌, length, map, max, set, drop, get_or, Option, Some, append_assoc, length-set, arith, nat_tests, drop_more, map-set, same_Some, slice_get-map, slice_get, zip, flat_map, IfSome, enumerate_from, entry_set, entry_set_other, Header, Offer, Reply, Counted, Setting, meeting, needs, puts_of, solo, told, record_limit, In, wanted, DoesFit, hears, offers_of, counted, IsRight, less_max, meeting_fits, solo_fits, meeting_within, replied, replies_long, at_in, heard, step_to, arrived, going_of, HasGone, IsAsked, IsWaiting, MayGoOn, all_arrived, AllHear, AreWaiting, DoFit, HasHeard, HaveHeard, Heard, HeardOne, Runner, some_limit}
+use Rattle.reference.proofs.Words.{◌≡◌, ℕ, zero, suc, ◌-◌, ◌<◌, ◌≤◌, refl, sym, ◌∙◌, ap, subst, inl, inr, List, [], ◌∷◌, length, map, max, set, Option, Some, length-set, arith, nat_tests, map-set, same_Some, slice_get-map, slice_get, zip, flat_map, IfSome, enumerate_from, entry_set, entry_set_other, Header, Offer, Reply, Counted, Setting, meeting, needs, puts_of, solo, told, record_limit, In, wanted, DoesFit, hears, offers_of, counted, IsRight, less_max, meeting_fits, solo_fits, meeting_within, replied, replies_long, at_in, heard, step_to, arrived, going_of, HasGone, IsAsked, IsWaiting, MayGoOn, all_arrived, AllHear, AreWaiting, DoFit, HasHeard, HaveHeard, Heard, HeardOne, Runner, some_limit}
 use Rattle.reference.proofs.MeetSteps.{needs_low, own_right, puts_right}
 use Rattle.nc_base.specs.declared.step.Mark.TheVariants as mark
 
@@ -19,11 +19,6 @@ held_asked header runner o w e = grind (arith, nat_tests)
 
 first_offer : (runner : Runner) (runners : List Runner) (o : Offer) → runner.held ≡ Some o → offers_of (all_arrived (runner ∷ runners)) ≡ o ∷ offers_of (all_arrived runners)
 first_offer runner runners o e = ap (λ (m : Option Offer). offers_of ((going_of runner, m) ∷ all_arrived runners)) e
-
-pub offers_step : (runners : List Runner) (i : ℕ) (runner : Runner) (offers more whole : List Offer) → i < length runners → runner ≡ get_or runners i runner
-    → more ≡ offers ++ offers_of (arrived runner ∷ []) → offers ++ offers_of (all_arrived (drop i runners)) ≡ whole
-    → more ++ offers_of (all_arrived (drop (i + 1) runners)) ≡ whole
-offers_step runners i runner offers more whole l e m h = grind (arith, nat_tests, append_assoc, drop_more)
 
 pub offers_long : (header : Header) (runners : List Runner) → AreWaiting header runners → length (offers_of (all_arrived runners)) ≡ length runners
 offers_long header [] all = refl
@@ -81,8 +76,7 @@ meeting_low s offers c low all =
 pub solo_low : (s : Setting) (rank : ℕ) (o : Offer) (c : Counted) → Offered s.header o → (solo s rank o c).1.records < record_limit s.header.version
 solo_low s rank o c h =
     let puts = puts_of (rank, o) in
-    less_max o.known (needs s puts (told s puts)) (record_limit s.header.version) h.low
-    (needs_low s puts (told s puts) (λ p m. own_right s.header rank o p h.right m))
+    grind (arith, nat_tests, less_max o.known (needs s puts (told s puts)) (record_limit s.header.version) h.low, told s puts, needs_low s puts (told s puts), own_right s.header rank o)
 
 -- ---- replies
 

@@ -1,5 +1,5 @@
 -- An index, one dimension after another.
-use Rattle.reference.proofs.Words.{inl, inr, arith, ◌++◌, ◌∙◌, ◌^◌, ◌%◌, ℕ, List, ap, sym, subst, append_assoc, rules, on_ok_weaker, index_at, coordinates_of, AreBelow, rest}
+use Rattle.reference.proofs.Words.{inl, inr, arith, ◌++◌, ◌∙◌, ◌^◌, ◌%◌, ℕ, List, ap, sym, subst, append_assoc, rules, on_ok_weaker, index_at, coordinates_of, AreBelow, rest, nat_tests}
 use Rattle.reference.proofs.IndexLaws.{first_low, index_step, none_indexed}
 use Rattle.reference.proofs.elements.+push_index.Goals as goal
 
@@ -13,16 +13,10 @@ pub returns-in_default-strides : goal.returns-in_default-strides
 returns-in_default-strides t c = none_indexed c.args.index.now.items c.args.starts.now c.args.counts.now c.args.strides.now c.args.number (inr (inl c.in_default-strides.len_below))
 
 pub overflow_add-start : goal.overflow_add-start
-overflow_add-start t c =
-    let low = first_low c.args.starts.now c.args.counts.now c.args.strides.now c.args.number c.element_count-inner.result
-    c.in-len1-up.len_at_least c.in-len1-up-counts.len_at_least c.in-len1-up-strides.len_at_least c.requires.number c.requires.few c.element_count-inner.ensures c.requires.low in
-    omega (arith, low)
+overflow_add-start t c = grind (arith, nat_tests, first_low, c.requires.number, c.requires.few, c.element_count-inner.ensures, c.requires.low)
 
 pub overflow_mul-number : goal.overflow_mul-number
-overflow_mul-number t c =
-    let low = first_low c.args.starts.now c.args.counts.now c.args.strides.now c.args.number c.element_count-inner.result
-    c.in-len1-up.len_at_least c.in-len1-up-counts.len_at_least c.in-len1-up-strides.len_at_least c.requires.number c.requires.few c.element_count-inner.ensures c.requires.low in
-    omega (arith, low)
+overflow_mul-number t c = grind (arith, nat_tests, first_low, c.requires.number, c.requires.few, c.element_count-inner.ensures, c.requires.low)
 
 pub push_index-requires : goal.push_index-requires
 push_index-requires t c =

@@ -1,14 +1,11 @@
 -- The file, its count, and what the ranks leave.
-use Rattle.reference.proofs.Words.{ℕ, ◌<◌, ◌∙◌, sym, ap, subst, List, map, record_limit, setting, most_known, Runner}
+use Rattle.reference.proofs.Words.{ℕ, ◌∙◌, ap, List, map, setting, most_known, Runner, arith, nat_tests}
 use Rattle.serial_spec.specs.RankMachine as machine
 use Rattle.reference.proofs.EndLaws.{closed_is, known_low}
 use Rattle.reference.proofs.end.closed.Goals as goal
 
 pub raise-requires : goal.raise-requires
-raise-requires c = record {
-  needed = subst (λ (n : ℕ). n < record_limit c.args.header.now.version) (sym (c.greatest_known.ensures ∙ ap most_known c.deref.ensures.value))
-      (known_low c.args.header.now c.args.stand.runners.items c.requires.known);
-}
+raise-requires c = grind (arith, nat_tests, known_low, c.greatest_known.ensures, c.deref.ensures.value)
 
 pub returns : goal.returns
 returns c = λ rule.

@@ -1,5 +1,5 @@
 -- One rank more.
-use Rattle.reference.proofs.Words.{arith, Runner}
+use Rattle.reference.proofs.Words.{arith, Runner, nat_tests}
 use Rattle.reference.proofs.GatherLaws.{greatest_end, greatest_step}
 use Rattle.reference.proofs.end.greatest_known.Goals as goal
 
@@ -9,5 +9,4 @@ loop-runner-preserved c =
     (omega arith) c.runner-item.is c.known.ensures c.max-known.ensures c.loop-runner.invariant
 
 pub returns : goal.returns
-returns c =
-    greatest_end (λ (runner : Runner). runner.rank.state.known) c.args.runners.now c.loop-runner.runner-index c.loop-runner.known _ (omega arith) c.loop-runner.invariant
+returns c = grind (arith, nat_tests, greatest_end, c.loop-runner.invariant)

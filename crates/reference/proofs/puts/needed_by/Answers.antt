@@ -1,13 +1,11 @@
 -- One put more.
-use Rattle.reference.proofs.Words.{ℕ, Post, needed, read_in}
+use Rattle.reference.proofs.Words.{ℕ, Post, needed, read_in, arith, nat_tests}
 use Rattle.reference.proofs.GatherLaws.{greatest_end, greatest_step}
 use Rattle.reference.proofs.PutSteps.{needed_is}
 use Rattle.reference.proofs.puts.needed_by.Goals as goal
 
 pub records_needed-requires : goal.records_needed-requires
-records_needed-requires c = record {
-  accepted = c.requires.accepted c.put-item.result (read_in c.args.puts.now c.loop-put.put-index c.put-item.result c.loop-put-test.true c.put-item.is);
-}
+records_needed-requires c = grind (arith, nat_tests, read_in, c.requires.accepted)
 
 pub loop-put-preserved : goal.loop-put-preserved
 loop-put-preserved c =

@@ -1,7 +1,6 @@
 -- One rank more.
-use Rattle.reference.proofs.Words.{◌≡◌, ℕ, ap, subst, List, length, arith, Call}
+use Rattle.reference.proofs.Words.{arith, nat_tests}
 use Rattle.reference.proofs.FirstLaws.{first_more, own_there, ready_first}
-use Rattle.reference.specs.Stands.{AreFirst}
 use Rattle.reference.proofs.stand.first_runners.Goals as goal
 
 pub new-requires-clause-ready : goal.new-requires-clause-ready
@@ -16,7 +15,4 @@ loop-own-preserved c =
     c.in_ok-runner.ensures.header c.in_ok-runner.ensures.gone c.in_ok-push.ensures.items c.loop-own.invariant
 
 pub returns : goal.returns
-returns c =
-    let same = ap (λ (xs : List (List Call)). length xs) c.as_slice-own-items.ensures in
-    let all : c.loop-own.own-index ≡ length c.args.script.now.calls = omega (arith, same, c.loop-own-test.false, c.loop-own.auto.own-index-end) in
-    subst (λ (n : ℕ). AreFirst c.args.script.now c.args.header.now n c.loop-own.runners.items) all c.loop-own.invariant
+returns c = grind (arith, nat_tests, c.as_slice-own-items.ensures, c.loop-own-test.false, c.loop-own.auto.own-index-end, c.loop-own.invariant)

@@ -1,5 +1,5 @@
 -- One rank more has heard.
-use Rattle.reference.proofs.Words.{◌≡◌, ◌∙◌, refl, sym, subst, length, get_or, Some, arith, each_more, left_more, same_Some, slice_get-get_or, slice_get_read, slice_get_within, slice_get, Heard, Reply}
+use Rattle.reference.proofs.Words.{◌≡◌, ◌∙◌, refl, sym, subst, length, get_or, Some, arith, each_more, left_more, same_Some, slice_get-get_or, slice_get_read, slice_get_within, slice_get, Heard, Reply, nat_tests}
 use Rattle.reference.proofs.StepLaws.{heard_by, hears_fit, holds_one, may_hear}
 use Rattle.reference.proofs.stand.hear_all.Goals as goal
 
@@ -15,12 +15,7 @@ hear-requires c =
     let waits = c.requires.waiting i runner there in
     let holds = holds_one c.args.header.now runner waits in
     let said = slice_get_read c.args.replies.now (length c.args.replies.now) i c.index-replies-number.result refl (omega arith) c.index-replies-number.is in
-    record {
-      waits = holds.asked.waits;
-      fits = hears_fit c.args.header.now runner holds.offer c.in_ok-clone.field-0 waits holds.is
-          (c.requires.fit i runner holds.offer c.in_ok-clone.field-0 there holds.is (subst (λ (y : Reply). slice_get c.args.replies.now i ≡ Some y) (sym c.in_ok-clone.ensures) said));
-      ready = may_hear c.args.header.now runner c.in_ok-clone.field-0 waits;
-    }
+    grind (arith, nat_tests, hears_fit, may_hear, c.requires.fit, c.in_ok-clone.ensures)
 
 pub loop-number-preserved : goal.loop-number-preserved
 loop-number-preserved c =

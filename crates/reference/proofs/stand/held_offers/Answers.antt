@@ -1,13 +1,10 @@
 -- The offer of one rank more.
-use Rattle.reference.proofs.Words.{List, refl, arith, offers_of, all_arrived, Runner}
+use Rattle.reference.proofs.Words.{List, refl, arith, offers_of, all_arrived, Runner, append_assoc, drop_more, nat_tests}
 use Rattle.reference.proofs.GatherLaws.{none_left}
-use Rattle.reference.proofs.StepLaws.{offers_step}
 use Rattle.reference.proofs.stand.held_offers.Goals as goal
 
 pub loop-runner-preserved : goal.loop-runner-preserved
-loop-runner-preserved c =
-    offers_step c.args.runners.now c.loop-runner.runner-index c.runner-item.result c.loop-runner.offers.items c.add_offer.new.offers.items (offers_of (all_arrived c.args.runners.now)) (omega arith)
-    c.runner-item.is c.in_ok-add_offer.ensures c.loop-runner.invariant
+loop-runner-preserved c = grind (arith, nat_tests, append_assoc, drop_more, c.runner-item.is, c.in_ok-add_offer.ensures, c.loop-runner.invariant)
 
 pub returns : goal.returns
 returns c =

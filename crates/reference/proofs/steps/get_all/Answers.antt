@@ -1,11 +1,10 @@
 -- One get more.
-use Rattle.reference.proofs.Words.{read_in}
+use Rattle.reference.proofs.Words.{read_in, arith, nat_tests}
 use Rattle.reference.proofs.PutSteps.{got_step}
 use Rattle.reference.proofs.steps.get_all.Goals as goal
 
 pub get-requires-clause-accepted : goal.get-requires-clause-accepted
-get-requires-clause-accepted c =
-    c.requires.accepted c.post-item.result (read_in c.args.posts.now c.loop-post.post-index c.post-item.result c.loop-post-test.true c.post-item.is)
+get-requires-clause-accepted c = grind (arith, nat_tests, read_in, c.requires.accepted)
 
 pub loop-post-preserved : goal.loop-post-preserved
 loop-post-preserved c =

@@ -1,14 +1,13 @@
 -- One call more, an offer, or no call.
-use Rattle.reference.proofs.Words.{◌∙◌, ◌-◌, length, take, drop, call_share, going_of}
-use Rattle.reference.proofs.RunnerLaws.{comes_answered, first_call, gone_offer, gone_over}
+use Rattle.reference.proofs.Words.{◌∙◌, ◌-◌, call_share, going_of, arith, nat_tests, comes_to_end}
+use Rattle.reference.proofs.RunnerLaws.{comes_answered, first_call, gone_offer, no_call}
 use Rattle.reference.proofs.runners.Runner.go_on.Goals as goal
 
 pub step-requires-clause-share : goal.step-requires-clause-share
 step-requires-clause-share c =
     let own = c.calls.self.calls.now in
     let ready = c.calls.invariant.come.ready in
-    call_share ready.script ready.order ready.r (going_of c.calls.self) c.call-item.result (take (length own - 1) (drop 1 own)) ready.lawful ready.one_of ready.way
-    (first_call own c.call-item.result c.in-len1-up.len_at_least c.call-item.is)
+    grind (arith, nat_tests, call_share ready.script ready.order ready.r (going_of c.calls.self) c.call-item.result, first_call own c.call-item.result c.in-len1-up.len_at_least c.call-item.is)
 
 pub calls-preserved : goal.calls-preserved
 calls-preserved c = record {
@@ -24,5 +23,4 @@ returns-in-Meet-clause-gone c =
     c.in_ok-answer.ensures.step c.in_ok-answer.ensures.held c.in-Meet.offer c.in_ok-answer.ensures.sound c.in-Meet.is
 
 pub returns-clause-gone : goal.returns-clause-gone
-returns-clause-gone c =
-    gone_over c.args.self.now.rank.header (going_of c.args.self.now) (going_of c.calls.self) c.calls.self.held c.calls.invariant.come c.in_default.len_below c.calls.invariant.free
+returns-clause-gone c = grind (arith, nat_tests, no_call, comes_to_end, c.calls.invariant.come, c.calls.invariant.free)

@@ -1,5 +1,5 @@
 -- The next step of a legal order.
-use Rattle.reference.proofs.Words.{◌≡◌, ◌+◌, ◌<◌, ◌∙◌, refl, sym, ap, subst, take, equal_itself, Some, same_Some, slice_get-get_or, on_ok_weaker, Mark, record_limit, setting_of, step_to, ok_both, stand_of, HaveHeard, IsStanding}
+use Rattle.reference.proofs.Words.{◌≡◌, ◌∙◌, refl, sym, ap, subst, equal_itself, Some, same_Some, slice_get-get_or, on_ok_weaker, Mark, setting_of, step_to, ok_both, stand_of, arith, nat_tests}
 use Rattle.nc_base.specs.declared.step.Mark.TheVariants as mark
 use Rattle.reference.proofs.EndLaws.{meeting_stands, own_stands, wait_next}
 use Rattle.reference.proofs.stand.Stand.do_step.Goals as goal
@@ -24,11 +24,7 @@ returns-in-Meet c =
       step = on_ok_weaker c.meet.result (λ step. λ m e.
           subst (λ (x : Mark). stand_of c.meet.new.self ≡ step_to (setting_of c.args.script.now c.args.header.now) (stand_of c.args.self.now) x)
           (same_Some (mark.Meet c.in-Meet.field-0) m (sym there ∙ e)) (step c.in-Meet.field-0)) c.meet.ensures.step;
-      stands = ok_both c.meet.result (λ _. HaveHeard c.args.header.now c.args.self.now.runners.items c.meet.new.self.runners.items)
-          (λ _. c.meet.new.self.records < record_limit c.args.header.now.version)
-          (λ _. IsStanding c.args.script.now c.args.header.now (take (c.args.place + 1) c.args.order.now) c.meet.new.self)
-          (λ _ heard low. meeting_stands c.args.script.now c.args.header.now c.args.order.now c.args.place c.in-Meet.field-0 c.args.self.now c.meet.new.self c.requires.legal there
-          c.requires.stands heard low) c.meet.ensures.heard c.meet.ensures.records;
+      stands = grind (arith, nat_tests, ok_both c.meet.result, meeting_stands c.args.script.now c.args.header.now c.args.order.now c.args.place c.in-Meet.field-0, c.requires.legal, c.requires.stands, c.meet.ensures.heard, c.meet.ensures.records);
     }
 
 pub returns-in-Solo : goal.returns-in-Solo
@@ -38,7 +34,5 @@ returns-in-Solo c =
       step = on_ok_weaker c.alone.result (λ step. λ m e.
           subst (λ (x : Mark). stand_of c.alone.new.self ≡ step_to (setting_of c.args.script.now c.args.header.now) (stand_of c.args.self.now) x)
           (same_Some (mark.Solo c.in-Solo.rank c.in-Solo.field-1) m (sym there ∙ e)) (step c.in-Solo.field-1)) c.alone.ensures.step;
-      stands = on_ok_weaker c.alone.result (λ heard.
-          own_stands c.args.script.now c.args.header.now c.args.order.now c.args.place c.in-Solo.rank c.in-Solo.field-1 c.args.self.now c.alone.new.self c.requires.legal there
-          c.requires.stands heard c.alone.ensures.records) c.alone.ensures.heard;
+      stands = grind (arith, nat_tests, own_stands c.args.script.now c.args.header.now c.args.order.now c.args.place c.in-Solo.rank c.in-Solo.field-1, c.requires.legal, c.requires.stands, c.alone.ensures.records, c.alone.ensures.heard);
     }
