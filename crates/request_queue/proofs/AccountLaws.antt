@@ -1,5 +1,5 @@
 -- The account of the buffer is the bytes of the waiting bputs, and refuses as the rank does.
-use Rattle.request_queue.proofs.Words.{◌≡◌, ℕ, ◌+◌, ◌-◌, ◌^◌, ◌<◌, ◌≤◌, ◌∙◌, ap, sym, refl, List, [], ◌∷◌, ◌++◌, map, Bool, true, false, cond, ltb, eqb, Option, Some, None, min, length, get_or, take, arith, filter, option_map, is_some, sum, sum_by, count_by, ltb-false, lt-ltb, le-ltb, cases_lt, list_any, sum_by_push, sum_by-cons, sum_by_more_le, any-filter_same, map_map, sum-map, Post, Bput, Account, new_code, Posted, Status, is_waiting, buffered, buffer_code, bytes_in, is_bput, detach_code, Request, Queued, rank_with, as_posted, held, is_buffered, freed, Accounts, Holds, HasUsed, claim_code, claimed, nat_tests}
+use Rattle.request_queue.proofs.Words.{◌≡◌, ℕ, ◌+◌, ◌-◌, ◌^◌, ◌<◌, ◌≤◌, ◌∙◌, ap, sym, refl, List, [], ◌∷◌, map, Bool, true, cond, ltb, eqb, Option, Some, None, min, length, get_or, take, arith, filter, option_map, is_some, sum, sum_by, count_by, ltb-false, lt-ltb, le-ltb, cases_lt, list_any, sum_by-cons, sum_by_more_le, any-filter_same, map_map, sum-map, Bput, Account, new_code, Posted, Status, is_waiting, buffered, buffer_code, is_bput, detach_code, Request, Queued, rank_with, as_posted, held, is_buffered, freed, Accounts, Holds, HasUsed, claim_code, nat_tests}
 use Rattle.nc_base.specs.declared.answer.Code.TheVariants as code
 use Rattle.request_queue.proofs.PostedLaws.{not_held}
 
@@ -19,21 +19,9 @@ pub used_is : (posted : List Posted) (w : List Request) → filter (λ (p : Post
     → sum (map (λ (p : Posted). buffered p.status) posted) ≡ sum_by held w
 used_is posted w kept = used-filter posted ∙ ap (λ (l : List Posted). sum (map (λ (p : Posted). buffered p.status) l)) kept ∙ used-as_posted w
 
--- a length cut off past the greatest size is refused as it would be
-cut_off : (size u v len : ℕ) → u ≡ v → size ≤ 2 ^ 26 → ltb size (u + min len (2 ^ 64 - 1)) ≡ ltb size (v + len)
-cut_off size u v len e h = grind (arith, nat_tests, cases_lt, ltb, lt-ltb, le-ltb)
-
 pub same_code : (room : Option Account) (w : List Request) (posted : List Posted) (len : ℕ) → filter (λ (p : Posted). is_waiting p.status) posted ≡ map as_posted w
     → Accounts room w → claim_code room (min len (2 ^ 64 - 1)) ≡ buffer_code (rank_with (record { posted = posted; attached = option_map (λ (a : Account). a.size) room })) Bput len
-same_code room w posted len kept a = grind (arith, nat_tests, cut_off, used_is)
-
-claims_more : (room : Account) (len : ℕ) (b : Bool) → ltb room.size (room.used + len) ≡ b → cond b code.EInsuffBuf code.Ok ≡ code.Ok → room.used + len ≤ room.size
-claims_more room len true e h = cc
-claims_more room len false e h = ltb-false room.size (room.used + len) e
-
-pub accounts-claim : (room : Option Account) (w : List Request) (id : ℕ) (posts : List Post) → claim_code room (min (bytes_in posts) (2 ^ 64 - 1)) ≡ code.Ok
-    → Accounts room w → Accounts (claimed room (min (bytes_in posts) (2 ^ 64 - 1))) (w ++ record { id = id; kind = Bput; posts = posts } ∷ [])
-accounts-claim room w id posts h a = grind (arith, nat_tests, claims_more, ltb, sum_by_push)
+same_code room w posted len kept a = grind (arith, nat_tests, cases_lt, ltb, lt-ltb, le-ltb, used_is)
 
 -- ---- attaching and detaching
 
@@ -43,9 +31,6 @@ none_held (r ∷ w) h = grind (arith, nat_tests, is_buffered r, none_held w, not
 
 pub new_fits : (size : ℕ) → new_code size ≡ code.Ok → size ≤ 2 ^ 26
 new_fits size h = grind (arith, nat_tests, eqb size 0, ltb (2 ^ 26) size, ltb-false)
-
-pub accounts-new : (w : List Request) (size : ℕ) → Accounts None w → new_code size ≡ code.Ok → Accounts (Some (record { size = size; used = 0 })) w
-accounts-new w size a h = (sym (none_held w a), new_fits size h, omega arith)
 
 bput_waits : (s : Status) → is_bput s ≡ true → is_waiting s ≡ true
 bput_waits s h = grind (arith, nat_tests)

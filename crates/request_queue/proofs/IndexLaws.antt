@@ -1,5 +1,5 @@
 -- The index of the requests that wait: it stays one as requests come and go, and finds each by its id.
-use Rattle.request_queue.proofs.Words.{◌≡◌, ℕ, ◌∙◌, ap, sym, refl, inl, inr, List, [], ◌∷◌, Bool, true, false, cond, eqb, Option, Some, None, filter, option_map, is_some, list_any, AllByRecursion, nat_cmp, nat_cmp_total, values_of, lookup, BTreeMap, get, is_at, values, IsOrdered, cases_eq, cases_Bool, cond-true, cond-false, eq-eqb, ne_eqb, eqb-true, or_left, or_right, or_cases, recursion_from_All, All-weaker, All-found, has_id, Request, has_waiting, IsIndex, is_place, stands_at, arith, nat_tests}
+use Rattle.request_queue.proofs.Words.{◌≡◌, ℕ, ◌∙◌, ap, sym, refl, inl, inr, List, [], ◌∷◌, Bool, true, false, cond, eqb, Option, Some, None, filter, option_map, is_some, list_any, AllByRecursion, nat_cmp, nat_cmp_total, values_of, lookup, BTreeMap, get, is_at, values, IsOrdered, cases_eq, cond-true, cond-false, eq-eqb, ne_eqb, eqb-true, or_left, or_right, or_cases, recursion_from_All, All-weaker, All-found, has_id, Request, has_waiting, IsIndex, is_place, stands_at, arith, nat_tests}
 use Rattle.list_laws.proofs.Optional.{some_or_none}
 use Rattle.request_queue.proofs.PlaceLaws.{at_same, at_apart}
 
@@ -51,15 +51,11 @@ waits_listed places (e ∷ es) id h w =
 
 -- ---- the requests of entries
 
-cond_values : (b : Bool) (e : ℕ × Request) (es : List (ℕ × Request)) (w : List Request) → values_of es ≡ w → values_of (cond b (e ∷ es) es) ≡ cond b (e.1 ∷ w) w
-cond_values true e es w h = ap (λ (l : List Request). e.1 ∷ l) h
-cond_values false e es w h = h
-
 -- a test of the places and a test of the requests that agree keep the same
 filter_values : (f : Bool → Bool) (listed : ℕ → Bool) (test : Request → Bool) (es : List (ℕ × Request)) → AllByRecursion (λ (e : ℕ × Request). listed e.0 ≡ test e.1) es
     → values_of (filter (λ (e : ℕ × Request). f (listed e.0)) es) ≡ filter (λ (r : Request). f (test r)) (values_of es)
 filter_values f listed test [] h = refl
-filter_values f listed test (e ∷ es) h = grind (arith, nat_tests, filter_values f listed test es h.1, cond_values)
+filter_values f listed test (e ∷ es) h = grind (arith, nat_tests, filter_values f listed test es h.1)
 
 -- ---- an index of requests in order
 
@@ -72,10 +68,7 @@ module _ (places : BTreeMap ℕ ℕ) (by_place : BTreeMap ℕ Request) (ordered 
 
   by_place_of : (id : ℕ) (o : Option ℕ) → get nat_cmp places id ≡ o → is_some o ≡ has_waiting (values by_place) id
   by_place_of id (Some p) e = sym (lookup_waits (is_at (nat_cmp p)) by_place.entries id ((index id p).0 e))
-  by_place_of id None e = elim (cases_Bool (has_waiting (values by_place) id)) [
-    | inl w ↦ let some = waits_listed places by_place.entries id all_listed w in let none = ap is_some e in cc
-    | inr w ↦ sym w
-  ]
+  by_place_of id None e = grind (arith, nat_tests, waits_listed places by_place.entries id all_listed, all_listed)
 
   -- the index has the ids of the requests
   pub index_has : (id : ℕ) → is_some (get nat_cmp places id) ≡ has_waiting (values by_place) id

@@ -1,5 +1,5 @@
 -- The listed requests leave: what waits is what is not listed, and the others keep their states.
-use Rattle.request_queue.proofs.Words.{◌≡◌, ℕ, ◌+◌, ◌∙◌, ap, sym, refl, inr, ◌⊎◌, List, [], ◌∷◌, map, Bool, true, false, cond, eqb, not, Option, Some, None, length, arith, Post, filter, option_map, sum_by, cond_both, cond-false, cond-true, ne_eqb, cases_Bool, and_right, and_from, both_ways, sum_by-filter_both, map_map, sum-map, sum, Account, Posted, Status, NullRequest, Waiting, Gone, is_waiting, status_of, Posting, Request, status_in, posted_of, as_posted, is_null, held, is_buffered, Accounts, Holds, is_listed, removed, freed, nat_tests}
+use Rattle.request_queue.proofs.Words.{◌≡◌, ℕ, ◌+◌, ◌∙◌, ap, sym, refl, inr, ◌⊎◌, List, [], ◌∷◌, map, Bool, true, false, cond, eqb, not, Option, Some, None, length, arith, Post, filter, sum_by, cond_both, cond-false, cond-true, ne_eqb, cases_Bool, and_right, and_from, both_ways, sum_by-filter_both, map_map, sum-map, sum, Account, Posted, Status, NullRequest, Waiting, Gone, is_waiting, status_of, Posting, Request, status_in, posted_of, as_posted, is_null, held, is_buffered, Accounts, Holds, is_listed, removed, freed, nat_tests}
 
 abbrev pub left : (ℕ → Bool) → List Request → List Request
 left listed w = filter (λ (r : Request). not (listed r.id)) w
@@ -24,13 +24,9 @@ waits_or_gone : (w : List Request) (id : ℕ) → (is_waiting (status_in w id) �
 waits_or_gone [] id = inr refl
 waits_or_gone (r ∷ w) id = grind (arith, nat_tests, waits_or_gone w id, eqb r.id id, cond_both)
 
-mark_status : (listed : ℕ → Bool) (id : ℕ) (s t : Status) → (listed id ≡ true → t ≡ Gone) → (listed id ≡ false → t ≡ s) → (is_waiting s ≡ true) ⊎ (s ≡ Gone)
-    → record { id = id; status = t } ≡ marked listed (record { id = id; status = s })
-mark_status listed id s t when_listed when_not kind = grind (arith, nat_tests, cases_Bool, cond-true, and_from, cond-false, and_right)
-
 mark_standing : (listed : ℕ → Bool) (w : List Request) (id : ℕ) (null : Bool)
     → record { id = id; status = cond null NullRequest (status_in (left listed w) id) } ≡ marked listed (record { id = id; status = cond null NullRequest (status_in w id) })
-mark_standing listed w id null = grind (arith, nat_tests, mark_status, listed_gone, other_stays, waits_or_gone)
+mark_standing listed w id null = grind (arith, nat_tests, cases_Bool, cond-true, and_from, cond-false, and_right, listed_gone, other_stays, waits_or_gone)
 
 pub posted-left : (listed : ℕ → Bool) (history : List Posting) (w : List Request) → posted_of history (left listed w) ≡ removed listed (posted_of history w)
 posted-left listed [] w = refl
@@ -41,9 +37,6 @@ posted-left listed (p ∷ history) w = λ i. mark_standing listed w p.id p.null 
 mark_null : (listed : ℕ → Bool) (id : ℕ) (s : Status) → is_null (Some (marked listed (record { id = id; status = s })).status) ≡ is_null (Some s)
 mark_null listed id s = grind (arith, nat_tests, cond_both)
 
-mark_id : (listed : ℕ → Bool) (p : Posted) → (marked listed p).id ≡ p.id
-mark_id listed p = cond_both (is_listed listed p) (record p { status = Gone }) p (λ (q : Posted). q.id ≡ p.id) (λ _. refl) (λ _. refl)
-
 both_conds : (b : Bool) (f : Option Posted → Bool) (s t x y : Option Posted) → f s ≡ f t → f x ≡ f y → f (cond b s x) ≡ f (cond b t y)
 both_conds true f s t x y h k = h
 both_conds false f s t x y h k = k
@@ -51,7 +44,7 @@ both_conds false f s t x y h k = k
 pub is_null-removed : (listed : ℕ → Bool) (posted : List Posted) (id : ℕ) → is_null (status_of (removed listed posted) id) ≡ is_null (status_of posted id)
 is_null-removed listed [] id = refl
 is_null-removed listed (p ∷ posted) id =
-    grind (arith, nat_tests, is_null-removed listed posted id, mark_id listed p, eqb p.id id, mark_null listed p.id p.status, both_conds)
+    grind (arith, nat_tests, is_null-removed listed posted id, eqb p.id id, mark_null listed p.id p.status, both_conds)
 
 -- ---- what waits
 
@@ -60,13 +53,9 @@ waiting-removed : (listed : ℕ → Bool) (posted : List Posted)
 waiting-removed listed [] = refl
 waiting-removed listed (p ∷ posted) = grind (arith, nat_tests, waiting-removed listed posted, p.status, listed p.id, not)
 
-both_lists : (b : Bool) (f : List Request → List Posted) (x y : List Request) (s t : List Posted) → s ≡ f x → t ≡ f y → cond b s t ≡ f (cond b x y)
-both_lists true f x y s t h k = h
-both_lists false f x y s t h k = k
-
 filter-as_posted : (test : ℕ → Bool) (w : List Request) → filter (λ (p : Posted). test p.id) (map as_posted w) ≡ map as_posted (filter (λ (r : Request). test r.id) w)
 filter-as_posted test [] = refl
-filter-as_posted test (r ∷ w) = grind (arith, nat_tests, filter-as_posted test w, both_lists)
+filter-as_posted test (r ∷ w) = grind (arith, nat_tests, filter-as_posted test w)
 
 pub waiting-left : (listed : ℕ → Bool) (history : List Posting) (w : List Request) → filter (λ (p : Posted). is_waiting p.status) (posted_of history w) ≡ map as_posted w
     → filter (λ (p : Posted). is_waiting p.status) (posted_of history (left listed w)) ≡ map as_posted (left listed w)
@@ -94,16 +83,6 @@ holds_taken room listed w a = grind (arith, nat_tests, sum_by-parts)
 pub accounts_left : (room : Option Account) (listed : ℕ → Bool) (w : List Request) → Accounts room w → Accounts (freed room (sum_by held (taken listed w))) (left listed w)
 accounts_left None listed w a = omega (arith, sum_by-parts (λ (r : Request). cond (is_buffered r) 1 0) listed w, a)
 accounts_left (Some room) listed w a = grind (arith, nat_tests, sum_by-parts held listed w)
-
-pub size-freed : (room : Option Account) (len : ℕ) → option_map (λ (a : Account). a.size) (freed room len) ≡ option_map (λ (a : Account). a.size) room
-size-freed None len = refl
-size-freed (Some room) len = refl
-
--- ---- the ids
-
-pub waiting_ids_is : (posted : List Posted) (w : List Request) → filter (λ (p : Posted). is_waiting p.status) posted ≡ map as_posted w
-    → map (λ (p : Posted). p.id) (filter (λ (p : Posted). is_waiting p.status) posted) ≡ map (λ (r : Request). r.id) w
-waiting_ids_is posted w kept = ap (map (λ (p : Posted). p.id)) kept ∙ map_map (λ (p : Posted). p.id) as_posted w
 
 -- ---- the posts
 

@@ -1,5 +1,5 @@
 -- The entries of a map at some keys, one key at a time from the least.
-use Rattle.request_queue.proofs.Words.{◌≡◌, ℕ, ◌<◌, ◌≤◌, ◌∙◌, ap, sym, refl, subst, inl, inr, ◌⊎◌, List, [], ◌∷◌, ◌++◌, Bool, true, false, not, Option, Some, None, append_assoc, arith, filter, list_any, AllByRecursion, IsStrictlySortedBy, nat_cmp, is_eq, nat_cmp_is, keys_of, values_of, lookup, remove_entry, is_at, insert_entry, Less, Equal, Greater, cases_order, cases_eq, cond-true, cond-false, or_from, or_left, ranked, sorted_head, sorted_tail, nat_tests}
+use Rattle.request_queue.proofs.Words.{◌≡◌, ℕ, ◌<◌, ◌≤◌, ◌∙◌, ap, sym, refl, subst, inl, inr, ◌⊎◌, List, [], ◌∷◌, ◌++◌, Bool, true, false, not, Option, Some, None, append_assoc, arith, filter, list_any, AllByRecursion, IsStrictlySortedBy, nat_cmp, is_eq, nat_cmp_is, keys_of, values_of, lookup, remove_entry, is_at, insert_entry, Less, Equal, Greater, cases_order, cond-true, cond-false, or_from, or_left, ranked, sorted_head, sorted_tail, nat_tests}
 
 -- ---- one key
 
@@ -65,8 +65,7 @@ module _ {X : Type 0} where
 
   remove_above : (k : ℕ) (es : List (ℕ × X)) → Above k es → remove_entry (is_at (nat_cmp k)) es ≡ es
   remove_above k [] h = refl
-  remove_above k (e ∷ es) h =
-      grind (arith, nat_tests, remove_above k es h.1, cond-false (is_at (nat_cmp k) e.0) es (e ∷ remove_entry (is_at (nat_cmp k)) es) (at_later k e.0 h.0), at_later)
+  remove_above k (e ∷ es) h = grind (arith, nat_tests, remove_above k es h.1, at_later)
 
   part_above : (f : Bool → Bool) (k : ℕ) (ks : List ℕ) (es : List (ℕ × X)) → Above k es → part f (k ∷ ks) es ≡ part f ks es
   part_above f k ks [] h = refl
@@ -100,10 +99,6 @@ module _ {X : Type 0} where
 
   -- ---- what is left
 
-  first_left : (k : ℕ) (ks : List ℕ) (e : ℕ × X) (es : List (ℕ × X)) → Above k es → k ≡ e.0
-      → at_others (k ∷ ks) (e ∷ es) ≡ at_others ks (remove_entry (is_at (nat_cmp k)) (e ∷ es))
-  first_left k ks e es up same = grind (arith, nat_tests, or_left, at_same, cond-false, not, part_above, cond-true)
-
   later_left : (k : ℕ) (ks : List ℕ) (e : ℕ × X) (es : List (ℕ × X)) → AllByRecursion (λ q. e.0 < q) (k ∷ ks)
       → at_others (k ∷ ks) es ≡ at_others ks (remove_entry (is_at (nat_cmp k)) es)
       → at_others (k ∷ ks) (e ∷ es) ≡ at_others ks (remove_entry (is_at (nat_cmp k)) (e ∷ es))
@@ -112,22 +107,14 @@ module _ {X : Type 0} where
   pub at_others-first : (k : ℕ) (ks : List ℕ) (es : List (ℕ × X)) → IsStrictlySortedBy nat_cmp (k ∷ ks) → IsStrictlySortedBy nat_cmp (keys_of es)
       → at_others (k ∷ ks) es ≡ at_others ks (remove_entry (is_at (nat_cmp k)) es)
   at_others-first k ks [] sk se = refl
-  at_others-first k ks (e ∷ es) sk se = by_order (at_others-first k ks es sk (sorted_tail nat_cmp e.0 (keys_of es) se)) (cases_order k e.0)
-    where
-      by_order : at_others (k ∷ ks) es ≡ at_others ks (remove_entry (is_at (nat_cmp k)) es) → (k ≡ e.0) ⊎ ((k < e.0) ⊎ (e.0 < k))
-          → at_others (k ∷ ks) (e ∷ es) ≡ at_others ks (remove_entry (is_at (nat_cmp k)) (e ∷ es))
-      by_order ih (inl same) = first_left k ks e es (above_first k e.0 (keys_of es) (omega (arith, same)) se) same
-      by_order ih (inr (inl l)) =
-          let up : Above k (e ∷ es) = (l, above_first k e.0 (keys_of es) (omega (arith, l)) se) in
-          part_above not k ks (e ∷ es) up ∙ sym (ap (at_others ks) (remove_above k (e ∷ es) up))
-      by_order ih (inr (inr g)) = later_left k ks e es (g, above_first e.0 k ks (omega (arith, g)) sk) ih
+  at_others-first k ks (e ∷ es) sk se =
+      grind (arith, nat_tests, at_others-first k ks es sk (sorted_tail nat_cmp e.0 (keys_of es) se), at_same, or_left, cond-false, not, cond-true, above_first, part_above, remove_above, later_left, at_others)
 
   -- an entry that is taken out at a key below the others isn't one of those
   pub at_keys-removed : (k : ℕ) (ks : List ℕ) (es : List (ℕ × X)) → IsStrictlySortedBy nat_cmp (k ∷ ks)
       → at_keys ks (remove_entry (is_at (nat_cmp k)) es) ≡ at_keys ks es
   at_keys-removed k ks [] sk = refl
-  at_keys-removed k ks (e ∷ es) sk =
-      grind (arith, nat_tests, at_keys-removed k ks es sk, cases_eq k e.0, cond-true, at_same, cond-false, not_among, above_first, at_apart)
+  at_keys-removed k ks (e ∷ es) sk = grind (arith, nat_tests, at_keys-removed k ks es sk, at_same, not_among, above_first, at_apart)
 
   -- ---- a turn of a loop over the keys
 

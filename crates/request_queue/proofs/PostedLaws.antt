@@ -9,9 +9,6 @@ pub cond_same : {A B : Type 0} (b : Bool) (f : A → B) (s x y : A) → f x ≡ 
 cond_same true f s x y h = refl
 cond_same false f s x y h = h
 
-other_way : (a b : ℕ) → eqb a b ≡ false → eqb b a ≡ false
-other_way a b h = ne_eqb b a (λ e. eqb-false a b h (sym e))
-
 pub not_posted : (posted : List Posted) (id : ℕ) → status_of posted id ≡ None → has_posted posted id ≡ false
 not_posted [] id h = refl
 not_posted (p ∷ posted) id h = grind (arith, nat_tests, not_posted posted id, eqb p.id id, or_from)
@@ -38,9 +35,7 @@ others_stay : (history : List Posting) (waiting : List Request) (r : Request) �
 others_stay [] waiting r h = refl
 others_stay (p ∷ history) waiting r h =
     let parts = or_parts (eqb p.id r.id) (has_posted (posted_of history waiting) r.id) h in
-    let same = status_in-push waiting r p.id (other_way p.id r.id parts.0) in
-    let rest = others_stay history waiting r parts.1 in
-    λ i. record { id = p.id; status = cond p.null NullRequest (same i) } ∷ rest i
+    grind (arith, nat_tests, status_in-push, others_stay history waiting r parts.1, p.null)
 
 pub new_lacks : (h : List Posting) (w : List Request) (id : ℕ) → status_of (posted_of h w) id ≡ None
     → filter (λ (x : Posted). is_waiting x.status) (posted_of h w) ≡ map as_posted w → has_waiting w id ≡ false
@@ -91,15 +86,10 @@ accounts-push (Some room) w r h a = let none = not_held r.kind r.posts h in (ome
 
 -- ---- a null request
 
-null_more : (p : Posted) (posted : List Posted) (k id : ℕ) → eqb p.id k ≡ false
-    → is_null (status_of (posted ++ record { id = k; status = NullRequest } ∷ []) id) ≡ (eqb k id || is_null (status_of posted id))
-    → (b : Bool) → eqb p.id id ≡ b → is_null (status_of (p ∷ posted ++ record { id = k; status = NullRequest } ∷ []) id) ≡ (eqb k id || is_null (status_of (p ∷ posted) id))
-null_more p posted k id differ ih b e = grind (arith, nat_tests, eqb, ne_eqb, eqb-false, eqb-true)
-
 pub null-push : (posted : List Posted) (k id : ℕ) → has_posted posted k ≡ false
     → is_null (status_of (posted ++ record { id = k; status = NullRequest } ∷ []) id) ≡ (eqb k id || is_null (status_of posted id))
 null-push [] k id h = grind (arith, nat_tests, eqb k id)
-null-push (p ∷ posted) k id h = grind (arith, nat_tests, null-push posted k id (or_parts (eqb p.id k) (has_posted posted k) h).1, or_parts, eqb, null_more)
+null-push (p ∷ posted) k id h = grind (arith, nat_tests, null-push posted k id (or_parts (eqb p.id k) (has_posted posted k) h).1, or_parts, eqb, ne_eqb, eqb-false, eqb-true)
 
 pub waiting-null : (posted : List Posted) (k : ℕ) → filter (λ (p : Posted). is_waiting p.status) (posted ++ record { id = k; status = NullRequest } ∷ []) ≡ filter (λ (p : Posted). is_waiting p.status) posted
 waiting-null [] k = refl

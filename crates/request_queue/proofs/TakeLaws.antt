@@ -1,5 +1,5 @@
 -- What a wait or a cancel leaves, and what it takes.
-use Rattle.request_queue.proofs.Words.{◌≡◌, ℕ, refl, List, [], ◌∷◌, map, Bool, true, false, cond, eqb, ◌||◌, Option, Some, arith, filter, nat_cmp, is_at, or_from, or_left, or_right, cond_both, cond-true, eq-eqb, eqb-true, ne_eqb, cases_order, Posted, Status, NullRequest, Gone, is_waiting, status_of, item_code, items_from, has_id, Posting, Request, status_in, has_waiting, posted_of, as_posted, is_null, any_map, items_by, code_by, nat_tests}
+use Rattle.request_queue.proofs.Words.{◌≡◌, ℕ, refl, List, [], ◌∷◌, map, Bool, true, false, cond, eqb, ◌||◌, Option, Some, arith, filter, nat_cmp, is_at, or_from, or_left, or_right, cond_both, cond-true, eq-eqb, eqb-true, ne_eqb, cases_order, Posted, Status, Gone, is_waiting, status_of, item_code, items_from, has_id, Posting, Request, status_in, has_waiting, posted_of, as_posted, is_null, any_map, items_by, code_by, nat_tests}
 use Rattle.request_queue.proofs.PostedLaws.{has_posted, new_lacks}
 
 -- ---- a set with one more number
@@ -9,9 +9,6 @@ insert_is k q b = grind (arith, nat_tests, cases_order k q, eqb k q, eq-eqb, ne_
 
 -- ---- the items
 
-same_has : (w : List Request) (id : ℕ) → has_posted (map as_posted w) id ≡ has_waiting w id
-same_has w id = any_map (λ (p : Posted). eqb p.id id) as_posted w
-
 in_filter : (posted : List Posted) (id : ℕ) (s : Status) → is_waiting s ≡ true → status_of posted id ≡ Some s → has_posted (filter (λ (p : Posted). is_waiting p.status) posted) id ≡ true
 in_filter [] id s waits h = cc
 in_filter (p ∷ posted) id s waits h = grind (arith, nat_tests, in_filter posted id s waits, cond-true, or_left, eqb p.id id, cond_both, or_right)
@@ -20,17 +17,13 @@ gone_lacks : (w : List Request) (id : ℕ) → status_in w id ≡ Gone → has_w
 gone_lacks [] id h = refl
 gone_lacks (r ∷ w) id h = grind (arith, nat_tests, gone_lacks w id, eqb r.id id, or_from)
 
-gone_standing : (w : List Request) (id : ℕ) (null : Bool) → cond null NullRequest (status_in w id) ≡ Gone → has_waiting w id ≡ false
-gone_standing w id true h = cc
-gone_standing w id false h = gone_lacks w id h
-
 gone_waits : (history : List Posting) (w : List Request) (id : ℕ) → status_of (posted_of history w) id ≡ Some Gone → has_waiting w id ≡ false
 gone_waits [] w id h = cc
-gone_waits (p ∷ history) w id h = grind (arith, nat_tests, gone_waits history w id, eqb p.id id, eqb-true, gone_standing)
+gone_waits (p ∷ history) w id h = grind (arith, nat_tests, gone_waits history w id, eqb p.id id, eqb-true, gone_lacks)
 
 code_by_status : (history : List Posting) (w : List Request) (id : ℕ) (e : Bool) → filter (λ (x : Posted). is_waiting x.status) (posted_of history w) ≡ map as_posted w
     → (s : Option Status) → status_of (posted_of history w) id ≡ s → code_by (is_null s) (has_waiting w id) e ≡ item_code s e
-code_by_status history w id e kept s h = grind (arith, nat_tests, new_lacks, gone_waits, same_has, in_filter)
+code_by_status history w id e kept s h = grind (arith, nat_tests, new_lacks, gone_waits, any_map, in_filter)
 
 pub items_is : (history : List Posting) (w : List Request) (null waits : ℕ → Bool) (earlier ids : List ℕ)
     → filter (λ (x : Posted). is_waiting x.status) (posted_of history w) ≡ map as_posted w

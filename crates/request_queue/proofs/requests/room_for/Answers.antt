@@ -1,4 +1,4 @@
-use Rattle.request_queue.proofs.Words.{◌≡◌, ℕ, ◌+◌, ◌++◌, ◌∙◌, ap, sym, subst, List, length, arith, rules, sum_by, option_copied, IsStrictlySortedBy, nat_cmp, values_of, deref, sum_by-cons, rest_more, rest_all, sorted_tail, Request, posts_of}
+use Rattle.request_queue.proofs.Words.{◌≡◌, ◌+◌, ◌++◌, ◌∙◌, ap, sym, subst, length, arith, rules, sum_by, option_copied, IsStrictlySortedBy, nat_cmp, values_of, deref, sum_by-cons, rest_more, sorted_tail, Request, posts_of, nat_tests}
 use Rattle.request_queue.proofs.PlaceLaws.{at_keys, at_keys-none, found, none_left, found_next}
 use Rattle.request_queue.proofs.requests.room_for.Goals as goal
 
@@ -36,8 +36,4 @@ loop-place-preserved c =
 
 pub returns-clause-room : goal.returns-clause-room
 returns-clause-room c =
-    let posts = λ (r : Request). length (posts_of c.args.direction r) in
-    let done = rest_all deref _ _ c.next.result c.in-None.is c.next.ensures.steps in
-    let es = c.args.by_place.now.entries in
-    let none = ap (λ (l : List ℕ). sum_by posts (values_of (at_keys l es))) done ∙ ap (λ l. sum_by posts (values_of l)) (at_keys-none es) in
-    omega (arith, none, c.loop-place.invariant.count, c.in_ok-with_capacity.ensures.capacity)
+    grind (arith, nat_tests, values_of, at_keys-none, c.in-None.is, c.next.ensures.steps, c.loop-place.invariant.count, c.in_ok-with_capacity.ensures.capacity)

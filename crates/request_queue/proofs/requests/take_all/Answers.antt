@@ -1,6 +1,6 @@
-use Rattle.request_queue.proofs.Words.{ℕ, ◌++◌, ◌∙◌, ap, sym, subst, List, length, None, refl, arith, append-nil, IfNone, IsStrictlySortedBy, nat_cmp, values_of, deref, IsUnchanged, rest_more, rest_all, sorted_tail, Request}
+use Rattle.request_queue.proofs.Words.{ℕ, ◌∙◌, ap, sym, subst, List, length, None, refl, arith, append-nil, IfNone, IsStrictlySortedBy, nat_cmp, values_of, deref, IsUnchanged, rest_more, sorted_tail, nat_tests}
 use Rattle.request_queue.proofs.IndexLaws.{index_removed, index_same}
-use Rattle.request_queue.proofs.PlaceLaws.{at_keys, at_others, at_keys-none, at_others-none, none_left, taken_next, left_next}
+use Rattle.request_queue.proofs.PlaceLaws.{at_keys-none, at_others-none, none_left, taken_next, left_next}
 use Rattle.request_queue.proofs.requests.take_all.Goals as goal
 
 pub loop-place-preserved-in-Some-remove : goal.loop-place-preserved-in-Some-remove
@@ -42,12 +42,7 @@ loop-place-preserved c =
     }
 
 pub returns-clause-taken : goal.returns-clause-taken
-returns-clause-taken c =
-    let done = rest_all deref _ _ c.next.result c.in-None.is c.next.ensures.steps in
-    let none = ap (λ (l : List ℕ). values_of (at_keys l c.loop-place.by_place.entries)) done ∙ ap values_of (at_keys-none c.loop-place.by_place.entries) in
-    sym (append-nil c.loop-place.taken.items) ∙ ap (λ (l : List Request). c.loop-place.taken.items ++ l) (sym none) ∙ c.loop-place.invariant.taken
+returns-clause-taken c = grind (arith, nat_tests, values_of, at_keys-none, append-nil, c.in-None.is, c.next.ensures.steps, c.loop-place.invariant.taken)
 
 pub returns-clause-left : goal.returns-clause-left
-returns-clause-left c =
-    let done = rest_all deref _ _ c.next.result c.in-None.is c.next.ensures.steps in
-    sym (ap (λ (l : List ℕ). at_others l c.loop-place.by_place.entries) done ∙ at_others-none c.loop-place.by_place.entries) ∙ c.loop-place.invariant.left
+returns-clause-left c = grind (arith, nat_tests, at_others-none, c.in-None.is, c.next.ensures.steps, c.loop-place.invariant.left)

@@ -1,17 +1,10 @@
-use Rattle.std.proofs.Common.{ap, ◌∙◌, sym, arith}
-use Rattle.request_queue.specs.Buffer.{Account, Buffer, bytes_under}
+use Rattle.std.proofs.lemmas.Bool.Decides.{nat_tests}
+use Rattle.std.proofs.Common.{arith}
 use Rattle.request_queue.proofs.Freed.{freed}
 use Rattle.request_queue.proofs.attached.Attached.free.Goals as goal
 
 pub release-requires : goal.release-requires
-release-requires c =
-    let n = c.args.ticket.number in
-    let kept = freed c.self.inside.blobs.items n c.bytes.result.now (ap (λ (b : Buffer). bytes_under b n) c.self.view_is ∙ sym c.bytes.ensures) in
-    omega (arith, kept)
+release-requires c = grind (arith, nat_tests, freed c.self.inside.blobs.items c.args.ticket.number c.bytes.result.now, c.bytes.ensures)
 
 pub invariant_of-self : goal.invariant_of-self
-invariant_of-self c =
-    let n = c.args.ticket.number in
-    let kept = freed c.self.inside.blobs.items n c.bytes.result.now (ap (λ (b : Buffer). bytes_under b n) c.self.view_is ∙ sym c.bytes.ensures) in
-    let left = ap (λ (a : Account). a.used) c.release.ensures in
-    omega (arith, kept, left)
+invariant_of-self c = grind (arith, nat_tests, freed, c.bytes.ensures, c.release.ensures)

@@ -1,5 +1,5 @@
-use Rattle.request_queue.proofs.Words.{◌≡◌, ◌∙◌, ap, sym, subst, arith, List, map, Option, cond, Posting, filter, sum_by, count_by, option_map, Account, Posted, status_of, has_id, Request, Queued, as_posted, is_listed, removed, held, is_buffered, freed, is_null, posted_of, Accounts, Holds}
-use Rattle.request_queue.proofs.LeaveLaws.{taken, posted-left, is_null-removed, waiting-left, taken_is, sum_by-parts, holds_taken, accounts_left, size-freed}
+use Rattle.request_queue.proofs.Words.{◌≡◌, ◌∙◌, ap, sym, arith, List, Option, cond, Posting, sum_by, count_by, option_map, Account, Posted, status_of, has_id, Request, Queued, removed, held, is_buffered, freed, is_null, posted_of, nat_tests}
+use Rattle.request_queue.proofs.LeaveLaws.{taken, posted-left, is_null-removed, waiting-left, taken_is, sum_by-parts, holds_taken, accounts_left}
 use Rattle.request_queue.proofs.queue.Queue.remove.Goals as goal
 
 abbrev queued_by : List Request → List Posting → Option Account → Queued
@@ -16,9 +16,7 @@ free-requires-clause-count c =
 pub free-requires-clause-bytes : goal.free-requires-clause-bytes
 free-requires-clause-bytes c =
     let listed = has_id c.args.ids.now in
-    let w = c.self.inside.waiting in
-    let all = c.in_ok-taken.ensures.taken in
-    subst (λ (l : List Request). Holds c.self.inside.room l) (sym (c.as_slice.ensures.value ∙ all)) (holds_taken c.self.inside.room listed w c.self.invariant.room)
+    grind (arith, nat_tests, holds_taken c.self.inside.room listed c.self.inside.waiting c.self.invariant.room, c.in_ok-taken.ensures.taken, c.as_slice.ensures.value)
 
 pub invariant_of-self-2 : goal.invariant_of-self-2
 invariant_of-self-2 c =
@@ -35,27 +33,13 @@ invariant_of-self-2 c =
     record {
       nulls = λ id. c.self.invariant.nulls id ∙ sym (is_null-removed listed (posted_of a.history.items w) id) ∙ ap (λ (l : List Posted). is_null (status_of l id)) (sym posted);
       waiting = rw kept (waiting-left listed a.history.items w c.self.invariant.waiting);
-      room = subst (λ (o : Option Account). Accounts o c.remove.new.self) (sym room)
-          (subst (λ (l : List Request). Accounts (freed a.room (sum_by held (taken listed w))) l) (sym kept) (accounts_left a.room listed w c.self.invariant.room));
+      room = grind (arith, nat_tests, taken listed w, accounts_left a.room listed w c.self.invariant.room);
       buffered = rw kept (omega (arith, count, c.free.ensures.count, sum_by-parts (λ (r : Request). cond (is_buffered r) 1 0) listed w, c.self.invariant.buffered));
     }
 
 pub returns-clause-taken : goal.returns-clause-taken
 returns-clause-taken c =
-    let a = c.self.inside in
-    let listed = has_id c.args.ids.now in
-    let w = a.waiting in
-    let gone = c.in_ok-taken.ensures.taken in
-    ap (map as_posted) gone ∙ taken_is listed a.history.items w c.self.invariant.waiting ∙ ap (λ (q : Queued). filter (is_listed listed) q.posted) c.self.view_is
+    grind (arith, nat_tests, taken_is (has_id c.args.ids.now) c.self.inside.history.items c.self.inside.waiting c.self.invariant.waiting, c.in_ok-taken.ensures.taken)
 
 pub returns-clause-after : goal.returns-clause-after
-returns-clause-after c =
-    let a = c.self.inside in
-    let listed = has_id c.args.ids.now in
-    let w = a.waiting in
-    let kept = c.in_ok-taken.ensures.left in
-    let posted = ap (λ (l : List Request). posted_of a.history.items l) kept ∙ posted-left listed a.history.items w in
-    let size = ap (option_map (λ (o : Account). o.size)) c.free.ensures.room ∙ size-freed a.room (sum_by held c.as_slice.result.now) in
-    let both : queued_by c.remove.new.self a.history.items c.free.new.room ≡ record { posted = removed listed (posted_of a.history.items w); attached = option_map (λ (o : Account). o.size) a.room } =
-    λ i. record { posted = posted i; attached = size i } in
-    both ∙ ap (λ (q : Queued). record { posted = removed listed q.posted; attached = q.attached }) c.self.view_is
+returns-clause-after c = grind (arith, nat_tests, posted-left, c.in_ok-taken.ensures.left, c.free.ensures.room)

@@ -1,4 +1,4 @@
-use Rattle.request_queue.proofs.Words.{◌≡◌, ◌≤◌, ◌∙◌, ap, sym, subst, List, ℕ, map, length, arith, filter, sum_by, vec_capacity, flat_map-map, Posted, batch_chosen, chosen, named, is_chosen, has_id, puts_in, gets_in, Request, Queued, rank_with, as_posted, is_listed, puts_of, gets_of}
+use Rattle.request_queue.proofs.Words.{◌≡◌, ◌∙◌, ap, sym, List, ℕ, map, arith, filter, flat_map-map, Posted, chosen, named, is_chosen, has_id, puts_in, gets_in, Queued, rank_with, as_posted, is_listed, nat_tests}
 use Rattle.request_queue.proofs.LeaveLaws.{taken, taken_is, same_posts}
 use Rattle.request_queue.proofs.queue.Queue.take.Goals as goal
 
@@ -7,20 +7,14 @@ batch_of-requires-clause-puts_room c =
     let a = c.self.inside in
     let listed = has_id c.as_slice-3.result.now in
     let same = c.in_ok-taken.ensures.taken ∙ ap (λ (q : Queued). filter (is_listed listed) q.posted) (sym c.self.view_is) ∙ sym (taken_is listed a.history.items a.waiting c.self.invariant.waiting) in
-    let count = same_posts puts_in c.in_ok-taken.taken.items (taken listed a.waiting) same in
-    let ids = c.as_slice-2.ensures.value ∙ sym c.as_slice-3.ensures.value in
-    let room = subst (λ (l : List ℕ). sum_by (λ (r : Request). length (puts_of r)) (taken (has_id l) a.waiting) ≤ vec_capacity c.in_ok-puts.puts) ids c.in_ok-puts.ensures.puts in
-    omega (arith, count, room)
+    grind (arith, nat_tests, same_posts puts_in c.in_ok-taken.taken.items (taken listed a.waiting) same, taken listed a.waiting, c.as_slice-2.ensures.value, c.as_slice-3.ensures.value, c.in_ok-puts.ensures.puts)
 
 pub batch_of-requires-clause-gets_room : goal.batch_of-requires-clause-gets_room
 batch_of-requires-clause-gets_room c =
     let a = c.self.inside in
     let listed = has_id c.as_slice-3.result.now in
     let same = c.in_ok-taken.ensures.taken ∙ ap (λ (q : Queued). filter (is_listed listed) q.posted) (sym c.self.view_is) ∙ sym (taken_is listed a.history.items a.waiting c.self.invariant.waiting) in
-    let count = same_posts gets_in c.in_ok-taken.taken.items (taken listed a.waiting) same in
-    let ids = c.as_slice-2.ensures.value ∙ sym c.as_slice-3.ensures.value in
-    let room = subst (λ (l : List ℕ). sum_by (λ (r : Request). length (gets_of r)) (taken (has_id l) a.waiting) ≤ vec_capacity c.in_ok-puts.gets) ids c.in_ok-puts.ensures.gets in
-    omega (arith, count, room)
+    grind (arith, nat_tests, same_posts gets_in c.in_ok-taken.taken.items (taken listed a.waiting) same, taken listed a.waiting, c.as_slice-2.ensures.value, c.as_slice-3.ensures.value, c.in_ok-puts.ensures.gets)
 
 pub returns-clause-batch : goal.returns-clause-batch
 returns-clause-batch c =
@@ -30,5 +24,4 @@ returns-clause-batch c =
     c.in_ok-taken.ensures.taken ∙ ap (λ (l : List ℕ). filter (is_chosen l) old.posted) ids in
     let puts = c.batch_of.ensures.puts ∙ sym (flat_map-map (λ (p : Posted). puts_in p.status) as_posted c.in_ok-taken.taken.items) in
     let gets = c.batch_of.ensures.gets ∙ sym (flat_map-map (λ (p : Posted). gets_in p.status) as_posted c.in_ok-taken.taken.items) in
-    let both : c.batch_of.result ≡ batch_chosen (map as_posted c.in_ok-taken.taken.items) = λ i. record { puts = puts i; gets = gets i } in
-    both ∙ ap batch_chosen all
+    grind (arith, nat_tests)

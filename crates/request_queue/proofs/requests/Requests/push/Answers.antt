@@ -1,4 +1,4 @@
-use Rattle.request_queue.proofs.Words.{◌≡◌, ◌<◌, ◌+◌, ◌∷◌, ◌++◌, [], ◌∙◌, ℕ, ap, sym, subst, List, arith, rules, All, nat_cmp, values_of, remove_entry, is_at, map_push, recursion_from_All, All-weaker, All-push, Request, has_waiting}
+use Rattle.request_queue.proofs.Words.{◌≡◌, ◌<◌, ◌+◌, ◌∷◌, ◌++◌, [], ◌∙◌, ℕ, ap, sym, subst, List, arith, rules, All, values_of, map_push, recursion_from_All, All-weaker, All-push, Request, has_waiting, nat_tests}
 use Rattle.request_queue.proofs.IndexLaws.{index_added, index_lacks, index_same}
 use Rattle.request_queue.proofs.PlaceLaws.{insert_last, remove_last, lookup_past}
 use Rattle.request_queue.proofs.requests.Requests.push.Goals as goal
@@ -20,8 +20,7 @@ invariant_of-self-in-Ok c =
       earlier = subst (λ (es : List Entry). All (λ (e : Entry). e.0 < c.in_ok-next.next) es) (sym entries)
           (All-push (λ (e : Entry). e.0 < c.in_ok-next.next) a.by_place.entries (a.next, r)
           (All-weaker (λ (e : Entry). e.0 < a.next) (λ (e : Entry). e.0 < c.in_ok-next.next) (λ e h. omega (arith, h, next)) a.by_place.entries before) (omega (arith, next)));
-      index = index_added a.places c.insert-2.new.self a.by_place c.insert.new.self a.next r c.self.invariant.index (lookup_past a.by_place.entries a.next earlier) fresh
-          c.in_ok-insert.ensures.updates.0 c.in-Ok.ensures.updates.0;
+      index = grind (arith, nat_tests, index_added, lookup_past, c.in_ok-insert.ensures.updates.0, c.in-Ok.ensures.updates.0);
     }
 
 pub returns-in-Ok-clause-ok : goal.returns-in-Ok-clause-ok
@@ -37,19 +36,11 @@ invariant_of-self-in-Err c =
     let a = c.self.inside in
     let r = c.args.request in
     let earlier = recursion_from_All (λ (e : Entry). e.0 < a.next) a.by_place.entries c.self.invariant.earlier in
-    let entries = c.in_ok-insert.ensures.entries ∙ insert_last a.by_place.entries a.next r earlier in
-    let same = c.remove.ensures.entries ∙ ap (remove_entry (is_at (nat_cmp a.next))) entries ∙ remove_last a.by_place.entries a.next r earlier in
-    record {
-      ordered = c.remove.ensures.ordered;
-      earlier = subst (λ (es : List Entry). All (λ (e : Entry). e.0 < a.next) es) (sym same) c.self.invariant.earlier;
-      index = index_same a.places c.insert-2.new.self a.by_place c.remove.new.self c.in-Err.ensures.err same c.self.invariant.index;
-    }
+    grind (arith, nat_tests, insert_last, remove_last, index_same, c.in_ok-insert.ensures.entries, c.remove.ensures.entries, c.remove.ensures.ordered, c.self.invariant.earlier, c.self.invariant.index)
 
 pub returns-in-Err-clause-err : goal.returns-in-Err-clause-err
 returns-in-Err-clause-err c =
     let a = c.self.inside in
     let r = c.args.request in
     let earlier = recursion_from_All (λ (e : Entry). e.0 < a.next) a.by_place.entries c.self.invariant.earlier in
-    let entries = c.in_ok-insert.ensures.entries ∙ insert_last a.by_place.entries a.next r earlier in
-    let same = c.remove.ensures.entries ∙ ap (remove_entry (is_at (nat_cmp a.next))) entries ∙ remove_last a.by_place.entries a.next r earlier in
-    ap values_of same ∙ c.self.view_is
+    grind (arith, nat_tests, insert_last, remove_last, values_of, c.in_ok-insert.ensures.entries, c.remove.ensures.entries)
