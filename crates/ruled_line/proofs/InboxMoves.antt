@@ -1,5 +1,5 @@
 -- Each move on an inbox keeps its rule.
-use Rattle.ruled_line.proofs.Words.{◌≡◌, ◌≢◌, ◌<◌, ◌≤◌, ◌+◌, ℕ, true, cond, eqb, List, [], ◌∷◌, ◌++◌, length, set, sym, refl, ap, ◌∙◌, subst, append_assoc, length-append, lt_of_not-le, eq-eqb, ne_eqb, arith, no_false, Pushes, Pops, Forks, Merges, Learns, InboxView, sender_view, receiver_view, met_view, idle_view, FitsInbox, InboxHolds, items_under}
+use Rattle.ruled_line.proofs.Words.{◌≡◌, ◌≢◌, ◌<◌, ◌≤◌, ◌+◌, ℕ, true, cond, eqb, List, [], ◌∷◌, ◌++◌, length, set, sym, refl, ap, ◌∙◌, subst, append_assoc, length-append, lt_of_not-le, eq-eqb, ne_eqb, arith, no_false, Pushes, Pops, Forks, Merges, Learns, InboxView, sender_view, receiver_view, met_view, idle_view, FitsInbox, InboxHolds, items_under, nat_tests}
 use mathlib.Core.Option.{some}
 use lib.ListN.{get_elem?}
 use Rattle.ruled_line.proofs.Views.{Each, each_alone, each_set, each_more}
@@ -40,15 +40,7 @@ module _ {T : Type 0} where
           (λ p le. items_under-push_other p x h.4 items (λ (e : x.0 ≡ p). omega (arith, e, below, le)) ∙ h.6 p le),
           each_set F views seat w
               ((λ _. (mine.0, mine.1, ap (λ l. l ++ x.1 ∷ []) mine.2 ∙ subst (λ (k : ℕ). items_under k (h.4 ++ items) ++ x.1 ∷ [] ≡ items_under k (h.4 ++ (items ++ x ∷ []))) (sym number) (sym (items_under-push_same x h.4 items)), mine.3)), λ p. no_false p)
-              (λ j u other e. let theirs = h.7 j u e in (
-                (λ p. let t = theirs.0 p in (
-                  t.0,
-                  t.1,
-                  t.2 ∙ sym (items_under-push_other u.number x h.4 items (λ (q : x.0 ≡ u.number). other (sym t.0 ∙ ap h.0 (sym q ∙ sym number) ∙ mine.0))),
-                  t.3,
-                )),
-                theirs.1,
-              )),
+              (λ j u other e. let theirs = h.7 j u e in grind (arith, nat_tests, items_under-push_other, theirs.0, x.0, h.0, mine.0, theirs.1)),
         ),
         refl,
       )
@@ -69,10 +61,7 @@ module _ {T : Type 0} where
           omega (arith, fewer),
           (λ p le. ap (λ l. items_under p l) (sym same) ∙ h.6 p le),
           each_set F views seat w ((λ p. no_false p), λ _. (mine.0, ap (λ l. l ++ x ∷ []) mine.1, mine.2, mine.3))
-              (λ j u other e. let theirs = h.7 j u e in (
-                (λ p. let t = theirs.0 p in (t.0, t.1, t.2 ∙ ap (λ l. items_under u.number l) same, t.3)),
-                (λ p. absurd (other ((theirs.1 p).0 ∙ sym mine.0))),
-              )),
+              (λ j u other e. let theirs = h.7 j u e in grind (arith, nat_tests, theirs.0, u.number, theirs.1, mine.0, items_under)),
         ),
         (subst (λ (k : ℕ). x.0 < k) (sym mine.2) below, refl),
       )
@@ -93,10 +82,7 @@ module _ {T : Type 0} where
         (λ p le. h.6 p (omega (arith, given, le))),
         each_more F vs idle_view (idle_fits h.0 h.1 room 0 h.4 items (length vs))
             (each_set F views seat l ((λ p. no_false p), λ _. (mine.0, mine.1, refl, refl))
-            (λ j u other e. let theirs = h.7 j u e in (
-              (λ p. let t = (theirs.0 p).1 in absurd (omega (arith, t, given))),
-              (λ p. absurd (other ((theirs.1 p).0 ∙ sym mine.0))),
-            ))),
+            (λ j u other e. let theirs = h.7 j u e in grind (arith, nat_tests, theirs.0, theirs.1, mine.0))),
       )
 
   -- the end that takes gives the next number
@@ -121,15 +107,7 @@ module _ {T : Type 0} where
           λ p. no_false p,
         )
             (each_set F views seat l ((λ p. no_false p), λ _. (mine.0, mine.1, ap (λ k. k + 1) mine.2, mine.3))
-            (λ j u other e. let theirs = h.7 j u e in (
-              (λ p. let t = theirs.0 p in let below : u.number < h.3 = t.1 in (
-                reseated-else h.0 h.3 (length vs) u.number (λ (q : u.number ≡ h.3). omega (arith, q, below)) ∙ t.0,
-                omega (arith, below),
-                t.2,
-                t.3,
-              )),
-              (λ p. absurd (other ((theirs.1 p).0 ∙ sym mine.0))),
-            ))),
+            (λ j u other e. let theirs = h.7 j u e in grind (arith, nat_tests, reseated-else, theirs.0, theirs.1, mine.0))),
       )
 
   -- the end that takes meets a sender
@@ -142,16 +120,9 @@ module _ {T : Type 0} where
       let F = FitsInbox seat_of h.1 h.2 h.3 h.4 items in
       let Now : ℕ → InboxView T → Type 0 = λ j y. j ≢ other → F j y in
       let now : Each Now vs = each_set Now views seat both (λ _. ((λ _. (reseated-here h.0 w.number seat, theirs.1, theirs.2, mine.3)), λ _. mine))
-      (λ j y _ e apart. let t = h.7 j y e in (
-        (λ p. let q = t.0 p in (reseated-else h.0 w.number seat y.number (λ (s : y.number ≡ w.number). apart (sym q.0 ∙ ap h.0 s ∙ theirs.0)) ∙ q.0, q.1, q.2, q.3)),
-        t.1,
-      )) in
+      (λ j y _ e apart. let t = h.7 j y e in grind (arith, nat_tests, reseated-else, t.0, theirs.0, t.1)) in
       (seat_of, h.1, h.2, h.3, h.4, h.5, h.6, each_set F vs other idle_view (idle_fits seat_of h.1 h.2 h.3 h.4 items other) (λ j y apart e. now j y e apart))
 
   pub learns : (seat : ℕ) (v : InboxView T) → v.puts ≡ true → v.takes ≡ true
       → Learns InboxHolds seat v (λ items. (v.number < v.given) × (v.put ≡ items_under v.number v.taken ++ items_under v.number items) × (length (items_under v.number items) ≤ v.room))
-  learns seat v puts takes items views h here = let a = (h.7 seat v here).0 puts in let b = (h.7 seat v here).1 takes in (
-    subst (λ (k : ℕ). v.number < k) (sym b.2) a.1,
-    a.2 ∙ items_under-append v.number h.4 items ∙ ap (λ l. items_under v.number l ++ items_under v.number items) (sym b.1),
-    omega (arith, length-items_under v.number items, h.5, b.3),
-  )
+  learns seat v puts takes items views h here = let a = (h.7 seat v here).0 puts in let b = (h.7 seat v here).1 takes in grind (arith, nat_tests, items_under-append, length-items_under, b.2, a.1, a.2, b.1, h.5, b.3, items_under)

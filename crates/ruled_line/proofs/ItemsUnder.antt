@@ -1,5 +1,5 @@
 -- The items under a number, of a list and of a longer one.
-use Rattle.ruled_line.proofs.Words.{◌≡◌, ◌≢◌, ◌≤◌, ◌+◌, ℕ, Bool, cond, map, List, [], ◌∷◌, ◌++◌, length, sym, refl, ap, ◌∙◌, append_assoc, length-append, eq-eqb, ne_eqb, arith, filter, ◌==◌, map-append, length-map, append-nil, filter-append, length-filter, count_by-le-length, items_under}
+use Rattle.ruled_line.proofs.Words.{◌≡◌, ◌≢◌, ◌≤◌, ◌+◌, ℕ, Bool, cond, map, List, [], ◌∷◌, ◌++◌, length, sym, refl, ap, ◌∙◌, append_assoc, length-append, eq-eqb, ne_eqb, arith, filter, ◌==◌, map-append, length-map, append-nil, filter-append, length-filter, count_by-le-length, items_under, nat_tests}
 
 module _ {T : Type 0} where
   abbrev pub is_under : ℕ → ℕ × T → Bool
@@ -44,8 +44,7 @@ module _ {T : Type 0} where
   pub items_under-some : (x : ℕ × T) (xs ys : List (ℕ × T)) → items_under x.0 (xs ++ x ∷ ys) ≢ []
   items_under-some x xs ys none =
       let sum : length (items_under x.0 xs) + length (items_under x.0 (x ∷ ys)) ≡ 0 = sym (length-append (items_under x.0 xs) (items_under x.0 (x ∷ ys))) ∙ ap (λ (l : List T). length l) (sym (items_under-append x.0 xs (x ∷ ys)) ∙ none) in
-      let one : length (items_under x.0 (x ∷ ys)) ≡ length (items_under x.0 ys) + 1 = omega (arith, ap (λ (l : List T). length l) (items_under-same x ys)) in
-      omega (arith, sum, one)
+      grind (arith, nat_tests, items_under-same, x.0)
 
   -- where no number has an item, there is no item
   pub items_under-none : (xs : List (ℕ × T)) → ((number : ℕ) → items_under number xs ≡ []) → length xs ≡ 0

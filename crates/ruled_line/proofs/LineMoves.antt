@@ -1,5 +1,5 @@
 -- Each move on a line keeps its rule.
-use Rattle.ruled_line.proofs.Words.{◌≡◌, ◌≢◌, ◌≤◌, ◌+◌, ℕ, true, false, List, [], ◌∷◌, ◌++◌, length, set, sym, refl, ap, ◌∙◌, subst, append_assoc, length-append, arith, no_false, Pushes, Pops, Forks, Merges, Learns, LineView, line_view, FitsLine, LineHolds}
+use Rattle.ruled_line.proofs.Words.{◌≡◌, ◌≢◌, ◌≤◌, ◌+◌, ℕ, true, false, List, [], ◌∷◌, ◌++◌, length, set, sym, refl, ap, ◌∙◌, subst, append_assoc, length-append, arith, no_false, Pushes, Pops, Forks, Merges, Learns, LineView, line_view, FitsLine, LineHolds, nat_tests}
 use mathlib.Core.Option.{some}
 use lib.ListN.{get_elem?}
 use Rattle.ruled_line.proofs.Views.{Each, each_alone, each_set, each_more}
@@ -70,10 +70,7 @@ module _ {T : Type 0} where
       let Now : ℕ → LineView T → Type 0 = λ j y. j ≢ other → FitsLine h.0 end h.2 h.3 h.4 j y in
       let was : Each (λ j y. j ≡ other → y ≡ u → get_elem? views other ≡ some u) vs = each_set (λ j y. j ≡ other → y ≡ u → get_elem? views other ≡ some u) views end both (λ p _. absurd (two (sym p)))
       (λ j y apart e p q. subst (λ (z : ℕ × LineView T). get_elem? views z.0 ≡ some z.1) (λ i. (p i, q i)) e) in
-      let theirs = (h.7 other u (was other u at' refl refl)).1 b in
-      let now : Each Now vs = each_set Now views end both (λ _. ((λ _. mine), λ _. (refl, theirs.1))) (λ j y _ e apart. ((h.7 j y e).0, λ p. absurd (apart (((h.7 j y e).1 p).0 ∙ sym theirs.0)))) in
-      (h.0, end, h.2, h.3, h.4, h.5, h.6, each_set (FitsLine h.0 end h.2 h.3 h.4) vs other (line_view false false 0 [] []) ((λ p. no_false p), λ p. no_false p) (λ j y apart e. now j y e apart))
+      grind (arith, nat_tests, each_set Now views end both, each_set (FitsLine h.0 end h.2 h.3 h.4) vs other (line_view false false 0 [] []), no_false, h.7, h.5, h.6)
 
   pub learns : (end : ℕ) (v : LineView T) → v.puts ≡ true → v.takes ≡ true → Learns LineHolds end v (λ items. (v.put ≡ v.taken ++ items) × (length items ≤ v.room))
-  learns end v a b items views h at = let mine = h.7 end v at in let put = mine.0 a in let taken = mine.1 b in
-      (put.1 ∙ h.5 ∙ ap (λ l. l ++ items) (sym taken.1), subst (λ (n : ℕ). length items ≤ n) (sym put.2) h.6)
+  learns end v a b items views h at = grind (arith, nat_tests)

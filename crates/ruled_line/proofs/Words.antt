@@ -1,5 +1,5 @@
 -- The words of this crate's proofs, from where they stand.
-pub use Rattle.list_laws.proofs.Std.{All, All-push, Bool, List, [], ap, append-nil, append_assoc, arith, cond, count_by-le-length, eqb, false, filter, filter-append, length, length-append, length-filter, length-map, lt_of_not-le, map, map-append, range_with_len, refl, rules, set, subst, suc, sym, true, zero, ℕ, ⊎_elim, ◌++◌, ◌+◌, ◌<◌, ◌==◌, ◌∙◌, ◌∷◌, ◌≡◌, ◌≢◌, ◌≤◌}
+pub use Rattle.list_laws.proofs.Std.{All, All-push, Bool, List, [], ap, append-nil, append_assoc, arith, cond, count_by-le-length, eqb, false, filter, filter-append, length, length-append, length-filter, length-map, lt_of_not-le, map, map-append, range_with_len, refl, rules, set, subst, suc, sym, true, zero, ℕ, ⊎_elim, ◌++◌, ◌+◌, ◌<◌, ◌==◌, ◌∙◌, ◌∷◌, ◌≡◌, ◌≢◌, ◌≤◌, nat_tests}
 pub use Rattle.std.proofs.Common.{eq-eqb, ne_eqb}
 pub use Rattle.atomic_table.proofs.Lists.{at_set}
 pub use Rattle.crossbeam_channel.specs.Claims.{IsSeatAt, view}
