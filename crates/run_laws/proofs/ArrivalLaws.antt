@@ -1,5 +1,5 @@
 -- A run of ranks at their next offers is that of ranks which wait where they heard their last reply.
-use Rattle.run_laws.proofs.Words.{◌≡◌, ℕ, suc, refl, sym, ◌∙◌, ap, List, [], ◌∷◌, ◌++◌, map, set, Option, Some, None, slice_get, fold, nat_lt, map_map, Header, Call, Hints, Script, Mark, Offer, mark_calls, store_records, run_calls, Setting, Counted, Going, advance, solo_of, after_mark, first_state, setting_of, closed, serial_from, calls_so_far, Arrived, Stand, solo_to, step_to, step_calls, calls_over, ended_from, all_calls_over, first_stand, map-set, arith, nat_tests, append_assoc, DiskCall}
+use Rattle.run_laws.proofs.Words.{◌≡◌, ℕ, suc, refl, sym, ◌∙◌, ap, List, [], ◌∷◌, ◌++◌, map, set, Option, Some, None, slice_get, fold, map_map, Header, Call, Hints, Script, Mark, Offer, run_calls, Setting, Counted, Going, advance, solo_of, after_mark, first_state, setting_of, closed, serial_from, calls_so_far, Arrived, Stand, solo_to, step_to, step_calls, calls_over, ended_from, all_calls_over, first_stand, map-set, arith, nat_tests, append_assoc, DiskCall}
 use Rattle.run_laws.proofs.OrderLaws.{calls_close}
 use Rattle.run_laws.proofs.StandingLaws.{calls_at}
 
@@ -32,9 +32,6 @@ arrival_step s state m = grind (arith, nat_tests, map_map, get_up, map-set)
 abbrev pub offer_of : Option Arrived → Option Offer
 offer_of m = elim m [ None ↦ None | Some a ↦ a.1 ]
 
-pub arrival_call : (hints : Hints) (s : Setting) (state : Counted × List Going) (m : Mark) → step_calls hints s (gone_up s state) m ≡ mark_calls hints s state m
-arrival_call hints s state m = grind (arith, nat_tests, calls_at, get_up)
-
 -- ---- a run
 
 pub arrival_steps : (s : Setting) (state : Counted × List Going) (order : List Mark)
@@ -45,7 +42,7 @@ arrival_steps s state (m ∷ order) = grind (arith, nat_tests, arrival_steps s (
 pub arrival_calls : (hints : Hints) (s : Setting) (state : Counted × List Going) (order : List Mark)
     → calls_over hints s (gone_up s state) order ≡ calls_so_far hints s state order
 arrival_calls hints s state [] = refl
-arrival_calls hints s state (m ∷ order) = grind (arith, nat_tests, arrival_calls hints s (after_mark s state m) order, arrival_call, arrival_step)
+arrival_calls hints s state (m ∷ order) = grind (arith, nat_tests, arrival_calls hints s (after_mark s state m) order, calls_at, get_up, arrival_step)
 
 pub calls_split : (hints : Hints) (s : Setting) (stand : Stand) (marks more : List Mark)
     → calls_over hints s stand (marks ++ more) ≡ calls_over hints s stand marks ++ calls_over hints s (fold (step_to s) stand marks) more
@@ -65,18 +62,10 @@ first_up header s file calls e = grind (arith, nat_tests, map_map)
 pub serial_of_arrivals : (script : Script) (header : Header) (file : List ℕ) (order : List Mark)
     → serial_from script header file order ≡ ended_from (setting_of script header) (first_stand header file script.calls) order
 serial_of_arrivals script header file order =
-    sym (ap (λ (stand : Stand). ended_from (setting_of script header) stand order) (first_up header (setting_of script header) file script.calls refl)
-    ∙ arrival_end (setting_of script header) (first_state header file script.calls) order)
+    grind (arith, nat_tests, first_up header (setting_of script header) file script.calls, arrival_end (setting_of script header) (first_state header file script.calls) order)
 
 pub calls_of_arrivals : (script : Script) (header : Header) (file : List ℕ) (order : List Mark)
     → run_calls script header file order ≡ all_calls_over script.hints (setting_of script header) (first_stand header file script.calls) order
 calls_of_arrivals script header file order =
     let s = setting_of script header in
-    let state = first_state header file script.calls in
-    let up = first_up header s file script.calls refl in
-    let calls = arrival_calls script.hints s state order in
-    let steps = arrival_steps s state order in
-    let last = arrival_end s state order in
-    calls_close script.hints s state order
-    ∙ sym (ap (λ (stand : Stand). all_calls_over script.hints s stand order) up
-    ∙ (λ i. calls i ++ store_records s (nat_lt (steps i).0.records (last i).records)))
+    grind (arith, nat_tests, first_up header s file script.calls, arrival_calls script.hints s (first_state header file script.calls) order, arrival_steps s (first_state header file script.calls) order, arrival_end s (first_state header file script.calls) order, calls_close script.hints s (first_state header file script.calls) order, all_calls_over)

@@ -1,5 +1,5 @@
 -- One call of a rank: its mode, its kind, its mark, its offer and its requests.
-use Rattle.run_laws.proofs.Words.{◌≡◌, ℕ, refl, sym, ◌∙◌, ap, subst, List, [], ◌∷◌, ◌++◌, map, Bool, true, false, not, ◌&&◌, max, Option, Some, None, ◌==◌, if◌then◌else◌, is_none, is_some, IfSome, and-false, value_of_some, Header, Call, Code, Answer, Batch, Post, Offer, OfferKind, MeetKind, Reply, Want, Look, Refused, Empty, Asks, look, Rank, Open, Posted, Status, Gone, NullRequest, Waiting, step, hear, posts, post_after, buffer_code, bytes_in, values_of_post, status_of, is_chosen, named, without_chosen, with_posted, is_collective, is_data, mode_after, kind_of_call, id_posted, arith, nat_tests, Choice, either}
+use Rattle.run_laws.proofs.Words.{◌≡◌, ℕ, refl, sym, subst, List, [], ◌∷◌, ◌++◌, map, Bool, true, false, not, ◌&&◌, max, Option, Some, None, ◌==◌, if◌then◌else◌, is_none, is_some, IfSome, and-false, value_of_some, Header, Call, Answer, Batch, Post, Offer, OfferKind, MeetKind, Reply, Want, Rank, Open, Posted, Gone, step, hear, status_of, is_chosen, named, without_chosen, is_collective, is_data, mode_after, kind_of_call, id_posted, arith, nat_tests, Choice, either}
 use Rattle.nc_base.specs.declared.request.Call.TheVariants as call
 use Rattle.nc_base.specs.declared.answer.Code.TheVariants as code
 use Rattle.nc_base.specs.declared.step.OfferKind.TheVariants as offer
@@ -69,8 +69,7 @@ Says r c (r', want.Meet o) = Meeting r c r' o
 Says r c (r', want.Solo o) = AloneAsking r c r' o
 
 with_true : (b t : Bool) → b ≡ t → (b && true) ≡ t
-with_true true t e = e
-with_true false t e = e
+with_true b t e = grind (arith, nat_tests)
 
 answered_alone : (r : Rank) (c : Call) (r' : Rank) → r'.independent ≡ r.independent → r'.known ≡ r.known → r'.«open» ≡ r.«open» → is_data c ≡ false
     → is_collective c ≡ false → kind_of_call c ≡ None → Frees r c r' → Alone r c r'
@@ -96,40 +95,17 @@ solo_with r c b o e f kind alone of_data mode = grind (arith, nat_tests, asks_wi
 -- after those of the chosen are gone
 gone_asks : (r : Rank) (c : Call) (choice : Choice) (k : OfferKind) (b : Batch) (o : Open) → o.independent ≡ mode_after r.independent c → o.gets ≡ b.gets
     → Asking r c (record (without_chosen r choice) { «open» = Some o }) (record { kind = k; known = r.known; batch = b })
-gone_asks r c choice k b o e f =
-    record { known = refl; told = refl; open_with = o; is_open = refl; mode = e; gets = f; kept = refl; frees = λ id h g. free_gone (is_chosen (named r choice)) r.posted id g }
-
-post_frees : (r : Rank) (c : Call) (id : ℕ) (s : Status) → id_posted c ≡ Some id → Frees r c (with_posted r id s)
-post_frees r c id s e n other free = grind (arith, nat_tests, free_after)
+gone_asks r c choice k b o e f = grind (arith, nat_tests, free_gone (is_chosen (named r choice)) r.posted, named r choice)
 
 pub step_says : (header : Header) (r : Rank) (c : Call) → Says r c (step header r c)
 step_says header r (call.Put true name given values) = grind (arith, nat_tests, either, meets_with)
 step_says header r (call.Put false name given values) = grind (arith, nat_tests, either, solo_with, refused_alone)
 step_says header r (call.Get true name given) = grind (arith, nat_tests, either, meets_with)
 step_says header r (call.Get false name given) = grind (arith, nat_tests, either, solo_with, refused_alone)
-step_says header r (call.Post id kind name given values) = by_look (look header r.known id name given (values_of_post kind values))
-  where
-    same : Alone r (call.Post id kind name given values) r
-    same = answered_alone r (call.Post id kind name given values) r refl refl refl refl refl refl (λ n h f. f)
-
-    more : (s : Status) → Alone r (call.Post id kind name given values) (with_posted r id s)
-    more s = answered_alone r (call.Post id kind name given values) (with_posted r id s) refl refl refl refl refl refl (post_frees r (call.Post id kind name given values) id s refl)
-
-    by_code : (asked : List Post) (x : Code) → Says r (call.Post id kind name given values) (post_after r id kind asked x)
-    by_code asked code.Ok = more (Waiting kind asked)
-    by_code asked x = same
-
-    by_look : (l : Look) → Says r (call.Post id kind name given values) (posts r id kind l)
-    by_look (Refused x) = same
-    by_look Empty = more NullRequest
-    by_look (Asks asked) = by_code asked (buffer_code r kind (bytes_in asked))
-step_says header r (call.Wait true choice) =
-    either (Says r (call.Wait true choice)) r.independent _ _ (λ e. meets_with r _ meets.Wait _ _ refl refl refl refl)
-    (λ e. record { asking = gone_asks r (call.Wait true choice) choice _ _ _ refl refl; of_kind = meets.Wait; kind = refl; meets = refl; together = refl })
-step_says header r (call.Wait false choice) =
-    either (Says r (call.Wait false choice)) r.independent _ _
-    (λ e. record { asking = gone_asks r (call.Wait false choice) choice _ _ _ refl refl; kind = refl; is_solo = refl; alone = refl; solo = with_true r.independent true e })
-    (λ e. refused_alone r _ e refl refl refl)
+step_says header r (call.Post id kind name given values) =
+    grind (arith, nat_tests, answered_alone r (call.Post id kind name given values) r, free_after)
+step_says header r (call.Wait true choice) = grind (arith, nat_tests, meets_with r, gone_asks r (call.Wait true choice) choice)
+step_says header r (call.Wait false choice) = grind (arith, nat_tests, gone_asks r (call.Wait false choice) choice, with_true r.independent true, refused_alone r)
 step_says header r (call.Cancel choice) =
     answered_alone r (call.Cancel choice) (without_chosen r choice) refl refl refl refl refl refl (λ id h f. free_gone (is_chosen (named r choice)) r.posted id f)
 step_says header r (call.Attach size) = grind (arith, nat_tests, either, answered_alone)
@@ -154,8 +130,7 @@ abbrev pub Keeps : Option Open → Offer → Type 0
 Keeps m o = (is_some m ≡ true) × IfSome m (λ x. x.gets ≡ o.batch.gets)
 
 keeps_gets : (m : Option Open) (o : Offer) (w : Open) → m ≡ Some w → w.gets ≡ o.batch.gets → Keeps m o
-keeps_gets None o w e f = cc
-keeps_gets (Some v) o w e f = let a : v ≡ w = cc in (refl, ap (λ (x : Open). x.gets) a ∙ f)
+keeps_gets m o w e f = grind (arith, nat_tests)
 
 pub meets_keeps : (header : Header) (rank next : Rank) (c : Call) (o : Offer) → (next, want.Meet o) ≡ step header rank c
     → (next.known ≡ rank.known) × ((o.known ≡ rank.known) × Keeps next.«open» o)

@@ -17,12 +17,9 @@ sum_has n (y ∷ xs) (suc r) x e = let h = sum_has (n + y) xs r x e in omega ari
 
 -- ---- the ranks agree
 
-same_kind : (a b : MeetKind) → kind_number (Some a) ≡ kind_number (Some b) → a ≡ b
-same_kind a b e = grind (arith, nat_tests)
-
 same_kinds : (a b : List MeetKind) → map (λ k. kind_number (Some k)) a ≡ map (λ k. kind_number (Some k)) b → a ≡ b
 same_kinds [] [] e = refl
-same_kinds (j ∷ a) (k ∷ b) e = grind (arith, nat_tests, same_kinds a b, same_kind)
+same_kinds (j ∷ a) (k ∷ b) e = grind (arith, nat_tests, same_kinds a b)
 same_kinds xs ys e = cc
 
 pub one_list : (calls : List (List Call)) (r : ℕ) (own : List Call) → agree calls ≡ true → slice_get calls r ≡ Some own
@@ -68,15 +65,4 @@ own_lawful script r own h e =
     }
 
 pub ranks_lawful : (script : Script) → is_lawful script ≡ true → Ranks script
-ranks_lawful script h =
-    let t = lawful_parts script h in
-    record {
-      one_each = t.one_list_each;
-      most = t.few_ranks;
-      kinds_few = by script.calls (λ own e. own_few script 0 own t e);
-    }
-  where
-    by : (calls : List (List Call)) → ((own : List Call) → slice_get calls 0 ≡ Some own → length own ≤ most_calls)
-        → length {A = MeetKind} (elim calls [ [] ↦ [] | first ∷ others ↦ kinds first ]) ≤ most_calls
-    by [] f = omega arith
-    by (first ∷ others) f = le_two _ _ _ (kinds_few first) (f first refl)
+ranks_lawful script h = grind (arith, nat_tests, lawful_parts script h, kinds_few, own_few script 0, le_two, script.calls)

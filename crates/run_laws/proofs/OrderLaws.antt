@@ -1,5 +1,5 @@
 -- Longer orders: their states and device calls, and the solo steps of one rank in a row.
-use Rattle.run_laws.proofs.Words.{◌≡◌, ℕ, refl, sym, ◌∙◌, ap, List, [], ◌∷◌, ◌++◌, set, true, Some, append_assoc, set-set, fold-append, slice_get, ◌==◌, nat_lt, fold, list_all, eqb-true, and_first, and_second, Header, Hints, Script, Mark, Meet, Solo, Setting, Counted, mark_calls, store_records, calls_from, Going, setting_of, first_state, state_after, after_mark, after_solo, solo_of, advance, closed, is_solo_of, own_step, own_calls, calls_so_far, entry_set, set_own, arith, nat_tests}
+use Rattle.run_laws.proofs.Words.{◌≡◌, ℕ, refl, sym, ◌∙◌, ap, List, [], ◌∷◌, ◌++◌, set, true, Some, append_assoc, set-set, fold-append, slice_get, ◌==◌, nat_lt, fold, list_all, eqb-true, and_first, and_second, Header, Hints, Script, Mark, Meet, Solo, Setting, Counted, store_records, calls_from, Going, setting_of, first_state, state_after, after_mark, after_solo, solo_of, advance, closed, is_solo_of, own_step, own_calls, calls_so_far, entry_set, set_own, arith, nat_tests}
 use Rattle.run_laws.proofs.StandingLaws.{solo_goes, solo_calls_go}
 
 -- ---- states
@@ -45,9 +45,4 @@ own_solo_calls hints s r c goings g [] e h = refl
 own_solo_calls hints s r c goings g (Meet k ∷ more) e h = cc
 own_solo_calls hints s r c goings g (Solo q n ∷ more) e h =
     let done = solo_of s r c (advance s.header g) in
-    let q_is = eqb-true q r (and_first (q == r) _ h) in
-    let first = solo_calls_go hints s r n c goings g e in
-    let others = own_solo_calls hints s r done.0 (set goings r done.1) done.1 more (entry_set goings r g done.1 e) (and_second (q == r) _ h) in
-    ap (λ (j : ℕ). mark_calls hints s (c, goings) (Solo j n) ++ calls_so_far hints s (after_solo s j c goings) more) q_is
-    ∙ ap (λ (state : Counted × List Going). mark_calls hints s (c, goings) (Solo r n) ++ calls_so_far hints s state more) (solo_goes s r c goings g e)
-    ∙ (λ i. first i ++ others i)
+    grind (arith, nat_tests, and_first, solo_calls_go, own_solo_calls hints s r done.0 (set goings r done.1) done.1 more (entry_set goings r g done.1 e), entry_set, and_second, solo_goes, calls_so_far)

@@ -1,25 +1,20 @@
 -- What a rank on its way has at its next call, and that all ranks meet and end together.
-use Rattle.run_laws.proofs.Words.{◌≡◌, ℕ, suc, ◌+◌, ◌*◌, ◌^◌, ◌<◌, ◌≤◌, ◌≢◌, refl, ◌∙◌, List, [], ◌∷◌, ◌++◌, length, drop, true, Option, Some, None, arith, length-drop, append-nil, list_all-append, nat_tests, slice_get, filter, list_all, and_from, eqb-true, entry_below, first_same, none_of_test, and_first, and_second, Call, Script, Mark, Meet, MeetKind, Offer, Open, Going, kinds, marks, concerns, is_of_rank_below, IsLegal, is_lawful, is_lawful_call, most_calls, most_parts, posted_ids, IsFresh, IsShare, posts_held, meetings, kinds_of, Waits, IsOnWay}
+use Rattle.run_laws.proofs.Words.{◌≡◌, ℕ, suc, ◌+◌, ◌*◌, ◌^◌, ◌<◌, ◌≤◌, ◌≢◌, refl, ◌∙◌, List, [], ◌∷◌, ◌++◌, length, drop, true, Option, Some, None, arith, length-drop, append-nil, list_all-append, nat_tests, slice_get, filter, list_all, and_from, eqb-true, entry_below, first_same, none_of_test, and_first, and_second, Call, Script, Mark, Meet, MeetKind, Offer, Open, Going, kinds, marks, concerns, is_of_rank_below, IsLegal, is_lawful, is_lawful_call, most_calls, most_parts, IsFresh, IsShare, posts_held, meetings, kinds_of, Waits, IsOnWay}
 use Rattle.nc_base.specs.declared.request.Call.TheVariants as call
 use Rattle.nc_base.specs.declared.step.OfferKind.TheVariants as offer
 use Rattle.serial_spec.specs.RankMachine as machine
-use Rattle.run_laws.proofs.CallLaws.{is_free, Keeps}
+use Rattle.run_laws.proofs.CallLaws.{Keeps}
 use Rattle.run_laws.proofs.LawfulLaws.{ranks_lawful}
 use Rattle.run_laws.proofs.WayLaws.{kind_some, calls_long}
 
 -- ---- the next call
 
 pub none_waits : (m : Option Open) → Waits m None → m ≡ None
-none_waits None h = refl
-none_waits (Some w) h = absurd h
-
-fresh_first : (r : machine.Rank) (c : Call) (calls : List Call) → list_all (is_free r.posted) (posted_ids (c ∷ calls)) ≡ true → IsFresh r c
-fresh_first r (call.Post id kind name given values) calls h = none_of_test _ (and_first (is_free r.posted id) _ h)
-fresh_first r c calls h = tt
+none_waits m h = grind (arith, nat_tests)
 
 pub call_fresh : (script : Script) (order : List Mark) (r : ℕ) (s : Going) (c : Call) (calls : List Call) → IsOnWay script order r s None → s.calls ≡ c ∷ calls
     → IsFresh s.rank c
-call_fresh script order r s c calls w e = grind (arith, nat_tests, fresh_first)
+call_fresh script order r s c calls w e = grind (arith, nat_tests, none_of_test, and_first)
 
 pub call_lawful : (script : Script) (order : List Mark) (r : ℕ) (s : Going) (c : Call) (calls : List Call) → IsOnWay script order r s None → s.calls ≡ c ∷ calls
     → is_lawful_call script.ranks r c ≡ true
@@ -56,13 +51,9 @@ holds : (script : Script) (order : List Mark) (r : ℕ) (s : Going) (o : Offer) 
     → (kind : MeetKind) × ((o.kind ≡ offer.Meet kind) × (kind ∷ kinds s.calls ≡ drop (meetings order) (kinds_of script)))
 holds script order r s o w = grind (arith, nat_tests, kind_some)
 
-not_over : (calls : List Call) (kind : MeetKind) (ks : List MeetKind) → kind ∷ ks ≡ kinds calls → calls ≢ []
-not_over [] kind ks e f = cc
-not_over (c ∷ calls) kind ks e f = cc
-
 pub together_all : (script : Script) (order : List Mark) (r q : ℕ) (s t : Going) (o : Offer) → IsOnWay script order r s (Some o) → IsOnWay script order q t None
     → t.calls ≢ []
-together_all script order r q s t o w v = grind (arith, nat_tests, holds, not_over)
+together_all script order r q s t o w v = grind (arith, nat_tests, holds)
 
 pub together_kind : (script : Script) (order : List Mark) (r q : ℕ) (s t : Going) (o p : Offer) → IsOnWay script order r s (Some o) → IsOnWay script order q t (Some p)
     → p.kind ≡ o.kind
@@ -74,11 +65,7 @@ dropped k xs x ys e = grind (arith, nat_tests, length-drop k xs)
 pub together_number : (script : Script) (order : List Mark) (r : ℕ) (s : Going) (o : Offer) → is_lawful script ≡ true → IsOnWay script order r s (Some o)
     → meetings order < most_calls
 together_number script order r s o l w =
-    let h = holds script order r s o w in
-    within (meetings order) (length (kinds_of script)) (dropped (meetings order) (kinds_of script) h.0 (kinds s.calls) h.1.1) (ranks_lawful script l).kinds_few
-  where
-    within : (a b : ℕ) → a < b → b ≤ most_calls → a < most_calls
-    within a b h k = omega arith
+    grind (arith, nat_tests, holds script order r s o w, dropped (meetings order) (kinds_of script) (holds script order r s o w).0 (kinds s.calls), ranks_lawful script l)
 
 -- ---- a legal order
 
@@ -98,7 +85,4 @@ pub order_legal : (script : Script) (order : List Mark) (ss : List Going) → le
 order_legal script order ss e known f = record { known_ranks = known; each_rank = each }
   where
     each : (r : ℕ) → r < script.ranks → filter (concerns r) order ≡ marks script.calls r
-    each r l =
-        let s = entry_below ss r (omega arith) in
-        let w = f r s.0 s.1 in
-        at_end script order r s.0 w.0 w.1
+    each r l = grind (arith, nat_tests, entry_below ss r, at_end script order r)

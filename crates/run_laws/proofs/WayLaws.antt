@@ -1,5 +1,5 @@
 -- A rank on its way: how it begins, how its calls and its replies change what is left to it, and what others leave as it was.
-use Rattle.run_laws.proofs.Words.{◌≡◌, ℕ, suc, ◌+◌, ◌*◌, ◌≤◌, ◌≢◌, refl, sym, ◌∙◌, ap, subst, List, [], ◌∷◌, ◌++◌, length, drop, Bool, true, false, not, cond, ◌&&◌, ◌||◌, Option, Some, None, arith, true≢false, append_assoc, append-nil, sum_by-append, filter-append, eq-eqb, and_from, eqb-true, eqb_tells, slice_get, ◌==◌, filter, is_some, list_all, list_any, cons_option, and_first, and_second, Header, Call, Answer, Script, Mark, Meet, Solo, MeetKind, Offer, OfferKind, Reply, Open, Posted, step, hear, Going, first_going, kinds, marks_from, concerns, kind_of_call, kind_of_meeting, mode_after, is_collective, is_data, is_meeting, is_lawful, is_lawful_call, most_calls, most_parts, are_different, posted_ids, id_posted, posts_held, answered, asking, is_solo_of, meetings, mode_heard, kind_of_offer, kinds_of, Waits, AreNew, IsOnWay, long_push, nat_tests}
+use Rattle.run_laws.proofs.Words.{◌≡◌, ℕ, suc, ◌+◌, ◌*◌, ◌≤◌, ◌≢◌, refl, sym, ◌∙◌, ap, subst, List, [], ◌∷◌, ◌++◌, length, drop, Bool, true, false, not, cond, ◌&&◌, ◌||◌, Option, Some, None, arith, true≢false, append_assoc, append-nil, sum_by-append, filter-append, eq-eqb, and_from, eqb-true, eqb_tells, slice_get, ◌==◌, filter, is_some, list_all, list_any, cons_option, and_first, and_second, Header, Call, Answer, Script, Mark, Meet, Solo, MeetKind, Offer, Reply, Open, Posted, step, hear, Going, first_going, kinds, marks_from, concerns, kind_of_call, kind_of_meeting, mode_after, is_collective, is_data, is_meeting, is_lawful, is_lawful_call, most_calls, most_parts, are_different, posted_ids, id_posted, posts_held, answered, asking, is_solo_of, meetings, mode_heard, kind_of_offer, kinds_of, Waits, AreNew, IsOnWay, long_push, nat_tests}
 use Rattle.nc_base.specs.declared.step.OfferKind.TheVariants as offer
 use Rattle.nc_base.specs.declared.step.Want.TheVariants as want
 use Rattle.serial_spec.specs.RankMachine as machine
@@ -22,9 +22,6 @@ meetings_met order k = let e = meetings_more order (Meet k ∷ []) 1 refl in ome
 
 meetings_same : (order more : List Mark) → meetings more ≡ 0 → meetings (order ++ more) ≡ meetings order
 meetings_same order more e = let f = meetings_more order more 0 e in omega arith
-
-not_own : (q r : ℕ) → q ≢ r → (q == r) ≡ false
-not_own q r n = grind (arith, nat_tests, eqb_tells)
 
 -- ---- one step of the marks and kinds that are left
 
@@ -51,12 +48,8 @@ mode_alone ind c e = grind (arith, nat_tests)
 
 -- ---- ids of its own
 
-ids_apart : (n m : ℕ) → (m == n) ≡ false → not (n == m) ≡ true
-ids_apart n m e = grind (arith, nat_tests, eqb_tells, not, true≢false, eq-eqb)
-
 neither : (a b : Bool) → not (a || b) ≡ true → (a ≡ false) × (not b ≡ true)
-neither true b e = cc
-neither false b e = (refl, e)
+neither a b e = grind (arith, nat_tests)
 
 still_free : (r r' : machine.Rank) (n : Option ℕ) (ids : List ℕ) → ((id : ℕ) → is_other n id ≡ true → is_free r.posted id ≡ true → is_free r'.posted id ≡ true)
     → list_all (is_other n) ids ≡ true → list_all (is_free r.posted) ids ≡ true → list_all (is_free r'.posted) ids ≡ true
@@ -66,7 +59,7 @@ still_free r r' n (id ∷ ids) f o h =
 
 all_other : (n : ℕ) (ids : List ℕ) → not (list_any (λ m. m == n) ids) ≡ true → list_all (is_other (Some n)) ids ≡ true
 all_other n [] h = refl
-all_other n (m ∷ ids) h = grind (arith, nat_tests, all_other n ids (neither (m == n) _ h).1, neither, and_from, ids_apart)
+all_other n (m ∷ ids) h = grind (arith, nat_tests, all_other n ids (neither (m == n) _ h).1, neither, and_from, eqb_tells, not, true≢false, eq-eqb)
 
 none_other : (ids : List ℕ) → list_all (is_other None) ids ≡ true
 none_other [] = refl
@@ -78,13 +71,10 @@ New r ids = (are_different ids ≡ true) × (list_all (is_free r.posted) ids ≡
 new_next : (r r' : machine.Rank) (n : Option ℕ) (ids : List ℕ) → ((id : ℕ) → is_other n id ≡ true → is_free r.posted id ≡ true → is_free r'.posted id ≡ true)
     → New r (cons_option n ids) → New r' ids
 new_next r r' None ids f w = (w.0, still_free r r' None ids f (none_other ids) w.1)
-new_next r r' (Some n) ids f w =
-    (and_second _ _ w.0, still_free r r' (Some n) ids f (all_other n ids (and_first _ _ w.0)) (and_second (is_free r.posted n) _ w.1))
+new_next r r' (Some n) ids f w = grind (arith, nat_tests, still_free r r' (Some n) ids f, all_other n ids, and_first, and_second (is_free r.posted n))
 
 are_new : (s : Going) (r' : machine.Rank) (c : Call) (calls : List Call) → AreNew s → s.calls ≡ c ∷ calls → Frees s.rank c r' → New r' (posted_ids calls)
-are_new s r' c calls w e f =
-    new_next s.rank r' (id_posted c) (posted_ids calls) f
-    (subst (λ (cs : List Call). New s.rank (posted_ids cs)) e (w.different, w.fresh))
+are_new s r' c calls w e f = grind (arith, nat_tests, new_next s.rank r' (id_posted c) (posted_ids calls) f)
 
 new_as : (r r' : machine.Rank) (ids : List ℕ) → r'.posted ≡ r.posted → New r ids → New r' ids
 new_as r r' ids e w = (w.0, subst (λ (ps : List Posted). list_all (is_free ps) ids ≡ true) (sym e) w.1)
@@ -106,13 +96,10 @@ calls_long s c calls e = ap (λ (cs : List Call). length cs) e ∙ (omega arith)
 
 -- ---- the beginning
 
-from_none : (n : ℕ) → n ≤ most_calls → 0 + n ≤ most_calls
-from_none n h = omega arith
-
 pub way_begins : (script : Script) (header : Header) (r : ℕ) (own : List Call) → is_lawful script ≡ true → slice_get script.calls r ≡ Some own
     → IsOnWay script [] r (first_going header own) None
 way_begins script header r own h e =
-    grind (arith, nat_tests, own_lawful script r own h e, all_free (posted_ids own), from_none (length own) (own_lawful script r own h e).few)
+    grind (arith, nat_tests, own_lawful script r own h e, all_free (posted_ids own))
 
 -- ---- its own calls
 
@@ -134,12 +121,6 @@ way_answers script order r header s next a c calls w e f p =
       calls_long,
     )
 
-some_meeting : (o : Offer) (kind : MeetKind) → o.kind ≡ offer.Meet kind → is_some (kind_of_meeting o.kind) ≡ true
-some_meeting o kind e = ap (λ (k : OfferKind). is_some (kind_of_meeting k)) e
-
-waits_for : (m : Option Open) (w : Open) (o : Offer) → m ≡ Some w → w.gets ≡ o.batch.gets → Waits m (Some o)
-waits_for m w o e f = subst (λ (x : Option Open). Waits x (Some o)) (sym e) f
-
 mode_with : (r : machine.Rank) (w : Open) → r.«open» ≡ Some w → mode_heard r ≡ w.independent
 mode_with r w e = ap (λ (m : Option Open). elim m [ None ↦ r.independent | Some o ↦ o.independent ]) e
 
@@ -147,21 +128,7 @@ pub way_meets : (script : Script) (order : List Mark) (r : ℕ) (header : Header
     → IsOnWay script order r s None → s.calls ≡ c ∷ calls → (next, want.Meet o) ≡ step header s.rank c → posts_held next ≤ posts_held s.rank + most_parts
     → IsOnWay script order r (asking s next calls) (Some o)
 way_meets script order r header s next o c calls w e f p =
-    grind (
-      arith,
-      nat_tests,
-      says_at header s.rank c (next, want.Meet o) f,
-      are_new s next c calls w.new e ((says_at header s.rank c (next, want.Meet o) f).asking).frees,
-      moved _ _ _ _ most_calls refl (calls_long s c calls e) w.few,
-      held_more _ _ _ _ refl p w.posts,
-      mode_with,
-      marks_meet,
-      kinds_take,
-      waits_for,
-      some_meeting,
-      and_second,
-      calls_long,
-    )
+    grind (arith, nat_tests, says_at header s.rank c (next, want.Meet o) f, are_new s next c calls w.new e ((says_at header s.rank c (next, want.Meet o) f).asking).frees, moved _ _ _ _ most_calls refl (calls_long s c calls e) w.few, held_more _ _ _ _ refl p w.posts, mode_with, marks_meet, kinds_take, and_second, calls_long)
 
 -- ---- replies
 
@@ -207,7 +174,7 @@ drop_next n xs m x e = cc
 pub kind_some : (o : Offer) → is_some (kind_of_meeting o.kind) ≡ true → (kind : MeetKind) × ((o.kind ≡ offer.Meet kind) × (kind_of_offer o ≡ kind ∷ []))
 kind_some o e = grind (arith, nat_tests)
 
-pub waits_open : (m : Option Open) (o : Offer) → Waits m (Some o) → (w : Open) × ((m ≡ Some w) × (w.gets ≡ o.batch.gets))
+waits_open : (m : Option Open) (o : Offer) → Waits m (Some o) → (w : Open) × ((m ≡ Some w) × (w.gets ≡ o.batch.gets))
 waits_open None o h = absurd h
 waits_open (Some w) o h = (w, (refl, h))
 
@@ -219,7 +186,6 @@ way_hears script order r header s heard o reply a w g =
     let hears = heard_at header s.rank heard reply a was.0 was.1.0 g in
     let new = new_as s.rank heard (posted_ids s.calls) hears.posted (w.new.different, w.new.fresh) in
     let long = long_push s.answers a in
-    let n = length s.answers in
     let k = meetings order in
     let mode = hears.mode ∙ sym (mode_with s.rank was.0 was.1.0) in
     let next = meetings_met order k in
@@ -230,8 +196,7 @@ way_hears script order r header s heard o reply a w g =
       marks = ap (λ (ms : List Mark). ms ++ marks_from r (length (s.answers ++ a ∷ [])) (meetings (order ++ Meet k ∷ [])) heard.independent s.calls) done
           ∙ append_assoc (filter (concerns r) order) (Meet k ∷ []) _
           ∙ ap (λ (ms : List Mark). filter (concerns r) order ++ ms) left ∙ w.marks;
-      kinds = drop_next k (kinds s.calls) (kinds_of script) kind.0 (sym (ap (λ (ks : List MeetKind). ks ++ kinds s.calls) kind.1.1) ∙ w.kinds)
-          ∙ ap (λ (j : ℕ). drop j (kinds_of script)) (sym next);
+      kinds = grind (arith, nat_tests, drop_next, kind.1.1, w.kinds, drop, kinds_of);
       waits = subst (λ (m : Option Open). Waits m None) (sym hears.closed) tt;
       meets = tt;
       lawful = w.lawful;
@@ -252,7 +217,7 @@ one_of q n = and_from (q == q) true (eq-eqb q q refl) refl
 pub others_filter : (q r : ℕ) (more : List Mark) → q ≢ r → list_all (is_solo_of q) more ≡ true → filter (concerns r) more ≡ []
 others_filter q r [] n h = refl
 others_filter q r (Meet k ∷ more) n h = cc
-others_filter q r (Solo p m ∷ more) n h = grind (arith, nat_tests, others_filter q r more n (and_second (p == q) _ h), eqb-true, and_first, not_own, and_second)
+others_filter q r (Solo p m ∷ more) n h = grind (arith, nat_tests, others_filter q r more n (and_second (p == q) _ h), eqb-true, and_first, eqb_tells, and_second)
 
 pub others_meetings : (q : ℕ) (more : List Mark) → list_all (is_solo_of q) more ≡ true → meetings more ≡ 0
 others_meetings q [] h = refl
