@@ -1,5 +1,5 @@
 -- The end of a plan.
-use Rattle.run_plan.proofs.Words.{◌≡◌, ℕ, refl, sym, ◌∙◌, ap, subst, List, [], ◌++◌, length, map, max, true, Option, fold, nat_lt, replicate, Answer, Header, Extent, Script, DiskCall, run_calls, store_records, raised, greatest, is_lawful, close_by, serial_from, setting_of, End, raised_records, map_map, counted, rises, blank, AreAlikeEnds, IsLike, close_alike, same_beside, ended_from, first_stand, step_to, Arrived, Stand, first_up, ranks_lawful, count_call, StepPlan, AreFree, AreRunners, HaveArrived, arrived_all, first_runner, Runner, are_over, ended_legal, map_ended, AreOver, most_known, calls_from_first, first_stage, serial_from_first, told_end, calls_in, order_in, plan_stage, AreStepsOf, HasPlannedAll, IsFollowed, without_values, HasEnded, IsPlanOf, RunPlan, Progress}
+use Rattle.run_plan.proofs.Words.{◌≡◌, ℕ, refl, sym, ◌∙◌, ap, List, [], ◌++◌, length, map, max, true, Option, nat_lt, replicate, Answer, Header, Extent, Script, DiskCall, run_calls, store_records, raised, greatest, is_lawful, close_by, serial_from, setting_of, End, raised_records, map_map, counted, rises, blank, AreAlikeEnds, IsLike, close_alike, same_beside, first_stand, Arrived, Stand, first_up, ranks_lawful, count_call, StepPlan, AreFree, AreRunners, HaveArrived, arrived_all, first_runner, Runner, are_over, ended_legal, map_ended, AreOver, most_known, calls_from_first, first_stage, serial_from_first, told_end, calls_in, order_in, plan_stage, AreStepsOf, HasPlannedAll, without_values, HasEnded, IsPlanOf, RunPlan, Progress, arith, nat_tests}
 use Rattle.serial_spec.specs.RankMachine as machine
 use Rattle.run_plan.proofs.NearLaws.{same_without_values}
 
@@ -41,22 +41,17 @@ pub plan_ends : (script : Script) (header : Header) (file : List ℕ) (steps : L
     → count_call close ≡ store_records (setting_of script header) (nat_lt count (most_known last))
     → IsEnding script header file steps (calls_in steps ++ count_call close) (told_end (max count (most_known last)) last)
 plan_ends script header file steps size later count close first last lawful long firsts each over planned closes =
-    let s = setting_of script header in
-    let from = header.records in
-    let stand : Stand = (counted file from, arrived_all header script.calls first) in
-    let b = plan_stage later count (arrived_all header script.calls last) in
-    let followed : IsFollowed script.hints s steps b stand =
-    rw planned.grown (planned.led stand (record { long = long; like = record { records = refl; beside = same_beside (arrived_all header script.calls first) } })) in
-    let end = fold (step_to s) stand (order_in steps) in
-    let ends = ranks_end script header count last end each over followed.beside.like in
-    let closing : count_call close ≡ store_records s (nat_lt end.0.records (ended_from s stand (order_in steps)).records) =
-    closes ∙ ap (λ t. store_records s t) (sym (rises count (most_known last)))
-    ∙ (λ i. store_records s (nat_lt (sym followed.beside.like.records i) (ends.records i))) in
-    record {
-      calls_are = (λ i. sym followed.over i ++ closing i) ∙ calls_from_first script header from first lawful refl firsts file (order_in steps);
-      each = subst (λ (x : Stand). AreStepsOf script.hints s x steps) (first_is script header file first lawful firsts) followed.each;
-      alike = subst (λ (x : End). AreAlikeEnds (told_end (max count (most_known last)) last) x) (serial_from_first script header from first lawful refl firsts file (order_in steps)) ends;
-    }
+    grind (
+      arith,
+      nat_tests,
+      same_beside (arrived_all header script.calls first),
+      ranks_end script header count last,
+      rises count (most_known last),
+      calls_from_first script header header.records first lawful,
+      first_is script header file first lawful firsts,
+      told_end (max count (most_known last)) last,
+      serial_from_first script header header.records first lawful,
+    )
 
 -- a plan whose meetings are all held, with its close
 pub are_planned : (script : Script) (header : Header) (size : ℕ) (before : List StepPlan) (opening : List DiskCall) (at : Progress) (first last : List Runner) (plan : RunPlan) → is_lawful script ≡ true

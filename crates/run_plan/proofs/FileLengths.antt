@@ -1,5 +1,5 @@
 -- How long the file is after a step.
-use Rattle.run_plan.proofs.Words.{◌≡◌, ℕ, ◌≤◌, refl, sym, ◌∙◌, ap, List, length, max, Bool, true, false, cond, Option, Some, None, arith, nat_lt, either, ◌==◌, byte_len, w32, w64, Pair, longer, after_puts, end_for, raised, told, Counted, Setting, count, header_len, needed_now, needed_by, with_records, Puts, is_sound, length-written_inside, longer_long, count_long, puts_are_cells, cells_of_puts, puts_room, cells_long, ArePuts, field_inside, covered_below, laid_needs, shared_needs}
+use Rattle.run_plan.proofs.Words.{◌≡◌, ℕ, ◌≤◌, refl, sym, ◌∙◌, ap, List, length, max, Bool, true, false, cond, Option, Some, None, arith, byte_len, w32, w64, Pair, longer, after_puts, end_for, raised, told, Counted, Setting, count, header_len, needed_now, needed_by, Puts, is_sound, length-written_inside, longer_long, count_long, puts_are_cells, cells_of_puts, puts_room, cells_long, ArePuts, field_inside, covered_below, laid_needs, shared_needs, nat_tests}
 
 -- puts make the file as long as their records need, and no longer
 pub puts_long : (s : Setting) (puts : Puts) (file : List ℕ) → is_sound s.header ≡ true → ArePuts s.header puts → end_for s 0 ≤ length file
@@ -22,13 +22,6 @@ width_few : (t : Bool) → byte_len (cond t w64 w32) ≤ 8
 width_few true = omega arith
 width_few false = omega arith
 
-count_few : (version n : ℕ) → length (count version n) ≤ 8
-count_few version n = rw (count_long version n) (width_few (version == 5))
-
 -- the write of a count keeps the length
 pub raised_long : (s : Setting) (c : Counted) (n : ℕ) → end_for s 0 ≤ length c.file → length (raised s c n).file ≡ length c.file
-raised_long s c n long =
-    let field = field_inside s.header in
-    let few = count_few s.header.version n in
-    either (λ (x : Counted). length x.file ≡ length c.file) (nat_lt c.records n) (record { file = with_records s.header.version c.file n; records = n }) c
-    (λ e. length-written_inside c.file 4 (count s.header.version n) (omega arith)) (λ e. refl)
+raised_long s c n long = grind (arith, nat_tests, field_inside s.header, count_long, width_few, length-written_inside c.file 4 (count s.header.version n))

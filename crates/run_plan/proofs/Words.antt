@@ -1,5 +1,5 @@
 -- The words of this crate's proofs, from where they stand.
-pub use Rattle.list_laws.proofs.Std.{Bool, List, None, Option, Some, [], ap, append-nil, append_assoc, arith, byte_len, cond, drop, drop_more, enumerate_from, false, flat_map, flat_map-append, fold, fold-append, get_or, inl, inr, length, list_all, map, map-append, max, nat_lt, refl, rules, same_Some, set, set-set, slice_get, slice_get_within, slice_index_or, subst, suc, sym, take, true, true≢false, w32, w64, with_items_is, zero, ℕ, ◌++◌, ◌+◌, ◌-◌, ◌<◌, ◌==◌, ◌^◌, ◌∙◌, ◌∷◌, ◌≡◌, ◌≤◌}
+pub use Rattle.list_laws.proofs.Std.{Bool, List, None, Option, Some, [], ap, append-nil, append_assoc, arith, byte_len, cond, drop, drop_more, enumerate_from, false, flat_map, flat_map-append, fold, fold-append, get_or, inl, inr, length, list_all, map, map-append, max, nat_lt, refl, rules, same_Some, set, set-set, slice_get, slice_get_within, slice_index_or, subst, suc, sym, take, true, true≢false, w32, w64, with_items_is, zero, ℕ, ◌++◌, ◌+◌, ◌-◌, ◌<◌, ◌==◌, ◌^◌, ◌∙◌, ◌∷◌, ◌≡◌, ◌≤◌, nat_tests}
 pub use Rattle.std.specs.Prelude.{replicate}
 pub use Rattle.collective_round.proofs.GetLaws.{batch_gets, zero_row, zero_rows}
 pub use Rattle.collective_round.proofs.NeedLaws.{field_inside, greatest_more}
