@@ -1,5 +1,5 @@
 -- Of two beginnings of one list the longer begins with both.
-use Rattle.run_watch.proofs.Words.{◌≡◌, ◌≤◌, List, [], ◌∷◌, length, Bool, true, false, nat_lt, if◌then◌else◌, refl, sym, subst, ◌∙◌, ltb-true, ltb-false, arith, Heard, IsBeginning, longer, BeginOneList}
+use Rattle.run_watch.proofs.Words.{◌≡◌, ◌≤◌, List, [], ◌∷◌, length, Bool, true, false, nat_lt, if◌then◌else◌, refl, sym, subst, ◌∙◌, ltb-true, ltb-false, arith, Heard, IsBeginning, longer, BeginOneList, nat_tests}
 use mathlib.Core.List.{IsPrefix}
 use Rattle.run_watch.proofs.Moves.{itself}
 
@@ -8,16 +8,12 @@ of_longer : {X : Type 0} (xs ys zs : List X) → IsPrefix xs zs → IsPrefix ys 
 of_longer [] ys zs p q short = (ys, refl)
 of_longer (x ∷ xs) [] zs p q short = absurd (omega (arith, short))
 of_longer (x ∷ xs) (y ∷ ys) [] (more, e) q short = cc
-of_longer (x ∷ xs) (y ∷ ys) (z ∷ zs) (more, e) (rest, f) short =
-    let short' : length xs ≤ length ys = omega (arith, short) in
-    let tail = of_longer xs ys zs (more, cc) (rest, cc) short' in
-    let head : x ≡ y = cc in
-    (tail.0, λ i. head i ∷ tail.1 i)
+of_longer (x ∷ xs) (y ∷ ys) (z ∷ zs) (more, e) (rest, f) short = grind (arith, nat_tests, of_longer xs ys zs (more, cc) (rest, cc))
 
-pub begins_with : (early late told : Heard) → IsBeginning early told → IsBeginning late told → length early.pairs ≤ length late.pairs → IsBeginning early late
+begins_with : (early late told : Heard) → IsBeginning early told → IsBeginning late told → length early.pairs ≤ length late.pairs → IsBeginning early late
 begins_with early late told e l short = (e.0 ∙ sym l.0, of_longer early.pairs late.pairs told.pairs e.1 l.1 short)
 
-pub both_begin : (one other : Heard) → BeginOneList one other → IsBeginning one (longer one other) × IsBeginning other (longer one other)
+both_begin : (one other : Heard) → BeginOneList one other → IsBeginning one (longer one other) × IsBeginning other (longer one other)
 both_begin one other (told, e, l) = by (nat_lt (length one.pairs) (length other.pairs)) refl
   where
     by : (more : Bool) → nat_lt (length one.pairs) (length other.pairs) ≡ more → IsBeginning one (if more then other else one) × IsBeginning other (if more then other else one)

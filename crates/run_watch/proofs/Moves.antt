@@ -1,5 +1,5 @@
 -- Each step of an end keeps the rule of a board.
-use Rattle.run_watch.proofs.Words.{◌≡◌, ℕ, List, [], ◌∷◌, ◌++◌, length, set, Option, Some, None, All, zero, suc, sym, refl, ap, ◌∙◌, subst, append_assoc, length-append, arith, All-nil, All-cons, All-head, All-tail, All-push, All-set, All-weaker, set_else, Turns, TurnsAt, Forks, Merges, Mark, Summary, Heard, Shown, summary, opened, with_pair, IsBeginning, HeardOf, Keeps, Reads, TellsMore, append-nil}
+use Rattle.run_watch.proofs.Words.{◌≡◌, ℕ, List, [], ◌∷◌, length, set, Option, Some, None, All, zero, suc, sym, refl, ap, ◌∙◌, subst, append_assoc, length-append, arith, All-nil, All-cons, All-head, All-tail, All-push, All-set, All-weaker, set_else, Turns, TurnsAt, Forks, Merges, Mark, Summary, Heard, Shown, summary, opened, with_pair, IsBeginning, HeardOf, Keeps, Reads, TellsMore, append-nil, nat_tests}
 use mathlib.Core.List.{IsPrefix}
 use mathlib.Core.Option.{some, some-ne-none, some-injective}
 use lib.ListN.{get_elem?}
@@ -18,24 +18,18 @@ none_left [] e = refl
 none_left (x ∷ xs) e = absurd (omega (arith, e))
 
 whole_list : (l m : Pairs) → IsPrefix l m → length l ≡ length m → l ≡ m
-whole_list l m p e =
-    let long = length-append l p.0 in
-    let sum : length (l ++ p.0) ≡ length m = ap (λ (x : Pairs). length x) p.1 in
-    let none : length p.0 ≡ 0 = omega arith in
-    sym (append-nil l) ∙ ap (λ (t : Pairs). l ++ t) (sym (none_left p.0 none)) ∙ p.1
+whole_list l m p e = grind (arith, nat_tests, length-append, append-nil, none_left, Pairs)
 
 -- a beginning with as many steps is the whole
 pub whole : (early late : Heard) → IsBeginning early late → length early.pairs ≡ length late.pairs → early ≡ late
-whole early late begins e = let pairs : early.pairs ≡ late.pairs = whole_list early.pairs late.pairs begins.1 e in
-    λ i. record { opening = begins.0 i; pairs = pairs i }
+whole early late begins e = grind (arith, nat_tests, whole_list early.pairs late.pairs begins.1 e)
 
 pub itself : (told : Heard) → IsBeginning told told
 itself told = (refl, ([], append-nil told.pairs))
 
 -- a beginning of this is one of what is told then
 goes_on : (early told : Heard) (mark : Mark) (records : ℕ) → IsBeginning early told → IsBeginning early (with_pair told mark records)
-goes_on early told mark records begins = let pair : Pairs = (mark, records) ∷ [] in
-    (begins.0, (begins.1.0 ++ pair, sym (append_assoc early.pairs begins.1.0 pair) ∙ ap (λ (l : Pairs). l ++ pair) begins.1.1))
+goes_on early told mark records begins = grind (arith, nat_tests, append_assoc early.pairs begins.1.0 ((mark, records) ∷ []))
 
 heard_of_more : (told : Heard) (mark : Mark) (records : ℕ) (heard : Option Heard) → HeardOf told heard → HeardOf (with_pair told mark records) heard
 heard_of_more told mark records None h = h

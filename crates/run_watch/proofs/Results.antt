@@ -1,13 +1,11 @@
 -- What the calls of a board give.
-use Rattle.run_watch.proofs.Words.{◌≡◌, ◌+◌, ◌++◌, ◌∷◌, ℕ, false, true≢false, List, [], length, fold, All, Result, Ok, Err, is_err, IsOk, MatchResult, Option, Some, sym, refl, ap, ◌∙◌, subst, length-append, arith, All-push, Mark, last_count, Heard, Shown, summary, with_pair, TellsMore, Shows}
+use Rattle.run_watch.proofs.Words.{◌≡◌, ◌+◌, ◌++◌, ◌∷◌, ℕ, false, List, [], length, fold, All, Result, is_err, IsOk, MatchResult, Option, Some, refl, ap, ◌∙◌, length-append, arith, All-push, Mark, last_count, Heard, Shown, summary, with_pair, TellsMore, Shows, nat_tests}
 
 pub ok_of : {A E : Type 0} (r : Result A E) (P : Type 0) (Q : E → Type 0) → false ≡ is_err r → MatchResult r (λ _. P) Q → P
-ok_of (Ok a) P Q e h = h
-ok_of (Err x) P Q e h = absurd (true≢false (sym e))
+ok_of r P Q e h = grind (arith, nat_tests)
 
 pub done : {A E : Type 0} (r : Result A E) (P Q : Type 0) → IsOk r → MatchResult r (λ _. P) (λ _. Q) → P
-done (Ok a) P Q ok h = h
-done (Err x) P Q ok h = absurd (true≢false (sym ok))
+done r P Q ok h = grind (arith, nat_tests)
 
 -- of what waits the last is shown
 pub last_shown : (x next y : Shown) (waiting : List Shown) → waiting ≡ y ∷ [] → next ≡ fold (λ (a b : Shown). b) x waiting → next ≡ y
@@ -24,10 +22,7 @@ abbrev pub shown : ℕ → ℕ → Mark → Shown
 shown steps records mark = record { summary = record { steps = steps; records = records }; last = Some mark }
 
 pub summed : (told : Heard) (mark : Mark) (steps records : ℕ) → steps ≡ length told.pairs + 1 → (shown steps records mark).summary ≡ summary (with_pair told mark records)
-summed told mark steps records e =
-    let long : steps ≡ length (told.pairs ++ (mark, records) ∷ []) = omega (arith, length-append told.pairs ((mark, records) ∷ [])) in
-    let last : records ≡ last_count told.opening (told.pairs ++ (mark, records) ∷ []) = sym (last_count-snoc told.opening told.pairs mark records) in
-    λ i. record { steps = long i; records = last i }
+summed told mark steps records e = grind (arith, nat_tests, length-append, last_count-snoc, shown, summary, with_pair)
 
 -- what the board has heard once this is shown
 pub told_more : (told : Heard) (now : Option Heard) (y : Shown) (steps records : ℕ) (mark : Mark) → y ≡ shown steps records mark → TellsMore (Some told) y now → now ≡ Some (with_pair told mark records)
@@ -39,6 +34,4 @@ opened_push first = All-push (λ (v : Heard). v ≡ first)
 -- a board that shows one pair more than before, where this pair was pushed
 pub pushed : (before now : Heard) (mark : Mark) (records : ℕ) (pairs : List (Mark × ℕ)) (heard : Option Heard) (x : Shown) (waiting : List Shown) → before ≡ now
     → pairs ≡ now.pairs ++ (mark, records) ∷ [] → Shows (with_pair before mark records) heard x waiting → Shows (record { opening = now.opening; pairs = pairs }) heard x waiting
-pushed before now mark records pairs heard x waiting same more shows =
-    let is : with_pair before mark records ≡ record { opening = now.opening; pairs = pairs } = ap (λ (h : Heard). with_pair h mark records) same ∙ (λ i. record { opening = now.opening; pairs = sym more i }) in
-    subst (λ (h : Heard). Shows h heard x waiting) is shows
+pushed before now mark records pairs heard x waiting same more shows = grind (arith, nat_tests)

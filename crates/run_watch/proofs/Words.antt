@@ -14,3 +14,4 @@ pub use Rattle.run_watch.specs.contracts.view.View.{the_row}
 pub use Rattle.run_watch.specs.declared.rule.Heard.{Heard}
 pub use Rattle.run_watch.specs.declared.rule.Shown.{Shown}
 pub use Rattle.serial_spec.proofs.Common.{last_count}
+pub use Rattle.std.proofs.lemmas.Bool.Decides.{nat_tests}

@@ -1,4 +1,4 @@
-use Rattle.run_watch.proofs.Words.{◌≡◌, ◌++◌, ◌∷◌, [], List, Option, Some, drop, fold, refl, sym, ap, ◌∙◌, subst, view, TurnsAt, Heard, Shown, summary, Keeps, TellsMore}
+use Rattle.run_watch.proofs.Words.{◌≡◌, ◌++◌, ◌∷◌, [], List, Option, Some, drop, fold, sym, ap, ◌∙◌, subst, view, Heard, Shown, summary, TellsMore, arith, nat_tests}
 use Rattle.run_watch.proofs.Moves.{tells}
 use Rattle.run_watch.proofs.Results.{ok_of, done, last_shown, shown, summed, told_more}
 use Rattle.run_watch.proofs.board.show.Goals as goal
@@ -6,17 +6,7 @@ use Rattle.run_watch.proofs.board.show.Goals as goal
 pub publish_as-writer-requires : goal.publish_as-writer-requires
 publish_as-writer-requires g c = λ next is.
     let one : Shown = shown c.args.steps c.args.records c.args.mark in
-    let told : Heard = c.args.before.value in
-    let was : List Shown = drop c.args.writer.behind c.args.writer.log.items in
-    let now : List Shown = drop c.append.new.self.behind c.append.new.self.log.items in
-    let more : now ≡ was ++ one ∷ [] = ok_of c.append.result (now ≡ was ++ one ∷ []) (λ (x : Shown). (x ≡ one) × (now ≡ was)) (sym c.if-is_err.false ∙ c.is_err.ensures.value) c.append.ensures.pending in
-    let single : now ≡ one ∷ [] = more ∙ ap (λ (l : List Shown). l ++ one ∷ []) c.requires.shows.2 in
-    let heard : view c.append.new.self.desk.place ≡ Some told = rw c.append.ensures.desk c.requires.shows.0 in
-    let is_shown : c.append.new.self.desk.shown.value.summary ≡ summary told = rw c.append.ensures.desk c.requires.shows.1 in
-    let last : next ≡ one = last_shown c.append.new.self.desk.shown.value next one now single is in
-    subst (λ (v : Option Heard). TurnsAt Keeps c.append.new.self.desk.place.id v c.append.new.self.desk.shown.value next (λ v x y w. TellsMore v y w)) (sym heard)
-    (subst (λ (n : Shown). TurnsAt Keeps c.append.new.self.desk.place.id (Some told) c.append.new.self.desk.shown.value n (λ v x y w. TellsMore v y w)) (sym last)
-    (tells c.append.new.self.desk.place.id told c.append.new.self.desk.shown.value one c.args.mark is_shown refl (summed told c.args.mark c.args.steps c.args.records c.requires.steps)))
+    grind (arith, nat_tests, ok_of c.append.result, last_shown c.append.new.self.desk.shown.value next one, tells c.append.new.self.desk.place.id c.args.before.value c.append.new.self.desk.shown.value one c.args.mark, summed c.args.before.value c.args.mark c.args.steps c.args.records c.requires.steps, c.if-is_err.false, c.is_err.ensures.value, c.append.ensures.pending, c.requires.shows.2, c.append.ensures.desk, c.requires.shows.0, c.requires.shows.1)
 
 pub returns-clause-ok : goal.returns-clause-ok
 returns-clause-ok g c =
