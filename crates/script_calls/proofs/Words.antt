@@ -10,3 +10,4 @@ unfoldable pub use Rattle.script_calls.specs.CallWords.{call_by, called_by, get_
 pub use Rattle.script_spec.proofs.Common.{Called, Word, call_of, called_after, calls_of, differs_at, first_difference, id_of_post, ids, is_difference, is_posted, next, none_posted, one_posted, posted, ◌>>=◌}
 pub use Rattle.script_words.specs.Given.{Gives}
 pub use Rattle.serial_spec.proofs.Common.{kind_of_call, kinds}
+pub use Rattle.std.proofs.lemmas.Bool.Decides.{nat_tests}
