@@ -1,24 +1,14 @@
 -- The one dimension that is unlimited, by its name.
-use Rattle.script_definitions.proofs.Words.{◌≡◌, ◌∙◌, ℕ, List, [], ◌∷◌, ◌++◌, ◌||◌, ◌&&◌, Bool, true, false, bytes_eq, cond, Option, None, Some, refl, sym, ap, ap₂, ◌==◌, is_some, option_map, list_any, filter, map-append, filter-append, Dim, is_unlimited, is_added_record, dim_names, IsRecordName, or_false, any_map}
-
-any_behind : {A : Type 0} (test : A → Bool) (x : A) (xs : List A) (rest passes kept : Bool) → test x ≡ passes → list_any test xs ≡ rest
-    → list_any test (cond kept (x ∷ xs) xs) ≡ ((passes && kept) || rest)
-any_behind test x xs rest true true e h = ap (λ (b : Bool). b || list_any test xs) e
-any_behind test x xs rest true false e h = h
-any_behind test x xs rest false true e h = ap (λ (b : Bool). b || list_any test xs) e ∙ h
-any_behind test x xs rest false false e h = h
+use Rattle.script_definitions.proofs.Words.{◌≡◌, ◌∙◌, ℕ, List, [], ◌∷◌, ◌++◌, ◌&&◌, Bool, true, false, bytes_eq, cond, Option, None, Some, refl, sym, ap, ap₂, ◌==◌, is_some, option_map, list_any, filter, map-append, filter-append, Dim, is_unlimited, is_added_record, dim_names, IsRecordName, or_false, any_map, arith, nat_tests}
 
 any_of_kept : {A : Type 0} (test keep : A → Bool) (xs : List A) → list_any test (filter keep xs) ≡ list_any (λ x. test x && keep x) xs
 any_of_kept test keep [] = refl
-any_of_kept test keep (x ∷ xs) =
-    any_behind test x (filter keep xs) (list_any (λ y. test y && keep y) xs) (test x) (keep x) refl (any_of_kept test keep xs)
+any_of_kept test keep (x ∷ xs) = grind (arith, nat_tests, any_of_kept test keep xs, list_any, filter)
 
 -- a test of names, over the unlimited dimensions
 any_record : (test : List ℕ → Bool) (one : Option (List ℕ)) (dims : List Dim) → IsRecordName one dims
     → list_any (λ d. test d.name && is_unlimited d) dims ≡ list_any test (elim one [ None ↦ [] | Some name ↦ name ∷ [] ])
-any_record test one dims h =
-    sym (any_of_kept (λ d. test d.name) is_unlimited dims) ∙ sym (any_map test (λ d. d.name) (filter is_unlimited dims))
-    ∙ ap (λ names. list_any test names) h
+any_record test one dims h = grind (arith, nat_tests, any_of_kept, any_map, list_any, filter)
 
 pub is_record_name : (one : Option (List ℕ)) (dims : List Dim) (n : List ℕ) → IsRecordName one dims
     → is_added_record dims n ≡ elim one [ None ↦ false | Some own ↦ bytes_eq n own ]
@@ -36,12 +26,10 @@ some_record one dims h = any_record (λ name. true) one dims h ∙ own one
     own (Some name) = refl
 
 pub some_of_map : {A B : Type 0} (f : A → B) (o : Option A) → is_some (option_map f o) ≡ is_some o
-some_of_map f None = refl
-some_of_map f (Some x) = refl
+some_of_map f o = grind (arith, nat_tests)
 
 none_yet : (one : Option (List ℕ)) (dims : List Dim) → IsRecordName one dims → is_some one ≡ false → dim_names (filter is_unlimited dims) ≡ []
-none_yet None dims h none = h
-none_yet (Some name) dims h none = absurd cc
+none_yet one dims h none = grind (arith, nat_tests)
 
 pub record_pushed : (one : Option (List ℕ)) (dims : List Dim) (d : Dim) → IsRecordName one dims → list_any is_unlimited dims ≡ false → d.len ≡ 0
     → IsRecordName (Some d.name) (dims ++ d ∷ [])

@@ -1,5 +1,5 @@
 -- The words of this crate's proofs, from where they stand.
-pub use Rattle.list_laws.proofs.Std.{Bool, List, None, Option, Some, [], add-one, ap, ap₂, arith, bytes_eq, cond, false, filter-append, flat_map-append, get_or, is_some, length, list_all, list_any, map-append, on_ok_weaker, option_map, range_with_len, refl, slice_get, slice_set, suc, sym, true, zero, ℕ, ◌&&◌, ◌++◌, ◌+◌, ◌<◌, ◌==◌, ◌||◌, ◌∙◌, ◌∷◌, ◌≡◌}
+pub use Rattle.list_laws.proofs.Std.{Bool, List, None, Option, Some, [], add-one, ap, ap₂, arith, bytes_eq, cond, false, filter-append, flat_map-append, get_or, is_some, length, list_all, list_any, map-append, on_ok_weaker, option_map, range_with_len, refl, slice_get, slice_set, suc, sym, true, zero, ℕ, ◌&&◌, ◌++◌, ◌+◌, ◌<◌, ◌==◌, ◌||◌, ◌∙◌, ◌∷◌, ◌≡◌, nat_tests}
 pub use Rattle.std.proofs.Common.{Bor, append-nil, flat_map, nat_lt}
 pub use Rattle.std.specs.List.{filter}
 pub use Rattle.list_laws.proofs.Common.{any_map, or_false, range_push}
