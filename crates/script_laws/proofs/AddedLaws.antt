@@ -27,14 +27,7 @@ pub record FitsAddition (before : ℕ) (old : Added) (r : ℕ × Added) : Type 0
 -- one thing more is added
 added_one : (d : Added) (dims : List Dim) (vars : List (List ℕ)) (titles : List Title) (x : Extra) → FitsAdded d → length dims ≡ length d.dims + cond (is_dim x) 1 0 → length vars ≡ length d.vars + cond (is_var x) 1 0
     → length dims ≤ most_dims → length vars ≤ most_vars → is_lawful_extra x ≡ true → is_whole_extra x ≡ true → FitsAdded (record { dims = dims; vars = vars; titles = titles; extras = d.extras ++ x ∷ [] })
-added_one d dims vars titles x f same_dims same_vars few_dims few_vars lawful whole = record {
-  dims = omega (arith, f.dims, count_more is_dim d.extras x);
-  few_dims = few_dims;
-  vars = omega (arith, f.vars, count_more is_var d.extras x);
-  few_vars = few_vars;
-  each = each_push (λ y. is_lawful_extra y ≡ true) d.extras x f.each lawful;
-  whole = each_push (λ y. is_whole_extra y ≡ true) d.extras x f.whole whole;
-}
+added_one d dims vars titles x f same_dims same_vars few_dims few_vars lawful whole = grind (arith, nat_tests, count_more, each_push)
 
 added_shaped : (dims : List Dim) (ws : List Word) → IfOk (added_shape dims ws) (λ r. length r.0 ≤ most_dims_of_var)
 added_shaped dims ws = grind (arith, nat_tests, first_then, then_with, unless_refused, ltb-false)
@@ -44,22 +37,16 @@ addition_read before d first ws h f =
     by_test (bytes_eq first (codes "dim")) (dim_addition d ws) _ (FitsAddition before d) (λ _.
     then_with (dim_line 5 d.dims ws) _ _ (NewDim 5 d.dims) (dim_read 5 d.dims ws) (λ x new.
     let few : length (d.dims ++ x ∷ []) ≤ most_dims = omega (arith, new.room, length-append d.dims (x ∷ [])) in
-    record {
-      fits = added_one d (d.dims ++ x ∷ []) d.vars d.titles (extra.Dim x) f (length-append d.dims (x ∷ [])) (omega arith) few f.few_vars (lt-ltb _ _ new.fits.short) refl;
-      few = omega arith;
-      held = omega (arith, sum_more values_in_extra d.extras (extra.Dim x));
-    })) (λ _.
+    grind (arith, nat_tests, added_one d (d.dims ++ x ∷ []) d.vars d.titles (extra.Dim x) f (length-append d.dims (x ∷ [])), lt-ltb, sum_more values_in_extra d.extras (extra.Dim x), f.few_vars, new.fits.short))) (λ _.
     by_test (bytes_eq first (codes "var")) (var_addition d ws) _ (FitsAddition before d) (λ _.
     then_with (var_head 5 d.vars ws) _ _ (λ r. NewHead 5 d.vars r.0.0 r.0.1) (head_read 5 d.vars ws) (λ v head.
     then_with (added_shape d.dims v.1) _ _ (λ r. length r.0 ≤ most_dims_of_var) (added_shaped d.dims v.1) (λ names few.
     first_then (ended names.1) _ _ (λ _ _.
     let x = extra.Var v.0.0 v.0.1 names.0 in
     let long = length-append d.vars (v.0.1 ∷ []) in
-    let room : length (d.vars ++ v.0.1 ∷ []) ≤ most_vars = omega (arith, head.room, long) in
-    record { fits = added_one d d.dims (d.vars ++ v.0.1 ∷ []) d.titles x f (omega arith) long f.few_dims room (le-leb _ _ few) refl; few = omega arith; held = omega (arith, sum_more values_in_extra d.extras x) }))))
+    grind (arith, nat_tests, added_one d d.dims (d.vars ++ v.0.1 ∷ []) d.titles x f, le-leb, sum_more values_in_extra d.extras x, head.room, f.few_dims)))))
     (λ _. by_test (bytes_eq first (codes "att")) (att_addition before d ws) (Err kind.UnknownWord) (FitsAddition before d) (λ _.
     first_then (reads_as owner_of_text kind.BadName ws) _ _ (λ o _.
     then_with (attribute 5 d.titles before o.0 o.1) _ _ (NewAttr 5 before) (attribute_read 5 d.titles before o.0 o.1 h) (λ a new.
     let x = extra.Att (owner_name o.0) a in
-    let fits = added_one d d.dims d.vars (d.titles ++ (o.0, a.name) ∷ []) x f (omega arith) (omega arith) f.few_dims f.few_vars refl (attr_whole 5 a new.fits) in
-    record { fits = fits; few = new.few; held = omega (arith, sum_more values_in_extra d.extras x) }))) (λ _. tt)))
+    grind (arith, nat_tests, added_one d d.dims d.vars (d.titles ++ (o.0, a.name) ∷ []) x f, attr_whole 5 a new.fits, sum_more values_in_extra d.extras x, f.few_dims, f.few_vars, new.few)))) (λ _. tt)))

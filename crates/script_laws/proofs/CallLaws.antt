@@ -1,5 +1,5 @@
 -- The calls of a script, each as it is read.
-use Rattle.script_laws.proofs.Words.{◌≡◌, ℕ, zero, suc, ◌+◌, ◌^◌, ◌<◌, ◌≤◌, List, [], ◌∷◌, ◌++◌, length, Bool, true, false, not, Option, Some, None, Result, Ok, Err, IfOk, IfSome, refl, sym, subst, arith, ◌==◌, map, codes, option_and_then, length-append, lt-ltb, le-leb, ltb-false, AllByRecursion, each_passes, IfOk-weaker, and_from, each_push, if_some_at, Values, Numbers, Form, Part, PostKind, Iput, Iget, Bput, Call, count_of, most_values, most_parts, is_size, are_sizes, is_part, has_lists_of, is_given, is_post_of, is_lawful_call, values_in_call, is_empty, Word, size_of_text, between_brackets, parts, all_some, list_of_text, ◌>>=◌, or_fault, size, list, name, ended, values, after_prefix, form_and_all, form_of_text, given_of, given_parts, part, part_list, many_regions, region, choice, id_of_post, posted, put_call, get_call, post_values, is_posted, new_id, post_call, behind, plain_call, post_of_text, call_of, Family, Requests, Size, Name, Record, Nothing, row_of_text, size_read, faultless_some, is_sized, found_row, made_no_values, made_no_post, nat_tests}
+use Rattle.script_laws.proofs.Words.{◌≡◌, ℕ, zero, suc, ◌+◌, ◌^◌, ◌<◌, ◌≤◌, List, [], ◌∷◌, ◌++◌, length, Bool, true, false, Option, Some, None, Result, IfOk, IfSome, refl, arith, ◌==◌, map, codes, option_and_then, length-append, lt-ltb, le-leb, ltb-false, AllByRecursion, each_passes, IfOk-weaker, and_from, each_push, if_some_at, Values, Numbers, Form, Part, PostKind, Iput, Iget, Bput, Call, count_of, most_values, most_parts, is_size, are_sizes, is_part, has_lists_of, is_given, is_post_of, is_lawful_call, values_in_call, Word, size_of_text, between_brackets, parts, all_some, list_of_text, ◌>>=◌, or_fault, size, list, name, ended, values, after_prefix, form_and_all, form_of_text, given_of, given_parts, part, part_list, many_regions, region, id_of_post, posted, put_call, get_call, post_values, is_posted, new_id, post_call, plain_call, post_of_text, call_of, size_read, faultless_some, found_row, made_no_values, made_no_post, nat_tests}
 use Rattle.nc_base.specs.declared.errors.ScriptKind.{ScriptKind}
 use Rattle.nc_base.specs.declared.errors.ScriptKind.TheVariants as kind
 use Rattle.nc_base.specs.declared.request.Form.TheVariants as form
@@ -44,12 +44,8 @@ part_list_read (suc n) total found ws e h =
     ok_then (part ws) (λ p. part_list n (found ++ p.0 ∷ []) p.1) _ (λ r. is_part r.0 ≡ true) (part_read ws) (λ p good.
     part_list_read n total (found ++ p.0 ∷ []) p.1 (omega (arith, length-append found (p.0 ∷ []))) (each_push (λ q. is_part q ≡ true) found p.0 h good))
 
-some_parts : (ps : List Part) (n : ℕ) → length ps ≡ n → (n == 0) ≡ false → not (is_empty ps) ≡ true
-some_parts [] n e h = subst (λ (m : ℕ). (m == 0) ≡ false → false ≡ true) e (λ k. absurd (cc)) h
-some_parts (p ∷ ps) n e h = refl
-
 parts_fit : (ps : List Part) (n : ℕ) → AreParts n ps → (n == 0) ≡ false → n ≤ most_parts → is_given (given_parts ps) ≡ true
-parts_fit ps n all some few = grind (arith, nat_tests, some_parts ps n all.long some, each_passes is_part ps all.good, le-leb (length ps) most_parts, and_from)
+parts_fit ps n all some few = grind (arith, nat_tests, each_passes is_part ps all.good, le-leb (length ps) most_parts, and_from)
 
 many_read : (ws : List Word) → IfOk (many_regions ws) (λ r. is_given r.0 ≡ true)
 many_read ws =
@@ -108,30 +104,8 @@ post_read ranks r before own k f ws h =
     then_with (post_values k before g.1) _ _ (FitsPost k before) (post_values_read k before g.1 h) (λ vs fits.
     record { lawful = and_from _ _ good fits.lawful; few = fits.few; fresh = new }))))
 
-whatever : {A E : Type 0} (r : Result A E) → IfOk r (λ _. true ≡ true)
-whatever (Ok x) = refl
-whatever (Err e) = tt
-
-behind_read : (f : Family) (ws : List Word) → IfOk (behind f ws) (λ b. is_sized f b ≡ true)
-behind_read Requests ws = whatever (choice ws)
-behind_read Size ws = grind (arith, nat_tests, size_word ws, then_with, whole_line, lt-ltb)
-behind_read Name ws = whatever (behind Name ws)
-behind_read Record ws =
-    first_then (name ws) _ _ (λ v _.
-    then_with (size v.1) _ _ (λ n. n.0 < 2 ^ 63) (size_word v.1) (λ n small.
-    whole_line (v.0, n.0) n.1 (λ x. is_sized Record x ≡ true) (lt-ltb n.0 (2 ^ 63) small)))
-behind_read Nothing ws = whatever (behind Nothing ws)
-
 plain_read : (ranks r before : ℕ) (own : List Call) (w : List ℕ) (ws : List Word) → before ≤ most_values → IfOk (plain_call ranks r w ws) (FitsCall ranks r before own)
-plain_read ranks r before own w ws h =
-    first_then (or_fault kind.UnknownWord (row_of_text w)) _ _ (λ row e.
-    let is = found_row w row (faultless_some kind.UnknownWord (row_of_text w) row e) in
-    then_with (behind row.family ws) _ _ (λ b. is_sized row.family b ≡ true) (behind_read row.family ws) (λ b sized.
-    record {
-      lawful = is.lawful ranks r b sized;
-      few = let none = made_no_values row is ranks r b in omega (arith, none);
-      fresh = subst (λ (o : Option ℕ). IfSome o (λ id. is_posted id (posted own) ≡ false)) (sym (made_no_post row is ranks r b)) tt;
-    }))
+plain_read ranks r before own w ws h = grind (arith, nat_tests, first_then, found_row, faultless_some, then_with, size_word, whole_line, lt-ltb, made_no_values, made_no_post)
 
 pub call_read : (ranks r before : ℕ) (own : List Call) (w : List ℕ) (ws : List Word) → before ≤ most_values → IfOk (call_of ranks r own before w ws) (FitsCall ranks r before own)
 call_read ranks r before own w ws h =

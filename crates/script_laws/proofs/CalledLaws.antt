@@ -1,7 +1,7 @@
 -- The calls of all ranks, line by line.
-use Rattle.script_laws.proofs.Words.{◌≡◌, ◌∙◌, ℕ, zero, suc, ◌+◌, ◌≤◌, List, [], ◌∷◌, ◌++◌, length, map, replicate, sum, Bool, true, false, Option, Ok, IfOk, IfSome, refl, sym, ap, subst, arith, ◌==◌, slice_set, bytes_eq, codes, length-set, length-append, append-nil, le_of_eq, AllByRecursion, list_any, list_all, enumerate_from, filter_map-append, list_any-append, length-replicate, and_from, one_posted, none_posted, each_push, and_first, and_second, or_first_false, or_second_false, Call, most_values, is_lawful_call, values_in_call, posted_ids, are_different, each_passes, Word, Line, ◌>>=◌, bare, next, id_of_post, posted, is_posted, Called, calls_of, rank_of_text, with_call, call_of, call_line, called_after, at_line, call_step, data_part, Known, no_calls, nat_tests}
+use Rattle.script_laws.proofs.Words.{◌≡◌, ◌∙◌, ℕ, zero, suc, ◌+◌, ◌≤◌, List, [], ◌∷◌, ◌++◌, length, map, replicate, sum, Bool, true, false, Ok, IfOk, refl, sym, ap, subst, arith, ◌==◌, slice_set, bytes_eq, codes, length-set, length-append, append-nil, le_of_eq, AllByRecursion, list_any, list_all, enumerate_from, filter_map-append, list_any-append, length-replicate, and_from, one_posted, none_posted, each_push, and_first, and_second, or_first_false, or_second_false, Call, most_values, is_lawful_call, values_in_call, posted_ids, are_different, each_passes, Word, Line, ◌>>=◌, bare, next, id_of_post, posted, Called, calls_of, rank_of_text, with_call, call_of, call_line, called_after, at_line, call_step, data_part, nat_tests}
 use Rattle.script_laws.proofs.ListLaws.{sum_cons, sum_more}
-use Rattle.script_laws.proofs.StepLaws.{first_then, then_with, ok_then, by_test, if_read, whole_line, at_line_kept}
+use Rattle.script_laws.proofs.StepLaws.{first_then, then_with, ok_then, by_test, whole_line, at_line_kept}
 use Rattle.script_laws.proofs.CallLaws.{FitsCall, call_read}
 
 -- ---- a call more of one rank
@@ -29,10 +29,6 @@ different_more (n ∷ ns) id h new =
 posted_more : (own : List Call) (c : Call) (ids : List ℕ) → posted (c ∷ []) ≡ ids → posted (own ++ c ∷ []) ≡ posted own ++ ids
 posted_more own c ids h = filter_map-append id_of_post own (c ∷ []) ∙ ap (λ (more : List ℕ). posted own ++ more) h
 
-posted_different : (own : List Call) (c : Call) (o : Option ℕ) → id_of_post c ≡ o → IfSome o (λ id. is_posted id (posted own) ≡ false) → are_different (posted own) ≡ true
-    → are_different (posted (own ++ c ∷ [])) ≡ true
-posted_different own c o e new h = grind (arith, nat_tests, posted_more, none_posted, append-nil, one_posted, different_more)
-
 -- ---- the calls of all ranks after so many lines
 
 -- the calls of rank r, one of so many
@@ -58,10 +54,7 @@ call_added size lines base d r c f new =
     let own = calls_of r d.calls in
     record {
       ranks = length-set d.calls r (own ++ c ∷ []) ∙ f.ranks;
-      each = rank_set (OwnCalls size) d.calls r (own ++ c ∷ []) f.each (record {
-        lawful = each_push (λ x. is_lawful_call size r x ≡ true) own c (f.each r).lawful new.lawful;
-        different = posted_different own c (id_of_post c) refl new.fresh (f.each r).different;
-      });
+      each = grind (arith, nat_tests, rank_set (OwnCalls size) d.calls r (own ++ c ∷ []) f.each, each_push, posted_more, none_posted, append-nil, one_posted, different_more, new.lawful, new.fresh);
       few_calls = let few = f.few_calls in omega (arith, sum_grown (λ x. length x) d.calls r 1 c (λ x. le_of_eq (length-append x (c ∷ []))));
       held = let held = f.held in omega (arith, sum_grown own_values d.calls r (values_in_call c) c (λ x. le_of_eq (sum_more values_in_call x c)));
       few = new.few;
@@ -111,15 +104,6 @@ no_calls_fit size values lines h =
       held = omega (arith, none_sum own_values size refl);
       few = h;
     }
-
--- the values of the definitions and of the calls that are read
-pub values_held : (past n : ℕ) (k : Known) (lines : List Line) (r : ℕ × (Called × List Line)) → k.values ≤ most_values → data_part past (no_calls n k) lines ≡ Ok r
-    → k.values + sum (map own_values r.1.0.calls) ≤ most_values
-values_held past n k lines r few h =
-    let most = length lines in
-    let fits = calls_read n k.values past 0 most (no_calls n k) lines (omega arith) (no_calls_fit n k.values 0 few) in
-    let f = if_read (data_part past (no_calls n k) lines) (λ x. FitsCalled n most k.values x.1.0) r h fits in
-    omega (arith, f.held, f.few)
 
 -- ---- the same as tests
 

@@ -1,9 +1,9 @@
 -- What is defined after a line, and what is known then.
-use Rattle.script_laws.proofs.Words.{◌≡◌, ℕ, zero, suc, ◌+◌, ◌≤◌, sum, map, List, [], ◌∷◌, ◌++◌, length, replicate, true, false, Option, Some, None, Ok, Err, IfOk, IfSome, subst, arith, ◌==◌, count_by, slice_set, bytes_eq, codes, length-append, is_some, AllByRecursion, same_Some, each_push, each_weaker, Dim, Attr, Var, most_dims, most_vars, most_values, attr_values, extra_values, Word, ◌>>=◌, refuse_if, reads_as, ended, HintForm, Within, Either, hint_form, hint_in, hint_of_text, hint_value, hint_line, ranks_line, number_within, one_of_two, is_unlimited, dim_line, var_line, owner_of_text, owner_place, attribute, Defined, no_definition, with_dim, with_var, with_attr_of_owner, with_title, att_line, dim_definition, var_definition, fill_line, definition, nothing_added, Known, nothing_known, addition, known_after, nat_tests}
+use Rattle.script_laws.proofs.Words.{◌≡◌, ℕ, zero, suc, ◌+◌, ◌≤◌, sum, map, List, [], ◌∷◌, ◌++◌, length, replicate, true, false, Option, Some, None, Ok, Err, IfOk, IfSome, subst, arith, ◌==◌, count_by, slice_set, bytes_eq, codes, length-append, is_some, AllByRecursion, same_Some, each_push, each_weaker, Dim, Attr, Var, most_dims, most_vars, most_values, attr_values, extra_values, Word, ◌>>=◌, refuse_if, reads_as, ended, HintForm, Within, Either, hint_form, hint_in, hint_of_text, hint_value, hint_line, ranks_line, number_within, is_unlimited, dim_line, var_line, owner_of_text, owner_place, attribute, Defined, no_definition, with_dim, with_var, with_attr_of_owner, with_title, att_line, dim_definition, var_definition, fill_line, definition, nothing_added, Known, nothing_known, addition, known_after, nat_tests}
 use Rattle.nc_base.specs.declared.errors.ScriptKind.TheVariants as kind
 use Rattle.script_laws.proofs.ListLaws.{sum_more}
 use Rattle.script_laws.proofs.StepLaws.{first_then, then_with, by_test, read_as}
-use Rattle.script_laws.proofs.WordLaws.{InRange, within_read, one_of_two_read}
+use Rattle.script_laws.proofs.WordLaws.{InRange, within_read}
 use Rattle.script_laws.proofs.AddedLaws.{FitsAdded, nothing_added_fits, FitsAddition, addition_read}
 use Rattle.script_laws.proofs.DimLaws.{values_placed, FitsDim, NewDim, dim_read, one_more, FitsAttr, NewAttr, attribute_read, FitsVar, wider, later, NewVar, var_read, attr_placed, length-placed}
 
@@ -18,10 +18,7 @@ pub record FitsDefined (version lines : ℕ) (d : Defined) : Type 0 where
   pub few_attrs : length d.attrs ≤ lines
   pub attrs : AllByRecursion (FitsAttr version) d.attrs
 
-pub nothing_fits : (version lines : ℕ) → FitsDefined version lines no_definition
-nothing_fits version lines = grind (arith, nat_tests)
-
-pub later_defined : (version lines more : ℕ) → lines ≤ more → (d : Defined) → FitsDefined version lines d → FitsDefined version more d
+later_defined : (version lines more : ℕ) → lines ≤ more → (d : Defined) → FitsDefined version lines d → FitsDefined version more d
 later_defined version lines more h d f = grind (arith, nat_tests, later version lines more d.dims h, each_weaker)
 
 dim_fits : (version lines : ℕ) (d : Defined) (x : Dim) → FitsDefined version lines d → NewDim version d.dims x → FitsDefined version lines (with_dim x d)
@@ -59,7 +56,7 @@ pub record FitsLine (version lines before : ℕ) (old : Defined) (r : ℕ × Def
   pub few : before + r.0 ≤ most_values
   pub held : defined_values r.1 ≤ defined_values old + r.0
 
-pub defined_after : (version lines before : ℕ) (d : Defined) (first : List ℕ) (ws : List Word) → before ≤ most_values → FitsDefined version lines d
+defined_after : (version lines before : ℕ) (d : Defined) (first : List ℕ) (ws : List Word) → before ≤ most_values → FitsDefined version lines d
     → IfOk (definition version before d first ws) (FitsLine version lines before d)
 defined_after version lines before d first ws h f =
     by_test (bytes_eq first (codes "dim")) (dim_definition version d ws) _ P (λ _.
@@ -93,8 +90,7 @@ abbrev pub FitHints : List (Option ℕ) → Type 0
 FitHints hints = (h n : ℕ) → hint_in h hints ≡ Some n → FitsForm (hint_form h) n
 
 value_read : (form : HintForm) (ws : List Word) → IfOk (hint_value form ws) (λ r. FitsForm form r.0)
-value_read (Within low high unit) ws = read_as (number_within low high unit) kind.BadNumber ws (InRange low high unit) (within_read low high unit)
-value_read (Either zero_word one_word) ws = read_as (one_of_two zero_word one_word) kind.UnknownWord ws (λ n. n ≤ 1) (one_of_two_read zero_word one_word)
+value_read form ws = grind (arith, nat_tests)
 
 hint_read : (hints : List (Option ℕ)) (ws : List Word) → IfOk (hint_line hints ws) (λ r. FitsForm (hint_form r.0) r.1)
 hint_read hints ws =
@@ -133,11 +129,10 @@ pub record FitsKnown (version lines : ℕ) (known : Known) : Type 0 where
   pub held : defined_values known.defined + extra_values known.added.extras ≤ known.values
 
 pub nothing_known_fits : (version lines : ℕ) → FitsKnown version lines nothing_known
-nothing_known_fits version lines = grind (arith, nat_tests, nothing_fits version lines, no_hint, nothing_added_fits)
+nothing_known_fits version lines = grind (arith, nat_tests, no_hint, nothing_added_fits)
 
 pub later_known : (version lines more : ℕ) → lines ≤ more → (known : Known) → FitsKnown version lines known → FitsKnown version more known
-later_known version lines more h known f =
-    record { ranks = f.ranks; hints = f.hints; few = f.few; fresh = λ e. later_defined version lines more h known.defined (f.fresh e); old = f.old; none_added = f.none_added; added = f.added; held = f.held }
+later_known version lines more h known f = grind (arith, nat_tests, later_defined version lines more h known.defined)
 
 pub known_more : (version lines : ℕ) (known : Known) (first : List ℕ) (ws : List Word) → FitsKnown version lines known
     → IfOk (known_after version known first ws) (FitsKnown version (suc lines))

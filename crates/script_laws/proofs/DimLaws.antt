@@ -1,5 +1,5 @@
 -- Dimensions, variables and attributes as they are defined, line by line.
-use Rattle.script_laws.proofs.Words.{◌≡◌, ◌∙◌, ℕ, suc, ◌+◌, ◌^◌, ◌<◌, ◌≤◌, List, [], ◌∷◌, ◌++◌, length, drop, Bool, true, false, cond, ◌&&◌, Option, Some, None, IfOk, IfSome, refl, ap, arith, nat_lt, nat_le, ◌==◌, count_by, sum, map, slice_get, slice_set, position, bytes_eq, length-append, length-set, AllByRecursion, list_any, length-map, sum_by-cons, and_from, position_below, get_left, each_push, each_weaker, each_later, each_at, fails_each, and_second, ScriptKind, NcType, Dim, Attr, Var, Values, most_dims, most_dims_of_var, most_vars, record_limit, most_values, attr_values, is_whole_attr, count_of, fits_count, is_type, is_writable_dim, is_writable_attr, Word, is_name, or_fault, name_of_text, ended, values, type_of, is_among, length_of_text, is_unlimited, dim_names, dim_line, var_head, name_list, dim_ids, is_record_dim, var_names, shape, var_line, Title, attr_of, attribute_name, attribute, with_attr_at, nat_tests, ltb-false, leb-false, eq-eqb}
+use Rattle.script_laws.proofs.Words.{◌≡◌, ◌∙◌, ℕ, suc, ◌+◌, ◌^◌, ◌<◌, ◌≤◌, List, [], ◌∷◌, ◌++◌, length, drop, Bool, true, false, ◌&&◌, Option, Some, None, IfOk, IfSome, refl, ap, arith, nat_lt, nat_le, ◌==◌, count_by, sum, map, slice_get, slice_set, position, bytes_eq, length-append, length-set, AllByRecursion, list_any, length-map, sum_by-cons, and_from, position_below, get_left, each_push, each_weaker, each_later, each_at, fails_each, and_second, ScriptKind, NcType, Dim, Attr, Var, Values, most_dims, most_dims_of_var, most_vars, record_limit, most_values, attr_values, is_whole_attr, count_of, fits_count, is_type, is_writable_dim, is_writable_attr, Word, is_name, or_fault, name_of_text, ended, values, type_of, is_among, length_of_text, is_unlimited, dim_names, dim_line, var_head, name_list, dim_ids, is_record_dim, var_names, shape, var_line, Title, attr_of, attribute_name, attribute, with_attr_at, nat_tests, ltb-false, leb-false, eq-eqb}
 use Rattle.nc_base.specs.declared.errors.ScriptKind.TheVariants as kind
 use Rattle.nc_base.specs.declared.errors.LimitName.TheVariants as limit
 use Rattle.script_laws.proofs.ListLaws.{all_both, all_set, count_more, sum_set, sum_more, found_all}
@@ -19,10 +19,7 @@ pub record NewDim (version : ℕ) (dims : List Dim) (d : Dim) : Type 0 where
   pub once : (is_unlimited d && list_any is_unlimited dims) ≡ false
 
 dim_fits : (version : ℕ) (n : List ℕ) (len : ℕ) → is_name n ≡ true → len < record_limit version → FitsDim version (record { name = n; len = len })
-dim_fits version n len good short =
-    let name_fits : fits_count version (length n) ≡ true = small_fits version (length n) (let h = name_short n good in omega arith) in
-    let len_fits = length_fits version len short in
-    record { writable = and_from _ _ (and_from _ _ name_fits len_fits.0) len_fits.1; short = short }
+dim_fits version n len good short = grind (arith, nat_tests, small_fits, name_short, length_fits)
 
 pub dim_read : (version : ℕ) (dims : List Dim) (ws : List Word) → IfOk (dim_line version dims ws) (NewDim version dims)
 dim_read version dims ws =
@@ -38,11 +35,8 @@ count_none : {A : Type 0} (p : A → Bool) (xs : List A) → list_any p xs ≡ f
 count_none p [] h = refl
 count_none p (x ∷ xs) h = grind (arith, nat_tests, count_none p xs, count_by p xs, sum_by-cons)
 
-at_most_one : (b c : Bool) (n : ℕ) → n ≤ 1 → (c ≡ false → n ≡ 0) → (b && c) ≡ false → n + cond b 1 0 ≤ 1
-at_most_one b c n h f e = grind (arith, nat_tests)
-
 pub one_more : (dims : List Dim) (d : Dim) → count_by is_unlimited dims ≤ 1 → (is_unlimited d && list_any is_unlimited dims) ≡ false → count_by is_unlimited (dims ++ d ∷ []) ≤ 1
-one_more dims d h once = grind (arith, nat_tests, count_by is_unlimited dims, count_more is_unlimited dims d, at_most_one, count_none)
+one_more dims d h once = grind (arith, nat_tests, count_by is_unlimited dims, count_more is_unlimited dims d, count_none)
 
 -- ---- an attribute
 
@@ -97,8 +91,7 @@ later version lines more dims h v f = grind (arith, nat_tests, named)
 -- ---- the places of a variable's dimensions
 
 some_or_fault : {A : Type 0} (e : ScriptKind) (o : Option A) (P : A → Type 0) → IfSome o P → IfOk (or_fault e o) P
-some_or_fault e None P h = tt
-some_or_fault e (Some x) P h = h
+some_or_fault e o P h = grind (arith, nat_tests)
 
 ids_found : (dims : List Dim) (names : List (List ℕ)) → IfSome (dim_ids dims names) (λ ids. AllByRecursion (λ id. id < length dims) ids)
 ids_found dims names =
@@ -124,11 +117,7 @@ pub record NewHead (version : ℕ) (names : List (List ℕ)) (t : NcType) (n : L
   pub room : length names < most_vars
 
 pub head_read : (version : ℕ) (names : List (List ℕ)) (ws : List Word) → IfOk (var_head version names ws) (λ r. NewHead version names r.0.0 r.0.1)
-head_read version names ws =
-    word_then (type_of version) kind.UnknownWord ws _ _ (λ t. is_type version t ≡ true) (type_read version) (λ t typed.
-    word_then name_of_text kind.BadName t.1 _ _ (λ n. is_name n ≡ true) name_read (λ n good.
-    unless (is_among n.0 names) kind.TwiceNamed _ _ (λ _. unless (nat_le most_vars (length names)) (kind.Limit limit.Vars) _ _ (λ room.
-    record { typed = typed; good = good; room = leb-false most_vars (length names) room }))))
+head_read version names ws = grind (arith, nat_tests, word_then, type_read, name_read, unless, nat_le, kind.TwiceNamed)
 
 pub record NewVar (version lines : ℕ) (dims : List Dim) (vars : List Var) (v : Var) : Type 0 where
   pub none : attr_values v.attrs ≡ 0
@@ -142,34 +131,20 @@ var_read version lines dims vars ws =
     first_then (ended ids.1) _ _ (λ _ _.
     record {
       none = refl;
-      fits = record {
-        named = small_fits version (length v.0.1) (let h = name_short v.0.1 head.good in omega arith);
-        typed = head.typed;
-        few_dims = fits.few;
-        ids = fits.below;
-        inner = fits.inner;
-        few_attrs = omega arith;
-        attrs = tt;
-        begins = refl;
-      };
+      fits = grind (arith, nat_tests, named, small_fits, name_short, head.typed, fits.few, fits.below, fits.inner);
       room = let room = head.room in omega (arith, length-map vars (λ (x : Var). x.name));
     })))
 
 -- ---- an attribute more of one variable
 
 at_place : (o : Option Var) (vars : List Var) (f : Var → List Var) (P : List Var → Type 0) → P vars → ((v : Var) → o ≡ Some v → P (f v)) → P (elim o as (λ _. List Var) [ None ↦ vars | Some v ↦ f v ])
-at_place None vars f P old new = old
-at_place (Some v) vars f P old new = new v refl
-
-with_attr : (version lines : ℕ) (dims : List Dim) (a : Attr) (v : Var) → FitsAttr version a → FitsVar version lines dims v → FitsVar version (suc lines) dims (record v { attrs = v.attrs ++ a ∷ [] })
-with_attr version lines dims a v fits f = grind (arith, nat_tests, length-append v.attrs (a ∷ []), each_push (FitsAttr version) v.attrs a f.attrs fits)
+at_place o vars f P old new = grind (arith, nat_tests)
 
 pub attr_placed : (version lines : ℕ) (dims : List Dim) (k : ℕ) (a : Attr) (vars : List Var) → FitsAttr version a → AllByRecursion (FitsVar version lines dims) vars
     → AllByRecursion (FitsVar version (suc lines) dims) (with_attr_at k a vars)
 attr_placed version lines dims k a vars fits all =
     let more = each_weaker (FitsVar version lines dims) (FitsVar version (suc lines) dims) (later version lines (suc lines) dims (omega arith)) vars all in
-    at_place (slice_get vars k) vars (λ v. slice_set vars k (record v { attrs = v.attrs ++ a ∷ [] })) (AllByRecursion (FitsVar version (suc lines) dims)) more
-    (λ v e. all_set (FitsVar version (suc lines) dims) vars k _ more (with_attr version lines dims a v fits (each_at (FitsVar version lines dims) vars k v all e)))
+    grind (arith, nat_tests, at_place (slice_get vars k) vars, slice_get vars k, all_set (FitsVar version (suc lines) dims) vars k, each_push, length-append, each_at (FitsVar version lines dims) vars k)
 
 pub length-placed : (k : ℕ) (a : Attr) (vars : List Var) → length (with_attr_at k a vars) ≡ length vars
 length-placed k a vars = grind (arith, nat_tests, slice_get vars k, slice_set, length-set)

@@ -21,7 +21,4 @@ hint_aligned h hints f = or_default (hint_in h hints) 4 (λ n. is_alignment n �
 pub lawful_hints : (ranks : ℕ) (hints : List (Option ℕ)) → InRange 1 64 1 ranks → FitHints hints → are_lawful_hints (hints_of ranks hints) ≡ true
 lawful_hints ranks hints r f =
     let nodes : is_within 1 64 (min ranks 8) ≡ true = and_from _ _ (le-leb 1 (min ranks 8) (omega arith)) (le-leb (min ranks 8) 64 (omega arith)) in
-    let a = and_from _ _ (hint_within 0 1 64 1 (min ranks 8) hints (f 0) nodes) (hint_within 1 1 33554432 1 16777216 hints (f 1) refl) in
-    let b = and_from _ _ (and_from _ _ a (hint_within 2 1 33554432 1 4194304 hints (f 2) refl)) (hint_within 3 1 33554432 1 524288 hints (f 3) refl) in
-    let c = and_from _ _ (and_from _ _ b (hint_within 4 1 64 1 2 hints (f 4) refl)) (hint_aligned 7 hints (f 7)) in
-    and_from _ _ (and_from _ _ c (hint_aligned 8 hints (f 8))) (hint_within 9 1 33554432 1 1 hints (f 9) refl)
+    grind (arith, nat_tests, hint_within 0 1 64 1 (min ranks 8) hints (f 0) nodes, hint_within 1 1 33554432 1 16777216 hints (f 1), hint_within 2 1 33554432 1 4194304 hints (f 2), hint_within 3 1 33554432 1 524288 hints (f 3), hint_within 4 1 64 1 2 hints (f 4), hint_aligned 7 hints (f 7), hint_aligned 8 hints (f 8), hint_within 9 1 33554432 1 1 hints (f 9))

@@ -1,7 +1,7 @@
 -- A script that is read is lawful.
-use Rattle.script_laws.proofs.Words.{◌≡◌, ℕ, ◌≤◌, ◌+◌, subst, calls_of, List, length, map, sum, Bool, true, false, cond, not, ◌&&◌, refl, ap, arith, nat_le, ◌==◌, le-leb, lt-ltb, eq-eqb, eqb-true, AllByRecursion, each_passes, list_all, and_from, Dim, Attr, Var, Call, Script, most_dims, most_vars, most_dims_of_var, is_version, most_values, most_calls, is_lawful_dim, is_lawful_var, is_nothing_defined, is_lawful_header, is_lawful_extra, is_whole_attr, is_whole_extra, has_whole_attrs, added_dims, added_vars, values_in_script, is_lawful, is_empty, Defined, no_definition, Added, nothing_added, Known, script_of, header_of, most_lines, Reads, nat_tests}
+use Rattle.script_laws.proofs.Words.{◌≡◌, ℕ, ◌≤◌, ◌+◌, subst, calls_of, List, length, map, sum, Bool, true, false, not, ◌&&◌, refl, ap, arith, nat_le, ◌==◌, le-leb, lt-ltb, eq-eqb, eqb-true, each_passes, list_all, and_from, Var, Call, Script, most_dims, most_vars, is_version, most_values, most_calls, is_lawful_dim, is_lawful_var, is_lawful_header, is_lawful_extra, is_whole_attr, is_whole_extra, has_whole_attrs, added_dims, added_vars, values_in_script, is_lawful, is_empty, Defined, nothing_added, Known, script_of, most_lines, Reads, nat_tests}
 use Rattle.script_laws.proofs.ListLaws.{all_pass}
-use Rattle.script_laws.proofs.DimLaws.{FitsAttr, FitsVar, attr_whole}
+use Rattle.script_laws.proofs.DimLaws.{attr_whole}
 use Rattle.script_laws.proofs.DefinedLaws.{FitsDefined, FitsKnown}
 use Rattle.script_laws.proofs.CalledLaws.{OwnCalls, all_lawful, all_different}
 use Rattle.script_laws.proofs.ReadLaws.{FitsParts, read_script}
@@ -9,28 +9,14 @@ use Rattle.script_laws.proofs.HintLaws.{within_range, lawful_hints}
 
 -- ---- the header
 
-either : (b x y : Bool) → (b ≡ false → x ≡ true) → (b ≡ true → y ≡ true) → cond (not b) x y ≡ true
-either true x y f g = g refl
-either false x y f g = f refl
-
-var_lawful : (version lines : ℕ) (dims : List Dim) (v : Var) → FitsVar version lines dims v → is_lawful_var v ≡ true
-var_lawful version lines dims v f = and_from _ _ (le-leb (length v.dims) most_dims_of_var f.few_dims) (eq-eqb v.begin 0 f.begins)
-
-nothing_more : (known : Known) → known.added ≡ nothing_added → is_empty known.added.extras ≡ true
-nothing_more known e = ap (λ (d : Added). is_empty d.extras) e
-
-nothing_defined : (version : ℕ) (d : Defined) → version ≡ 0 → d ≡ no_definition → (is_nothing_defined (header_of version d) && not d.filled) ≡ true
-nothing_defined version d zero_version e = grind (arith, nat_tests, not d.filled)
-
 new_lawful : (version most : ℕ) (known : Known) → is_version version ≡ true → FitsDefined version most known.defined → known.added ≡ nothing_added
     → (is_version version && nat_le (length known.defined.dims) most_dims && list_all (is_lawful_dim version) known.defined.dims
     && nat_le (length known.defined.vars) most_vars && list_all is_lawful_var known.defined.vars && is_empty known.added.extras) ≡ true
-new_lawful version most known good f none = grind (arith, nat_tests, all_pass, lt-ltb, var_lawful, and_from, le-leb, nothing_more)
+new_lawful version most known good f none = grind (arith, nat_tests, all_pass, lt-ltb, eq-eqb, and_from, le-leb)
 
 header_lawful : (most version ranks : ℕ) (known : Known) (calls : List (List Call)) → FitsParts most version ranks known calls → is_lawful_header (script_of version ranks known calls) ≡ true
 header_lawful most version ranks known calls parts =
-    either (version == 0) _ _ (λ e. new_lawful version most known (parts.head e) (parts.known.fresh e) (parts.known.none_added e))
-    (λ e. nothing_defined version known.defined (eqb-true version 0 e) (parts.known.old e))
+    grind (arith, nat_tests, new_lawful version most known, not, eqb-true version 0)
 
 -- ---- the rest
 
@@ -59,13 +45,8 @@ read_lawful text s = read_script text s (λ t. is_lawful t ≡ true) lawful_of
 
 -- ---- attributes with the bytes of their counts
 
-attrs_whole : (version : ℕ) (attrs : List Attr) → AllByRecursion (FitsAttr version) attrs → list_all is_whole_attr attrs ≡ true
-attrs_whole version attrs f = all_pass is_whole_attr (FitsAttr version) (λ a g. attr_whole version a g) attrs f
-
 defined_whole : (version lines : ℕ) (d : Defined) → FitsDefined version lines d → (list_all is_whole_attr d.attrs && list_all (λ (v : Var). list_all is_whole_attr v.attrs) d.vars) ≡ true
-defined_whole version lines d f =
-    and_from _ _ (attrs_whole version d.attrs f.attrs)
-    (all_pass (λ (v : Var). list_all is_whole_attr v.attrs) (FitsVar version lines d.dims) (λ v g. attrs_whole version v.attrs g.attrs) d.vars f.vars)
+defined_whole version lines d f = grind (arith, nat_tests, attr_whole, all_pass, list_all)
 
 whole_known : (version lines : ℕ) (known : Known) (b : Bool) → (version == 0) ≡ b → FitsKnown version lines known
     → (list_all is_whole_attr known.defined.attrs && list_all (λ (v : Var). list_all is_whole_attr v.attrs) known.defined.vars) ≡ true

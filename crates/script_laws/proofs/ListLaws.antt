@@ -1,5 +1,5 @@
 -- Lists whose elements all are of one kind.
-use Rattle.script_laws.proofs.Words.{◌≡◌, ℕ, zero, suc, ◌+◌, ◌≤◌, cond, sum, count_by, arith, List, [], ◌∷◌, ◌++◌, map, Bool, true, false, Option, Some, None, IfSome, slice_get, slice_set, refl, AllByRecursion, list_any, list_all, sum_by-cons, sum_by_push, same_Some, all_some, each_passes, each_fails, each_weaker, map_push, ◌∙◌, ap, nat_tests}
+use Rattle.script_laws.proofs.Words.{◌≡◌, ℕ, zero, suc, ◌+◌, ◌≤◌, cond, sum, count_by, arith, List, [], ◌∷◌, ◌++◌, map, Bool, true, false, Option, Some, IfSome, slice_get, slice_set, AllByRecursion, list_any, list_all, sum_by-cons, sum_by_push, same_Some, all_some, each_passes, each_fails, each_weaker, map_push, ◌∙◌, ap, nat_tests}
 
 -- ---- all of them
 
@@ -24,8 +24,7 @@ none_passes test P f xs h = each_fails test xs (each_weaker P (λ x. test x ≡ 
 
 found_first : {A : Type 0} (P : A → Type 0) (o : Option A) (os : List (Option A)) → ((x : A) → o ≡ Some x → P x) → IfSome (all_some os) (λ xs. AllByRecursion P xs)
     → IfSome (all_some (o ∷ os)) (λ xs. AllByRecursion P xs)
-found_first P None os f h = tt
-found_first P (Some x) os f h = grind (arith, nat_tests, all_some os, f x refl)
+found_first P o os f h = grind (arith, nat_tests)
 
 pub found_all : {A B : Type 0} (P : A → Type 0) (f : B → Option A) → ((b : B) (x : A) → f b ≡ Some x → P x) → (bs : List B) → IfSome (all_some (map f bs)) (λ xs. AllByRecursion P xs)
 found_all P f h [] = tt

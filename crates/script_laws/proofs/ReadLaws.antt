@@ -1,5 +1,5 @@
 -- A whole script that is read.
-use Rattle.script_laws.proofs.Words.{◌≡◌, ℕ, suc, ◌+◌, ◌≤◌, List, [], ◌∷◌, length, take, true, false, not, Option, Some, None, Result, Ok, Err, IfOk, IfSome, arith, nat_lt, nat_le, ◌==◌, bytes_eq, codes, length-append, utf8_valid_len, enumerate_from, length-enumerate_from, cond_some, faultless_some, if_some_at, ScriptErr, Call, Script, is_version, agree, Word, Line, text_lines, significant, significant_of, line_of, words, ◌>>=◌, or_fault, bare, Known, nothing_known, known_after, at_line, version_of_text, head, data_line, definition_step, definitions, data_part, finish, script_of, no_calls, script_of_lines, most_bytes, most_lines, newlines, within_lines, script_of_utf8, script_of_text, Reads, nat_tests, ltb-false}
+use Rattle.script_laws.proofs.Words.{◌≡◌, ℕ, suc, ◌+◌, ◌≤◌, List, [], ◌∷◌, length, take, true, false, not, Option, Some, None, Result, Ok, Err, IfOk, IfSome, arith, nat_lt, nat_le, ◌==◌, bytes_eq, codes, length-append, utf8_valid_len, enumerate_from, length-enumerate_from, cond_some, faultless_some, if_some_at, ScriptErr, Call, Script, is_version, agree, Word, Line, text_lines, significant, significant_of, line_of, words, ◌>>=◌, or_fault, bare, Known, nothing_known, known_after, at_line, head, data_line, definition_step, definitions, data_part, finish, script_of, no_calls, script_of_lines, most_bytes, most_lines, newlines, within_lines, script_of_utf8, script_of_text, Reads, nat_tests, ltb-false}
 use Rattle.nc_base.specs.declared.errors.ScriptKind.TheVariants as kind
 use Rattle.script_laws.proofs.StepLaws.{first_then, then_with, ok_then, by_test, by_some, if_read, read_as, whole_line, at_line_kept}
 use Rattle.script_laws.proofs.WordLaws.{InRange}
@@ -13,11 +13,8 @@ use Rattle.script_laws.proofs.DefinedLaws.{FitsKnown, nothing_known_fits, later_
 abbrev pub IsHead : ℕ → Type 0
 IsHead version = (version == 0) ≡ false → is_version version ≡ true
 
-version_read : (w : List ℕ) (n : ℕ) → version_of_text w ≡ Some n → is_version n ≡ true
-version_read w n h = grind (arith, nat_tests, cond_some)
-
 head_read : (w : Word) (ws : List Word) → IfOk (head w ws) IsHead
-head_read w ws = grind (arith, nat_tests, by_test, bytes_eq, codes, whole_line, then_with, read_as, version_read, first_then)
+head_read w ws = grind (arith, nat_tests, by_test, bytes_eq, codes, whole_line, then_with, read_as, cond_some, first_then)
 
 -- ---- the definitions
 

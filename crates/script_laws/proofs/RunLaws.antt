@@ -1,5 +1,5 @@
 -- The hints and the calls of a script, and the header of one for an existing dataset.
-use Rattle.script_laws.proofs.Words.{◌≡◌, ◌∙◌, ℕ, ◌≤◌, List, length, false, Option, Some, None, refl, ap, arith, ◌==◌, unwrap_or, not-false, Script, hint_in, hint_or, Defined, no_definition, header_of, Reads, eqb-true}
+use Rattle.script_laws.proofs.Words.{◌≡◌, ◌∙◌, ℕ, ◌≤◌, List, length, false, Option, Some, refl, ap, arith, ◌==◌, unwrap_or, not-false, Script, hint_in, hint_or, Defined, no_definition, header_of, Reads, eqb-true, nat_tests}
 use Rattle.script_laws.proofs.WordLaws.{InRange}
 use Rattle.script_laws.proofs.ReadLaws.{read_script}
 
@@ -8,8 +8,7 @@ read_ranks text s = read_script text s (λ t. length t.calls ≡ t.ranks) (λ ve
 
 -- a hint, or its default
 pub or_default : (o : Option ℕ) (default : ℕ) (P : ℕ → Type 0) → ((n : ℕ) → o ≡ Some n → P n) → P default → P (unwrap_or o default)
-or_default None default P f p = p
-or_default (Some n) default P f p = f n refl
+or_default o default P f p = grind (arith, nat_tests)
 
 aligned_hint : (h : ℕ) (hints : List (Option ℕ)) → ((n : ℕ) → hint_in h hints ≡ Some n → InRange 4 1048576 4 n) → (4 ≤ hint_or hints h 4) × (hint_or hints h 4 ≤ 1048576)
 aligned_hint h hints f = or_default (hint_in h hints) 4 (λ n. (4 ≤ n) × (n ≤ 1048576)) (λ n e. ((f n e).at_least, (f n e).at_most)) (omega arith, omega arith)

@@ -15,17 +15,8 @@ is_fit_pattern t n = nat_lt n (2 ^ 64) && may_have t (value.Bits n)
 
 -- ---- what is nearer to zero fits too
 
-positive_fit : (t : Option NcType) (m n : ℕ) → m ≤ n → is_fit_number t (pos n) ≡ true → is_fit_number t (pos m) ≡ true
-positive_fit t m n le h = grind (arith, nat_tests)
-
-negative_fit : (t : Option NcType) (m n : ℕ) → m ≤ n → is_fit_number t (negsuc n) ≡ true → is_fit_number t (negsuc m) ≡ true
-negative_fit t m n le h = grind (arith, nat_tests)
-
 between : (t : Option NcType) (a z c : ℤ) → a ≤ℤ z → z ≤ℤ c → is_fit_number t a ≡ true → is_fit_number t c ≡ true → is_fit_number t z ≡ true
-between t a (pos m) (pos n) low high h k = positive_fit t m n (omega (arith, ints)) k
-between t a (pos m) (negsuc n) low high h k = absurd (omega (arith, ints))
-between t (negsuc n) (negsuc m) c low high h k = negative_fit t m n (omega (arith, ints)) h
-between t (pos n) (negsuc m) c low high h k = absurd (omega (arith, ints))
+between t a z c low high h k = grind (arith, nat_tests)
 
 -- ---- terms of a sequence of numbers
 
