@@ -1,5 +1,5 @@
 -- What each row of the table of calls keeps, and that each lawful call that names no region is made by a row.
-use Rattle.script_spec.proofs.Words.{◌≡◌, ◌∙◌, ℕ, List, [], Bool, true, false, find, ◌&&◌, ◌==◌, Option, Some, None, bytes_eq, refl, sym, ap, eq-eqb, AllByRecursion, and_from, and_parts, eqb-true, find_at, each_at, Choice, Call, is_size, is_lawful_call, values_in_call, id_posted, Word, row_call, call_of, call_word, choice_words, words_behind, call_words, Family, Size, Record, Behind, CallRow, call_table, row_of_text, row_of, plain_word, in_row, of_behind}
+use Rattle.script_spec.proofs.Words.{◌≡◌, ◌∙◌, ℕ, List, [], Bool, true, false, find, ◌&&◌, ◌==◌, Some, None, bytes_eq, refl, sym, ap, eq-eqb, AllByRecursion, and_parts, eqb-true, find_at, each_at, Choice, Call, is_size, is_lawful_call, values_in_call, id_posted, Word, row_call, call_of, call_word, choice_words, words_behind, call_words, Family, Size, Record, Behind, CallRow, call_table, row_of_text, row_of, plain_word, of_behind, arith, nat_tests}
 use Rattle.nc_base.specs.declared.request.Call.TheVariants as call
 
 abbrev pub HasNoRegion : Call → Type 0
@@ -23,38 +23,8 @@ pub record IsRow (row : CallRow) : Type 0 where
   pub apart : (ranks r : ℕ) (b : Behind row.family) → HasNoRegion (row.made ranks r b)
   pub lawful : (ranks r : ℕ) (b : Behind row.family) → is_sized row.family b ≡ true → is_lawful_call ranks r (row.made ranks r b) ≡ true
 
-fill_lawful : (ranks r n : ℕ) → is_size n ≡ true → (is_size n && (r == r) && (ranks == ranks)) ≡ true
-fill_lawful ranks r n h = and_from _ _ (and_from _ _ h (eq-eqb r r refl)) (eq-eqb ranks ranks refl)
-
 rows : AllByRecursion IsRow call_table
-rows = (
-  record { is_read = λ _ _ _ _ _. refl; found = λ _ _ _. refl; again = λ _ _ _. refl; apart = λ _ _ _. tt; lawful = λ _ _ _ h. h },
-  (
-    record { is_read = λ _ _ _ _ _. refl; found = λ _ _ _. refl; again = λ _ _ _. refl; apart = λ _ _ _. tt; lawful = λ _ _ _ h. h },
-    (
-      record { is_read = λ _ _ _ _ _. refl; found = λ _ _ _. refl; again = λ _ _ _. refl; apart = λ _ _ _. tt; lawful = λ _ _ _ h. h },
-      (
-        record { is_read = λ _ _ _ _ _. refl; found = λ _ _ _. refl; again = λ _ _ _. refl; apart = λ _ _ _. tt; lawful = λ _ _ _ h. h },
-        (
-          record { is_read = λ _ _ _ _ _. refl; found = λ _ _ _. refl; again = λ _ _ _. refl; apart = λ _ _ _. tt; lawful = λ _ _ _ h. h },
-          (
-            record { is_read = λ _ _ _ _ _. refl; found = λ _ _ _. refl; again = λ _ _ _. refl; apart = λ _ _ _. tt; lawful = λ ranks r b h. fill_lawful ranks r b.1 h },
-            (
-              record { is_read = λ _ _ _ _ _. refl; found = λ _ _ _. refl; again = λ _ _ _. refl; apart = λ _ _ _. tt; lawful = λ _ _ _ h. h },
-              (
-                record { is_read = λ _ _ _ _ _. refl; found = λ _ _ _. refl; again = λ _ _ _. refl; apart = λ _ _ _. tt; lawful = λ _ _ _ h. h },
-                (
-                  record { is_read = λ _ _ _ _ _. refl; found = λ _ _ _. refl; again = λ _ _ _. refl; apart = λ _ _ _. tt; lawful = λ _ _ _ h. h },
-                  (record { is_read = λ _ _ _ _ _. refl; found = λ _ _ _. refl; again = λ _ _ _. refl; apart = λ _ _ _. tt; lawful = λ _ _ _ h. h }, tt),
-                ),
-              ),
-            ),
-          ),
-        ),
-      ),
-    ),
-  ),
-)
+rows = grind (arith, nat_tests, eq-eqb)
 
 each_found : {A : Type 0} (P : A → Type 0) (p : A → Bool) (xs : List A) (x : A) → AllByRecursion P xs → find p xs ≡ Some x → P x
 each_found P p xs x all e = each_at P xs _ x all (sym (find_at p xs) ∙ e)
@@ -65,24 +35,14 @@ found_row w row e = each_found IsRow (λ x. bytes_eq w x.word) call_table row ro
 -- ---- the call of a row
 
 plain : (c : Call) → HasNoRegion c → (call_word c ≡ plain_word c) × (call_words c ≡ of_behind [] words_behind c) × (values_in_call c ≡ 0) × (id_posted c ≡ None)
-plain (call.Put all name given values) h = absurd h
-plain (call.Get all name given) h = absurd h
-plain (call.Post id kind name given values) h = absurd h
-plain _ h = (refl, refl, refl, refl)
+plain c h = grind (arith, nat_tests)
 
 module _ (row : CallRow) (is : IsRow row) (ranks r : ℕ) (b : Behind row.family) where
   pub made_word : call_word (row.made ranks r b) ≡ row.word
-  made_word =
-      (plain (row.made ranks r b) (is.apart ranks r b)).0
-      ∙ ap (λ (o : Option CallRow). elim o as (λ _. List ℕ) [ None ↦ [] | Some x ↦ x.word ]) (is.found ranks r b)
+  made_word = grind (arith, nat_tests, plain, call_word)
 
   pub made_behind : {A : Type 0} (other : A) (f : (g : Family) → Behind g → A) → of_behind other f (row.made ranks r b) ≡ f row.family b
-  made_behind {A} other f =
-      ap (λ (o : Option CallRow). elim o as (λ _. A) [ None ↦ other | Some x ↦ in_row other f x (row.made ranks r b) ]) (is.found ranks r b)
-      ∙ ap (λ (o : Option (Behind row.family)). elim o as (λ _. A) [ None ↦ other | Some x ↦ f row.family x ]) (is.again ranks r b)
-
-  pub made_words : call_words (row.made ranks r b) ≡ words_behind row.family b
-  made_words = (plain (row.made ranks r b) (is.apart ranks r b)).1 ∙ made_behind [] words_behind
+  made_behind {A} other f = grind (arith, nat_tests)
 
   pub made_no_values : values_in_call (row.made ranks r b) ≡ 0
   made_no_values = (plain (row.made ranks r b) (is.apart ranks r b)).2
@@ -91,8 +51,7 @@ module _ (row : CallRow) (is : IsRow row) (ranks r : ℕ) (b : Behind row.family
   made_no_post = (plain (row.made ranks r b) (is.apart ranks r b)).3
 
 pub wait_words : (all : Bool) (choice : Choice) → call_words (call.Wait all choice) ≡ choice_words choice
-wait_words false choice = refl
-wait_words true choice = refl
+wait_words all choice = grind (arith, nat_tests)
 
 -- ---- the row of a call
 

@@ -1,5 +1,5 @@
 -- The words of this crate's proofs, from where they stand.
-pub use Rattle.list_laws.proofs.Std.{AllByRecursion, Bool, Err, List, None, Ok, Option, Result, Some, [], and_from, and_parts, ap, arith, bytes_eq, common_steps, cond_some, eqb-true, false, find_at, length, list_all, map, refl, subst, suc, sym, true, zero, zero-add, ℕ, ◌&&◌, ◌*◌, ◌+◌, ◌-◌, ◌<◌, ◌^◌, ◌∙◌, ◌∷◌, ◌≡◌, ◌≤◌, ltb-true}
+pub use Rattle.list_laws.proofs.Std.{AllByRecursion, Bool, Err, List, None, Ok, Option, Result, Some, [], and_from, and_parts, ap, arith, bytes_eq, common_steps, cond_some, eqb-true, false, find_at, length, list_all, map, refl, subst, suc, sym, true, zero, zero-add, ℕ, ◌&&◌, ◌*◌, ◌+◌, ◌-◌, ◌<◌, ◌^◌, ◌∙◌, ◌∷◌, ◌≡◌, ◌≤◌, ltb-true, nat_tests}
 pub use Rattle.std.proofs.Common.{eq-eqb, find, fold, leb-true, nat_le, nat_lt, ◌==◌}
 unfoldable pub use Rattle.list_laws.proofs.Std.{chars, digits, is_utf8, utf8_valid_len}
 pub use Rattle.list_laws.proofs.Common.{and_first, and_second, each_at}
