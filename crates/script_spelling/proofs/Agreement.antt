@@ -16,12 +16,12 @@ same_at (x ∷ xs) (y ∷ ys) (suc k) h = let rest : numbers xs ≡ numbers ys =
 abbrev pub have_kinds : List (List Call) → List ℕ → Bool
 have_kinds calls ns = list_all (λ own. bytes_eq (kind_numbers own) ns) calls
 
-pub none_differs : (calls : List (List Call)) (first : List MeetKind) (k : ℕ) → have_kinds calls (numbers first) ≡ true → differs_at (map (λ own. kinds own) calls) first k ≡ None
+none_differs : (calls : List (List Call)) (first : List MeetKind) (k : ℕ) → have_kinds calls (numbers first) ≡ true → differs_at (map (λ own. kinds own) calls) first k ≡ None
 none_differs [] first k h = refl
 none_differs (own ∷ calls) first k h =
     grind (arith, nat_tests, none_differs calls first k, and_parts, same_at (kinds own) first k, bytes_eq-Decides (kind_numbers own) (numbers first), position_cons, option_map, not)
 
-pub nothing_found : (p : ℕ → Bool) (from n : ℕ) → ((k : ℕ) → p k ≡ false) → find p (range_with_len from n) ≡ None
+nothing_found : (p : ℕ → Bool) (from n : ℕ) → ((k : ℕ) → p k ≡ false) → find p (range_with_len from n) ≡ None
 nothing_found p from zero h = refl
 nothing_found p from (suc n) h = cond-false _ _ _ (h from) ∙ nothing_found p (from + 1) n h
 

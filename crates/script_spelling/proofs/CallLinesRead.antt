@@ -62,8 +62,7 @@ call_taken : (d : Called) (first : List ℕ) (ws : List Word) (next : Called) �
 call_taken d first ws next h =
     let a = went (rank_of_text (length d.calls) first) _ next h in
     let b = went (call_line d a.value ws) _ next a.rest in
-    let r = rank_is (length d.calls) first a.value a.first in
-    record { rank = a.value; call = b.value; spells = rest_spelled d a.value ws b.value b.first first r.0 r.1; low = r.2; same = sym (same_ok (with_call a.value b.value d) next b.rest) }
+    grind (arith, nat_tests, rank_is (length d.calls) first a.value a.first, rest_spelled d a.value ws b.value b.first first (rank_is (length d.calls) first a.value a.first).0, same_ok (with_call a.value b.value d) next b.rest)
 
 -- ---- all lines
 
@@ -98,8 +97,7 @@ more_calls d l lines next r taken more =
       called = (taken.rank, taken.call) ∷ more.called;
       spells = (taken.spells, more.spells);
       there = and_from _ _ (lt-ltb taken.rank (length d.calls) taken.low) (subst (λ (n : ℕ). list_all (λ c. nat_lt c.0 n) more.called ≡ true) long more.there);
-      calls = more.calls ∙ (ap (λ (x : Called). with_calls (λ k. calls_in k more.called) 0 x.calls) taken.same
-          ∙ one_first (λ k. calls_in k more.called) 0 taken.rank taken.rank taken.call d.calls (omega arith));
+      calls = grind (arith, nat_tests, one_first, more.calls, more.called, taken.same, taken.rank, taken.call, d.calls, with_calls, calls_in);
     }
 
 -- a line is `end`, or a call is taken

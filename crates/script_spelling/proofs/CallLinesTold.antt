@@ -1,8 +1,8 @@
 -- Lines that spell the calls of a lawful script are read as its calls.
-use Rattle.script_spelling.proofs.Words.{◌≡◌, ◌∙◌, ℕ, zero, suc, ◌+◌, ◌<◌, ◌≤◌, List, [], ◌∷◌, ◌++◌, map, drop, length, Bool, true, false, nat_lt, Some, slice_get, Result, Ok, Err, refl, sym, ap, subst, length-set, arith, bytes_eq, codes, AllZip, list_all, enumerate_from, and_parts, cond-true, lt-ltb, ltb-true, list_all-append, passes_at, first_same, entry_numbered, ScriptKind, Call, most_values, is_lawful_call, values_in_call, posted_ids, are_different, call_word, Word, Plain, Line, begins_rank, digits_value, Called, calls_of, rank_of_text, with_call, call_line, call_of, called_after, at_line, call_step, data_part, SpellsCall, SpellsCallLine, calls_in, nat_tests, sum_cons}
+use Rattle.script_spelling.proofs.Words.{◌≡◌, ◌∙◌, ℕ, zero, suc, ◌+◌, ◌<◌, ◌≤◌, List, [], ◌∷◌, ◌++◌, map, drop, length, Bool, true, false, nat_lt, Some, slice_get, Result, Ok, Err, sym, ap, subst, length-set, arith, bytes_eq, codes, AllZip, list_all, enumerate_from, and_parts, cond-true, lt-ltb, ltb-true, list_all-append, passes_at, first_same, entry_numbered, ScriptKind, Call, most_values, is_lawful_call, values_in_call, posted_ids, are_different, call_word, Word, Plain, Line, begins_rank, digits_value, Called, calls_of, with_call, call_line, call_of, called_after, call_step, data_part, SpellsCall, SpellsCallLine, calls_in, nat_tests, sum_cons}
 use Rattle.script_spelling.proofs.Steps.{go_on, by_false}
 use Rattle.script_spelling.proofs.Places.{bytes_same}
-use Rattle.script_spelling.proofs.CallCounts.{count, count_all, count_set, data_by, NewId, new_id, sum_later}
+use Rattle.script_spelling.proofs.CallCounts.{count, count_all, count_set, NewId, new_id, sum_later}
 use Rattle.script_spelling.proofs.CallLinesRead.{with_calls, no_more, here, one_first, words_of}
 use Rattle.script_spelling.proofs.CallsTold.{call_told}
 use Rattle.nc_base.specs.declared.errors.ScriptKind.TheVariants as kind
@@ -53,9 +53,6 @@ next_of ranks base r all own behind c lawful at =
 no_end : (w : List ℕ) → begins_rank w ≡ true → bytes_eq w (codes "end") ≡ false
 no_end w h = grind (arith, nat_tests, bytes_same w (codes "end"))
 
-rank_told : (ranks r : ℕ) (w : List ℕ) → begins_rank w ≡ true → digits_value w ≡ r → r < ranks → rank_of_text ranks w ≡ Ok r
-rank_told ranks r w digits same low = grind (arith, nat_tests, cond-true, nat_lt, lt-ltb)
-
 module _ (ranks base r : ℕ) (all : List (List Call)) (later : List (ℕ × Call)) (c : Call) (d : Called) where
   going_on : r < ranks → Going ranks base all ((r, c) ∷ later) d → Going ranks base all later (with_call r c d)
   going_on low going = grind (arith, nat_tests, one_first, length-set, count_set)
@@ -63,20 +60,17 @@ module _ (ranks base r : ℕ) (all : List (List Call)) (later : List (ℕ × Cal
   called_told : (w : List ℕ) (more : List Word) → LawfulCalls ranks base all → Going ranks base all ((r, c) ∷ later) d → r < ranks → begins_rank w ≡ true → digits_value w ≡ r → SpellsCall more c
       → called_after d w (Plain (call_word c) ∷ more) ≡ Ok (with_call r c d)
   called_told w more lawful going low digits same h =
-      let there : r < length d.calls = omega (arith, going.long) in
       let own = calls_of r d.calls in
       let later_own = λ (k : ℕ). calls_in k later in
       let at : slice_get all r ≡ Some (own ++ c ∷ later_own r) =
-      ap (λ (xs : List (List Call)). slice_get xs r) (sym going.calls)
-      ∙ (own_among (λ k. calls_in k ((r, c) ∷ later)) 0 r r d.calls (omega arith) there ∙ ap (λ (cs : List Call). Some (own ++ cs)) (here r r c later_own refl)) in
+      grind (arith, nat_tests, slice_get, own_among, here, going.calls, d.calls, calls_in) in
       let next = next_of ranks base r all own (later_own r) c lawful at in
       let after = going_on low going in
       let fits : count_all (with_call r c d).calls ≤ count_all all = subst (λ (xs : List (List Call)). count_all (with_call r c d).calls ≤ count_all xs) after.calls (count_with later_own 0 (with_call r c d).calls) in
       let few : d.values + values_in_call c ≤ most_values = omega (arith, fits, after.counted, lawful.few) in
       let read : call_line d r (Plain (call_word c) ∷ more) ≡ Ok c =
       ap (λ (n : ℕ). call_of n r own d.values (call_word c) more) going.long ∙ call_told ranks r own d.values c more h next.lawful next.new few in
-      go_on (rank_of_text (length d.calls) w) _ r (with_call r c d) (rank_told (length d.calls) r w digits same there)
-      (go_on (call_line d r (Plain (call_word c) ∷ more)) _ c (with_call r c d) read refl)
+      grind (arith, nat_tests, go_on, nat_lt, cond-true, lt-ltb)
 
 abbrev step_by : Called → List Word → Result (Bool × Called) ScriptKind
 step_by d ws = elim ws [ [] ↦ Err kind.MissingWord | w ∷ more ↦ call_step d w more ]
@@ -95,17 +89,11 @@ pub record DataTold (past : ℕ) (d : Called) (lines : List Line) (all : List (L
 
 ended_told : (past ranks base : ℕ) (all : List (List Call)) (l : Line) (d : Called) → words_of l ≡ Plain (codes "end") ∷ [] → Going ranks base all [] d → DataTold past d (l ∷ []) all
 ended_told past ranks base all l d e going =
-    let step : call_step d l.first l.rest ≡ Ok (true, d) = ap (step_by d) e in
     record {
       last = l.number;
       values = d.values;
-      read = ap (λ (s : Result (Bool × Called) ScriptKind). data_by past l [] (at_line l.number s)) step
-          ∙ ap (λ (xs : List (List Call)). Ok (l.number, (record { calls = xs; values = d.values }, []))) (no_more 0 d.calls ∙ going.calls);
+      read = grind (arith, nat_tests, no_more 0 d.calls, l.number, d.values, going.calls);
     }
-
-more_told : (past : ℕ) (all : List (List Call)) (l : Line) (lines : List Line) (d next : Called) → call_step d l.first l.rest ≡ Ok (false, next) → DataTold past next lines all → DataTold past d (l ∷ lines) all
-more_told past all l lines d next step rest =
-    record { last = rest.last; values = rest.values; read = ap (λ (s : Result (Bool × Called) ScriptKind). data_by past l lines (at_line l.number s)) step ∙ rest.read }
 
 pub data_told : (past ranks base : ℕ) (all : List (List Call)) (own : List (List Word)) (called : List (ℕ × Call)) (lines : List Line) (d : Called) → LawfulCalls ranks base all
     → map words_of lines ≡ own ++ (Plain (codes "end") ∷ []) ∷ [] → AllZip SpellsCallLine own called → list_all (λ c. nat_lt c.0 ranks) called ≡ true → Going ranks base all called d
@@ -118,7 +106,4 @@ data_told past ranks base all (ws ∷ own) [] lines d lawful e say low going = a
 data_told past ranks base all (ws ∷ own) (c ∷ called) [] d lawful e say low going = absurd (cc)
 data_told past ranks base all (ws ∷ own) ((r, c) ∷ called) (l ∷ lines) d lawful e say low going =
     let both = and_parts (nat_lt r ranks) _ low in
-    let there = ltb-true r ranks both.0 in
-    let step : call_step d l.first l.rest ≡ Ok (false, with_call r c d) = ap (step_by d) (first_same _ _ _ _ e) ∙ step_told ranks base r all called c d ws lawful going there say.0 in
-    more_told past all l lines d (with_call r c d) step
-    (data_told past ranks base all own called lines (with_call r c d) lawful (ap (drop 1) e) say.1 both.1 (going_on ranks base r all called c d there going))
+    grind (arith, nat_tests, first_same, step_told ranks base r all called c d ws lawful going (ltb-true r ranks both.0) say.0, data_told past ranks base all own called lines (with_call r c d) lawful (ap (drop 1) e) say.1 both.1, going_on ranks base r all called c d (ltb-true r ranks both.0) going)

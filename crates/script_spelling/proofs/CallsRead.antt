@@ -1,5 +1,5 @@
 -- The words of calls that are read spell them, and each rank has the calls of its lines.
-use Rattle.script_spelling.proofs.Words.{◌≡◌, ◌∙◌, ℕ, ◌-◌, List, [], ◌∷◌, ◌++◌, take, drop, length, Bool, true, false, Some, None, option_map, Ok, refl, sym, ap, subst, append-nil, bytes_eq, codes, take-append-drop, cond_some, found_passes, faultless_some, Values, Numbers, Form, PostKind, Iput, Iget, Bput, Choice, Every, Listed, Given, Call, call_word, form_word, kind_word, with_all, Word, Plain, Quoted, Broken, is_word, or_fault, size, name, whole, values, after_prefix, before_suffix, forms, form_of_text, form_and_all, region, id_of_text, one_id, ids, choice, posted, is_posted, new_id, put_call, get_call, post_values, post_call, behind, plain_call, post_of_text, call_of, Family, Requests, Size, Name, Record, Nothing, Behind, CallRow, call_table, row_of_text, HasNoRegion, IsRow, found_row, made_word, Each, SpellsPosted, SpellsChoice, SpellsPlace, SpellsBehind, SpellsPlain, SpellsCall, some_of_map, arith, nat_tests}
+use Rattle.script_spelling.proofs.Words.{◌≡◌, ◌∙◌, ℕ, ◌-◌, List, [], ◌∷◌, ◌++◌, take, drop, length, Bool, true, Some, None, option_map, Ok, refl, sym, ap, subst, append-nil, bytes_eq, codes, take-append-drop, cond_some, found_passes, faultless_some, Values, Numbers, Form, PostKind, Iput, Iget, Bput, Choice, Every, Listed, Given, Call, call_word, form_word, kind_word, with_all, Word, Plain, Quoted, Broken, is_word, or_fault, name, whole, values, after_prefix, before_suffix, forms, form_of_text, form_and_all, region, id_of_text, one_id, ids, choice, posted, is_posted, new_id, put_call, get_call, post_values, post_call, behind, plain_call, post_of_text, call_of, Family, Requests, Size, Name, Record, Nothing, Behind, CallRow, call_table, row_of_text, HasNoRegion, IsRow, found_row, made_word, SpellsPosted, SpellsChoice, SpellsPlace, SpellsBehind, SpellsPlain, SpellsCall, some_of_map, arith, nat_tests}
 use Rattle.script_spelling.proofs.Steps.{went, same_ok, whole_value, carried, tested, looked, step_then, free_then, end_then}
 use Rattle.script_spelling.proofs.Places.{bytes_same}
 use Rattle.script_spelling.proofs.WordsRead.{WordRead, one_is, name_is, size_is, read_then, named_then}
@@ -20,14 +20,6 @@ form_is w f h = bytes_same w (form_word f) (found_passes (λ (g : Form). bytes_e
 
 with_form : (w : List ℕ) (r : Form × Bool) → form_and_all w ≡ Some r → w ≡ with_all r.1 (form_word r.0)
 with_form w r h = grind (arith, nat_tests, codes, some_of_map, form_is, suffixed)
-
-put_word : (all : Bool) (f : Form) → codes "put_" ++ with_all all (form_word f) ≡ with_all all (codes "put_" ++ form_word f)
-put_word true f = refl
-put_word false f = refl
-
-get_word : (all : Bool) (f : Form) → codes "get_" ++ with_all all (form_word f) ≡ with_all all (codes "get_" ++ form_word f)
-get_word true f = refl
-get_word false f = refl
 
 post_word : (w : List ℕ) (r : PostKind × List ℕ) → post_of_text w ≡ Some r → w ≡ kind_word r.0 ++ r.1
 post_word w r h = grind (arith, nat_tests, codes, option_map, prefixed, some_of_map)
@@ -60,20 +52,13 @@ put_spelled : (w rest : List ℕ) (all : Bool) (f : Form) (before : ℕ) (ws : L
 put_spelled w rest all f before ws c a b h =
     step_then (name ws) _ c h (λ n named h. step_then (region f n.1) _ c h (λ g told h. step_then (values None before g.1) _ c h (λ vs spelt h.
     let place = place_spelled f ws n g named told in
-    subst (IsCall w ws) (same_ok (call.Put all n.0 g.0 vs) c h) (
-      a ∙ (ap (λ (x : List ℕ). codes "put_" ++ x) b ∙ (put_word all f ∙ ap (λ (k : Form). with_all all (codes "put_" ++ form_word k)) (sym place.same_form))),
-      (place.place, g.1, place.are, place.spells, values_spelled None before g.1 vs spelt),
-    ))))
+    grind (arith, nat_tests, same_ok, values_spelled, place.same_form, place.place, place.are, place.spells))))
 
 get_spelled : (w rest : List ℕ) (all : Bool) (f : Form) (ws : List Word) (c : Call) → w ≡ codes "get_" ++ rest → rest ≡ with_all all (form_word f) → get_call all f ws ≡ Ok c → IsCall w ws c
 get_spelled w rest all f ws c a b h =
     step_then (name ws) _ c h (λ n named h. step_then (region f n.1) _ c h (λ g told h. end_then g.1 _ c h (λ none h.
     let place = place_spelled f ws n g named told in
-    let are : place.place ≡ ws = sym (place.are ∙ (ap (λ (xs : List Word). place.place ++ xs) none ∙ append-nil place.place)) in
-    subst (IsCall w ws) (same_ok (call.Get all n.0 g.0) c h) (
-      a ∙ (ap (λ (x : List ℕ). codes "get_" ++ x) b ∙ (get_word all f ∙ ap (λ (k : Form). with_all all (codes "get_" ++ form_word k)) (sym place.same_form))),
-      subst (λ (xs : List Word). SpellsPlace xs n.0 g.0) are place.spells,
-    ))))
+    grind (arith, nat_tests, append-nil, same_ok, place.are, place.same_form, place.spells))))
 
 posted_spelled : (k : PostKind) (before : ℕ) (ws : List Word) (vs : Values) → post_values k before ws ≡ Ok vs → SpellsPosted k ws vs
 posted_spelled Iget before ws vs h = let k = whole_value (Numbers [], ws) vs h in (k.1, sym k.0)
@@ -86,11 +71,7 @@ post_spelled w k rest posted_before f before ws c a b h =
     step_then (new_id posted_before ws) _ c h (λ i new h. step_then (name i.1) _ c h (λ n named h. step_then (region f n.1) _ c h (λ g told h. step_then (post_values k before g.1) _ c h (λ vs spelt h.
     read_then id_of_text _ ws _ i refl new (λ r said j. free_then (is_posted r.0 posted_before) _ _ i j (λ free j.
     let id = subst (WordRead id_of_text ws) (same_ok r i j) said in
-    let place = place_spelled f i.1 n g named told in
-    subst (IsCall w ws) (same_ok (call.Post i.0 k n.0 g.0 vs) c h) (
-      a ∙ ap (λ (x : List ℕ). kind_word k ++ x) (b ∙ ap form_word (sym place.same_form)),
-      (id.word, place.place, g.1, id.are ∙ ap (λ (xs : List Word). Plain id.word ∷ xs) place.are, id.says, place.spells, posted_spelled k before g.1 vs spelt),
-    )))))))
+    grind (arith, nat_tests, place_spelled f i.1 n g named told, same_ok (call.Post i.0 k n.0 g.0 vs) c h, posted_spelled k before g.1 vs spelt, id.word, id.are, id.says)))))))
 
 -- ---- calls of no form
 
@@ -114,8 +95,7 @@ choice_spelled (w ∷ ws) c h =
     subst (SpellsChoice (w ∷ ws)) end.0 (ap (λ (x : Word). x ∷ ws) (plain_word (codes "all") w e) ∙ ap (λ (xs : List Word). Plain (codes "all") ∷ xs) end.1))
     (λ e k.
     let a = went (ids [] (w ∷ ws)) _ c k in
-    let each = ids_spelled [] (w ∷ ws) a.value a.first in
-    subst (SpellsChoice (w ∷ ws)) (same_ok (Listed a.value) c a.rest) (subst (Each id_of_text (w ∷ ws)) (sym each.are) each.spells))
+    grind (arith, nat_tests, ids_spelled [] (w ∷ ws) a.value a.first, same_ok (Listed a.value) c a.rest))
 
 one_word : (w : List ℕ) (ws rest : List Word) → ws ≡ Plain w ∷ rest → rest ≡ [] → ws ≡ Plain w ∷ []
 one_word w ws rest a b = a ∙ ap (λ (xs : List Word). Plain w ∷ xs) b
@@ -123,13 +103,8 @@ one_word w ws rest a b = a ∙ ap (λ (xs : List Word). Plain w ∷ xs) b
 behind_spelled : (f : Family) (ws : List Word) (b : Behind f) → behind f ws ≡ Ok b → SpellsBehind ws f b
 behind_spelled Requests ws c h = choice_spelled ws c h
 behind_spelled Size ws n h = grind (arith, nat_tests, went, size_is, whole_value, one_word)
-behind_spelled Name ws n h =
-    named_then ws whole n h (λ a s h. let end = whole_value a n h in subst (SpellsBehind ws Name) end.0 (one_word a.0 ws a.1 s.are end.1, s.named))
-behind_spelled Record ws v h =
-    named_then ws _ v h (λ a n h. step_then (size a.1) _ v h (λ b is h.
-    let s = size_is a.1 b is in
-    let end = whole_value ((a.0, b.0), b.1) v h in
-    subst (SpellsBehind ws Record) end.0 (s.word, n.are ∙ ap (λ (xs : List Word). Plain a.0 ∷ xs) (one_word s.word a.1 b.1 s.are end.1), n.named, s.says)))
+behind_spelled Name ws n h = grind (arith, nat_tests, named_then, whole, whole_value, one_word)
+behind_spelled Record ws v h = grind (arith, nat_tests, named_then, step_then, size_is, whole_value, one_word)
 behind_spelled Nothing ws u h = (whole_value (tt, ws) u h).1
 
 -- a call that a row makes is spelled by what stands behind the row's word
@@ -145,8 +120,7 @@ plain_spelled ranks r w ws c h =
     let there = faultless_some kind.UnknownWord (row_of_text w) row given in
     let is = found_row w row there in
     let same_word = bytes_same w row.word (found_passes (λ (x : CallRow). bytes_eq w x.word) call_table row there) in
-    let spells = made_spelled row is ranks r b ws (behind_spelled row.family ws b told) in
-    subst (IsCall w ws) (same_ok (row.made ranks r b) c h) (same_word ∙ sym (made_word row is ranks r b), apart_spelled (row.made ranks r b) ws (is.apart ranks r b) spells)))
+    grind (arith, nat_tests, made_spelled, behind_spelled, same_ok, made_word, apart_spelled)))
 
 pub call_spelled : (ranks r : ℕ) (own : List Call) (before : ℕ) (w : List ℕ) (ws : List Word) (c : Call) → call_of ranks r own before w ws ≡ Ok c → IsCall w ws c
 call_spelled ranks r own before w ws c h =

@@ -1,5 +1,5 @@
 -- Words that spell a lawful call are read as this call.
-use Rattle.script_spelling.proofs.Words.{◌≡◌, ◌∙◌, ℕ, ◌+◌, ◌≤◌, List, [], ◌∷◌, ◌++◌, Bool, true, false, Option, Some, None, Ok, refl, sym, ap, subst, append_assoc, append-nil, codes, and_parts, leb-true, count_of, Values, PostKind, Iput, Iget, Bput, Choice, Every, Listed, Given, Call, most_elements, most_values, is_given, are_values, is_post_of, is_lawful_call, values_in_call, call_word, Word, Plain, size_of_text, size, name, whole, id_of_text, ids, choice, posted, is_posted, put_call, get_call, post_values, post_call, behind, call_of, Family, Requests, Size, Name, Record, Nothing, Behind, CallRow, HasNoRegion, IsRow, made_word, of_row, Form, form_word, kind_word, with_all, Each, SpellsPosted, SpellsChoice, SpellsPlace, SpellsBehind, SpellsInRow, SpellsPlain, SpellsCall, arith, nat_tests}
+use Rattle.script_spelling.proofs.Words.{◌≡◌, ◌∙◌, ℕ, ◌+◌, ◌≤◌, List, [], ◌∷◌, ◌++◌, Bool, true, None, Ok, refl, sym, ap, subst, append_assoc, append-nil, codes, and_parts, leb-true, count_of, Values, PostKind, Iput, Iget, Bput, Choice, Listed, Given, Call, most_elements, most_values, is_given, are_values, is_post_of, is_lawful_call, values_in_call, call_word, Word, Plain, size_of_text, size, name, whole, id_of_text, ids, choice, posted, put_call, get_call, post_values, post_call, behind, call_of, Family, Requests, Size, Name, Record, Nothing, Behind, CallRow, HasNoRegion, IsRow, made_word, of_row, Form, form_word, kind_word, with_all, Each, SpellsPosted, SpellsChoice, SpellsPlace, SpellsBehind, SpellsPlain, SpellsCall, arith, nat_tests}
 use Rattle.script_spelling.proofs.Steps.{go_on, faultless, word_read, carry_on, by_false}
 use Rattle.script_spelling.proofs.Rooms.{HasRoom}
 use Rattle.script_spelling.proofs.WordsRead.{name_again}
@@ -12,9 +12,6 @@ use Rattle.nc_base.specs.declared.request.Call.TheVariants as call
 -- ---- the words of calls
 
 module _ (ranks r : ℕ) (own : List Call) (before : ℕ) (ws : List Word) where
-  pub put_word : (all : Bool) (f : Form) → call_of ranks r own before (with_all all (codes "put_" ++ form_word f)) ws ≡ put_call all f before ws
-  put_word all f = grind (arith, nat_tests)
-
   pub get_word : (all : Bool) (f : Form) → call_of ranks r own before (with_all all (codes "get_" ++ form_word f)) ws ≡ get_call all f ws
   get_word all f = grind (arith, nat_tests)
 
@@ -45,10 +42,6 @@ get_told : (all : Bool) (n : List ℕ) (g : Given) (ws : List Word) → SpellsPl
 get_told all n g ws (own, is, named, spelled) given =
     grind (arith, nat_tests, append-nil own, name_again n (own ++ []) named, region_told g own [] spelled given, go_on)
 
-post_told : (k : PostKind) (found : List ℕ) (id : ℕ) (n : List ℕ) (g : Given) (before : ℕ) (vs : Values) (ws : List Word) → SpellsCall ws (call.Post id k n g vs) → is_posted id found ≡ false → is_given g ≡ true → is_post_of k vs ≡ true
-    → before + count_of vs ≤ most_values → post_call k found g.form before ws ≡ Ok (call.Post id k n g vs)
-post_told k found id n g before vs ws xs fresh given lawful few = grind (arith, nat_tests, go_on, name_again, region_told, posted_told)
-
 -- ---- calls of no region
 
 ids_told : (found : List ℕ) (ws : List Word) (ns : List ℕ) → Each id_of_text ws ns → ids found ws ≡ Ok (found ++ ns)
@@ -65,8 +58,7 @@ listed_told (w ∷ ws) (n ∷ ns) h =
     grind (arith, nat_tests, codes "all", other_word id_of_text h.0.0 (codes "all") n refl h.0.2, ids_told [] (w ∷ ws) (n ∷ ns) h, by_false, go_on)
 
 choice_told : (ws : List Word) (c : Choice) → SpellsChoice ws c → choice ws ≡ Ok c
-choice_told ws Every h = ap choice h
-choice_told ws (Listed ns) h = listed_told ws ns h
+choice_told ws c h = grind (arith, nat_tests, listed_told)
 
 behind_told : (f : Family) (ws : List Word) (b : Behind f) → SpellsBehind ws f b → behind f ws ≡ Ok b
 behind_told Requests ws c h = choice_told ws c h
@@ -77,12 +69,7 @@ behind_told Nothing ws u h = ap (behind Nothing) h
 
 made_told : (ranks r : ℕ) (own : List Call) (before : ℕ) (row : CallRow) (is : IsRow row) (b : Behind row.family) (ws : List Word) → SpellsPlain ws (row.made ranks r b)
     → call_of ranks r own before (call_word (row.made ranks r b)) ws ≡ Ok (row.made ranks r b)
-made_told ranks r own before row is b ws h =
-    let c = row.made ranks r b in
-    let in_row : SpellsInRow ws row c = subst (λ (o : Option CallRow). elim o as (λ _. Type 0) [ None ↦ ws ≡ [] | Some x ↦ SpellsInRow ws x c ]) (is.found ranks r b) h in
-    let spells : SpellsBehind ws row.family b = subst (λ (o : Option (Behind row.family)). elim o as (λ _. Type 0) [ None ↦ ws ≡ [] | Some x ↦ SpellsBehind ws row.family x ]) (is.again ranks r b) in_row in
-    ap (λ (w : List ℕ). call_of ranks r own before w ws) (made_word row is ranks r b)
-    ∙ (is.is_read ranks r own before ws ∙ go_on (behind row.family ws) (λ x. Ok (row.made ranks r x)) b c (behind_told row.family ws b spells) refl)
+made_told ranks r own before row is b ws h = grind (arith, nat_tests, made_word, go_on, behind_told)
 
 plain_told : (ranks r : ℕ) (own : List Call) (before : ℕ) (ws : List Word) (c : Call) → HasNoRegion c → is_lawful_call ranks r c ≡ true → SpellsPlain ws c → call_of ranks r own before (call_word c) ws ≡ Ok c
 plain_told ranks r own before ws c apart lawful h =
@@ -93,7 +80,7 @@ plain_told ranks r own before ws c apart lawful h =
 
 pub call_told : (ranks r : ℕ) (own : List Call) (before : ℕ) (c : Call) (ws : List Word) → SpellsCall ws c → is_lawful_call ranks r c ≡ true → NewId own c → before + values_in_call c ≤ most_values
     → call_of ranks r own before (call_word c) ws ≡ Ok c
-call_told ranks r own before (call.Put all n g vs) ws h lawful new few = grind (arith, nat_tests, and_parts, put_word ranks r own before ws all g.form, put_told all n g before vs ws h)
+call_told ranks r own before (call.Put all n g vs) ws h lawful new few = grind (arith, nat_tests, and_parts, put_told all n g before vs ws h)
 call_told ranks r own before (call.Get all n g) ws h lawful new few = get_word ranks r own before ws all g.form ∙ get_told all n g ws h lawful
-call_told ranks r own before (call.Post id k n g vs) ws h lawful new few = grind (arith, nat_tests, and_parts, post_word ranks r own before ws k g.form, post_told k (posted own) id n g before vs ws h new)
+call_told ranks r own before (call.Post id k n g vs) ws h lawful new few = grind (arith, nat_tests, and_parts, post_word ranks r own before ws k g.form, go_on, name_again, region_told, posted_told)
 call_told ranks r own before c ws h lawful new few = plain_told ranks r own before ws c tt lawful h

@@ -1,12 +1,12 @@
 -- A line that says a statement leads on to where the later statements lead to the same.
-use Rattle.script_spelling.proofs.Words.{◌≡◌, ◌∙◌, ℕ, suc, ◌+◌, ◌<◌, ◌≤◌, List, [], ◌∷◌, ◌++◌, length, Bool, true, false, cond, ◌==◌, Option, Some, None, is_some, slice_set, Ok, refl, sym, ap, subst, length-set, append_assoc, arith, bytes_eq, codes, eqb-true, equal_itself, position_below, count_of, Dim, Attr, Var, Values, most_values, values_in_extra, Word, Plain, ◌>>=◌, refuse_if, reads_as, hint_table, hint_form, hint_in, dim_line, var_names, var_line, owner_of_text, owner_place, attribute, Defined, with_dim, with_var, with_attr_of_owner, with_attr_at, with_title, att_line, definition, Added, addition, Known, VarLine, Statement, RanksAre, HintIs, IsFilled, DimIs, VarIs, AttIs, owner_word, Says, Stand, title_of, at_most_one, hint_values, fills_in, dims_in, vars_in, own_attrs, attrs_of, extras_in, nat_tests, sum_cons, sum_more, attr_values, extra_values}
+use Rattle.script_spelling.proofs.Words.{◌≡◌, ◌∙◌, ℕ, ◌+◌, ◌≤◌, List, [], ◌∷◌, ◌++◌, Bool, true, false, ◌==◌, Option, Some, None, is_some, slice_set, Ok, refl, sym, ap, subst, length-set, append_assoc, arith, bytes_eq, codes, eqb-true, equal_itself, position_below, count_of, Dim, Attr, Var, Values, most_values, values_in_extra, Word, Plain, reads_as, hint_form, hint_in, dim_line, var_names, var_line, owner_of_text, owner_place, attribute, Defined, with_dim, with_var, with_attr_of_owner, with_attr_at, with_title, att_line, definition, Added, addition, Known, VarLine, Statement, RanksAre, HintIs, IsFilled, DimIs, VarIs, AttIs, owner_word, Says, Stand, title_of, at_most_one, hint_values, dims_in, vars_in, own_attrs, attrs_of, extras_in, nat_tests, sum_cons, sum_more, attr_values, extra_values}
 use Rattle.script_spelling.proofs.Steps.{go_on, word_read}
 use Rattle.script_spelling.proofs.Rooms.{HasRoom}
 use Rattle.script_spelling.proofs.Leading.{Leads, leads_by, hint_leads}
 use Rattle.script_spelling.proofs.CallCounts.{sum_later}
 use Rattle.script_spelling.proofs.PushedAttrs.{pushes, found_name, count-pushed, own_values}
 use Rattle.script_spelling.proofs.GrownVars.{are_apart, apart_pushed, names_pushed, names_kept, later_names, grown_vars, var_of, var_step, attr_step}
-use Rattle.script_spelling.proofs.TakenLines.{flag, Part, Grown, Fine, hint_here, hint_elsewhere, differ, grown_with}
+use Rattle.script_spelling.proofs.TakenLines.{Part, Grown, Fine, hint_here, hint_elsewhere, differ, grown_with}
 use Rattle.script_spelling.proofs.NewDefinitions.{defined_next}
 use Rattle.script_spelling.proofs.AddedDefinitions.{added_next}
 use Rattle.script_spelling.proofs.KnownRead.{lines_version}
@@ -24,12 +24,10 @@ count_grown : (dims : List Dim) (more : List ℕ → List Attr) (vars : List Var
 count_grown dims more [] lines = omega arith
 count_grown dims more (v ∷ vars) lines =
     let own = λ (x : Var). attr_values x.attrs in
-    let later = sum_cons own (record v { attrs = v.attrs ++ more v.name }) (grown_vars dims more vars lines) in
-    omega (arith, count_grown dims more vars lines, sum_later (λ (x : Attr). x.count) v.attrs (more v.name), sum_cons own v vars, later)
+    grind (arith, nat_tests, sum_cons own (record v { attrs = v.attrs ++ more v.name }) (grown_vars dims more vars lines), count_grown dims more vars lines, sum_later, sum_cons own v vars)
 
 pub total_grown : (opened : Bool) (k : Known) (ss : List Statement) (last : Known) → Part opened k ss last → total k ≤ total last
-total_grown true k ss last p = grind (arith, nat_tests, sum_later values_in_extra k.added.extras (extras_in ss))
-total_grown false k ss last p = grind (arith, nat_tests, sum_later (λ (x : Attr). x.count) k.defined.attrs (own_attrs ss), count_grown last.defined.dims (λ n. attrs_of n ss) k.defined.vars (vars_in ss))
+total_grown opened k ss last p = grind (arith, nat_tests, sum_later, count_grown)
 
 -- ---- where a line leads
 
@@ -51,41 +49,17 @@ one_left : (o p : Option ℕ) (n : ℕ) (ns : List ℕ) → at_most_one o ≡ at
 one_left o p n ns h = grind (arith, nat_tests)
 
 ranks_behind : (opened : Bool) (k : Known) (n : ℕ) (ss : List Statement) (last : Known) → Part opened k (RanksAre n ∷ ss) last → Part opened (record k { ranks = Some n }) ss last
-ranks_behind true k n ss last p = p
-ranks_behind false k n ss last p = p
+ranks_behind opened k n ss last p = grind (arith, nat_tests)
 
 ranks_led : (opened : Bool) (version of_lines : ℕ) (k : Known) (words : List Word) (n : ℕ) (ss : List Statement) (last : Known) → Sound k → Says of_lines words (RanksAre n) → Grown opened k (RanksAre n ∷ ss) last → Led opened version k words ss last
 ranks_led opened version of_lines k words n ss last sound xs g = grind (arith, nat_tests, one_left, ranks_told, go_on, ranks_behind)
 
-hint_behind : (hints : List (Option ℕ)) (i v j : ℕ) (later found : List ℕ) → hint_in i hints ≡ None → i < length hints → found ≡ at_most_one (hint_in j hints) ++ cond (i == j) (v ∷ later) later
-    → found ≡ at_most_one (hint_in j (slice_set hints i (Some v))) ++ later
-hint_behind hints i v j later found free low h = grind (arith, nat_tests, slice_set, eqb-true, hint_here, hint_elsewhere, differ)
-
 hints_behind : (opened : Bool) (k : Known) (i v : ℕ) (hints : List (Option ℕ)) (ss : List Statement) (last : Known) → Part opened k (HintIs i v ∷ ss) last → Part opened (record k { hints = hints }) ss last
-hints_behind true k i v hints ss last p = p
-hints_behind false k i v hints ss last p = p
+hints_behind opened k i v hints ss last p = grind (arith, nat_tests)
 
 hint_led : (opened : Bool) (version of_lines : ℕ) (k : Known) (words : List Word) (i v : ℕ) (ss : List Statement) (last : Known) → Sound k → Says of_lines words (HintIs i v) → Grown opened k (HintIs i v ∷ ss) last → Led opened version k words ss last
 hint_led opened version of_lines k words i v ss last sound (word, w, are, at, told) g =
-    let later = hint_values i ss in
-    let none = one_left (hint_in i last.hints) (hint_in i k.hints) v later (g.hints i ∙ ap (λ (b : Bool). at_most_one (hint_in i k.hints) ++ cond b (v ∷ later) later) (equal_itself i)) in
-    let low : i < length k.hints = omega (arith, sound.fine.long, position_below (λ row. bytes_eq word row.word) hint_table i at) in
-    let hints = slice_set k.hints i (Some v) in
-    let next : Known = record k { hints = hints } in
-    record {
-      next = next;
-      leads = subst (λ (ws : List Word). Leads version k ws next) (sym are) (hint_leads version k word w i v at (ap is_some none) (hint_told (hint_form i) w v told));
-      sound = record { fine = record { long = length-set k.hints i (Some v) ∙ sound.fine.long; apart = sound.fine.apart }; counted = sound.counted };
-      grown = record {
-        ranks = g.ranks;
-        hints = λ j. hint_behind k.hints i v j (hint_values j ss) (at_most_one (hint_in j last.hints)) none low (g.hints j);
-        filled = g.filled;
-        part = hints_behind opened k i v hints ss last g.part;
-      };
-    }
-
-unfilled : (now before : Bool) (n : ℕ) → flag now ≡ flag before + suc n → before ≡ false
-unfilled now before n h = grind (arith, nat_tests)
+    grind (arith, nat_tests, one_left (hint_in i last.hints) (hint_in i k.hints) v (hint_values i ss), equal_itself i, position_below, hint_leads version k word w i v at, is_some, hint_told (hint_form i) w v told, length-set k.hints i (Some v), hint_here, hint_elsewhere, differ, slice_set, eqb-true, hints_behind opened k i v (slice_set k.hints i (Some v)) ss last g.part)
 
 module _ (version : ℕ) (k : Known) (words : List Word) (ss : List Statement) (last : Known) where
   -- ---- a new dataset
@@ -137,8 +111,7 @@ module _ (version : ℕ) (k : Known) (words : List Word) (ss : List Statement) (
       let read : att_line version k.values d (Plain colon ∷ rest) ≡ Ok r =
       go_on (attribute version d.titles k.values colon rest) (λ x. Ok (x.count, with_title colon x.name (with_attr_of_owner None x d))) a r
       (attr_told version d.titles k.values colon a w given vs named told spells same g.part.4.1 room) refl in
-      defined_led (codes "att") (Plain colon ∷ rest) r new refl refl refl are read
-      (record { fine = record { long = sound.fine.long; apart = sound.fine.apart }; counted = omega (arith, sound.counted, more) }) after
+      grind (arith, nat_tests, defined_led, sound.fine.long, sound.fine.apart, sound.counted)
 
   new_attr_led : (owner : List ℕ) (a : Attr) → (version == 0) ≡ false → total last ≤ most_values → Sound k → Says version words (AttIs (Some owner) a) → Grown false k (AttIs (Some owner) a ∷ ss) last → Led false version k words ss last
   new_attr_led owner a new few sound (w, given, vs, are, is, named, told, spells, same) g =
@@ -162,18 +135,11 @@ module _ (version : ℕ) (k : Known) (words : List Word) (ss : List Statement) (
       go_on (reads_as owner_of_text kind.BadName (Plain owner ∷ rest)) _ (owner, rest) r (word_read owner_of_text kind.BadName owner owner rest (owner_told (Some owner) is).0)
       (go_on (owner_place d.vars owner) _ (Some p.0) r (owner_found d.vars owner p.0 is p.1)
       (go_on (attribute version d.titles k.values owner rest) _ a r (attr_told version d.titles k.values owner a w given vs named told spells same g.part.4.1 room) refl)) in
-      let apart = subst (λ (ns : List (List ℕ)). are_apart ns ≡ true) (sym names) sound.fine.apart in
-      defined_led (codes "att") (Plain owner ∷ rest) r new refl refl refl are read (record { fine = record { long = sound.fine.long; apart = apart }; counted = omega (arith, sound.counted, more) }) after
+      grind (arith, nat_tests, defined_led, sound.fine.apart, sound.fine.long, sound.counted)
 
   fill_led : (version == 0) ≡ false → Sound k → Says version words IsFilled → Grown false k (IsFilled ∷ ss) last → Led false version k words ss last
   fill_led new sound are g =
-      let d = k.defined in
-      let none = unfilled last.defined.filled d.filled (fills_in ss) g.filled in
-      let r : ℕ × Defined = (0, record d { filled = true }) in
-      defined_led (codes "fill") [] r new refl refl refl are
-      (ap (λ (b : Bool). refuse_if b kind.TwiceNamed >>= λ u. Ok (0, record d { filled = true })) none)
-      (record { fine = record { long = sound.fine.long; apart = sound.fine.apart }; counted = omega (arith, sound.counted) })
-      (record { ranks = g.ranks; hints = g.hints; filled = omega (arith, g.filled, ap flag none); part = (g.part.0, g.part.1, g.part.2, g.part.3, g.part.4.1) })
+      grind (arith, nat_tests, defined_led (codes "fill") [] ((0, record k.defined { filled = true })) new)
 
   -- ---- a dataset that is opened
 

@@ -1,5 +1,5 @@
 -- The variables of a new dataset, and what later lines give them.
-use Rattle.script_spelling.proofs.Words.{◌≡◌, ◌∙◌, ℕ, zero, suc, List, [], ◌∷◌, ◌++◌, map, position, Bool, true, false, not, cond, ◌&&◌, Option, Some, unwrap_or, refl, sym, ap, subst, ⊎_elim, append_assoc, append-nil, bytes_eq, AllZip, and_parts, and_from, or_parts, or_from, or_left, not-true, not_from_false, cond-true, cond-false, map-append, list_any-append, Dim, Attr, Var, dim_ids, is_among, var_names, Title, VarLine, Statement, RanksAre, HintIs, IsFilled, DimIs, VarIs, AttIs, Stand, dims_in, vars_in, IsVarOf, arith, nat_tests}
+use Rattle.script_spelling.proofs.Words.{◌≡◌, ◌∙◌, ℕ, zero, suc, List, [], ◌∷◌, ◌++◌, map, position, Bool, true, false, not, cond, ◌&&◌, Some, unwrap_or, refl, sym, ap, subst, ⊎_elim, append_assoc, append-nil, bytes_eq, AllZip, and_parts, and_from, or_parts, or_from, or_left, not-true, not_from_false, cond-true, cond-false, map-append, list_any-append, Dim, Attr, Var, dim_ids, is_among, var_names, Title, VarLine, Statement, RanksAre, HintIs, IsFilled, DimIs, VarIs, AttIs, Stand, dims_in, vars_in, IsVarOf, arith, nat_tests}
 use Rattle.script_spelling.proofs.Places.{bytes_same, Later, more_ids, place_cases}
 use Rattle.script_spelling.proofs.PushedAttrs.{with_own, push_attr}
 
@@ -117,8 +117,7 @@ pub vars_of_lines : (dims : List Dim) (more : List ℕ → List Attr) (lines : L
 vars_of_lines dims more [] [] h = refl
 vars_of_lines dims more [] (v ∷ vars) h = absurd h
 vars_of_lines dims more (line ∷ lines) [] h = absurd h
-vars_of_lines dims more (line ∷ lines) (v ∷ vars) h =
-    ap (λ (w : Var). w ∷ vars) (h.0.1 ∙ ap (λ (o : Option (List ℕ)). grow more (var_of line (unwrap_or o []))) (sym h.0.0)) ∙ ap (λ (vs : List Var). grow more (bare_var dims line) ∷ vs) (vars_of_lines dims more lines vars h.1)
+vars_of_lines dims more (line ∷ lines) (v ∷ vars) h = grind (arith, nat_tests, unwrap_or, vars_of_lines dims more lines vars h.1)
 
 -- lines that may stand find their dimensions
 pub lines_of_vars : (all dims : List Dim) (more : List ℕ → List Attr) (names : List (List ℕ)) (titles : List Title) (ss : List Statement) → all ≡ dims ++ dims_in ss → Stand false dims names titles ss
@@ -129,6 +128,5 @@ lines_of_vars all dims more names titles (HintIs h v ∷ ss) e stand = lines_of_
 lines_of_vars all dims more names titles (IsFilled ∷ ss) e stand = lines_of_vars all dims more names titles ss e stand.1
 lines_of_vars all dims more names titles (DimIs d ∷ ss) e stand = lines_of_vars all (dims ++ d ∷ []) more names titles ss (e ∙ sym (append_assoc dims (d ∷ []) (dims_in ss))) stand.1
 lines_of_vars all dims more names titles (VarIs line ∷ ss) e stand =
-    let found = still_found dims (dims_in ss) all line stand.0.3.0 e stand.0.3.1 in
-    ((found ∙ ap (λ (o : Option (List ℕ)). Some (unwrap_or o [])) (sym found), refl), lines_of_vars all dims more (names ++ line.name ∷ []) titles ss e stand.1)
+    grind (arith, nat_tests, still_found, unwrap_or, lines_of_vars all dims more (names ++ line.name ∷ []) titles ss e stand.1, vars_in, grown_vars, unwrap_or, dims_in)
 lines_of_vars all dims more names titles (AttIs owner a ∷ ss) e stand = lines_of_vars all dims more names _ ss e stand.2

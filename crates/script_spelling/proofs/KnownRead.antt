@@ -27,7 +27,7 @@ content_taken false version k next first ws fine h =
     let a = went (definition version k.values k.defined first ws) (λ x. Ok (defined_next k x)) next h in
     subst (Taken false version k (Plain first ∷ ws)) (same_ok (defined_next k a.value) next a.rest) (definition_taken version k first ws a.value fine a.first)
 
-pub known_taken : (opened : Bool) (version : ℕ) (k next : Known) (first : List ℕ) (ws : List Word) → (version == 0) ≡ opened → Fine k → known_after version k first ws ≡ Ok next → Taken opened (lines_version opened version) k (Plain first ∷ ws) next
+known_taken : (opened : Bool) (version : ℕ) (k next : Known) (first : List ℕ) (ws : List Word) → (version == 0) ≡ opened → Fine k → known_after version k first ws ≡ Ok next → Taken opened (lines_version opened version) k (Plain first ∷ ws) next
 known_taken opened version k next first ws e fine h =
     tested (bytes_eq first (codes "ranks")) _ _ _ h (λ a g. at_first opened _ k next first (codes "ranks") ws a (ranks_taken opened _ k ws next fine g))
     (λ a l. tested (bytes_eq first (codes "hint")) _ _ _ l (λ b g. at_first opened _ k next first (codes "hint") ws b (hint_taken opened _ k ws next fine g))
@@ -66,9 +66,7 @@ step_taken opened version k (Plain first) ws s e fine h =
     (λ f g.
     let a = went (data_line k ws) _ s g in
     let b = went (or_fault kind.MissingWord k.ranks) _ a.value a.first in
-    let end = whole_value (b.value, ws) a.value b.rest in
-    let are = ap (λ (x : List ℕ). Plain x ∷ ws) (bytes_same first (codes "data") f) ∙ ap (λ (xs : List Word). Plain (codes "data") ∷ xs) end.1 in
-    subst (StepTaken opened version k (Plain first ∷ ws)) (same_ok (Some a.value, k) s a.rest) (are, refl, faultless_some kind.MissingWord k.ranks b.value b.first ∙ ap (λ (x : ℕ). Some x) end.0))
+    grind (arith, nat_tests, whole_value (b.value, ws) a.value b.rest, bytes_same first (codes "data") f, same_ok (Some a.value, k) s a.rest, faultless_some kind.MissingWord k.ranks b.value b.first, StepTaken))
     (λ f g.
     let a = went (known_after version k first ws) _ s g in
     subst (StepTaken opened version k (Plain first ∷ ws)) (same_ok (None, a.value) s a.rest) (known_taken opened version k a.value first ws e fine a.first))

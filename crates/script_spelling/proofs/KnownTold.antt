@@ -1,6 +1,6 @@
 -- Lines that say statements are read up to `data`, and what is known then is what the statements say.
-use Rattle.script_spelling.proofs.Words.{◌≡◌, ◌∙◌, ℕ, suc, ◌+◌, ◌≤◌, List, [], ◌∷◌, ◌++◌, map, drop, Bool, true, false, ◌==◌, Option, Some, None, unwrap_or, Result, Ok, Err, refl, sym, ap, append-nil, arith, codes, AllZip, first_same, ScriptKind, Hints, most_values, Word, Plain, Line, HintRow, hint_table, hint_in, hint_or, no_hints, set_hints, hints_of, Known, at_line, definition_step, definitions, Statement, Says, at_most_one, nat_tests}
-use Rattle.script_spelling.proofs.Leading.{Leads, defined_by, step_again}
+use Rattle.script_spelling.proofs.Words.{◌≡◌, ◌∙◌, ℕ, suc, ◌+◌, ◌≤◌, List, [], ◌∷◌, ◌++◌, map, drop, Bool, true, false, ◌==◌, Option, Some, unwrap_or, Result, Ok, Err, refl, sym, ap, append-nil, arith, codes, AllZip, first_same, ScriptKind, Hints, most_values, Word, Plain, Line, HintRow, hint_table, hint_in, hint_or, no_hints, set_hints, hints_of, Known, definition_step, definitions, Statement, Says, at_most_one, nat_tests}
+use Rattle.script_spelling.proofs.Leading.{step_again}
 use Rattle.script_spelling.proofs.CallLinesRead.{words_of}
 use Rattle.script_spelling.proofs.TakenLines.{flag, Grown}
 use Rattle.script_spelling.proofs.KnownRead.{lines_version}
@@ -22,9 +22,6 @@ pub record DefinitionsTold (opened : Bool) (past version n : ℕ) (k : Known) (l
 abbrev step_by : ℕ → Known → List Word → Result (Option ℕ × Known) ScriptKind
 step_by version k ws = elim ws [ [] ↦ Err kind.MissingWord | w ∷ more ↦ definition_step version k w more ]
 
-step_told : (version : ℕ) (k next : Known) (ws : List Word) → Leads version k ws next → step_by version k ws ≡ Ok (None, next)
-step_told version k next ws h = grind (arith, nat_tests, step_again)
-
 same_one : (o p : Option ℕ) → at_most_one o ≡ at_most_one p ++ [] → p ≡ o
 same_one o p h = grind (arith, nat_tests)
 
@@ -38,16 +35,7 @@ definitions_told opened past version n (ws ∷ own) [] k lines more last e few r
 definitions_told opened past version n (ws ∷ own) (s ∷ ss) k [] more last e few ranks sound are say g = absurd (cc)
 definitions_told opened past version n (ws ∷ own) (s ∷ ss) k (l ∷ lines) more last e few ranks sound are say g =
     let on = led opened version k ws s ss last e few sound say.0 g in
-    let step : definition_step version k l.first l.rest ≡ Ok (None, on.next) = ap (step_by version k) (first_same _ _ _ _ are) ∙ step_told version k on.next ws on.leads in
-    let all = definitions_told opened past version n own ss on.next lines more last e few ranks on.sound (ap (drop 1) are) say.1 on.grown in
-    record {
-      known = all.known;
-      rest = all.rest;
-      read = ap (λ (x : Result (Option ℕ × Known) ScriptKind). defined_by past version lines (at_line l.number x)) step ∙ all.read;
-      words = all.words;
-      sound = all.sound;
-      grown = all.grown;
-    }
+    grind (arith, nat_tests, first_same, step_again, definitions_told opened past version n own ss on.next lines more last e few ranks on.sound (ap (drop 1) are), say.1, on.grown, l.number, step_by)
 
 -- ---- what is known then
 

@@ -1,5 +1,5 @@
 -- What the words of a line between the head and `data` say, where they are read, and that it may stand there.
-use Rattle.script_spelling.proofs.Words.{cond-true, ◌≡◌, ◌∙◌, ℕ, zero, suc, ◌<◌, ◌≤◌, List, [], ◌∷◌, position, length, true, false, Option, Some, None, is_some, is_none, slice_get, unwrap_or, Ok, refl, sym, ap, subst, arith, bytes_eq, codes, list_any, list_all, and_parts, length-map, cond_some, none_of_test, not_some, some_of_map, faultless_some, NcType, Dim, Attr, Var, most_dims, most_dims_of_var, most_vars, Word, Plain, is_name, between_brackets, parts, all_some, or_fault, reads_as, values, HintForm, Within, Either, HintRow, hint_table, hint_form, hint_of_text, no_row, hint_in, hint_value, hint_line, ranks_line, number_within, one_of_two, type_of, length_of_text, is_among, dim_ids, dim_line, var_head, name_list, shape, added_shape, var_names, var_line, owner_of_text, owner_name, Title, same_title, attr_of, attribute_name, attribute, VarLine, RanksAre, HintIs, DimIs, VarIs, AttIs, hint_value_of, owner_word, IsOwner, Says, DimStands, VarStands, nat_tests, ◌>>=◌, Result, ScriptKind, cond-false, and_left, ne_eqb, not-false, leb-false, ltb-false, option_map}
+use Rattle.script_spelling.proofs.Words.{◌≡◌, ◌∙◌, ℕ, zero, suc, ◌<◌, ◌≤◌, List, [], ◌∷◌, position, length, true, false, Option, Some, None, is_some, is_none, slice_get, unwrap_or, Ok, refl, sym, ap, subst, arith, bytes_eq, codes, list_any, list_all, and_parts, length-map, cond_some, none_of_test, not_some, some_of_map, faultless_some, NcType, Dim, Attr, Var, most_dims, most_dims_of_var, most_vars, Word, Plain, is_name, between_brackets, parts, all_some, or_fault, reads_as, values, HintForm, Within, Either, HintRow, hint_table, hint_form, hint_of_text, no_row, hint_in, hint_value, hint_line, ranks_line, number_within, one_of_two, type_of, length_of_text, is_among, dim_ids, dim_line, var_head, name_list, shape, added_shape, var_names, var_line, owner_of_text, owner_name, Title, same_title, attr_of, attribute_name, attribute, VarLine, RanksAre, HintIs, DimIs, VarIs, AttIs, hint_value_of, owner_word, IsOwner, Says, DimStands, VarStands, nat_tests, ◌>>=◌, Result, ScriptKind, and_left, ne_eqb, leb-false, ltb-false, option_map}
 use Rattle.script_spelling.proofs.Steps.{same_ok, step_then, free_then, end_then, decided}
 use Rattle.script_spelling.proofs.Places.{bytes_same}
 use Rattle.script_spelling.proofs.WordsRead.{WordRead, word_is, NameRead, read_then, named_then}
@@ -33,8 +33,7 @@ pub hint_said : (version : ℕ) (hints : List (Option ℕ)) (ws : List Word) (r 
 hint_said version hints ws r h =
     read_then hint_of_text _ ws _ r refl h (λ n w h. free_then (is_some (hint_in n.0 hints)) _ _ r h (λ free h. step_then (hint_value (hint_form n.0) n.1) _ r h (λ v told h. end_then v.1 _ r h (λ none h.
     let x = hint_word (hint_form n.0) n.1 v (no_quote hint_table n.0 refl) told in
-    subst (HintSaid version hints (Plain (codes "hint") ∷ ws)) (same_ok (n.0, v.0) r h)
-    (record { says = (w.word, x.word, three_words (codes "hint") w.word x.word ws n.1 v.1 w.are x.are none, w.says, x.says); free = not_some (hint_in n.0 hints) free })))))
+    grind (arith, nat_tests, same_ok, three_words, not_some, w.says, x.says)))))
 
 -- ---- dimensions
 
@@ -78,9 +77,7 @@ pub record NamesSaid (ws : List Word) (r : List (List ℕ) × List Word) : Type 
   pub named : list_all is_name r.0 ≡ true
 
 pub names_said : (ws : List Word) (r : List (List ℕ) × List Word) → name_list ws ≡ Ok r → NamesSaid ws r
-names_said ws r h =
-    read_then between_brackets _ ws _ r refl h (λ a w h. free_then _ _ _ r h (λ all h.
-    subst (NamesSaid ws) (same_ok (parts a.0, a.1) r h) (record { word = w.word; are = w.are; inside = a.0; between = w.says; parts_are = refl; named = not-false _ all })))
+names_said ws r h = grind (arith, nat_tests, read_then, free_then, same_ok)
 
 var_says : (version : ℕ) (names : List (List ℕ)) (ws : List Word) (v : (NcType × List ℕ) × List Word) (ns : List (List ℕ) × List Word) → HeadSaid version names ws v → NamesSaid v.1 ns → ns.1 ≡ []
     → Says version (Plain (codes "var") ∷ ws) (VarIs (record { kind = v.0.0; name = v.0.1; dims = ns.0 }))
@@ -137,8 +134,7 @@ pub no_colon : (n : List ℕ) → is_name n ≡ true → bytes_eq n (codes ":") 
 no_colon n h = grind (arith, nat_tests, and_parts, and_left, ne_eqb)
 
 pub owner_told : (owner : Option (List ℕ)) → IsOwner owner → (owner_of_text (owner_word owner) ≡ Some (owner_word owner)) × (owner_name (owner_word owner) ≡ owner)
-owner_told None is = (refl, refl)
-owner_told (Some n) is = (cond-false _ _ _ (no_colon n is) ∙ cond-true _ _ _ is, cond-false _ _ _ (no_colon n is))
+owner_told owner is = grind (arith, nat_tests)
 
 -- the owner of an attribute, by its word
 pub owner_then : {B P : Type 0} (ws : List Word) (f : List ℕ × List Word → Result B ScriptKind) (y : B) → (reads_as owner_of_text kind.BadName ws >>= f) ≡ Ok y

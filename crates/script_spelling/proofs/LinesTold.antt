@@ -1,5 +1,5 @@
 -- Words that say a statement are read as what they say, where it may stand.
-use Rattle.script_spelling.proofs.Words.{◌≡◌, ℕ, suc, ◌<◌, ◌≤◌, List, [], ◌∷◌, position, length, Bool, true, false, not, nat_lt, ◌||◌, Some, None, Ok, refl, sym, ap, inr, arith, bytes_eq, codes, list_any, list_all, le-ltb, length-map, count_of, Dim, Attr, Var, Values, most_dims_of_var, most_vars, Word, Plain, is_name, between_brackets, parts, reads_as, name, HintForm, Within, Either, hint_value, ranks_line, number_within, one_of_two, type_of, length_of_text, is_among, dim_ids, dim_line, var_head, name_list, var_names, var_line, owner_place, Title, same_title, attr_of, attribute, SpellsValues, VarLine, hint_value_of, DimStands, VarStands, nat_tests, ◌∙◌, Added, var_addition, ◌++◌}
+use Rattle.script_spelling.proofs.Words.{◌≡◌, ℕ, suc, ◌<◌, ◌≤◌, List, [], ◌∷◌, position, length, Bool, true, false, not, nat_lt, ◌||◌, Some, None, Ok, refl, sym, ap, inr, arith, bytes_eq, codes, list_any, list_all, le-ltb, length-map, count_of, Dim, Attr, Var, Values, most_dims_of_var, most_vars, Word, Plain, is_name, between_brackets, parts, reads_as, name, HintForm, hint_value, ranks_line, number_within, type_of, length_of_text, is_among, dim_ids, dim_line, var_head, name_list, var_names, var_line, owner_place, Title, same_title, attr_of, attribute, SpellsValues, VarLine, hint_value_of, DimStands, VarStands, nat_tests, ◌∙◌, Added, var_addition, ◌++◌}
 use Rattle.script_spelling.proofs.Steps.{go_on, passed, faultless, word_read, by_false}
 use Rattle.script_spelling.proofs.Places.{place_here, place_later}
 use Rattle.script_spelling.proofs.Rooms.{HasRoom}
@@ -19,8 +19,7 @@ pub ranks_told : (w : List ℕ) (n : ℕ) → number_within 1 64 1 w ≡ Some n 
 ranks_told w n h = go_on (reads_as (number_within 1 64 1) kind.BadNumber (Plain w ∷ [])) _ (n, []) n (word_read (number_within 1 64 1) kind.BadNumber w n [] h) refl
 
 pub hint_told : (f : HintForm) (w : List ℕ) (v : ℕ) → hint_value_of f w ≡ Some v → hint_value f (Plain w ∷ []) ≡ Ok (v, [])
-hint_told (Within low high unit) w v h = word_read (number_within low high unit) kind.BadNumber w v [] h
-hint_told (Either a b) w v h = word_read (one_of_two a b) kind.UnknownWord w v [] h
+hint_told f w v h = grind (arith, nat_tests)
 
 -- ---- dimensions
 

@@ -4,7 +4,7 @@ use Rattle.script_spelling.proofs.Steps.{went, same_ok, tested, by_false, step_t
 use Rattle.script_spelling.proofs.Places.{bytes_same, place_cases}
 use Rattle.script_spelling.proofs.PushedAttrs.{pushes}
 use Rattle.script_spelling.proofs.LinesRead.{no_colon, dim_said, var_said, owner_then, attr_said}
-use Rattle.script_spelling.proofs.GrownVars.{are_apart, apart_pushed, names_pushed, names_kept, later_names, grown_vars, var_step, attr_step}
+use Rattle.script_spelling.proofs.GrownVars.{are_apart, apart_pushed, names_pushed, names_kept, later_names, var_step, attr_step}
 use Rattle.script_spelling.proofs.TakenLines.{Fine, Taken, grown_with}
 use Rattle.nc_base.specs.declared.errors.ScriptKind.TheVariants as kind
 
@@ -43,8 +43,7 @@ new_var version k ws x fine h =
       fine = record { long = fine.long; apart = subst (λ (ns : List (List ℕ)). are_apart ns ≡ true) (sym names) (apart_pushed (var_names d.vars) said.line.name fine.apart said.stands.0) };
       grown = λ ss last g.
           let vars = g.part.3 ∙ var_step d.dims (dims_in ss) last.defined.dims (λ n. attrs_of n ss) d.vars said.line (vars_in ss) v g.part.1 said.found said.same in
-          let stand = subst (λ (ns : List (List ℕ)). Stand false d.dims ns d.titles ss) names g.part.4 in
-          grown_with g.ranks g.hints g.filled (g.part.0, g.part.1, g.part.2, vars, (said.stands, stand));
+          grind (arith, nat_tests, grown_with, d.dims, d.titles, g.part.4, g.part.0, g.part.1, g.part.2, said.stands);
     })
 
 abbrev defined_with : List ℕ → Option ℕ → Attr → Defined → ℕ × Defined
@@ -70,8 +69,7 @@ new_attr version k words owner place a fine at says fresh =
           let stand = subst (λ (ns : List (List ℕ)). Stand false d.dims ns (d.titles ++ (owner, a.name) ∷ []) ss) names g.part.4 in
           let later = later_names false d.dims (var_names d.vars) (d.titles ++ (owner, a.name) ∷ []) ss owner stand there in
           let step = attr_step last.defined.dims (λ n. attrs_of n ss) owner a place d.vars (vars_in ss) at fine.apart later in
-          let same = g.part.3 ∙ (ap (λ (vs : List Var). grown_vars last.defined.dims (λ n. attrs_of n ss) vs (vars_in ss)) vars ∙ sym step) in
-          grown_with g.ranks g.hints g.filled (g.part.0, g.part.1, g.part.2, same, (there, fresh, stand));
+          grind (arith, nat_tests, grown_with, g.part.3, last.defined.dims, g.part.0, g.part.1, g.part.2, attrs_of, vars_in);
     }
 
 -- an attribute of any owner
@@ -94,9 +92,7 @@ new_att version k ws x fine h =
     let d = k.defined in
     owner_then ws _ x h (λ o more is are h. step_then (owner_place d.vars (owner_word o)) _ x h (λ p at h. step_then (attribute version d.titles k.values (owner_word o) more) _ x h (λ a told h.
     let attr = attr_said version d.titles k.values (owner_word o) more a told in
-    subst (λ (xs : List Word). TakenNew version k (Plain (codes "att") ∷ xs) x) (sym are)
-    (subst (TakenNew version k (Plain (codes "att") ∷ Plain (owner_word o) ∷ more)) (same_ok (defined_with (owner_word o) p a d) x h)
-    (attr_of_owner version k (Plain (codes "att") ∷ Plain (owner_word o) ∷ more) o p a fine is at (attr.says o is) attr.fresh)))))
+    grind (arith, nat_tests, same_ok, attr_of_owner, attr.fresh, TakenNew, owner_word, defined_with))))
 
 new_fill : (version : ℕ) (k : Known) (ws : List Word) (x : ℕ × Defined) → Fine k → fill_line k.defined ws ≡ Ok x → TakenNew version k (Plain (codes "fill") ∷ ws) x
 new_fill version k ws x fine h = grind (arith, nat_tests)

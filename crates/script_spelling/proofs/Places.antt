@@ -23,7 +23,7 @@ place_here p x xs h = position_cons p x xs ∙ cond-true _ _ _ h
 pub place_later : {A : Type 0} (p : A → Bool) (x : A) (xs : List A) (k : ℕ) → p x ≡ false → position p xs ≡ Some k → position p (x ∷ xs) ≡ Some (suc k)
 place_later p x xs k h e = position_cons p x xs ∙ (cond-false _ _ _ h ∙ ap (option_map suc) e)
 
-pub place_more : {A : Type 0} (p : A → Bool) (xs ys : List A) (k : ℕ) → position p xs ≡ Some k → position p (xs ++ ys) ≡ Some k
+place_more : {A : Type 0} (p : A → Bool) (xs ys : List A) (k : ℕ) → position p xs ≡ Some k → position p (xs ++ ys) ≡ Some k
 place_more p [] ys k h = absurd (cc)
 place_more p (x ∷ xs) ys k h = grind (arith, nat_tests, position_cons p x xs, position_cons p x (xs ++ ys), option_map, place_more p xs ys)
 
@@ -100,8 +100,7 @@ same_records dims more (i ∷ ids) h =
     grind (arith, nat_tests, same_records dims more ids (and_parts (nat_lt i (length dims)) (are_within dims ids) h).1, and_parts, nat_lt, get_left, ltb-true)
 
 rest_within : (dims : List Dim) (ids : List ℕ) → are_within dims ids ≡ true → are_within dims (drop 1 ids) ≡ true
-rest_within dims [] h = refl
-rest_within dims (i ∷ ids) h = (and_parts (nat_lt i (length dims)) (are_within dims ids) h).1
+rest_within dims ids h = grind (arith, nat_tests)
 
 pub more_records : (dims more : List Dim) (ns : List (List ℕ)) (ids : List ℕ) → dim_ids dims ns ≡ Some ids → list_any (is_record_dim dims) (drop 1 ids) ≡ false → list_any (is_record_dim (dims ++ more)) (drop 1 ids) ≡ false
 more_records dims more ns ids h none = same_records dims more (drop 1 ids) (rest_within dims ids (within_given dims ns ids h)) ∙ none

@@ -1,5 +1,5 @@
 -- Words that spell a region are read as this region, and what follows them is left.
-use Rattle.script_spelling.proofs.Words.{◌≡◌, ◌∙◌, ℕ, ◌≤◌, List, [], ◌∷◌, ◌++◌, flat_map, length, true, not, nat_lt, Ok, sym, ap, append_assoc, append-nil, arith, and_parts, le-ltb, leb-true, Form, Given, Part, most_parts, has_lists_of, is_given, Word, list_of_text, list, part_list, region, SpellsOne, Each, SpellsForm, SpellsRegion, nat_tests, Result, ◌>>=◌, given_of, ScriptKind}
+use Rattle.script_spelling.proofs.Words.{◌≡◌, ◌∙◌, ℕ, ◌≤◌, List, [], ◌∷◌, ◌++◌, flat_map, length, true, not, nat_lt, Ok, sym, ap, append_assoc, append-nil, arith, and_parts, le-ltb, Form, Given, Part, most_parts, has_lists_of, is_given, Word, list_of_text, list, part_list, region, SpellsOne, Each, SpellsForm, SpellsRegion, nat_tests, Result, ◌>>=◌, given_of, ScriptKind}
 use Rattle.script_spelling.proofs.Steps.{go_on, passed, word_read, carry_on}
 use Rattle.serial_spec.proofs.MemberLaws.{empty_list}
 use Rattle.nc_base.specs.declared.errors.ScriptKind.TheVariants as kind
@@ -57,7 +57,4 @@ by_form s c d m ps more form.Varm ws h lists few =
 by_form s c d m ps more form.Varn ws h lists few = varn_told s c d m ps more ws h lists few
 
 pub region_told : (g : Given) (ws more : List Word) → SpellsRegion ws g → is_given g ≡ true → region g.form (ws ++ more) ≡ Ok (g, more)
-region_told g ws more h given =
-    let few = and_parts _ _ given in
-    let p1 = and_parts _ _ (and_parts _ _ (and_parts _ _ (and_parts _ _ (and_parts _ _ few.0).0).0).0).0 in
-    by_form g.start g.count g.stride g.imap g.parts more g.form ws h p1.0 (leb-true (length g.parts) most_parts few.1)
+region_told g ws more h given = grind (arith, nat_tests, by_form g.start g.count g.stride g.imap g.parts more g.form ws h)

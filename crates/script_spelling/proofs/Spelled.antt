@@ -1,5 +1,5 @@
 -- A text that is read spells its script.
-use Rattle.script_spelling.proofs.Words.{◌≡◌, ◌∙◌, ℕ, zero, suc, ◌+◌, List, [], ◌∷◌, ◌++◌, map, replicate, length, Bool, true, false, not, nat_lt, ◌==◌, Some, None, Ok, refl, sym, ap, subst, append_assoc, arith, bytes_eq, codes, utf8_valid_len, AllZip, list_all, range_with_len, eqb-true, ne_eqb, length-replicate, Call, Script, Word, Plain, Quoted, Broken, Line, text_lines, significant, hint_in, Known, nothing_known, Called, at_line, version_of_text, head, definitions, data_part, finish, script_of, no_calls, script_of_lines, Reads, read_lawful, Statement, Says, Stand, calls_in, ToDataset, Describes, IsVarOf, VarLine, attrs_of, vars_in, SpellsCallLine, SpellsHead, version_of_lines, Sections, lines_of, Spells, nat_tests, at_most_one, hint_values, Option, header_of, no_definition}
+use Rattle.script_spelling.proofs.Words.{◌≡◌, ◌∙◌, ℕ, zero, suc, ◌+◌, List, [], ◌∷◌, ◌++◌, map, replicate, length, Bool, true, false, not, nat_lt, ◌==◌, Some, None, Ok, refl, sym, ap, subst, append_assoc, arith, bytes_eq, codes, utf8_valid_len, AllZip, list_all, range_with_len, eqb-true, ne_eqb, length-replicate, Call, Script, Word, Plain, Quoted, Broken, Line, text_lines, significant, hint_in, Known, nothing_known, Called, version_of_text, head, definitions, script_of, no_calls, script_of_lines, Reads, read_lawful, Statement, Says, Stand, calls_in, ToDataset, Describes, IsVarOf, VarLine, attrs_of, vars_in, SpellsCallLine, SpellsHead, version_of_lines, Sections, lines_of, Spells, nat_tests, at_most_one, hint_values, header_of, no_definition}
 use Rattle.script_spelling.proofs.Steps.{same_ok, whole_value, tested, step_then}
 use Rattle.script_spelling.proofs.CallCounts.{line_ok, is_text}
 use Rattle.script_spelling.proofs.Places.{bytes_same}
@@ -25,15 +25,11 @@ head_read (Plain w) ws version h =
     tested (bytes_eq w (codes "create")) _ _ _ h
     (λ a k. read_then version_of_text _ ws _ version refl k (λ v word k.
     let end = whole_value v version k in
-    let says = word.says ∙ ap (λ (x : ℕ). Some x) end.0 in
-    let words = ap (λ (x : List ℕ). Plain x ∷ ws) (bytes_same w (codes "create") a)
-    ∙ ap (λ (xs : List Word). Plain (codes "create") ∷ xs) (word.are ∙ ap (λ (xs : List Word). Plain word.word ∷ xs) end.1) in
-    subst (λ (b : Bool). SpellsHead (Plain w ∷ ws) (not b) version) (sym (no_zero word.word version says)) (word.word, words, says)))
+    grind (arith, nat_tests, bytes_same w (codes "create") a, no_zero word.word version, word.says, end.0, word.are, end.1)))
     (λ a k. tested (bytes_eq w (codes "open")) _ _ _ k
     (λ b k.
     let end = whole_value (0, ws) version k in
-    let words = ap (λ (x : List ℕ). Plain x ∷ ws) (bytes_same w (codes "open") b) ∙ ap (λ (xs : List Word). Plain (codes "open") ∷ xs) end.1 in
-    subst (HeadRead (Plain w ∷ ws)) end.0 (words, refl)) (λ b k. absurd (cc)))
+    grind (arith, nat_tests, bytes_same w (codes "open") b, end.1, end.0)) (λ b k. absurd (cc)))
 
 -- ---- what is known at `data` is what the statements say
 
@@ -54,24 +50,13 @@ dataset_read false version ranks ss known calls e p = record { dims = p.1; vars 
 describes_read : (version ranks : ℕ) (ss : List Statement) (known : Known) (called : List (ℕ × Call)) (calls : List (List Call))
     → Grown (version == 0) nothing_known ss known → known.ranks ≡ Some ranks → list_all (λ c. nat_lt c.0 ranks) called ≡ true → calls ≡ map (λ r. calls_in r called) (range_with_len 0 ranks)
     → Describes ss called (script_of version ranks known calls)
-describes_read version ranks ss known called calls grown told low same = record {
-  ranks = sym grown.ranks ∙ ap at_most_one told;
-  hint_table = known.hints;
-  given = λ h. sym (grown.hints h ∙ ap (λ (o : Option ℕ). at_most_one o ++ hint_values h ss) (none_given 10 h));
-  hints = refl;
-  filled = omega (arith, grown.filled);
-  dataset = dataset_read (version == 0) version ranks ss known calls refl grown.part;
-  there = low;
-  calls = same;
-}
+describes_read version ranks ss known called calls grown told low same = grind (arith, nat_tests, none_given, dataset_read, at_most_one, hint_values)
 
 stand_read : (opened : Bool) (ss : List Statement) (known : Known) → Part opened nothing_known ss known → Stand opened [] [] [] ss
-stand_read true ss known p = p.2
-stand_read false ss known p = p.4
+stand_read opened ss known p = grind (arith, nat_tests)
 
 pub no_not : (b : Bool) → not (not b) ≡ b
-no_not true = refl
-no_not false = refl
+no_not b = grind (arith, nat_tests)
 
 -- ---- all lines
 
@@ -86,10 +71,6 @@ pub record LinesSpelled (lines : List (List Word)) (script : Script) : Type 0 wh
   pub called : List (ℕ × Call)
   pub call : AllZip SpellsCallLine sections.after_data called
   pub describes : Describes statements called script
-
-finished_lines : (n : ℕ) (calls : List (List Call)) (lines : List Line) (u : Unit {0}) → finish n calls lines ≡ Ok u → lines ≡ []
-finished_lines n calls [] u h = refl
-finished_lines n calls (l ∷ lines) u h = absurd (cc)
 
 -- the head, the definitions that are read up to `data`, and the calls up to `end`
 parts_spelled : (version : ℕ) (l : Line) (lines : List Line) (d : ℕ × (Known × List Line)) (c : ℕ × (Called × List Line)) → HeadRead (words_of l) version
@@ -113,14 +94,7 @@ parts_spelled version l lines d c first defined calls last =
     }
 
 lines_spelled : (past : ℕ) (lines : List Line) (script : Script) → script_of_lines past lines ≡ Ok script → LinesSpelled (map words_of lines) script
-lines_spelled past [] script h = absurd (cc)
-lines_spelled past (l ∷ lines) script h =
-    step_then (at_line l.number (head l.first l.rest)) _ script h (λ v heads h. step_then (definitions past v nothing_known lines) _ script h (λ d told h.
-    step_then (data_part past (no_calls d.0 d.1.0) d.1.1) _ script h (λ c called h. step_then (finish c.0 c.1.0.calls c.1.1) _ script h (λ f ends h.
-    subst (LinesSpelled (map words_of (l ∷ lines))) (same_ok (script_of v d.0 d.1.0 c.1.0.calls) script h)
-    (parts_spelled v l lines d c (head_read l.first l.rest v (line_ok l.number (head l.first l.rest) v heads))
-    (definitions_read (v == 0) past v nothing_known lines d refl (record { long = refl; apart = refl }) told) (calls_read past (no_calls d.0 d.1.0) d.1.1 c called)
-    (finished_lines c.0 c.1.0.calls c.1.1 f ends))))))
+lines_spelled past lines script h = grind (arith, nat_tests, step_then, no_calls, same_ok, parts_spelled, head_read, line_ok, definitions_read, calls_read)
 
 -- ---- a whole text
 

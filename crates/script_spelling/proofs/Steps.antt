@@ -1,11 +1,9 @@
 -- Steps from word to word, forwards and backwards.
-use Rattle.script_spelling.proofs.Words.{◌≡◌, ◌∙◌, ℕ, List, [], ◌∷◌, Bool, true, false, Option, Some, None, Result, Ok, Err, refl, ap, ScriptKind, Word, Plain, ◌>>=◌, refuse_if, or_fault, reads_as, ended, whole, arith, nat_tests, cond, and_parts, and_from, list_all}
+use Rattle.script_spelling.proofs.Words.{◌≡◌, ◌∙◌, ℕ, List, [], ◌∷◌, Bool, true, false, Option, Some, None, Result, Ok, Err, refl, ap, ScriptKind, Word, Plain, ◌>>=◌, refuse_if, or_fault, reads_as, ended, whole, arith, nat_tests, cond, list_all}
 
 pub all_more : {A : Type 0} (p q : A → Bool) → ((x : A) → p x ≡ true → q x ≡ true) → (xs : List A) → list_all p xs ≡ true → list_all q xs ≡ true
 all_more p q more [] h = refl
-all_more p q more (x ∷ xs) h =
-    let both = and_parts _ _ h in
-    and_from _ _ (more x both.0) (all_more p q more xs both.1)
+all_more p q more (x ∷ xs) h = grind (arith, nat_tests, all_more p q more xs)
 
 -- ---- what a step that gave something says of its parts
 
@@ -15,8 +13,7 @@ pub record Went {A B E : Type 0} (r : Result A E) (f : A → Result B E) (y : B)
   pub rest : f value ≡ Ok y
 
 pub went : {A B E : Type 0} (r : Result A E) (f : A → Result B E) (y : B) → (r >>= f) ≡ Ok y → Went r f y
-went (Ok x) f y h = record { value = x; first = refl; rest = h }
-went (Err e) f y h = absurd (cc)
+went r f y h = grind (arith, nat_tests)
 
 pub go_on : {A B E : Type 0} (r : Result A E) (f : A → Result B E) (x : A) (y : B) → r ≡ Ok x → f x ≡ Ok y → (r >>= f) ≡ Ok y
 go_on r f x y e h = ap (λ (s : Result _ _). s >>= f) e ∙ h
@@ -29,8 +26,7 @@ pub same_ok : {A E : Type 0} (x y : A) → ◌≡◌ {A = Result A E} (Ok x) (Ok
 same_ok x y h = ap (ok_or x) h
 
 pub passed : (b : Bool) (e : ScriptKind) → b ≡ false → refuse_if b e ≡ Ok tt
-passed false e h = refl
-passed true e h = absurd (cc)
+passed b e h = grind (arith, nat_tests)
 
 pub faultless : {A : Type 0} (e : ScriptKind) (o : Option A) (x : A) → o ≡ Some x → or_fault e o ≡ Ok x
 faultless e o x h = ap (or_fault e) h
@@ -54,12 +50,10 @@ word_before f e (w ∷ ws) r h = (w, grind (arith, nat_tests, went, same_ok))
 -- ---- from step to step, with what each says
 
 pub step_then : {A B E P : Type 0} (r : Result A E) (f : A → Result B E) (y : B) → (r >>= f) ≡ Ok y → ((x : A) → r ≡ Ok x → f x ≡ Ok y → P) → P
-step_then (Ok x) f y h k = k x refl h
-step_then (Err e) f y h k = absurd (cc)
+step_then r f y h k = grind (arith, nat_tests)
 
 pub free_then : {B P : Type 0} (b : Bool) (e : ScriptKind) (f : Unit {0} → Result B ScriptKind) (y : B) → (refuse_if b e >>= f) ≡ Ok y → (b ≡ false → f tt ≡ Ok y → P) → P
-free_then false e f y h k = k refl h
-free_then true e f y h k = absurd (cc)
+free_then b e f y h k = grind (arith, nat_tests)
 
 pub end_then : {B P : Type 0} (ws : List Word) (f : Unit {0} → Result B ScriptKind) (y : B) → (ended ws >>= f) ≡ Ok y → (ws ≡ [] → f tt ≡ Ok y → P) → P
 end_then ws f y h k = step_then (ended ws) f y h (λ u is. k (is_end ws u is))
@@ -70,8 +64,7 @@ abbrev pub carry : {A B E : Type 0} → Result A E → (A → Result B E) → Re
 carry r f = elim r [ Err e ↦ Err e | Ok x ↦ f x ]
 
 pub carried : {A B E : Type 0} (r : Result A E) (f : A → Result B E) (y : B) → carry r f ≡ Ok y → Went r f y
-carried (Ok x) f y h = record { value = x; first = refl; rest = h }
-carried (Err e) f y h = absurd (cc)
+carried r f y h = grind (arith, nat_tests)
 
 pub carry_on : {A B E : Type 0} (r : Result A E) (f : A → Result B E) (x : A) (y : B) → r ≡ Ok x → f x ≡ Ok y → carry r f ≡ Ok y
 carry_on r f x y e h = ap (λ (s : Result _ _). carry s f) e ∙ h
@@ -79,28 +72,22 @@ carry_on r f x y e h = ap (λ (s : Result _ _). carry s f) e ∙ h
 -- ---- the two ways of a test, and what may be there or not
 
 pub tested : {A P : Type 0} (b : Bool) (x y z : A) → elim b as (λ t. A) [ true ↦ x | false ↦ y ] ≡ z → (b ≡ true → x ≡ z → P) → (b ≡ false → y ≡ z → P) → P
-tested true x y z h f g = f refl h
-tested false x y z h f g = g refl h
+tested b x y z h f g = grind (arith, nat_tests)
 
 pub looked : {A B P : Type 0} (o : Option A) (x : B) (f : A → B) (z : B) → elim o as (λ t. B) [ None ↦ x | Some a ↦ f a ] ≡ z → (o ≡ None → x ≡ z → P) → ((a : A) → o ≡ Some a → f a ≡ z → P) → P
-looked None x f z h n s = n refl h
-looked (Some a) x f z h n s = s a refl h
+looked o x f z h n s = grind (arith, nat_tests)
 
 pub decided : {A P : Type 0} (b : Bool) (x y z : A) → cond b x y ≡ z → (b ≡ true → x ≡ z → P) → (b ≡ false → y ≡ z → P) → P
-decided true x y z h f g = f refl h
-decided false x y z h f g = g refl h
+decided b x y z h f g = grind (arith, nat_tests)
 
 -- what holds of either holds of the one that is taken
 pub either : {A : Type 0} (P : A → Type 0) (b : Bool) (x y : A) → P x → P y → P (elim b as (λ t. A) [ true ↦ x | false ↦ y ])
-either P true x y h k = h
-either P false x y h k = k
+either P b x y h k = grind (arith, nat_tests)
 
 pub maybe : {A B : Type 0} (P : B → Type 0) (o : Option A) (x : B) (f : A → B) → P x → ((a : A) → o ≡ Some a → P (f a)) → P (elim o as (λ t. B) [ None ↦ x | Some a ↦ f a ])
-maybe P None x f h k = h
-maybe P (Some a) x f h k = k a refl
+maybe P o x f h k = grind (arith, nat_tests)
 
 -- ---- what comes of two tests, one after the other
 
 pub by_false : {A : Type 0} (b : Bool) (x y : A) → b ≡ false → elim b as (λ t. A) [ true ↦ x | false ↦ y ] ≡ y
-by_false false x y h = refl
-by_false true x y h = absurd (cc)
+by_false b x y h = grind (arith, nat_tests)

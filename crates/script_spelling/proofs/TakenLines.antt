@@ -44,8 +44,7 @@ pub record Taken (opened : Bool) (version : ℕ) (k : Known) (words : List Word)
 -- ---- ranks and hints
 
 ranks_part : (opened : Bool) (k : Known) (n : ℕ) (ss : List Statement) (last : Known) → Part opened (record k { ranks = Some n }) ss last → Part opened k (RanksAre n ∷ ss) last
-ranks_part true k n ss last p = p
-ranks_part false k n ss last p = p
+ranks_part opened k n ss last p = grind (arith, nat_tests)
 
 pub ranks_taken : (opened : Bool) (version : ℕ) (k : Known) (ws : List Word) (next : Known) → Fine k → (ranks_line k.ranks ws >>= λ n. Ok (record k { ranks = Some n })) ≡ Ok next → Taken opened version k (Plain (codes "ranks") ∷ ws) next
 ranks_taken opened version k ws next fine h =
@@ -74,8 +73,7 @@ pub hint_elsewhere : (hints : List (Option ℕ)) (i j v : ℕ) → (j ≡ i → 
 hint_elsewhere hints i j v other = ap hint_by (entry_set_other hints i j (Some v) other)
 
 hint_part : (opened : Bool) (k : Known) (i v : ℕ) (hints : List (Option ℕ)) (ss : List Statement) (last : Known) → Part opened (record k { hints = hints }) ss last → Part opened k (HintIs i v ∷ ss) last
-hint_part true k i v hints ss last p = p
-hint_part false k i v hints ss last p = p
+hint_part opened k i v hints ss last p = grind (arith, nat_tests)
 
 pub differ : (i j : ℕ) → (i == j) ≡ false → i ≡ j → ⊥
 differ i j e same = let equal = equal_true i j same in absurd (cc)

@@ -1,7 +1,7 @@
 -- A text that spells a script is read as this script.
-use Rattle.script_spelling.proofs.Words.{◌≡◌, ◌∙◌, ℕ, ◌+◌, ◌≤◌, List, [], ◌∷◌, ◌++◌, map, drop, length, Bool, true, false, not, cond, ◌==◌, Option, Some, None, Result, Ok, Err, refl, sym, ap, subst, append_assoc, arith, codes, AllZip, utf8_valid_len, eq-eqb, length-replicate, some_not_none, first_same, ScriptErr, ScriptKind, Dim, Header, Call, Script, most_values, values_in_script, lawful_parts, Word, Plain, Line, text_lines, significant, no_definition, Defined, Known, nothing_known, head, definitions, data_part, finish, header_of, script_of, no_calls, script_of_lines, script_of_text, fault_of, script_fault, Reads, Statement, RanksAre, HintIs, IsFilled, DimIs, VarIs, AttIs, Says, Stand, attrs_of, vars_in, calls_in, fills_in, ToDataset, Describes, SpellsHead, Sections, lines_of, Spells, nat_tests}
+use Rattle.script_spelling.proofs.Words.{◌≡◌, ◌∙◌, ℕ, ◌+◌, ◌≤◌, List, [], ◌∷◌, ◌++◌, map, drop, length, Bool, true, false, not, cond, ◌==◌, Option, Some, None, Result, Ok, Err, refl, sym, ap, subst, append_assoc, arith, codes, AllZip, utf8_valid_len, eq-eqb, length-replicate, some_not_none, ScriptErr, ScriptKind, Dim, Header, Call, Script, most_values, values_in_script, lawful_parts, Word, Plain, Line, text_lines, significant, no_definition, Defined, Known, nothing_known, head, header_of, script_of, no_calls, script_of_lines, script_of_text, fault_of, script_fault, Reads, Statement, RanksAre, HintIs, IsFilled, DimIs, VarIs, AttIs, Says, Stand, attrs_of, vars_in, calls_in, fills_in, ToDataset, Describes, SpellsHead, Sections, lines_of, Spells, nat_tests}
 use Rattle.script_spelling.proofs.Steps.{go_on, same_ok, word_read}
-use Rattle.script_spelling.proofs.CallCounts.{count_all, finish_by, count_empty, text_again}
+use Rattle.script_spelling.proofs.CallCounts.{count_all, count_empty, text_again}
 use Rattle.script_spelling.proofs.Agreement.{agreement}
 use Rattle.script_spelling.proofs.Spelled.{no_zero, none_given, no_not, read_spelled}
 use Rattle.script_spelling.proofs.CallLinesRead.{words_of, from_none}
@@ -48,8 +48,7 @@ no_fill (VarIs line ∷ ss) dims names titles h = no_fill ss dims _ titles h.1
 no_fill (AttIs owner a ∷ ss) dims names titles h = no_fill ss dims names _ h.2
 
 pub not_filled : (filled : Bool) (n : ℕ) → n ≡ cond filled 1 0 → n ≡ 0 → filled ≡ false
-not_filled true n h none = absurd (omega (arith, h, none))
-not_filled false n h none = refl
+not_filled filled n h none = grind (arith, nat_tests)
 
 opened_defines : (header : Header) (filled : Bool) → header ≡ header_of 0 no_definition → filled ≡ false
     → ◌≡◌ {A = Defined} (record { dims = header.dims; vars = header.vars; attrs = header.attrs; titles = []; filled = filled }) no_definition
@@ -69,22 +68,12 @@ values_told s hints = refl
 
 -- ---- the script by its parts
 
-no_records : (fresh : Bool) (ss : List Statement) (s : Script) → ToDataset fresh ss s → 0 ≡ s.header.records
-no_records true ss s d = sym d.records
-no_records false ss s d = sym (ap (λ (h : Header). h.records) d.header)
-
 script_told : (s : Script) (ss : List Statement) (called : List (ℕ × Call)) (d : Describes ss called s) (known : Known) → (s.header.version == 0) ≡ not s.fresh → Grown (not s.fresh) known [] (known_of s d.hint_table)
     → script_of s.header.version s.ranks known s.calls ≡ s
 script_told s ss called d known mode g =
-    grind (arith, nat_tests, no_not s.fresh, no_records s.fresh ss s d.dataset, same_parts (not s.fresh) known (known_of s d.hint_table) g, same_hints (not s.fresh) s.ranks known (known_of s d.hint_table) g, d.hints)
+    grind (arith, nat_tests, no_not s.fresh, same_parts (not s.fresh) known (known_of s d.hint_table) g, same_hints (not s.fresh) s.ranks known (known_of s d.hint_table) g, d.hints)
 
 -- ---- all lines
-
--- what the reader says of the lines, from what it says of its parts
-parts_told : (past version n : ℕ) (l : Line) (lines rest : List Line) (known : Known) (end values : ℕ) (calls : List (List Call)) (s : Script) → head l.first l.rest ≡ Ok version
-    → definitions past version nothing_known lines ≡ Ok (n, (known, rest)) → data_part past (no_calls n known) rest ≡ Ok (end, (record { calls = calls; values = values }, [])) → finish end calls [] ≡ Ok tt → script_of version n known calls ≡ s
-    → script_of_lines past (l ∷ lines) ≡ Ok s
-parts_told past version n l lines rest known end values calls s first defined called last same = grind (arith, nat_tests, go_on)
 
 -- the lines, from the first on
 in_order : (lines : List Line) (s : Sections) → map words_of lines ≡ lines_of s → map words_of lines ≡ s.head ∷ (s.before_data ++ ((Plain (codes "data") ∷ []) ∷ (s.after_data ++ (Plain (codes "end") ∷ []) ∷ [])))
@@ -96,7 +85,6 @@ lines_told text s past (l ∷ lines) h are =
     let e = in_order (l ∷ lines) h.sections are in
     let version = s.header.version in
     let first = head_told h.sections.head s.fresh version h.head in
-    let head_read : head l.first l.rest ≡ Ok version = ap head_by (first_same _ _ _ _ e) ∙ first.read in
     let lawful = lawful_parts s h.lawful in
     let last = known_of s h.describes.hint_table in
     let counted = values_told s h.describes.hint_table in
@@ -113,9 +101,7 @@ lines_told text s past (l ∷ lines) h are =
       long = length-replicate s.ranks [];
       counted = omega (arith, count_empty s.ranks);
     } in
-    let c = data_told past s.ranks base s.calls h.sections.after_data h.called d.rest (no_calls s.ranks d.known) all d.words h.call h.describes.there going in
-    parts_told past version s.ranks l lines d.rest d.known c.last c.values s.calls s head_read d.read c.read (ap (finish_by c.last) (agreement s.calls lawful.agreed))
-    (script_told s h.statements h.called h.describes d.known first.mode d.grown)
+    grind (arith, nat_tests, data_told past s.ranks base s.calls h.sections.after_data h.called d.rest (no_calls s.ranks d.known) all, no_calls s.ranks d.known, go_on, agreement s.calls lawful.agreed, script_told s h.statements h.called h.describes d.known first.mode d.grown, d.words, h.call, h.describes.there, d.read)
 
 -- ---- a whole text
 

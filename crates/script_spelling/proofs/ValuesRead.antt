@@ -1,5 +1,5 @@
 -- The words of values and regions that are read spell them.
-use Rattle.script_spelling.proofs.Words.{◌≡◌, ◌∙◌, ℕ, zero, suc, ◌<◌, List, [], ◌∷◌, ◌++◌, flat_map, length, Bool, true, false, not, nat_lt, ◌==◌, ◌&&◌, Option, Some, None, Ok, refl, sym, ap, subst, append_assoc, append-nil, arith, bytes_eq, codes, and_from, lt-ltb, NcType, Values, Numbers, Text, Bits, Form, Given, Part, Class, most_parts, Word, Plain, Quoted, Broken, size_of_text, number_of_text, bits_of_text, list_of_text, size, list, within_limits, are_numbers, are_patterns, may_be, number_for, pattern_for, one_value, each_value, sequence_count, sequence, is_term, pattern_sequence, is_pattern_term, pattern_values, text_values, number_values, bits_values, listed_kind, listed_values, values, given_of, given_parts, part, part_list, many_regions, region, SpellsOne, Each, SpellsSequence, SpellsBitSequence, SpellsValues, OfNothing, OfText, OfNumbers, OfBits, OfSequence, OfBitSequence, SpellsForm, SpellsRegion, nat_tests, ◌>>=◌, Result, ScriptKind, reads_as, refuse_if, ended, last_number, last_pattern, not-false}
+use Rattle.script_spelling.proofs.Words.{◌≡◌, ◌∙◌, ℕ, zero, suc, ◌<◌, List, [], ◌∷◌, ◌++◌, flat_map, length, Bool, true, not, nat_lt, ◌==◌, Option, Some, None, Ok, refl, sym, ap, subst, append_assoc, append-nil, arith, bytes_eq, codes, NcType, Values, Numbers, Text, Bits, Form, Given, Part, Class, most_parts, Word, Plain, Quoted, Broken, size_of_text, number_of_text, bits_of_text, list_of_text, size, list, within_limits, are_numbers, are_patterns, may_be, number_for, pattern_for, one_value, each_value, sequence_count, sequence, is_term, pattern_sequence, is_pattern_term, pattern_values, text_values, number_values, bits_values, listed_kind, listed_values, values, given_of, given_parts, part, part_list, many_regions, region, SpellsOne, Each, SpellsSequence, SpellsBitSequence, SpellsValues, OfNothing, OfText, OfNumbers, OfBits, OfSequence, OfBitSequence, SpellsForm, SpellsRegion, nat_tests, ◌>>=◌, Result, ScriptKind, reads_as, refuse_if, ended, last_number, last_pattern, not-false}
 use Rattle.script_spelling.proofs.Steps.{went, same_ok, carried, tested, step_then, free_then, end_then}
 use Rattle.script_spelling.proofs.Places.{bytes_same}
 use Rattle.script_spelling.proofs.WordsRead.{WordRead, one_is, size_is, list_is, read_then}
@@ -27,26 +27,13 @@ each_spelled f none t before found (w ∷ ws) xs h =
     each_on f found w ws xs a.value (one_spelled f t before (length found) w a.value none a.first) (each_spelled f none t before (found ++ a.value ∷ []) ws xs a.rest)
 
 some_spelled : {A : Type 0} (f : List ℕ → Option A) (w : Word) (ws : List Word) (xs : List A) → Each f (w ∷ ws) xs → 0 < length xs
-some_spelled f w ws [] h = absurd h
-some_spelled f w ws (x ∷ xs) h = omega arith
+some_spelled f w ws xs h = grind (arith, nat_tests)
 
 -- ---- sequences
-
-suits_some : (b : Bool) (n : ℕ) → (nat_lt 0 n && not b) ≡ false → 0 < n → b ≡ true
-suits_some true n h some = refl
-suits_some false n h some = let e : (nat_lt 0 n && true) ≡ true = and_from _ _ (lt-ltb 0 n some) refl in absurd (cc)
 
 pub record CountRead (suits : Bool) (ws : List Word) (r : ℕ × List Word) : Type 0 where
   pub word : WordRead size_of_text ws r
   pub fits : 0 < r.0 → suits ≡ true
-
-count_spelled : (suits : Bool) (t : Option NcType) (before : ℕ) (ws : List Word) (r : ℕ × List Word) → sequence_count suits t before ws ≡ Ok r → CountRead suits ws r
-count_spelled suits t before ws r h =
-    step_then (size ws) _ r h (λ n is h. free_then _ _ _ r h (λ fits h. step_then (within_limits t before n.0) _ r h (λ u room h.
-    subst (CountRead suits ws) (same_ok n r h) (record { word = size_is ws n is; fits = suits_some suits n.0 fits }))))
-
-three_words : (first one two three : List ℕ) (ws a b c : List Word) → ws ≡ Plain one ∷ a → a ≡ Plain two ∷ b → b ≡ Plain three ∷ c → c ≡ [] → Plain first ∷ ws ≡ Plain first ∷ Plain one ∷ Plain two ∷ Plain three ∷ []
-three_words first one two three ws a b c e1 e2 e3 e4 = grind (arith, nat_tests)
 
 -- N terms by the first of them and the step, and what follows `seq` or `seqx`
 abbrev run_by : {A B : Type 0} → (List ℕ → Option A) → (ℕ → A → Bool) → (A → A → ℕ → A) → (A → A → ℕ → B) → ℕ → List Word → Result B ScriptKind
@@ -65,16 +52,7 @@ SpellsRun {A} f suits test end all word ws vs =
 run_spelled : {A B : Type 0} (f : List ℕ → Option A) (suits : Bool) (test : ℕ → A → Bool) (end : A → A → ℕ → A) (all : A → A → ℕ → B) (made : B → Values) (word : List ℕ) (t : Option NcType) (before : ℕ) (ws : List Word) (vs : Values)
     → f (34 ∷ []) ≡ None → (sequence_count suits t before ws >>= λ n. run_by f test end all n.0 n.1 >>= λ xs. Ok (made xs)) ≡ Ok vs → SpellsRun f suits test end (λ a b n. made (all a b n)) word ws vs
 run_spelled {A} f suits test end all made word t before ws vs none h =
-    step_then (sequence_count suits t before ws) _ vs h (λ n counted h. step_then (run_by f test end all n.0 n.1) _ vs h (λ xs told h.
-    step_then (reads_as f kind.BadNumber n.1 >>= λ x. refuse_if (not (test n.0 x.0)) kind.BadNumber >>= λ _. Ok x) _ xs told (λ a begins k. read_then f _ a.1 _ xs none k (λ b step k. free_then _ _ _ xs k (λ last k. end_then b.1 _ xs k (λ ends k.
-    read_then f _ n.1 _ a none begins (λ x first i. free_then _ _ _ a i (λ fits i.
-    let count = count_spelled suits t before ws n counted in
-    let same = same_ok x a i in
-    let first = subst (WordRead f n.1) same first in
-    let are = three_words word count.word.word first.word step.word ws n.1 a.1 b.1 count.word.are first.are step.are ends in
-    let low = not-false _ (subst (λ (y : A × List Word). not (test n.0 y.0) ≡ false) same fits) in
-    let told = sym (same_ok (made xs) vs h) ∙ ap made (sym (same_ok (all a.0 b.0 n.0) xs k)) in
-    (count.word.word, first.word, step.word, n.0, a.0, b.0, are, count.word.says, first.says, step.says, count.fits, low, not-false _ last, told)))))))))
+    grind (arith, nat_tests, step_then, read_then, free_then, end_then, size_is, same_ok, kind.BadNumber, SpellsRun, run_by)
 
 -- ---- all values
 

@@ -1,5 +1,5 @@
 -- Words that are read stand as they are.
-use Rattle.script_spelling.proofs.Words.{◌≡◌, ◌∙◌, ℕ, List, [], ◌∷◌, true, Option, Some, None, Ok, refl, ap, subst, cond_some, faultless_some, ScriptKind, Word, Plain, is_name, size_of_text, list_of_text, ◌>>=◌, or_fault, bare, reads_as, size, list, name, name_of_text, SpellsOne, arith, nat_tests, Result, cond-true}
+use Rattle.script_spelling.proofs.Words.{◌≡◌, ℕ, List, [], ◌∷◌, true, Option, Some, None, Ok, refl, faultless_some, ScriptKind, Word, Plain, is_name, size_of_text, list_of_text, ◌>>=◌, or_fault, bare, reads_as, size, list, name, name_of_text, SpellsOne, arith, nat_tests, Result, cond-true}
 use Rattle.script_spelling.proofs.Steps.{went, same_ok, step_then, word_read}
 use Rattle.nc_base.specs.declared.errors.ScriptKind.TheVariants as kind
 
@@ -28,10 +28,7 @@ pub record NameRead (ws : List Word) (r : List ℕ × List Word) : Type 0 where
   pub named : is_name r.0 ≡ true
 
 pub name_is : (ws : List Word) (r : List ℕ × List Word) → name ws ≡ Ok r → NameRead ws r
-name_is ws r h =
-    let a = word_is name_of_text kind.BadName ws r refl h in
-    let k = cond_some (is_name a.word) a.word r.0 a.says in
-    record { are = a.are ∙ ap (λ (w : List ℕ). Plain w ∷ r.1) k.1; named = subst (λ (w : List ℕ). is_name w ≡ true) k.1 k.0 }
+name_is ws r h = grind (arith, nat_tests, word_is)
 
 pub named_then : {B P : Type 0} (ws : List Word) (f : List ℕ × List Word → Result B ScriptKind) (y : B) → (name ws >>= f) ≡ Ok y → ((n : List ℕ × List Word) → NameRead ws n → f n ≡ Ok y → P) → P
 named_then ws f y h k = step_then (name ws) f y h (λ n is. k n (name_is ws n is))
