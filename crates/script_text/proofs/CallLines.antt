@@ -1,5 +1,5 @@
 -- The calls of all ranks, printed rank by rank, are read as the same calls.
-use Rattle.script_text.proofs.Words.{filter_map-append, all_joined, is_expressible_call, ◌≡◌, ◌∙◌, ℕ, zero, suc, ◌+◌, ◌≤◌, ◌<◌, List, [], ◌∷◌, ◌++◌, map, length, Bool, true, false, not, nat_lt, refl, ap, subst, append-nil, arith, decimal, list_all, enumerate_from, and_parts, and_from, ne_eqb, Call, call_word, shown_call, Word, Plain, Line, is_comment, is_digit, flat_map-append, nat_tests, AllZip, None, Some, SpellsCall, SpellsCallLine, calls_in, cond, cons_option, eq-eqb, is_lawful_call, range_with_len, sym, ◌==◌, lt-ltb}
+use Rattle.script_text.proofs.Words.{filter_map-append, all_joined, is_expressible_call, ◌≡◌, ◌∙◌, ℕ, zero, suc, ◌+◌, ◌≤◌, ◌<◌, List, [], ◌∷◌, ◌++◌, map, length, Bool, true, false, not, nat_lt, refl, ap, append-nil, arith, decimal, list_all, enumerate_from, and_parts, and_from, ne_eqb, Call, call_word, shown_call, Word, Plain, Line, is_comment, is_digit, flat_map-append, nat_tests, AllZip, None, Some, SpellsCall, SpellsCallLine, calls_in, cond, cons_option, is_lawful_call, range_with_len, sym, ◌==◌, lt-ltb}
 use Rattle.std.proofs.Common.{flat_map}
 use Rattle.script_text.proofs.Lines.{is_line, spelled, numbered}
 use Rattle.script_text.proofs.Numerals.{decimal_numeral, decimal_plain}
@@ -7,7 +7,6 @@ use Rattle.script_text.proofs.PrintedValues.{is_read}
 use Rattle.script_text.proofs.CallTokens.{call_tokens, call_spelled, call_plain}
 use Rattle.script_text.proofs.PrintedCalls.{call_named, call_shown}
 use Rattle.script_spelling.proofs.CallLinesRead.{words_of}
-use Rattle.script_text.proofs.Lexing.{is_good}
 use Rattle.list_laws.proofs.Truth.{either}
 
 -- ---- calls that were read
@@ -24,8 +23,7 @@ all_said [] [] h read = refl
 all_said [] (c ∷ called) h read = absurd h
 all_said (ws ∷ wss) [] h read = absurd h
 all_said (ws ∷ wss) ((r, c) ∷ called) ((w, more, are, digits, same, spells), h) read =
-    let both = and_parts (list_all is_read ws) _ read in
-    and_from _ _ (call_named c more spells (subst (λ (xs : List Word). list_all is_read xs ≡ true) are both.0)) (all_said wss called h both.1)
+    grind (arith, nat_tests, call_named, all_said wss called h, list_all, is_expressible_call)
 
 in_rank_said : (r : ℕ) (called : List (ℕ × Call)) → list_all (λ (c : ℕ × Call). is_expressible_call c.1) called ≡ true → list_all is_expressible_call (calls_in r called) ≡ true
 in_rank_said r [] h = refl
@@ -66,9 +64,6 @@ called_from r (own ∷ more) = map (λ (c : Call). (r, c)) own ++ called_from (r
 digits_no_comment : (ds : List ℕ) → 0 < length ds → list_all is_digit ds ≡ true → is_comment (Plain ds) ≡ false
 digits_no_comment ds some h = grind (arith, nat_tests, ne_eqb, and_parts)
 
-call_is_line : (r : ℕ) (c : Call) → r < 64 → list_all is_good (call_tokens c) ≡ true → is_line (call_tokens_of r c) ≡ true
-call_is_line r c low good = grind (arith, nat_tests, decimal_numeral, and_from, not, digits_no_comment, decimal, decimal_plain, call_plain)
-
 line_spells : (r : ℕ) (c : Call) → r < 64 → SpellsCall (call_tokens c) c → SpellsCallLine (call_tokens_of r c) (r, c)
 line_spells r c low spells = let d = decimal_numeral r (omega arith) in (decimal r, call_tokens c, refl, and_from _ _ (lt-ltb 0 (length (decimal r)) d.some) d.digits, d.value, spells)
 
@@ -80,10 +75,7 @@ own_shown : (ranks r : ℕ) (cs : List Call) → r < 64 → list_all (is_lawful_
 own_shown ranks r [] low lawful h = (refl, tt)
 own_shown ranks r (c ∷ cs) low lawful h =
     let a = and_parts (is_lawful_call ranks r c) (list_all (is_lawful_call ranks r) cs) lawful in
-    let b = and_parts (is_expressible_call c) (list_all is_expressible_call cs) h in
-    let k = call_shown ranks r c a.0 b.0 in
-    let more = own_shown ranks r cs low a.1 b.1 in
-    (and_from _ _ (call_is_line r c low k.good) more.0, (line_spells r c low k.spells, more.1))
+    grind (arith, nat_tests, call_shown, own_shown ranks r cs low a.1 (and_parts (is_expressible_call c) (list_all is_expressible_call cs) h).1, decimal_numeral, digits_no_comment, decimal_plain, call_plain, and_from, not, decimal, line_spells)
 
 pub zip_joined : {A B : Type 0} (R : A → B → Type 0) (xs : List A) (ys : List B) (more : List A) (last : List B) → AllZip R xs ys → AllZip R more last → AllZip R (xs ++ more) (ys ++ last)
 zip_joined R [] [] more last h k = k
@@ -98,8 +90,7 @@ calls_shown ranks r (own ∷ more) low lawful h =
     let a = and_parts (list_all (is_lawful_call ranks r) own) _ lawful in
     let b = and_parts (list_all is_expressible_call own) (are_named more) h in
     let first = own_shown ranks r own (omega arith) a.0 b.0 in
-    let rest = calls_shown ranks (r + 1) more (omega arith) a.1 b.1 in
-    (all_joined is_line (own_lines r own) (call_lines (r + 1) more) first.0 rest.0, zip_joined SpellsCallLine (own_lines r own) (map (λ (c : Call). (r, c)) own) _ _ first.1 rest.1)
+    grind (arith, nat_tests, calls_shown ranks (r + 1) more, all_joined, zip_joined, a.1, b.1, first.1)
 
 -- ---- and they are read again
 
@@ -126,18 +117,12 @@ rank_in r k own more =
 
 none_in : (r k : ℕ) (calls : List (List Call)) → k < r → calls_in k (called_from r calls) ≡ []
 none_in r k [] low = refl
-none_in r k (own ∷ more) low =
-    rank_in r k own more ∙ (ap (λ (b : Bool). cond b own [] ++ calls_in k (called_from (r + 1) more)) (ne_eqb r k (omega arith)) ∙ none_in (r + 1) k more (omega arith))
+none_in r k (own ∷ more) low = grind (arith, nat_tests, rank_in r k own more, none_in (r + 1) k more)
 
 -- each rank has its calls among them
 ranks_in : (f : ℕ → List Call) (r : ℕ) (calls : List (List Call)) → ((k : ℕ) → r ≤ k → f k ≡ calls_in k (called_from r calls)) → map f (range_with_len r (length calls)) ≡ calls
 ranks_in f r [] h = refl
-ranks_in f r (own ∷ more) h =
-    let behind = λ (k : ℕ). calls_in k (called_from (r + 1) more) in
-    let first : f r ≡ own =
-    h r (omega arith) ∙ (rank_in r r own more ∙ (ap (λ (b : Bool). cond b own [] ++ behind r) (eq-eqb r r refl) ∙ (ap (λ (cs : List Call). own ++ cs) (none_in (r + 1) r more (omega arith)) ∙ append-nil own))) in
-    let rest = ranks_in f (r + 1) more (λ k le. h k (omega arith) ∙ (rank_in r k own more ∙ ap (λ (b : Bool). cond b own [] ++ behind k) (ne_eqb r k (omega arith)))) in
-    ap (λ (cs : List Call). cs ∷ map f (range_with_len (r + 1) (length more))) first ∙ ap (λ (css : List (List Call)). own ∷ css) rest
+ranks_in f r (own ∷ more) h = grind (arith, nat_tests, rank_in, none_in, append-nil, ranks_in f (r + 1) more, range_with_len, calls_in, called_from)
 
 pub words_numbered : (n : ℕ) (wss : List (List Word)) → list_all is_line wss ≡ true → map words_of (numbered n wss) ≡ wss
 words_numbered n [] h = refl

@@ -197,26 +197,16 @@ module _ (i : ℕ) (n : List ℕ) where
   own_parts [] more = refl
   own_parts (a ∷ list) more = ap (own_on (a ∷ [])) (own_parts list more)
 
-  one_more : (b : Bool) (a : Attr) (list : List Attr) (p : Parts) → record p { attrs = cond b (a ∷ (cond b list [] ++ p.attrs)) (cond b list [] ++ p.attrs) } ≡ attrs_on (cond b (a ∷ list) []) p
-  one_more true a list p = refl
-  one_more false a list p = refl
-
   attrs_parts : (m : List ℕ) (list : List Attr) (more : List Statement) → parts i n (map (λ (a : Attr). AttIs (Some m) a) list ++ more) ≡ attrs_on (cond (bytes_eq m n) list []) (parts i n more)
-  attrs_parts m [] more = one_less (bytes_eq m n) (parts i n more)
-    where
-      one_less : (b : Bool) (p : Parts) → p ≡ attrs_on (cond b [] []) p
-      one_less true p = refl
-      one_less false p = refl
-  attrs_parts m (a ∷ list) more =
-      ap (λ (p : Parts). record p { attrs = cond (bytes_eq m n) (a ∷ p.attrs) p.attrs }) (attrs_parts m list more) ∙ one_more (bytes_eq m n) a list (parts i n more)
+  attrs_parts m [] more = grind (arith, nat_tests)
+  attrs_parts m (a ∷ list) more = grind (arith, nat_tests, attrs_parts m list more, parts, attrs_on)
 
   all_attrs_parts : (vs : List Var) → parts i n (own_statements vs) ≡ record { ranks = []; hint = []; fills = 0; dims = []; vars = []; own = []; attrs = own_of n vs }
   all_attrs_parts [] = refl
   all_attrs_parts (v ∷ vs) = attrs_parts v.name v.attrs (own_statements vs) ∙ ap (attrs_on (cond (bytes_eq v.name n) v.attrs [])) (all_attrs_parts vs)
 
   pub defined_parts : (h : Header) → parts i n (definition_statements h) ≡ record { ranks = []; hint = []; fills = 0; dims = h.dims ++ []; vars = map (line_for h.dims) h.vars ++ []; own = h.attrs ++ []; attrs = own_of n h.vars }
-  defined_parts h =
-      dims_parts h.dims _ ∙ ap (dims_on h.dims) (vars_parts h.dims h.vars _ ∙ ap (vars_on (map (line_for h.dims) h.vars)) (own_parts h.attrs _ ∙ ap (own_on h.attrs) (all_attrs_parts h.vars)))
+  defined_parts h = grind (arith, nat_tests, dims_parts h.dims, vars_parts h.dims h.vars, own_parts h.attrs, all_attrs_parts h.vars)
 
 other_name : (a b : List ℕ) (names : List (List ℕ)) → is_among a names ≡ true → is_among b names ≡ false → bytes_eq b a ≡ false
 other_name a b names there none = grind (arith, nat_tests, bytes_same b a)
@@ -236,8 +226,7 @@ vars_told version dims f names [] h each = tt
 vars_told version dims f names (v ∷ vs) h each =
     let more = names ++ v.name ∷ [] in
     let own : f v.name ≡ v.attrs =
-    each v.name h.0.stands.0 ∙ (ap (λ (b : Bool). cond b v.attrs [] ++ own_of v.name vs) (bytes_own v.name)
-    ∙ (ap (λ (list : List Attr). v.attrs ++ list) (none_of version dims more v.name vs h.1 (new_there names v.name [])) ∙ append-nil v.attrs)) in
+    grind (arith, nat_tests, bytes_own, none_of, new_there, append-nil, h.0.stands.0, own_of) in
     let rest = vars_told version dims f more vs h.1 (λ n none.
     let p = or_parts (is_among n names) _ (sym (list_any-append (bytes_eq n) names (v.name ∷ [])) ∙ none) in
     each n p.0 ∙ ap (λ (b : Bool). cond b v.attrs [] ++ own_of n vs) (bytes_other n v.name (or_parts (bytes_eq n v.name) false p.1).0)) in

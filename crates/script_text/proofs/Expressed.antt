@@ -1,5 +1,5 @@
 -- A lawful script that words can express is read from what is printed of it.
-use Rattle.script_text.proofs.Words.{◌≡◌, ℕ, ◌+◌, ◌≤◌, List, [], ◌∷◌, map, sum, length, length-append, codes, Bool, true, false, cond, nat_le, ◌&&◌, refl, sym, subst, arith, list_all, and_parts, cond-true, eqb-true, leb-true, length-map, sum_by-cons, Header, Extra, Script, Call, most_dims, most_vars, is_version, is_lawful, is_lawful_dim, is_lawful_header, is_lawful_var, shown, Plain, Reads, most_bytes, most_lines, is_expressible, is_expressible_call, is_expressible_header, printed_lines, nat_tests}
+use Rattle.script_text.proofs.Words.{◌≡◌, ℕ, ◌+◌, ◌≤◌, List, [], ◌∷◌, map, sum, length, length-append, codes, Bool, true, nat_le, ◌&&◌, refl, sym, subst, arith, list_all, and_parts, cond-true, eqb-true, leb-true, length-map, sum_by-cons, Header, Extra, Script, Call, most_dims, most_vars, is_version, is_lawful, is_lawful_dim, is_lawful_header, is_lawful_var, shown, Plain, Reads, most_bytes, most_lines, is_expressible, is_expressible_call, is_expressible_header, printed_lines, nat_tests}
 use Rattle.serial_spec.proofs.Common.{lawful_parts}
 use Rattle.serial_spec.proofs.MemberLaws.{empty_list}
 use Rattle.script_spelling.proofs.Told.{spelled_read}
@@ -33,27 +33,12 @@ calls_long r (own ∷ more) =
     let first = sum_by-cons (λ n. n) (length own) (map (λ cs. length cs) more) in
     omega (arith, first, length-append (own_lines r own) (call_lines (r + 1) more), length-map own (call_tokens_of r), calls_long (r + 1) more)
 
-fill_long : (filled : Bool) → length (fill_lines filled) ≡ cond filled 1 0
-fill_long true = refl
-fill_long false = refl
-
 definitions_long : (header : Header) → header.attrs ≡ [] → lines_of_own header.vars ≡ [] → length (definition_lines header) ≡ length header.dims + length header.vars
 definitions_long header plain own = grind (arith, nat_tests, codes, length-append, length-map)
 
 all_long : (s : Script) → s.extra ≡ [] → s.header.attrs ≡ [] → lines_of_own s.header.vars ≡ [] → length (all_lines s) ≡ printed_lines s
 all_long s none plain own =
-    subst (λ (es : List Extra). length (all_lines (record s { extra = es })) ≡ printed_lines s) (sym none) (grind (
-      arith,
-      nat_tests,
-      codes "end",
-      length-append (before_data (record s { extra = [] })) (from_data s.calls),
-      length-append (hint_tokens s.hints) (content_lines s.filled [] s.header),
-      length-append (fill_lines s.filled) (definition_lines s.header),
-      fill_long s.filled,
-      definitions_long s.header plain own,
-      length-append (call_lines 0 s.calls) ((Plain (codes "end") ∷ []) ∷ []),
-      calls_long 0 s.calls,
-    ))
+    subst (λ (es : List Extra). length (all_lines (record s { extra = es })) ≡ printed_lines s) (sym none) (grind (arith, nat_tests, codes "end", length-append (before_data (record s { extra = [] })) (from_data s.calls), length-append (hint_tokens s.hints) (content_lines s.filled [] s.header), length-append (fill_lines s.filled) (definition_lines s.header), definitions_long s.header plain own, length-append (call_lines 0 s.calls) ((Plain (codes "end") ∷ []) ∷ []), calls_long 0 s.calls))
 
 -- ---- the whole
 

@@ -1,11 +1,11 @@
 -- Definitions that words can express say themselves, printed, and stand behind those before them.
-use Rattle.script_text.proofs.Words.{◌≡◌, ◌∙◌, ◌⊎◌, ℕ, zero, suc, ◌+◌, ◌^◌, ◌≤◌, ◌<◌, List, [], ◌∷◌, ◌++◌, map, position, drop, length, Bool, true, false, not, cond, nat_lt, nat_le, ◌==◌, ◌&&◌, Some, refl, sym, ap, subst, inl, inr, append_assoc, length-append, arith, bytes_eq, list_all, list_any, and_parts, and_from, not-true, length-map, ne_eqb, ltb-true, leb-true, eqb-true, Dim, Attr, Var, Header, most_dims, most_vars, most_dims_of_var, record_limit, number_of, last_type, is_lawful_dim, is_lawful_var, is_empty, is_name, is_among, dim_names, is_record_dim, is_unlimited, is_new_name, are_expressible_dims, is_expressible_var, are_expressible_vars, is_expressible_header, nat_tests}
+use Rattle.script_text.proofs.Words.{◌≡◌, ◌∙◌, ◌⊎◌, ℕ, zero, suc, ◌+◌, ◌^◌, ◌≤◌, ◌<◌, List, [], ◌∷◌, ◌++◌, map, position, drop, length, Bool, true, false, not, cond, nat_lt, nat_le, ◌==◌, ◌&&◌, Some, refl, sym, ap, inl, inr, append_assoc, length-append, arith, bytes_eq, list_all, list_any, and_parts, and_from, not-true, length-map, ne_eqb, ltb-true, leb-true, eqb-true, Dim, Var, Header, most_dims, most_vars, most_dims_of_var, record_limit, number_of, last_type, is_lawful_dim, is_lawful_var, is_name, is_among, dim_names, is_record_dim, is_unlimited, is_new_name, are_expressible_dims, is_expressible_var, are_expressible_vars, is_expressible_header, nat_tests}
 use Rattle.serial_spec.proofs.MemberLaws.{empty_list}
 use Rattle.script_text.proofs.PrintedAttributes.{type_told}
 use Rattle.script_text.proofs.PrintedDefinitions.{length_told}
-use Rattle.script_text.proofs.StatementLines.{line_of_att, dim_shown, var_shown}
+use Rattle.script_text.proofs.StatementLines.{dim_shown, var_shown}
 use Rattle.script_spelling.proofs.Places.{name_at, place_of_new, joined_names, length_names, ids_found}
-use Rattle.script_text.proofs.DefinedChains.{DimChain, line_for, VarOk, VarChain, AttrChain, OwnChains, DefinedOk, lines_of_own}
+use Rattle.script_text.proofs.DefinedChains.{DimChain, line_for, VarOk, VarChain, OwnChains, DefinedOk, lines_of_own}
 
 -- a name that is one, and that none has
 new_name : (names : List (List ℕ)) (n : List ℕ) → is_new_name names n ≡ true → (is_name n ≡ true) × (is_among n names ≡ false)
@@ -36,11 +36,7 @@ dims_chained version before (d ∷ ds) h lawful few =
     let parts = dim_parts before d ds h in
     let lens = and_parts (is_lawful_dim version d) (list_all (is_lawful_dim version) ds) lawful in
     let len = length_told version d.len (length_cases version d.len (ltb-true d.len (record_limit version) lens.0)) in
-    let long = length-append before (d ∷ []) in (
-      dim_shown version d parts.named len,
-      (parts.fresh, omega arith, parts.one),
-      dims_chained version (before ++ d ∷ []) ds parts.rest lens.1 (omega (arith, long)),
-    )
+    let long = length-append before (d ∷ []) in grind (arith, nat_tests, dim_shown, dims_chained version (before ++ d ∷ []) ds parts.rest lens.1, parts.fresh, parts.one)
 
 -- ---- their places
 
@@ -95,12 +91,7 @@ vars_chained version dims names (v ∷ vs) all lawful h few =
     let limits = and_parts (is_lawful_var v) (list_all is_lawful_var vs) lawful in
     let both = and_parts (is_new_name names v.name && is_expressible_var version dims v) _ h in
     let first = and_parts (is_new_name names v.name) (is_expressible_var version dims v) both.0 in
-    let plain = (var_parts version dims v first.1).plain in
-    let more = vars_chained version dims (names ++ v.name ∷ []) vs all limits.1 both.1 (omega (arith, length-append names (v.name ∷ []))) in (
-      (var_chained version dims names v all limits.0 first.0 first.1 (omega arith), more.0),
-      (subst (AttrChain version []) (sym plain) tt, more.1),
-      ap (λ (list : List Attr). map (line_of_att (Some v.name)) list ++ lines_of_own vs) plain ∙ more.2,
-    )
+    let more = vars_chained version dims (names ++ v.name ∷ []) vs all limits.1 both.1 (omega (arith, length-append names (v.name ∷ []))) in grind (arith, nat_tests, var_chained version dims names v all limits.0 first.0 first.1, more.0, more.1, v.name, more.2)
 
 -- ---- the definitions of a header, which has no attributes
 
@@ -112,13 +103,4 @@ pub record HeaderTold (header : Header) : Type 0 where
 pub header_told : (header : Header) → is_expressible_header header ≡ true → list_all (is_lawful_dim header.version) header.dims ≡ true → length header.dims ≤ most_dims
     → list_all is_lawful_var header.vars ≡ true → length header.vars ≤ most_vars → HeaderTold header
 header_told header h dims few_dims vars few_vars =
-    let version = header.version in
-    let a = and_parts _ (is_empty header.attrs) h in
-    let b = and_parts (are_expressible_dims [] header.dims) (are_expressible_vars version header.dims [] header.vars) a.0 in
-    let plain = empty_list header.attrs a.1 in
-    let told = vars_chained version header.dims [] header.vars b.0 vars b.1 (omega arith) in
-    record {
-      defined = record { dims = dims_chained version [] header.dims b.0 dims (omega arith); vars = told.0; attrs = subst (AttrChain version []) (sym plain) tt; own = told.1 };
-      no_attrs = plain;
-      no_own = told.2;
-    }
+    grind (arith, nat_tests, empty_list header.attrs, vars_chained header.version header.dims [] header.vars, dims_chained header.version [] header.dims)

@@ -60,28 +60,12 @@ any_unit low high n h = let unit : n % 1 ≡ 0 = omega arith in and_from _ _ h (
 pub ranks_told : (n : ℕ) → 1 ≤ n → n ≤ 64 → is_value_of (Within 1 64 1) n ≡ true
 ranks_told n low high = any_unit 1 64 n (and_from _ _ (le-leb 1 n low) (le-leb n 64 high))
 
-alignment : (n : ℕ) → is_alignment n ≡ true → is_value_of (Within 4 1048576 4) n ≡ true
-alignment n h = grind (arith, nat_tests, and_parts, eqb-true, and_from, eq-eqb)
-
 pub hints_told : (h : Hints) → are_lawful_hints h ≡ true → HintsFit h
 hints_told h lawful =
     let p7 = and_parts _ (is_within 1 (2 ^ 25) h.striping_unit) lawful in
     let p6 = and_parts _ (is_alignment h.var_align) p7.0 in
     let p5 = and_parts _ (is_alignment h.header_align) p6.0 in
-    let p4 = and_parts _ (is_within 1 64 h.line_room) p5.0 in
-    let p3 = and_parts _ (is_within 1 (2 ^ 25) h.wr_buffer) p4.0 in
-    let p2 = and_parts _ (is_within 1 (2 ^ 25) h.rd_buffer) p3.0 in
-    let p1 = and_parts (is_within 1 64 h.cb_nodes) (is_within 1 (2 ^ 25) h.cb_buffer) p2.0 in
-    record {
-      cb_nodes = any_unit 1 64 h.cb_nodes p1.0;
-      cb_buffer = any_unit 1 (2 ^ 25) h.cb_buffer p1.1;
-      rd_buffer = any_unit 1 (2 ^ 25) h.rd_buffer p2.1;
-      wr_buffer = any_unit 1 (2 ^ 25) h.wr_buffer p3.1;
-      line_room = any_unit 1 64 h.line_room p4.1;
-      header_align = alignment h.header_align p5.1;
-      var_align = alignment h.var_align p6.1;
-      striping_unit = any_unit 1 (2 ^ 25) h.striping_unit p7.1;
-    }
+    grind (arith, nat_tests, any_unit, and_parts, eqb-true, and_from, eq-eqb, p5.0)
 
 -- ---- the lines of the hints
 
@@ -111,23 +95,12 @@ hint_statements h = hints_from 0 (hint_numbers h)
 -- a hint, and those that follow
 hint_on : (version : ℕ) (word : List ℕ) (i v : ℕ) (wss : List (List Word)) (ss : List Statement) → is_plain word ≡ true → hint_of_text word ≡ Some i → HintAgain (hint_form i) v → Shows version wss ss
     → Shows version (hint_line_of word (shown_value (hint_form i) v) ∷ wss) (HintIs i v ∷ ss)
-hint_on version word i v wss ss plain at told more =
-    (and_from _ _ (and_from _ _ plain (and_from _ _ told.plain refl)) more.0, ((word, shown_value (hint_form i) v, refl, at, told.again), more.1))
+hint_on version word i v wss ss plain at told more = grind (arith, nat_tests)
 
 pub hints_shown : (version : ℕ) (h : Hints) → HintsFit h → Shows version (hint_tokens h) (hint_statements h)
 hints_shown version h fit =
     let next = λ (n : ℕ). drop n (hint_tokens h) in
-    let later = λ (n : ℕ). drop n (hint_statements h) in
-    hint_on version (codes "cb_nodes") 0 h.cb_nodes (next 1) (later 1) refl refl (number_told 1 64 1 h.cb_nodes fit.cb_nodes (omega arith))
-    (hint_on version (codes "cb_buffer_size") 1 h.cb_buffer (next 2) (later 2) refl refl (number_told 1 33554432 1 h.cb_buffer fit.cb_buffer (omega arith))
-    (hint_on version (codes "ind_rd_buffer_size") 2 h.rd_buffer (next 3) (later 3) refl refl (number_told 1 33554432 1 h.rd_buffer fit.rd_buffer (omega arith))
-    (hint_on version (codes "ind_wr_buffer_size") 3 h.wr_buffer (next 4) (later 4) refl refl (number_told 1 33554432 1 h.wr_buffer fit.wr_buffer (omega arith))
-    (hint_on version (codes "line_room") 4 h.line_room (next 5) (later 5) refl refl (number_told 1 64 1 h.line_room fit.line_room (omega arith))
-    (hint_on version (codes "threads") 5 (flag h.threads) (next 6) (later 6) refl refl (flag_told h.threads)
-    (hint_on version (codes "overlap") 6 (rule_number h.overlap) (next 7) (later 7) refl refl (rule_told h.overlap)
-    (hint_on version (codes "nc_header_align_size") 7 h.header_align (next 8) (later 8) refl refl (number_told 4 1048576 4 h.header_align fit.header_align (omega arith))
-    (hint_on version (codes "nc_var_align_size") 8 h.var_align (next 9) (later 9) refl refl (number_told 4 1048576 4 h.var_align fit.var_align (omega arith))
-    (hint_on version (codes "striping_unit") 9 h.striping_unit [] [] refl refl (number_told 1 33554432 1 h.striping_unit fit.striping_unit (omega arith)) (refl, tt))))))))))
+    grind (arith, nat_tests, hint_on version (codes "cb_nodes") 0 h.cb_nodes (next 1), number_told 1 64 1 h.cb_nodes fit.cb_nodes, hint_on version (codes "cb_buffer_size") 1 h.cb_buffer (next 2), number_told 1 33554432 1 h.cb_buffer fit.cb_buffer, hint_on version (codes "ind_rd_buffer_size") 2 h.rd_buffer (next 3), number_told 1 33554432 1 h.rd_buffer fit.rd_buffer, hint_on version (codes "ind_wr_buffer_size") 3 h.wr_buffer (next 4), number_told 1 33554432 1 h.wr_buffer fit.wr_buffer, hint_on version (codes "line_room") 4 h.line_room (next 5), number_told 1 64 1 h.line_room fit.line_room, hint_on version (codes "threads") 5 (flag h.threads) (next 6), flag_told h.threads, hint_on version (codes "overlap") 6 (rule_number h.overlap) (next 7), rule_told h.overlap, hint_on version (codes "nc_header_align_size") 7 h.header_align (next 8), number_told 4 1048576 4 h.header_align fit.header_align, hint_on version (codes "nc_var_align_size") 8 h.var_align (next 9), number_told 4 1048576 4 h.var_align fit.var_align, hint_on version (codes "striping_unit") 9 h.striping_unit [] [], number_told 1 33554432 1 h.striping_unit fit.striping_unit, drop, hint_statements)
 
 none_before : (n k : ℕ) (vs : List ℕ) (more : List Statement) → n < k → hint_values n (hints_from k vs ++ more) ≡ hint_values n more
 none_before n k [] more low = refl

@@ -1,29 +1,18 @@
 -- The definitions of a script that is read, in their canonical order: each is said again, and may stand behind those before it.
-use Rattle.script_text.proofs.Words.{◌≡◌, ◌∙◌, ℕ, List, [], ◌∷◌, ◌++◌, map, true, false, Some, None, refl, sym, ap, subst, append_assoc, bytes_eq, codes, list_any, and_from, or_parts, or_from, list_any-append, AllZip, NcType, Attr, Dim, Var, Script, Extra, is_among, dim_ids, Title, same_title, arith, nat_tests}
-use Rattle.script_spelling.specs.Statements.{Statement, RanksAre, HintIs, IsFilled, DimIs, VarIs, AttIs, VarLine, VarStands, ShapeStands, Stand}
+use Rattle.script_text.proofs.Words.{◌≡◌, ◌∙◌, ℕ, List, [], ◌∷◌, ◌++◌, map, true, false, Some, None, refl, sym, ap, subst, append_assoc, bytes_eq, codes, list_any, and_from, or_parts, or_from, list_any-append, AllZip, Attr, Dim, Var, Script, Extra, is_among, Title, same_title, arith, nat_tests}
+use Rattle.script_spelling.specs.Statements.{Statement, RanksAre, HintIs, IsFilled, DimIs, VarIs, AttIs, VarLine, VarStands, Stand}
 use Rattle.script_spelling.specs.Described.{Defines, IsVarOf, dims_in, vars_in, own_attrs, attrs_of, extras_in}
-use Rattle.script_spelling.proofs.Places.{name_at, names_shown, more_ids, more_records, bytes_same, bytes_own}
+use Rattle.script_spelling.proofs.Places.{names_shown, more_ids, more_records, bytes_same, bytes_own}
 use Rattle.list_laws.proofs.Truth.{either}
 use Rattle.script_text.proofs.StatementLines.{line_of_var, extra_line, of_extra, Shown, Shows, AllAgain, att_shown}
-use Rattle.script_text.proofs.DefinedChains.{DimChain, line_for, VarOk, VarChain, AttrChain, OwnChains, DefinedOk}
+use Rattle.script_text.proofs.DefinedChains.{DimChain, VarOk, VarChain, AttrChain, OwnChains, DefinedOk}
 
 -- ---- variables
-
-same_line : (t u : NcType) (m n : List ℕ) (ds es : List (List ℕ)) → t ≡ u → m ≡ n → ds ≡ es → ◌≡◌ {A = VarLine} (record { kind = t; name = m; dims = ds }) (record { kind = u; name = n; dims = es })
-same_line t u m n ds es a b c = cc
 
 var_kept : (version : ℕ) (all dims later : List Dim) (names : List (List ℕ)) (l : VarLine) (v : Var) (attrs : List Attr) → all ≡ dims ++ later → Shown version (line_of_var l) (VarIs l) → VarStands false dims names l → IsVarOf all attrs l v
     → VarOk version all names v
 var_kept version all dims later names l v attrs e shown stands told =
-    let ids = stands.3.0 in
-    let found = names_shown all l.dims v.dims told.0 in
-    let same : l ≡ line_for all v = same_line l.kind v.kind l.name v.name l.dims (map (name_at all) v.dims) (sym (ap (λ (w : Var). w.kind) told.1)) (sym (ap (λ (w : Var). w.name) told.1)) (sym found) in
-    let shape : ShapeStands false all l.dims = subst (λ (ds : List Dim). ShapeStands false ds l.dims) (sym e) (ids, more_ids dims later l.dims ids stands.3.1, more_records dims later l.dims ids stands.3.1 stands.3.2) in
-    record {
-      shown = subst (λ (x : VarLine). Shown version (line_of_var x) (VarIs x)) same shown;
-      stands = subst (VarStands false all names) same (stands.0, stands.1, stands.2, shape);
-      told = (subst (λ (ds : List (List ℕ)). dim_ids all ds ≡ Some v.dims) (sym found) told.0, ap (λ (b : ℕ). record v { begin = b }) (ap (λ (w : Var). w.begin) told.1));
-    }
+    grind (arith, nat_tests, names_shown all l.dims v.dims told.0, more_ids dims later l.dims stands.3.0 stands.3.1, more_records dims later l.dims stands.3.0 stands.3.1 stands.3.2)
 
 vars_kept : (version : ℕ) (all dims : List Dim) (names : List (List ℕ)) (titles : List Title) (f : List ℕ → List Attr) (ss : List Statement) (vs : List Var) → all ≡ dims ++ dims_in ss → AllAgain version ss → Stand false dims names titles ss
     → AllZip (λ (l : VarLine) v. IsVarOf all (f l.name) l v) (vars_in ss) vs → VarChain version all names vs
@@ -36,8 +25,7 @@ vars_kept version all dims names titles f (DimIs d ∷ ss) vs e again stand told
 vars_kept version all dims names titles f (VarIs l ∷ ss) [] e again stand told = absurd told
 vars_kept version all dims names titles f (VarIs l ∷ ss) (v ∷ vs) e again stand told =
     let name : l.name ≡ v.name = sym (ap (λ (w : Var). w.name) told.0.1) in
-    let rest = vars_kept version all dims (names ++ l.name ∷ []) titles f ss vs e again.1 stand.1 told.1 in
-    (var_kept version all dims (dims_in ss) names l v (f l.name) e again.0 stand.0 told.0, subst (λ (n : List ℕ). VarChain version all (names ++ n ∷ []) vs) name rest)
+    grind (arith, nat_tests, vars_kept version all dims (names ++ l.name ∷ []) titles f ss vs e again.1 stand.1 told.1, var_kept version all dims (dims_in ss) names l v (f l.name) e again.0 stand.0 told.0)
 vars_kept version all dims names titles f (AttIs o a ∷ ss) vs e again stand told = vars_kept version all dims names _ f ss vs e again.1 stand.2 told
 
 -- ---- attributes
@@ -75,8 +63,7 @@ all_kept version front names titles (AttIs (Some m) a ∷ ss) again stand =
       λ n done h. either (AttrChain version done) (bytes_eq m n) (a ∷ attrs_of n ss) (attrs_of n ss)
           (λ e.
           let same = bytes_same m n e in
-          let pushed = subst (λ (x : List ℕ). Titled (titles ++ (x, a.name) ∷ []) n (done ++ a.name ∷ [])) (sym same) (titled_pushed titles n done a.name h) in
-          (again.0.1, h a.name (subst (λ (x : List ℕ). list_any (same_title (x, a.name)) titles ≡ false) same stand.1), more.2 n (done ++ a.name ∷ []) pushed))
+          grind (arith, nat_tests, titled_pushed, again.0.1, stand.1, more.2, Titled, list_any))
           (λ e. more.2 n done (titled_more titles (m, a.name) n done h)),
     )
 
@@ -84,8 +71,7 @@ all_attrs_kept : (version : ℕ) (all : List Dim) (f : List ℕ → List Attr) (
 all_attrs_kept version all f [] [] told each = tt
 all_attrs_kept version all f [] (v ∷ vs) told each = absurd told
 all_attrs_kept version all f (l ∷ ls) [] told each = absurd told
-all_attrs_kept version all f (l ∷ ls) (v ∷ vs) told each =
-    (subst (AttrChain version []) (sym (ap (λ (w : Var). w.attrs) told.0.1)) (each l.name), all_attrs_kept version all f ls vs told.1 each)
+all_attrs_kept version all f (l ∷ ls) (v ∷ vs) told each = grind (arith, nat_tests, all_attrs_kept version all f ls vs told.1 each)
 
 -- ---- all definitions of a new dataset
 

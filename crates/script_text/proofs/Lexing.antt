@@ -1,5 +1,5 @@
 -- Words that are printed are cut again from their line.
-use Rattle.script_text.proofs.Words.{◌≡◌, ◌∙◌, ℕ, zero, suc, ◌+◌, ◌%◌, ◌≤◌, ◌<◌, List, [], ◌∷◌, ◌++◌, map, length, drop, Bool, true, false, not, cond, nat_lt, nat_le, ◌==◌, ◌&&◌, Option, Some, None, refl, sym, ap, append_assoc, append-nil, length-append, arith, and_parts, or_from, ne_eqb, eqb-true, cases_Bool, cond-true, cond-false, agree_below_at, not-true, common_steps, take_at, drop_at, position_or_len, list_all, text_char, quoted, hex, hex_digit, joined, Word, Plain, Quoted, Broken, is_blank, begins_blank, after_blanks, first_word, quoted_word, text_from, Between, words, words_within, hex_value, more_words, nat_tests}
+use Rattle.script_text.proofs.Words.{◌≡◌, ◌∙◌, ℕ, zero, suc, ◌+◌, ◌%◌, ◌≤◌, ◌<◌, List, [], ◌∷◌, ◌++◌, map, length, drop, Bool, true, false, not, cond, nat_lt, nat_le, ◌==◌, ◌&&◌, Option, Some, None, refl, sym, ap, append-nil, length-append, arith, and_parts, or_from, ne_eqb, eqb-true, cases_Bool, cond-true, cond-false, agree_below_at, not-true, common_steps, take_at, drop_at, position_or_len, list_all, text_char, quoted, hex_digit, joined, Word, Plain, Quoted, Broken, is_blank, begins_blank, after_blanks, first_word, quoted_word, text_from, Between, words, words_within, hex_value, more_words, nat_tests}
 use Rattle.std.proofs.Common.{flat_map}
 
 -- ---- words as they are printed
@@ -50,24 +50,9 @@ IsAgain rest text tail c = text_from Between (text_char c ++ rest) ≡ Some (c �
 pub below_16 : (c : ℕ) → c % 16 < 16
 below_16 c = omega arith
 
-escaped_again : (c : ℕ) (rest text tail : List ℕ) → c < 256 → text_from Between rest ≡ Some (text, tail) → text_from Between ((92 ∷ 120 ∷ hex 2 c) ++ rest) ≡ Some (c ∷ text, tail)
-escaped_again c rest text tail small h = grind (arith, nat_tests, below_16)
-
 char_again : (rest text tail : List ℕ) → text_from Between rest ≡ Some (text, tail) → (c : ℕ) → c < 256 → IsAgain rest text tail c
 char_again rest text tail h c small =
-    grind (
-      arith,
-      nat_tests,
-      escaped_again c rest text tail small h,
-      cases_Bool (nat_le 32 c && nat_le c 126),
-      cases_Bool (c == 9),
-      cases_Bool (c == 10),
-      cases_Bool (c == 92),
-      cases_Bool (c == 34),
-      eqb-true,
-      cond-false,
-      nat_le,
-    )
+    grind (arith, nat_tests, below_16, cases_Bool (nat_le 32 c && nat_le c 126), cases_Bool (c == 9), cases_Bool (c == 10), cases_Bool (c == 92), cases_Bool (c == 34), eqb-true, cond-false, nat_le)
 
 pub byte_bound : (c : ℕ) → is_byte c ≡ true → c < 256
 byte_bound c h = grind (arith, common_steps)
@@ -75,9 +60,7 @@ byte_bound c h = grind (arith, common_steps)
 text_again : (text tail : List ℕ) → list_all is_byte text ≡ true → text_from Between ((flat_map text_char text ++ 34 ∷ []) ++ tail) ≡ Some (text, tail)
 text_again [] tail h = refl
 text_again (c ∷ text) tail h =
-    let both = and_parts (is_byte c) (list_all is_byte text) h in
-    let rest = (flat_map text_char text ++ 34 ∷ []) ++ tail in
-    grind (arith, nat_tests, append_assoc, char_again rest text tail (text_again text tail both.1) c (byte_bound c both.0))
+    grind (arith, nat_tests, flat_map, char_again, text_again text tail (and_parts (is_byte c) (list_all is_byte text) h).1, byte_bound, flat_map)
 
 -- ---- a word, with what follows it on its line
 
@@ -95,15 +78,11 @@ up_to_blank : (cs tail : List ℕ) → list_all is_graphic cs ≡ true → begin
 up_to_blank [] [] h blank = refl
 up_to_blank [] (c ∷ tail) h blank = ap (λ (b : Bool). cond (not b) (1 + position_or_len is_blank tail) 0) blank
 up_to_blank (c ∷ cs) tail h blank =
-    let both = and_parts (is_graphic c) (list_all is_graphic cs) h in
-    grind (arith, nat_tests, not_blank c (graphic_bounds c both.0).0, up_to_blank cs tail both.1 blank)
-
-plain_again : (c : ℕ) (cs tail : List ℕ) → (c == 34) ≡ false → list_all is_graphic cs ≡ true → begins_blank tail ≡ true → first_word c (cs ++ tail) ≡ (Plain (c ∷ cs), tail)
-plain_again c cs tail a h blank = grind (arith, nat_tests, up_to_blank, take_at, drop_at)
+    grind (arith, nat_tests, not_blank, graphic_bounds, up_to_blank cs tail (and_parts (is_graphic c) (list_all is_graphic cs) h).1 blank)
 
 pub cut : (w : Word) → is_good w ≡ true → IsCut w
 cut (Plain []) h = absurd (cc)
-cut (Plain (c ∷ cs)) h = grind (arith, nat_tests, and_parts, not_blank, graphic_bounds, plain_again, not-true)
+cut (Plain (c ∷ cs)) h = grind (arith, nat_tests, and_parts, not_blank, graphic_bounds, up_to_blank, drop_at, take_at, not-true)
 cut (Quoted text) h =
     record { head = 34; behind = flat_map text_char text ++ 34 ∷ []; spelled = refl; seen = refl; cut = λ tail blank. quoted_again text tail h blank }
 cut Broken h = absurd (cc)

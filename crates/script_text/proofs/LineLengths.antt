@@ -1,5 +1,5 @@
 -- How long the lines are that are printed.
-use Rattle.script_text.proofs.Words.{◌≡◌, ℕ, suc, ◌+◌, ◌*◌, ◌^◌, ◌≤◌, ◌<◌, List, [], ◌∷◌, ◌++◌, map, length, Bool, true, ℤ, pos, negsuc, unsigned_abs, length-append, arith, decimal, signed_decimal, list_all, and_parts, decimal_nonempty, length-decimal-le_wide, joined, line, size_list}
+use Rattle.script_text.proofs.Words.{◌≡◌, ℕ, suc, ◌+◌, ◌*◌, ◌^◌, ◌≤◌, ◌<◌, List, [], ◌∷◌, ◌++◌, map, length, Bool, true, ℤ, pos, negsuc, unsigned_abs, length-append, arith, decimal, signed_decimal, list_all, and_parts, decimal_nonempty, length-decimal-le_wide, joined, line, size_list, nat_tests}
 
 -- least and most
 pub record Between (low high n : ℕ) : Type 0 where
@@ -45,8 +45,4 @@ sizes_long a b c ha hb hc =
 pub words_between : {A : Type 0} (f : A → List ℕ) (test : A → Bool) (low high : ℕ) → ((x : A) → test x ≡ true → Between low high (length (f x)))
     → (xs : List A) → list_all test xs ≡ true → Between (length xs * (low + 1)) (length xs * (high + 1)) (words_size (map f xs))
 words_between f test low high each [] h = record { least = omega arith; most = omega arith }
-words_between f test low high each (x ∷ xs) h =
-    let both = and_parts (test x) (list_all test xs) h in
-    let one = each x both.0 in
-    let more = words_between f test low high each xs both.1 in
-    record { least = omega arith; most = omega arith }
+words_between f test low high each (x ∷ xs) h = grind (arith, nat_tests, words_between f test low high each xs (and_parts (test x) (list_all test xs) h).1)

@@ -1,12 +1,10 @@
 -- Lines that are printed are the significant lines of their text, which is ASCII.
-use Rattle.script_text.proofs.Words.{◌≡◌, ◌∙◌, ℕ, zero, suc, ◌+◌, ◌/◌, ◌%◌, ◌≤◌, ◌<◌, List, [], ◌∷◌, ◌++◌, map, length, take, get_or, Bool, true, false, not, nat_lt, nat_le, ◌==◌, ◌&&◌, refl, ap, ⊎_elim, append_assoc, take_all, arith, IsUtf8, IsAscii, and_parts, and_from, ne_eqb, eq-eqb, eqb-true, cases_Bool, cond-false, agree_below_at, lt-ltb, not-true, common_steps, slice_split_at, length-slice_split, AllPass-from_list_all, IsUtf8-from_ascii, IsUtf8-from_is_utf8, utf8_valid_len-IsUtf8, IsAscii-from_all, All, list_all, enumerate_from, is_utf8, valid_len_up_to, utf8_valid_len, first_line_kept, text_char, hex_digit, joined, line, Word, Line, words, is_comment, is_newline, line_of, significant, significant_of, text_lines, all_joined, nat_tests, ltb-true}
+use Rattle.script_text.proofs.Words.{◌≡◌, ◌∙◌, ℕ, zero, suc, ◌+◌, ◌/◌, ◌≤◌, ◌<◌, List, [], ◌∷◌, map, length, take, get_or, Bool, true, false, not, nat_lt, nat_le, ◌==◌, ◌&&◌, refl, ap, ⊎_elim, append_assoc, take_all, arith, IsUtf8, IsAscii, and_parts, and_from, eq-eqb, eqb-true, cases_Bool, cond-false, agree_below_at, lt-ltb, not-true, common_steps, slice_split_at, length-slice_split, AllPass-from_list_all, IsUtf8-from_ascii, IsUtf8-from_is_utf8, utf8_valid_len-IsUtf8, IsAscii-from_all, All, list_all, enumerate_from, is_utf8, valid_len_up_to, utf8_valid_len, first_line_kept, text_char, hex_digit, joined, line, Word, Line, words, is_comment, is_newline, significant, significant_of, text_lines, all_joined, nat_tests, ltb-true}
 use Rattle.std.proofs.Common.{flat_map}
 use lib.Utf8.{scalar, scalars, encode, encodes, scalar_cases, next}
 use Rattle.script_text.proofs.Lexing.{spelling, is_byte, is_good, byte_bound, tail_of, joined_words, words_again, below_16}
 use Rattle.script_spelling.proofs.Steps.{all_more}
 use Rattle.list_laws.proofs.Truth.{either}
-
--- ---- what holds of each byte
 
 -- ---- bytes that are printed
 
@@ -19,30 +17,9 @@ printable_bounds c h = grind (arith, common_steps)
 printable_hex : (d : ℕ) → d < 16 → is_printable (hex_digit d) ≡ true
 printable_hex d h = agree_below_at (λ x. is_printable (hex_digit x)) (λ x. true) 16 d refl h
 
-abbrev IsPrinted : ℕ → Type 0
-IsPrinted c = list_all is_printable (text_char c) ≡ true
-
-printed_char : (c : ℕ) → c < 256 → IsPrinted c
-printed_char c small =
-    grind (
-      arith,
-      nat_tests,
-      printable_hex (c / 16 % 16) (below_16 (c / 16)),
-      and_from (is_printable (hex_digit (c % 16))) true (printable_hex (c % 16) (below_16 c)) refl,
-      cases_Bool (nat_le 32 c && nat_le c 126),
-      cases_Bool (c == 9),
-      cases_Bool (c == 10),
-      cases_Bool (c == 92),
-      cases_Bool (c == 34),
-      eqb-true,
-      cond-false,
-      below_16,
-      nat_le,
-    )
-
 printed_text : (text : List ℕ) → list_all is_byte text ≡ true → list_all is_printable (flat_map text_char text) ≡ true
 printed_text [] h = refl
-printed_text (c ∷ text) h = grind (arith, nat_tests, flat_map, and_parts, all_joined, printed_char c, byte_bound c, printed_text text)
+printed_text (c ∷ text) h = grind (arith, nat_tests, flat_map, and_parts, all_joined, printable_hex, below_16, nat_le, and_from, cases_Bool, eqb-true, cond-false, byte_bound c, printed_text text)
 
 printed_word : (w : Word) → is_good w ≡ true → list_all is_printable (spelling w) ≡ true
 printed_word w h = grind (arith, nat_tests, all_more, and_parts, all_joined, flat_map, printed_text)
@@ -68,18 +45,11 @@ printed_body : (ws : List Word) → is_line ws ≡ true → list_all is_printabl
 printed_body ws h = grind (arith, nat_tests, and_parts, joined_words, all_joined, printed_word, printed_tail)
 
 no_newline : (cs : List ℕ) → list_all is_printable cs ≡ true → All (λ c. is_newline c ≡ false) cs
-no_newline cs h k d low =
-    let b = printable_bounds (get_or cs k d) (AllPass-from_list_all is_printable cs h k d low) in
-    ne_eqb (get_or cs k d) 10 (omega arith)
-
-line_cut : (cs rest : List ℕ) → list_all is_printable cs ≡ true → text_lines ((cs ++ 10 ∷ []) ++ rest) ≡ cs ∷ text_lines rest
-line_cut cs rest h = grind (arith, nat_tests, append_assoc, slice_split_at, no_newline, first_line_kept, length-slice_split)
+no_newline cs h k d low = grind (arith, nat_tests, printable_bounds (get_or cs k d) (AllPass-from_list_all is_printable cs h k d low))
 
 pub lines_again : (wss : List (List Word)) → list_all is_line wss ≡ true → text_lines (flat_map spelled wss) ≡ map body wss
 lines_again [] h = refl
-lines_again (ws ∷ wss) h =
-    let both = and_parts _ _ h in
-    line_cut (body ws) (flat_map spelled wss) (printed_body ws both.0) ∙ ap (λ (more : List (List ℕ)). body ws ∷ more) (lines_again wss both.1)
+lines_again (ws ∷ wss) h = grind (arith, nat_tests, no_newline, first_line_kept, append_assoc, slice_split_at, length-slice_split, flat_map, printed_body, lines_again wss, flat_map, spelled, body)
 
 -- ---- the significant lines
 
@@ -89,14 +59,11 @@ numbered n [] = []
 numbered n ([] ∷ wss) = numbered (n + 1) wss
 numbered n ((w ∷ ws) ∷ wss) = record { number = n; first = w; rest = ws } ∷ numbered (n + 1) wss
 
-line_again : (n : ℕ) (w : Word) (ws : List Word) → is_line (w ∷ ws) ≡ true → line_of n (words (body (w ∷ ws))) ≡ record { number = n; first = w; rest = ws } ∷ []
-line_again n w ws h = grind (arith, nat_tests, and_parts, words_again, cond-false, not-true)
-
 pub significant_again : (n : ℕ) (wss : List (List Word)) → list_all is_line wss ≡ true → significant_of (enumerate_from n (map body wss)) ≡ numbered n wss
 significant_again n [] h = refl
 significant_again n ([] ∷ wss) h = absurd (cc)
 significant_again n ((w ∷ ws) ∷ wss) h =
-    grind (arith, nat_tests, significant_again (n + 1) wss (and_parts (is_line (w ∷ ws)) (list_all is_line wss) h).1, and_parts, line_again)
+    grind (arith, nat_tests, significant_again (n + 1) wss (and_parts (is_line (w ∷ ws)) (list_all is_line wss) h).1, and_parts, words_again, cond-false, not-true)
 
 pub significant_lines : (wss : List (List Word)) → list_all is_line wss ≡ true → significant (flat_map spelled wss) ≡ numbered 1 wss
 significant_lines wss h = ap (λ (ls : List (List ℕ)). significant_of (enumerate_from 1 ls)) (lines_again wss h) ∙ significant_again 1 wss h
@@ -142,15 +109,12 @@ next_byte c = byte (next c) (omega arith)
 two : (a b : ℕ) → a < 256 → list_all is_byte (a ∷ next b ∷ []) ≡ true
 two a b h = and_from (is_byte a) (is_byte (next b) && true) (byte a h) (and_from (is_byte (next b)) true (next_byte b) refl)
 
-three : (a b c : ℕ) → a < 256 → list_all is_byte (a ∷ next b ∷ next c ∷ []) ≡ true
-three a b c h = and_from (is_byte a) _ (byte a h) (two (next b) c (omega arith))
-
 last_byte : (c : ℕ) → scalar c ≡ true → 240 + c / 262144 < 256
 last_byte c h = ⊎_elim (λ a. omega arith) (λ a. let high = a.1 in omega arith) (scalar_cases c h)
 
 encode_bytes : (c : ℕ) → scalar c ≡ true → list_all is_byte (encode c) ≡ true
 unfolding encode
-encode_bytes c h = grind (arith, nat_tests, is_byte, either, nat_lt, ltb-true, and_from, byte, two, three, last_byte)
+encode_bytes c h = grind (arith, nat_tests, is_byte, either, nat_lt, ltb-true, and_from, byte, two, last_byte)
 
 encodes_bytes : (cs : List ℕ) → scalars cs ≡ true → list_all is_byte (encodes cs) ≡ true
 encodes_bytes [] h = refl

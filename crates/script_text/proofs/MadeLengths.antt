@@ -1,5 +1,5 @@
 -- How long the text of a made script is, and that words can express it.
-use Rattle.script_text.proofs.Words.{◌≡◌, ◌∙◌, ℕ, zero, suc, ◌+◌, ◌-◌, ◌*◌, ◌^◌, ◌≤◌, ◌<◌, List, [], ◌∷◌, ◌++◌, map, length, Bool, true, not, nat_lt, refl, subst, arith, codes, decimal, neg_ℤ, ◌<ℤ◌, signed_decimal, enumerate_from, flat_map, list_all, range_with_len, and_from, lt-ltb, ltb-true, length-decimal-le_wide, ints, flat_map-append, list_all-append, length-map-range_with_len, pieces_long, Call, Every, Given, Bput, Bits, Numbers, is_empty, first_row, precip_at, temp_at, call_word, hex, line, call_words, region_words, shown_call, shown_values, is_expressible_call, calls_of_rank, calls_of_record, columns_of, precip_band, region_of_band, temp_band, rank_is, record_is, pieces_pass, range_passes}
+use Rattle.script_text.proofs.Words.{◌≡◌, ◌∙◌, ℕ, zero, suc, ◌+◌, ◌-◌, ◌*◌, ◌^◌, ◌≤◌, ◌<◌, List, [], ◌∷◌, ◌++◌, map, length, Bool, true, not, nat_lt, refl, subst, arith, codes, decimal, neg_ℤ, ◌<ℤ◌, signed_decimal, enumerate_from, flat_map, list_all, range_with_len, and_from, lt-ltb, length-decimal-le_wide, ints, flat_map-append, list_all-append, pieces_long, Call, Every, Given, Bput, Bits, Numbers, is_empty, first_row, precip_at, temp_at, call_word, hex, line, call_words, region_words, shown_call, shown_values, is_expressible_call, calls_of_rank, calls_of_record, columns_of, precip_band, region_of_band, temp_band, rank_is, record_is, pieces_pass, range_passes, nat_tests}
 use Rattle.script_text.proofs.Numerals.{length-hex}
 use Rattle.std.specs.Prelude.{ℤ, pos, negsuc, unsigned_abs}
 use Rattle.script_text.proofs.LineLengths.{Between, both_long, line_long, number_long, sizes_long, small_long, words_between, words_joined, words_size}
@@ -16,13 +16,11 @@ rows_long r n h e = (omega (arith, e), omega (arith, e))
 
 temps_long : (seed r t : ℕ) → r < 8 → FitsBand (length (temp_band seed r t))
 unfolding temp_band
-temps_long seed r t h =
-    rows_long r _ h (pieces_long (λ y. map (λ x. temp_at seed t y x) (range_with_len 0 360)) 360 (λ y. length-map-range_with_len (λ x. temp_at seed t y x) 0 360) (first_row r) (first_row (r + 1) - first_row r))
+temps_long seed r t h = grind (arith, nat_tests, rows_long r, pieces_long)
 
 precips_long : (seed r t : ℕ) → r < 8 → FitsBand (length (precip_band seed r t))
 unfolding precip_band
-precips_long seed r t h =
-    rows_long r _ h (pieces_long (λ y. map (λ x. precip_at seed t y x) (range_with_len 0 360)) 360 (λ y. length-map-range_with_len (λ x. precip_at seed t y x) 0 360) (first_row r) (first_row (r + 1) - first_row r))
+precips_long seed r t h = grind (arith, nat_tests, rows_long r, pieces_long)
 
 temps_fit : (seed r t : ℕ) → list_all (λ n. nat_lt n (2 ^ 64)) (temp_band seed r t) ≡ true
 unfolding temp_band
@@ -60,11 +58,7 @@ precip_post seed r t = call.Post (2 * t + 1) Bput (codes "precip") (region_of_ba
 
 record_expressible : (seed r t : ℕ) → r < 8 → t < 64 → list_all is_expressible_call (calls_of_record seed r t) ≡ true
 record_expressible seed r t h l =
-    let long = temps_long seed r t h in
-    let some = some_values (temp_band seed r t) (omega (arith, long.0)) in
-    let temp = and_from _ _ (and_from _ _ (lt-ltb (2 * t) (2 ^ 32) (omega arith)) refl) (and_from _ _ some (temps_fit seed r t)) in
-    let precip = and_from _ _ (and_from _ _ (lt-ltb (2 * t + 1) (2 ^ 32) (omega arith)) refl) refl in
-    subst (λ (cs : List Call). list_all is_expressible_call cs ≡ true) (record_is seed r t (temp_post seed r t) (precip_post seed r t) refl refl) (and_from _ _ temp (and_from _ _ precip refl))
+    grind (arith, nat_tests, temps_long, some_values, temps_fit, record_is, list_all, is_expressible_call, calls_of_record, temp_post, precip_post)
 
 abbrev column_get : List ℕ → ℕ → ℕ → Call
 column_get name size r = call.Get true name (columns_of size r)
@@ -86,17 +80,7 @@ region_size g = words_size (region_words g)
 
 band_region : (r t : ℕ) → r < 8 → t < 64 → region_size (region_of_band r t) ≤ 28
 unfolding region_of_band
-band_region r t h l =
-    let start = sizes_long t (first_row r) 0 (omega arith) (omega arith) (omega arith) in
-    let count = sizes_long 1 (first_row (r + 1) - first_row r) 360 (omega arith) (omega arith) (omega arith) in
-    omega (arith, start, count)
-
-column_region : (size r : ℕ) → size ≤ 64 → r < 8 → region_size (columns_of size r) ≤ 28
-unfolding columns_of
-column_region size r s h =
-    let start = sizes_long 0 0 (45 * r) (omega arith) (omega arith) (omega arith) in
-    let count = sizes_long size 180 1 (omega arith) (omega arith) (omega arith) in
-    omega (arith, start, count)
+band_region r t h l = grind (arith, nat_tests, sizes_long, region_size, region_of_band)
 
 temp_words : (seed r t : ℕ) → r < 8 → Between 142560 149040 (words_size (shown_values (Bits (temp_band seed r t))))
 temp_words seed r t h =
@@ -106,24 +90,20 @@ temp_words seed r t h =
     record { least = omega (arith, long.0); most = omega (arith, long.1) }
 
 precip_words : (seed r t : ℕ) → r < 8 → Between 15840 57960 (words_size (shown_values (Numbers (precip_band seed r t))))
-precip_words seed r t h =
-    let long = precips_long seed r t h in
-    let all = words_between signed_decimal is_depth 1 6 (λ z k. number_long z (ltb-true _ _ k)) (precip_band seed r t) (depths_fit seed r t) in
-    record { least = omega (arith, long.0); most = omega (arith, long.1) }
+precip_words seed r t h = grind (arith, nat_tests, precips_long seed r t h, words_between signed_decimal is_depth 1 6, number_long, depths_fit seed r t)
 
 -- a post's line: what comes before its values, and these
 post_line : (r id low high : ℕ) (name : List ℕ) (g : Given) (vs : List (List ℕ)) → r < 8 → id < 10 ^ 3 → length name ≤ 6 → region_size g ≤ 28 → Between low high (words_size vs)
     → Between low (high + 60) (length (line (decimal r ∷ codes "bput_vara" ∷ decimal id ∷ name ∷ (region_words g ++ vs))))
 post_line r id low high name g vs h small short region values =
-    let long = line_long (decimal r) (codes "bput_vara" ∷ decimal id ∷ name ∷ (region_words g ++ vs)) in
-    let word : length (codes "bput_vara") ≡ 9 = refl in
-    let rank = small_long r (omega arith) in
-    let least = values.least in
-    let most = values.most in
-    record {
-      least = omega (arith, long, words_joined (region_words g) vs, least);
-      most = omega (arith, long, words_joined (region_words g) vs, most, word, rank, small_long id small, short, region);
-    }
+    grind (
+      arith,
+      nat_tests,
+      line_long (decimal r) (codes "bput_vara" ∷ decimal id ∷ name ∷ (region_words g ++ vs)),
+      small_long r,
+      words_joined (region_words g) vs,
+      small_long id small,
+    )
 
 temp_line : (seed r t : ℕ) → r < 8 → t < 64 → Between 142560 149100 (length (shown_call r (temp_post seed r t)))
 unfolding region_of_band
@@ -135,9 +115,7 @@ precip_line seed r t h l = post_line r (2 * t + 1) 15840 57960 (codes "precip") 
 
 -- a line of few words
 few_words : (r : ℕ) (c : Call) → r < 8 → words_size (call_word c ∷ call_words c) ≤ 60 → Between 0 64 (length (shown_call r c))
-few_words r c h few =
-    let rank = small_long r (omega arith) in
-    record { least = omega arith; most = omega (arith, line_long (decimal r) (call_word c ∷ call_words c), few, rank) }
+few_words r c h few = grind (arith, nat_tests, small_long r, line_long (decimal r) (call_word c ∷ call_words c), call_words c)
 
 wait_words : words_size (call_word (call.Wait true Every) ∷ call_words (call.Wait true Every)) ≤ 60
 wait_words = omega arith
@@ -165,10 +143,7 @@ records_long seed r t (suc n) h l =
 
 get_line : (size r : ℕ) (name : List ℕ) → size ≤ 64 → r < 8 → length name ≤ 6 → Between 0 64 (length (shown_call r (column_get name size r)))
 unfolding columns_of
-get_line size r name s h short =
-    let region = column_region size r s h in
-    let word : length (call_word (column_get name size r)) ≡ 12 = refl in
-    few_words r (column_get name size r) h (omega (arith, region, short, word))
+get_line size r name s h short = grind (arith, nat_tests, sizes_long, region_size, columns_of, few_words r (column_get name size r) h)
 
 attach_line : (r : ℕ) → r < 8 → Between 0 64 (length (shown_call r (call.Attach 65536)))
 attach_line r h =

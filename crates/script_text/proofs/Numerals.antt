@@ -80,12 +80,9 @@ number_word z h = grind (arith, nat_tests, decimal_numeral, digits_word, decimal
 
 -- ---- bits
 
-hex_push : (hs : List ℕ) (d n : ℕ) → fold hex_sum (Some 0) hs ≡ Some n → d < 16 → fold hex_sum (Some 0) (hs ++ hex_digit d ∷ []) ≡ Some (16 * n + d)
-hex_push hs d n h low = grind (arith, nat_tests, fold_push, option_map, hex_again)
-
 hex_sum_again : (k n : ℕ) → n < sixteens k → fold hex_sum (Some 0) (hex k n) ≡ Some n
 hex_sum_again zero n h = let none : 0 ≡ n = omega arith in ap (λ (x : ℕ). Some x) none
-hex_sum_again (suc k) n h = grind (arith, nat_tests, hex_sum_again k (n / 16) (omega arith), hex_push)
+hex_sum_again (suc k) n h = grind (arith, nat_tests, hex_sum_again k (n / 16) (omega arith), option_map, hex_again, fold_push)
 
 pub length-hex : (k n : ℕ) → length (hex k n) ≡ k
 length-hex zero n = refl
@@ -104,19 +101,14 @@ hex_sum_bound (c ∷ hs) a n most e le = by (hex_value c) refl e (λ h. hex_sum_
     by : (o : Option ℕ) → hex_value c ≡ o → fold hex_sum (option_map (λ h. 16 * a + h) o) hs ≡ Some n
         → ((h : ℕ) → fold hex_sum (Some (16 * a + h)) hs ≡ Some n → (16 * a + h + 1) * sixteens (length hs) ≤ most → n < most) → n < most
     by None is k more = let none = no_sum hs in absurd (cc)
-    by (Some h) is k more =
-        let low = hex_value_bound c h is in
-        let step : (16 * a + h + 1) * sixteens (length hs) ≤ (16 * (a + 1)) * sixteens (length hs) = mul-le-mul_right (sixteens (length hs)) (omega arith) in
-        more h k (omega arith)
+    by (Some h) is k more = grind (arith, nat_tests, hex_value_bound, mul-le-mul_right)
 
 pub bits_bound : (w : List ℕ) (n : ℕ) → bits_of_text w ≡ Some n → n < 2 ^ 64
 bits_bound [] n h = absurd (cc)
 bits_bound (c ∷ hs) n h =
     decided (c == 120 && nat_lt 0 (length hs) && nat_le (length hs) 16) _ _ _ h
     (λ e k.
-    let short : length hs ≤ 16 = grind (arith, common_steps, (and_parts (c == 120 && nat_lt 0 (length hs)) (nat_le (length hs) 16) e).1) in
-    let fits : sixteens (length hs) ≤ 2 ^ 64 = sixteens-le (length hs) (16 - length hs) 16 (omega arith) in
-    hex_sum_bound hs 0 n (2 ^ 64) k (omega arith))
+    grind (arith, nat_tests, sixteens-le (length hs) (16 - length hs) 16, hex_sum_bound hs 0 n (2 ^ 64) k))
     (λ e k. absurd (cc))
 
 graphic_hex : (d : ℕ) → d < 16 → is_graphic (hex_digit d) ≡ true
@@ -185,13 +177,9 @@ size_low n h = grind (arith, common_steps)
 digit_item : (d : ℕ) → is_digit d ≡ true → is_item_byte d ≡ true
 digit_item d h = let b = digit_bounds d h in and_from _ _ (digit_graphic d h) (ap not (ne_eqb d 44 (omega arith)))
 
-digits_item : (ds : List ℕ) → 0 < length ds → list_all is_digit ds ≡ true → is_item ds ≡ true
-digits_item [] some h = absurd (omega arith)
-digits_item (d ∷ ds) some h = all_more is_digit is_item_byte digit_item (d ∷ ds) h
-
 sizes_items : (ns : List ℕ) → list_all is_size ns ≡ true → list_all is_item (map decimal ns) ≡ true
 sizes_items [] h = refl
-sizes_items (n ∷ ns) h = grind (arith, nat_tests, sizes_items ns, and_parts, size_low n, decimal_numeral n, digits_item, and_from)
+sizes_items (n ∷ ns) h = grind (arith, nat_tests, sizes_items ns, and_parts, size_low n, decimal_numeral n, all_more, digit_item, and_from)
 
 sizes_again : (ns : List ℕ) → list_all is_size ns ≡ true → all_some (map size_of_text (map decimal ns)) ≡ Some ns
 sizes_again [] h = refl
@@ -208,19 +196,13 @@ list_plain ns h = bracketed_plain (map decimal ns) (sizes_items ns h)
 in_name_bounds : (c : ℕ) → in_name c ≡ true → (43 ≤ c) × (c ≤ 122)
 in_name_bounds c h = grind (arith, common_steps)
 
-in_name_item : (c : ℕ) → in_name c ≡ true → is_item_byte c ≡ true
-in_name_item c h = grind (arith, nat_tests, in_name_bounds, and_from, graphic, not, ne_eqb)
-
 starts_in : (c : ℕ) → starts_name c ≡ true → in_name c ≡ true
 starts_in c h = ap (λ (b : Bool). b || c == 46 || c == 45 || c == 43 || c == 64) h
 
 pub name_item : (n : List ℕ) → is_name n ≡ true → is_item n ≡ true
 name_item [] h = absurd (cc)
-name_item (c ∷ cs) h = grind (arith, nat_tests, and_parts, nat_lt, all_more, in_name_item, and_from, starts_in)
+name_item (c ∷ cs) h = grind (arith, nat_tests, and_parts, nat_lt, all_more, in_name_bounds, graphic, not, ne_eqb, and_from, starts_in)
 
 pub name_plain : (n : List ℕ) → is_name n ≡ true → is_plain n ≡ true
 name_plain [] h = absurd (cc)
 name_plain (c ∷ cs) h = grind (arith, nat_tests, name_item (c ∷ cs) h, item_graphic (c ∷ cs) (name_item (c ∷ cs) h), and_parts, in_name_bounds c, starts_in c, ne_eqb)
-
-pub decimal_word : (n : ℕ) → n < 10 ^ 64 → IsNumberWord (decimal n)
-decimal_word n h = let d = decimal_numeral n h in digits_word (decimal n) d.some d.digits

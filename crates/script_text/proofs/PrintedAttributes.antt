@@ -1,5 +1,5 @@
 -- Types and attributes that are printed are read again.
-use Rattle.script_text.proofs.Words.{◌≡◌, ◌∙◌, ℕ, List, [], ◌∷◌, map, find, length, Bool, true, cond, nat_le, Option, Some, None, ℤ, refl, ap, subst, arith, bytes_eq, list_all, and_parts, and_from, cond-true, take_at, drop_at, NcType, Attr, Value, Values, Numbers, Text, Bits, Class, class_of, size_of, ext, val, fits, types, codes, SpellsValues, OfNothing, OfText, number_of, last_type, number_in, code_in, gathered, val-ext, ext_long, type_word, pieces, attr_values, shown_values, Word, Plain, are_numbers, are_patterns, are_text, type_of, external_bytes, attr_of, nat_tests, fits_in, sym}
+use Rattle.script_text.proofs.Words.{◌≡◌, ◌∙◌, ℕ, List, [], ◌∷◌, map, find, length, Bool, true, cond, nat_le, Option, Some, None, ℤ, refl, ap, subst, arith, bytes_eq, list_all, and_parts, cond-true, take_at, drop_at, NcType, Attr, Value, Values, Numbers, Text, Bits, Class, class_of, size_of, ext, val, fits, types, codes, SpellsValues, OfNothing, OfText, number_of, last_type, number_in, code_in, gathered, val-ext, ext_long, type_word, pieces, attr_values, shown_values, Word, Plain, are_numbers, are_patterns, are_text, type_of, external_bytes, attr_of, nat_tests, fits_in}
 use Rattle.std.proofs.Common.{flat_map}
 use Rattle.script_text.proofs.Lexing.{spelling, is_plain, is_good, is_byte}
 use Rattle.script_text.proofs.Numerals.{name_plain}
@@ -54,12 +54,7 @@ pub record AttrShown (n : List ℕ) (t : NcType) (vs : Values) : Type 0 where
 
 -- values that are shown as they are
 as_they_are : (n : List ℕ) (t : NcType) (vs : Values) → attr_values (attr_of n t vs) ≡ vs → AreFit (Some t) vs → AttrShown n t vs
-as_they_are n t vs same fit = record {
-  good = ap (λ (us : Values). list_all is_good (value_tokens us)) same ∙ values_good (Some t) vs fit;
-  told = vs;
-  spells = subst (λ (us : Values). SpellsValues (Some t) (value_tokens us) vs) (sym same) (values_spell (Some t) vs fit);
-  same = refl;
-}
+as_they_are n t vs same fit = grind (arith, nat_tests, is_good, values_good, values_spell, list_all)
 
 gathered_numbers : (c : Class) (os : List (Option Value)) → are_numbers c ≡ true → gathered c os ≡ Numbers (map number_in os)
 gathered_numbers c os h = grind (arith, nat_tests)
@@ -95,8 +90,7 @@ numbers_shown n t (z ∷ zs) fit =
     let os = seen t (length (z ∷ zs)) (external_bytes t (Numbers (z ∷ zs))) in
     let same : os ≡ map (λ y. Some (value.Number y)) (z ∷ zs) = seen_again t (λ y. value.Number y) (is_fit_number (Some t)) (λ y h. (and_parts _ _ h).1) (z ∷ zs) fit in
     let numbers = class_numbers (class_of t) (size_of t) z (and_parts _ _ (and_parts (is_fit_number (Some t) z) _ fit).0).1 in
-    as_they_are n t (Numbers (z ∷ zs))
-    (gathered_numbers (class_of t) os numbers ∙ ap (λ (ys : List ℤ). Numbers ys) (ap (map number_in) same ∙ each_back number_in (λ y. Some (value.Number y)) (λ y. refl) (z ∷ zs))) fit
+    grind (arith, nat_tests, as_they_are n t (Numbers (z ∷ zs)), gathered_numbers (class_of t) os numbers, number_in, each_back number_in, value.Number)
 
 bits_shown : (n : List ℕ) (t : NcType) (ns : List ℕ) → AreFit (Some t) (Bits ns) → AttrShown n t (Bits ns)
 bits_shown n t [] fit = absurd (omega (arith, fit.1))
@@ -139,9 +133,4 @@ pub attr_again : (version : ℕ) (words : List Word) (o : Option (List ℕ)) (a 
 attr_again version words o a (w, given, vs, are, is, named, told, spells, same) read =
     let given_read : list_all is_read given ≡ true = subst (λ (xs : List Word). list_all is_read xs ≡ true) are read in
     let shown = values_shown a.name a.kind vs (are_fit (Some a.kind) given vs spells given_read) in
-    let again = type_again version w a.kind told in
-    let tokens = value_tokens (attr_values (attr_of a.name a.kind vs)) in
-    subst (AttrAgain version) (sym same) (record {
-      good = and_from _ _ (name_plain a.name named) (and_from _ _ (type_plain a.kind) shown.good);
-      says = λ p is. (type_word a.kind, tokens, shown.told, refl, is, named, again, shown.spells, sym shown.same);
-    })
+    grind (arith, nat_tests, type_again version w a.kind told, name_plain a.name named, type_plain a.kind, shown.good, shown.told, shown.spells, shown.same)

@@ -1,5 +1,5 @@
 -- A call that is printed is read as the same call.
-use Rattle.script_text.proofs.Words.{ℤ, ◌∙◌, nat_lt, and_parts, Text, Bits, are_expressible_values, is_expressible_call, HasNoRegion, of_behind, made_behind, ◌≡◌, ℕ, ◌^◌, List, [], ◌∷◌, ◌++◌, Bool, true, None, refl, sym, subst, arith, decimal, list_all, and_from, ltb-true, Values, Numbers, PostKind, Iput, Iget, Bput, Call, Word, Plain, is_name, Family, Requests, Size, Name, Record, Nothing, Behind, CallRow, is_sized, IsRow, is_expressible_behind, all_joined, Option, Some, SpellsBehind, SpellsCall, SpellsInRow, SpellsPlain, SpellsPosted, ap, are_values, in_row, is_given, is_id, is_lawful_call, is_nothing, is_post_of, length, list_all-append, most_elements, nat_le, of_row, ◌&&◌}
+use Rattle.script_text.proofs.Words.{ℤ, ◌∙◌, nat_lt, and_parts, Text, Bits, are_expressible_values, is_expressible_call, HasNoRegion, of_behind, made_behind, ◌≡◌, ℕ, ◌^◌, List, [], ◌∷◌, ◌++◌, Bool, true, None, refl, sym, subst, arith, decimal, list_all, and_from, ltb-true, Values, Numbers, PostKind, Iput, Iget, Bput, Call, Word, Plain, is_name, Family, Requests, Size, Name, Record, Nothing, Behind, CallRow, is_sized, is_expressible_behind, all_joined, Option, Some, SpellsBehind, SpellsCall, SpellsInRow, SpellsPlain, SpellsPosted, ap, are_values, in_row, is_given, is_id, is_lawful_call, is_nothing, is_post_of, length, list_all-append, most_elements, nat_le, of_row, ◌&&◌, nat_tests}
 use Rattle.script_spelling.proofs.Steps.{all_more}
 use Rattle.serial_spec.proofs.MemberLaws.{empty_list}
 use Rattle.script_laws.proofs.Sequences.{is_fit_pattern, is_fit_number}
@@ -70,21 +70,10 @@ behind_named Name n ws h = h.1
 behind_named Record (n, k) ws (w, are, named, told) = named
 behind_named Nothing u ws h = refl
 
-row_shown : (ranks r : ℕ) (row : CallRow) → IsRow row → (b : Behind row.family) → is_expressible_behind row.family b ≡ true → is_sized row.family b ≡ true → CallShown (row.made ranks r b)
-row_shown ranks r row is b h sized =
-    let c = row.made ranks r b in
-    let tokens = made_tokens row is ranks r b in
-    let spells = subst (λ (ws : List Word). SpellsBehind ws row.family b) (sym tokens) (behind_spells row.family b h sized) in
-    record {
-      good = ap (list_all is_good) tokens ∙ behind_good row.family b h sized;
-      spells = apart_spelled c (call_tokens c) (is.apart ranks r b) (made_spelled row is ranks r b (call_tokens c) spells);
-    }
-
 plain_shown : (ranks r : ℕ) (c : Call) → HasNoRegion c → is_lawful_call ranks r c ≡ true → of_behind true is_expressible_behind c ≡ true → CallShown c
 plain_shown ranks r c apart lawful h =
     let o = of_row ranks r c apart lawful in
-    let told = sym (made_behind o.row o.is ranks r o.b true is_expressible_behind) ∙ (ap (of_behind true is_expressible_behind) o.same ∙ h) in
-    subst CallShown o.same (row_shown ranks r o.row o.is o.b told o.sized)
+    grind (arith, nat_tests, made_behind o.row o.is ranks r o.b true is_expressible_behind, made_tokens, behind_spells, is_good, behind_good, apart_spelled, made_spelled, o.same, o.sized)
 
 pub call_shown : (ranks r : ℕ) (c : Call) → is_lawful_call ranks r c ≡ true → is_expressible_call c ≡ true → CallShown c
 call_shown ranks r (call.Put all n g vs) lawful h =
@@ -98,8 +87,7 @@ call_shown ranks r (call.Put all n g vs) lawful h =
       spells = (Plain n ∷ region, value_tokens vs, refl, (region, refl, b.0, region_spells g.form g s), values_spell None vs are);
     }
 call_shown ranks r (call.Get all n g) lawful h =
-    let s = has_sizes g lawful in
-    record { good = and_from _ _ (name_plain n h) (region_good g.form g s); spells = (region_tokens g.form g, refl, h, region_spells g.form g s) }
+    grind (arith, nat_tests, has_sizes g lawful, name_plain n h, region_good g.form g (has_sizes g lawful), region_spells g.form g (has_sizes g lawful))
 call_shown ranks r (call.Post id k n g vs) lawful h =
     let a = and_parts (is_given g) (is_post_of k vs) lawful in
     let b = and_parts (is_id id && is_name n) (are_expressible_values vs) h in

@@ -1,8 +1,7 @@
 -- Numbers of hints and lengths that are printed are read again.
-use Rattle.script_text.proofs.Words.{◌≡◌, ◌⊎◌, ◌∙◌, ℕ, ◌%◌, ◌^◌, ◌<◌, List, [], ◌∷◌, Bool, true, false, cond, nat_le, ◌==◌, ◌&&◌, ◌||◌, Option, Some, None, refl, sym, ap, subst, inl, inr, arith, bytes_eq, codes, decimal, and_parts, cond-true, cond-false, record_limit, size_of_text, HintForm, Within, Either, number_within, length_of_text, size_read, nat_tests, leb-true}
+use Rattle.script_text.proofs.Words.{◌≡◌, ◌⊎◌, ◌∙◌, ℕ, ◌%◌, ◌^◌, ◌<◌, List, Bool, true, false, cond, nat_le, ◌==◌, ◌&&◌, ◌||◌, Option, Some, None, refl, sym, ap, subst, inl, inr, arith, bytes_eq, codes, decimal, and_parts, cond-true, record_limit, size_of_text, HintForm, Within, Either, number_within, length_of_text, size_read, nat_tests, leb-true}
 use Rattle.script_text.proofs.Lexing.{is_plain}
-use Rattle.script_text.proofs.Numerals.{below_bound, below_again, size_again, size_plain, decimal_word}
-use Rattle.script_text.proofs.PrintedValues.{not_letters}
+use Rattle.script_text.proofs.Numerals.{below_bound, below_again, size_again, size_plain}
 
 -- ---- hints
 
@@ -38,9 +37,7 @@ pub record LengthAgain (version n : ℕ) : Type 0 where
 pub length_told : (version n : ℕ) → (n ≡ 0) ⊎ (((n == 0) ≡ false) × (n < record_limit version) × (n < 2 ^ 63)) → LengthAgain version n
 length_told version n (inl e) = subst (LengthAgain version) (sym e) (record { plain = refl; again = refl })
 length_told version n (inr k) =
-    let letters = not_letters (decimal n) 117 (110 ∷ 108 ∷ 105 ∷ 109 ∷ 105 ∷ 116 ∷ 101 ∷ 100 ∷ []) (decimal_word n (omega (arith, k.2))) (omega arith) in
-    let small = below_again (record_limit version) (size_of_text (decimal n)) n (size_again n k.2) k.1 in
-    grind (arith, nat_tests, letters, small, size_plain n k.2, cond-false, k.0)
+    grind (arith, nat_tests, below_again (record_limit version) (size_of_text (decimal n)) n (size_again n k.2) k.1, size_again n k.2, size_plain n k.2, k.0)
 
 pub length_again : (version : ℕ) (w : List ℕ) (n : ℕ) → length_of_text version w ≡ Some n → LengthAgain version n
 length_again version w n h = length_told version n (length_is version w n h)

@@ -1,5 +1,5 @@
 -- Names, regions, ids and choices that are printed are read again.
-use Rattle.script_text.proofs.Words.{◌≡◌, ℕ, ◌^◌, ◌≤◌, ◌<◌, List, [], ◌∷◌, map, length, Bool, true, nat_le, ◌&&◌, Option, Some, Ok, refl, ap, arith, codes, decimal, list_all, and_parts, and_from, ScriptKind, Form, Given, Part, Choice, Every, Listed, most_parts, has_its_lists, is_given, size_list, part_words, form_words, choice_words, Word, Plain, size_of_text, list_of_text, reads_as, id_of_text, is_id, is_expressible_choice, nat_tests, Each, SpellsChoice, SpellsForm, SpellsOne, ltb-true, lt-ltb, leb-true}
+use Rattle.script_text.proofs.Words.{◌≡◌, ℕ, ◌^◌, ◌≤◌, ◌<◌, List, [], ◌∷◌, map, length, Bool, true, nat_le, ◌&&◌, Option, Some, Ok, refl, ap, arith, codes, decimal, list_all, and_parts, and_from, ScriptKind, Form, Given, Part, Choice, Every, Listed, most_parts, is_given, size_list, part_words, form_words, choice_words, Word, Plain, size_of_text, list_of_text, reads_as, id_of_text, is_id, is_expressible_choice, nat_tests, Each, SpellsChoice, SpellsForm, SpellsOne, ltb-true, lt-ltb}
 use Rattle.std.proofs.Common.{flat_map}
 use Rattle.script_spelling.proofs.Steps.{word_before}
 use Rattle.script_text.proofs.Lexing.{spelling, is_plain, is_good}
@@ -35,10 +35,7 @@ parts_good (p ∷ ps) h = grind (arith, nat_tests, parts_good ps (and_parts (is_
 
 parts_spell : (ps : List Part) → list_all is_part ps ≡ true → Each list_of_text (flat_map part_tokens ps) (flat_map (λ p. p.start ∷ p.count ∷ []) ps)
 parts_spell [] h = tt
-parts_spell (p ∷ ps) h =
-    let both = and_parts (is_part p) (list_all is_part ps) h in
-    let own = and_parts (are_sizes p.start) (are_sizes p.count) both.0 in
-    (list_spells p.start own.0, (list_spells p.count own.1, parts_spell ps both.1))
+parts_spell (p ∷ ps) h = grind (arith, nat_tests, list_spells, parts_spell ps (and_parts (is_part p) (list_all is_part ps) h).1, flat_map, part_tokens)
 
 -- ---- regions
 
@@ -63,22 +60,14 @@ pub record HasSizes (g : Given) : Type 0 where
   pub few : length g.parts ≤ most_parts
 
 pub has_sizes : (g : Given) → is_given g ≡ true → HasSizes g
-has_sizes g h =
-    let a = and_parts _ (nat_le (length g.parts) most_parts) h in
-    let b = and_parts _ (list_all is_part g.parts) a.0 in
-    let c = and_parts _ (are_sizes g.imap) b.0 in
-    let d = and_parts _ (are_sizes g.stride) c.0 in
-    let e = and_parts _ (are_sizes g.count) d.0 in
-    let f = and_parts (has_its_lists g) (are_sizes g.start) e.0 in
-    record { start = f.1; count = e.1; stride = d.1; imap = c.1; parts = b.1; few = leb-true (length g.parts) most_parts a.1 }
+has_sizes g h = grind (arith, nat_tests, nat_le, g.imap, g.stride, g.count, g.start)
 
 pub region_good : (f : Form) (g : Given) → HasSizes g → list_all is_good (region_tokens f g) ≡ true
 region_good form.Var g s = refl
 region_good form.Var1 g s = and_from _ _ (list_plain g.start s.start) refl
 region_good form.Vara g s = and_from _ _ (list_plain g.start s.start) (and_from _ _ (list_plain g.count s.count) refl)
 region_good form.Vars g s = and_from _ _ (list_plain g.start s.start) (and_from _ _ (list_plain g.count s.count) (and_from _ _ (list_plain g.stride s.stride) refl))
-region_good form.Varm g s =
-    and_from _ _ (list_plain g.start s.start) (and_from _ _ (list_plain g.count s.count) (and_from _ _ (list_plain g.stride s.stride) (and_from _ _ (list_plain g.imap s.imap) refl)))
+region_good form.Varm g s = grind (arith, nat_tests, list_plain, list_all, region_tokens)
 region_good form.Varn g s = and_from _ _ (size_plain (length g.parts) (let few = s.few in omega arith)) (parts_good g.parts s.parts)
 
 pub region_spells : (f : Form) (g : Given) → HasSizes g → SpellsForm f (region_tokens f g) g

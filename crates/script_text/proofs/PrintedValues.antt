@@ -1,7 +1,7 @@
 -- Values that are printed are read as the same values.
-use Rattle.script_text.proofs.Words.{◌≡◌, ℕ, ◌^◌, ◌<◌, List, [], ◌∷◌, map, length, Bool, true, false, cond, nat_lt, Option, Some, None, ℤ, unsigned_abs, refl, sym, ap, subst, arith, bytes_eq, signed_decimal, list_all, and_parts, and_from, and_left, cond-true, ne_eqb, sixteens, NcType, Values, Numbers, Text, Bits, hex, shown_values, Word, Plain, Quoted, number_of_text, bits_of_text, are_text, may_be, may_have, number_for, pattern_for, pattern_sequence, pattern_values, nat_tests, Each, OfBitSequence, OfBits, OfNothing, OfNumbers, OfSequence, OfText, SpellsValues, ltb-true, lt-ltb}
+use Rattle.script_text.proofs.Words.{◌≡◌, ℕ, ◌^◌, ◌<◌, List, [], ◌∷◌, map, length, Bool, true, nat_lt, Option, Some, ℤ, unsigned_abs, refl, sym, ap, subst, arith, signed_decimal, list_all, and_parts, and_from, cond-true, sixteens, NcType, Values, Numbers, Text, Bits, hex, shown_values, Word, Plain, Quoted, number_of_text, bits_of_text, are_text, may_be, may_have, number_for, pattern_for, pattern_sequence, pattern_values, nat_tests, Each, OfBitSequence, OfBits, OfNothing, OfNumbers, OfSequence, OfText, SpellsValues, ltb-true, lt-ltb}
 use Rattle.script_text.proofs.Lexing.{spelling, is_byte, is_good}
-use Rattle.script_text.proofs.Numerals.{IsNumberWord, number_word, number_again, bits_again, bits_bound, hex_graphic}
+use Rattle.script_text.proofs.Numerals.{number_word, number_again, bits_again, bits_bound, hex_graphic}
 use Rattle.script_laws.proofs.ValueLaws.{number_small}
 use Rattle.script_laws.proofs.Sequences.{is_fit_number, is_fit_pattern, numbers_fit, patterns_fit}
 use Rattle.nc_base.specs.declared.request.Value.TheVariants as value
@@ -54,9 +54,7 @@ patterns_are t (n ∷ ns) all = (all, omega arith)
 
 pub are_fit : (t : Option NcType) (ws : List Word) (vs : Values) → SpellsValues t ws vs → list_all is_read ws ≡ true → AreFit t vs
 are_fit t ws vs (OfNothing none same) read = subst (AreFit t) (sym same) refl
-are_fit t ws vs (OfText text are may same) read =
-    let bytes : list_all is_read (Quoted text ∷ []) ≡ true = subst (λ (xs : List Word). list_all is_read xs ≡ true) are read in
-    subst (AreFit t) (sym same) ((and_parts _ _ bytes).0, may)
+are_fit t ws vs (OfText text are may same) read = grind (arith, nat_tests)
 are_fit t ws vs (OfNumbers zs each same) read = subst (AreFit t) (sym same) (each_passed (number_for t) (is_fit_number t) (number_fit t) ws zs each)
 are_fit t ws vs (OfBits ns some each same) read = subst (AreFit t) (sym same) (each_passed (pattern_for t) (is_fit_pattern t) (pattern_fit t) ws ns each, some)
 are_fit t ws vs (OfSequence (count, first, step, n, a, b, are, told, low, by, suits, least, most, same)) read = subst (AreFit t) (sym same) (numbers_fit t a b n least most)
@@ -65,14 +63,8 @@ are_fit t ws vs (OfBitSequence (count, first, step, n, a, b, are, told, low, by,
 
 -- ---- printed values again
 
-pub not_letters : (w : List ℕ) (c : ℕ) (cs : List ℕ) → IsNumberWord w → 57 < c → bytes_eq w (c ∷ cs) ≡ false
-not_letters w c cs n high = grind (arith, nat_tests, bytes_eq, and_left, ne_eqb)
-
 number_for_again : (t : Option NcType) (z : ℤ) → is_fit_number t z ≡ true → number_for t (signed_decimal z) ≡ Some z
 number_for_again t z h = grind (arith, nat_tests, and_parts, number_again, ltb-true, cond-true)
-
-abbrev pattern_by : Option NcType → Option ℕ → Option ℕ
-pattern_by t o = elim o [ None ↦ None | Some y ↦ cond (may_have t (value.Bits y)) (Some y) None ]
 
 pattern_word_again : (n k : ℕ) → k ≡ 16 → n < 2 ^ 64 → bits_of_text (120 ∷ hex k n) ≡ Some n
 pattern_word_again n k e h = bits_again k n (omega arith) (omega arith) (subst (λ j. n < sixteens j) (sym e) h)

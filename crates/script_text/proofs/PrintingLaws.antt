@@ -55,21 +55,16 @@ values_pushed UInt bs h = numbers_pushed (λ b. pos (from_be_bytes w32 b)) bs
 values_pushed Int64 bs h = numbers_pushed (λ b. cast_signed w64 (from_be_bytes w64 b)) bs
 values_pushed UInt64 bs h = numbers_pushed (λ b. pos (from_be_bytes w64 b)) bs
 
-char_back : (c : ℕ) → from_be_bytes w8 (c ∷ []) ≡ c
-char_back c = omega arith
-
 -- the bytes of a text are its values
 pub chars_back : (n : ℕ) (bytes : List ℕ) → length bytes ≡ n → map code_in (map (λ b. Some (val Char b)) (pieces n 1 bytes)) ≡ bytes
 chars_back zero [] h = refl
 chars_back zero (c ∷ cs) h = absurd (omega arith)
 chars_back (suc n) [] h = absurd (omega arith)
-chars_back (suc n) (c ∷ cs) h = grind (arith, nat_tests, chars_back n cs, char_back)
+chars_back (suc n) (c ∷ cs) h = grind (arith, nat_tests, chars_back n cs)
 
 -- a text is one word
 chars_of : (n : ℕ) (bytes : List ℕ) → length bytes ≡ n * size_of Char → spaced (shown_values (as_values Char (pieces n (size_of Char) bytes))) ≡ 32 ∷ quoted bytes
-chars_of n bytes e =
-    let long : length bytes ≡ n = omega (arith, e) in
-    ap (λ (cs : List ℕ). spaced (quoted cs ∷ [])) (chars_back n bytes long) ∙ spaced_one (quoted bytes)
+chars_of n bytes e = grind (arith, nat_tests, chars_back n bytes, spaced_one (quoted bytes))
 
 text_of : (kind : NcType) (n : ℕ) (bytes : List ℕ) → kind ≡ Char → length bytes ≡ n * size_of kind → spaced (shown_values (as_values kind (pieces n (size_of kind) bytes))) ≡ 32 ∷ quoted bytes
 text_of kind n bytes h e = subst (λ k. length bytes ≡ n * size_of k → spaced (shown_values (as_values k (pieces n (size_of k) bytes))) ≡ 32 ∷ quoted bytes) (sym h) (chars_of n bytes) e

@@ -1,10 +1,10 @@
 -- The texts on the lines of bytes have bytes.
-use Rattle.script_text.proofs.Words.{◌≡◌, ℕ, zero, suc, ◌+◌, ◌<◌, List, [], ◌∷◌, drop, Bool, true, not, ◌==◌, Option, Some, None, option_map, refl, arith, list_all, slice_split, onto_first, enumerate_from, position_or_len, and_parts, and_from, Word, is_blank, is_newline, after_blanks, first_word, quoted_word, text_from, TextState, Between, AfterBackslash, FirstHex, SecondHex, words_within, hex_value, escape, without_empty_end, text_lines, line_of, significant, significant_of, all_joined, nat_tests, lt-ltb}
+use Rattle.script_text.proofs.Words.{◌≡◌, ℕ, zero, suc, ◌+◌, ◌<◌, List, [], ◌∷◌, drop, Bool, true, not, Option, Some, None, option_map, refl, arith, list_all, slice_split, enumerate_from, position_or_len, and_parts, and_from, Word, is_blank, is_newline, after_blanks, first_word, text_from, TextState, Between, AfterBackslash, FirstHex, SecondHex, words_within, hex_value, without_empty_end, text_lines, significant, significant_of, all_joined, nat_tests, lt-ltb}
 use Rattle.script_text.proofs.Lexing.{is_byte}
 use Rattle.script_text.proofs.Numerals.{hex_value_bound}
 use Rattle.script_text.proofs.PrintedValues.{is_read}
 use Rattle.script_text.proofs.CallLines.{are_read}
-use Rattle.script_spelling.proofs.Steps.{either, maybe}
+use Rattle.script_spelling.proofs.Steps.{maybe}
 
 abbrev are_bytes : List ℕ → Bool
 are_bytes cs = list_all is_byte cs
@@ -25,9 +25,6 @@ with_byte : (x : ℕ) (o : Option (List ℕ × List ℕ)) → is_byte x ≡ true
 with_byte x None b h = tt
 with_byte x (Some t) b h = (and_from _ _ b h.0, h.1)
 
-escape_byte : (c x : ℕ) → is_byte c ≡ true → escape c ≡ Some x → is_byte x ≡ true
-escape_byte c x b h = grind (arith, nat_tests, is_byte)
-
 text_bytes : (state : TextState) (cs : List ℕ) → StateOk state → are_bytes cs ≡ true → BytesOf (text_from state cs)
 text_bytes state [] ok h = tt
 text_bytes Between (c ∷ cs) ok h =
@@ -43,8 +40,7 @@ text_bytes Between (c ∷ cs) ok h =
     )
 text_bytes AfterBackslash (c ∷ cs) ok h =
     let both = and_parts (is_byte c) (are_bytes cs) h in
-    let plain = text_bytes Between cs tt both.1 in
-    either BytesOf (c == 120) _ _ (text_bytes FirstHex cs tt both.1) (maybe BytesOf (escape c) None _ tt (λ x e. with_byte x (text_from Between cs) (escape_byte c x both.0 e) plain))
+    grind (arith, nat_tests, text_bytes Between cs tt both.1, text_bytes FirstHex cs tt both.1, maybe, with_byte, is_byte, both.0)
 text_bytes FirstHex (c ∷ cs) ok h = maybe BytesOf (hex_value c) None _ tt (λ g e. text_bytes (SecondHex g) cs (hex_value_bound c g e) (and_parts (is_byte c) (are_bytes cs) h).1)
 text_bytes (SecondHex g) (c ∷ cs) ok h =
     grind (arith, nat_tests, text_bytes Between cs tt (and_parts (is_byte c) (are_bytes cs) h).1, and_parts, is_byte, option_map, hex_value_bound, with_byte, lt-ltb)
@@ -54,16 +50,13 @@ text_bytes (SecondHex g) (c ∷ cs) ok h =
 abbrev WordOk : Word × List ℕ → Type 0
 WordOk w = (is_read w.0 ≡ true) × (are_bytes w.1 ≡ true)
 
-quoted_ok : (o : Option (List ℕ × List ℕ)) → BytesOf o → WordOk (quoted_word o)
-quoted_ok o h = grind (arith, nat_tests)
-
 all_dropped : (n : ℕ) (cs : List ℕ) → are_bytes cs ≡ true → are_bytes (drop n cs) ≡ true
 all_dropped zero cs h = h
 all_dropped (suc n) [] h = refl
 all_dropped (suc n) (c ∷ cs) h = all_dropped n cs (and_parts (is_byte c) (are_bytes cs) h).1
 
 first_ok : (c : ℕ) (cs : List ℕ) → are_bytes cs ≡ true → WordOk (first_word c cs)
-first_ok c cs h = grind (arith, nat_tests, quoted_ok, text_bytes, all_dropped)
+first_ok c cs h = grind (arith, nat_tests, text_bytes, all_dropped)
 
 words_read : (n : ℕ) (line : List ℕ) → are_bytes line ≡ true → list_all is_read (words_within n line) ≡ true
 words_read zero line h = refl
@@ -72,21 +65,16 @@ words_read (suc n) line h = by (after_blanks line) (all_dropped (position_or_len
     by : (rest : List ℕ) → are_bytes rest ≡ true → ((tail : List ℕ) → are_bytes tail ≡ true → list_all is_read (words_within n tail) ≡ true)
         → list_all is_read (elim rest as (λ z. List Word) [ [] ↦ [] | c ∷ cs ↦ (first_word c cs).0 ∷ words_within n (first_word c cs).1 ]) ≡ true
     by [] b more = refl
-    by (c ∷ cs) b more =
-        let w = first_ok c cs (and_parts (is_byte c) (are_bytes cs) b).1 in
-        and_from _ _ w.0 (more (first_word c cs).1 w.1)
+    by (c ∷ cs) b more = grind (arith, nat_tests, first_ok, is_byte)
 
 -- ---- lines
 
 abbrev are_texts : List (List ℕ) → Bool
 are_texts lines = list_all are_bytes lines
 
-onto_bytes : (x : ℕ) (parts : List (List ℕ)) → is_byte x ≡ true → are_texts parts ≡ true → are_texts (onto_first x parts) ≡ true
-onto_bytes x parts b h = grind (arith, nat_tests, and_from, and_parts)
-
 split_bytes : (p : ℕ → Bool) (text : List ℕ) → are_bytes text ≡ true → are_texts (slice_split p text) ≡ true
 split_bytes p [] h = refl
-split_bytes p (x ∷ text) h = grind (arith, nat_tests, split_bytes p text (and_parts (is_byte x) (are_bytes text) h).1, and_parts, is_byte, onto_bytes)
+split_bytes p (x ∷ text) h = grind (arith, nat_tests, split_bytes p text (and_parts (is_byte x) (are_bytes text) h).1, and_parts, is_byte, and_from)
 
 kept_bytes : (lines : List (List ℕ)) → are_texts lines ≡ true → are_texts (without_empty_end lines) ≡ true
 kept_bytes [] h = refl
@@ -94,13 +82,10 @@ kept_bytes ([] ∷ []) h = refl
 kept_bytes ((c ∷ cs) ∷ []) h = h
 kept_bytes (x ∷ y ∷ more) h = grind (arith, nat_tests, kept_bytes (y ∷ more) (and_parts (are_bytes x) (are_texts (y ∷ more)) h).1, and_parts, and_from)
 
-line_read : (n : ℕ) (ws : List Word) → list_all is_read ws ≡ true → are_read (line_of n ws) ≡ true
-line_read n ws h = grind (arith, nat_tests, and_parts, and_from)
-
 lines_read : (n : ℕ) (lines : List (List ℕ)) → are_texts lines ≡ true → are_read (significant_of (enumerate_from n lines)) ≡ true
 lines_read n [] h = refl
 lines_read n (line ∷ lines) h =
-    grind (arith, nat_tests, lines_read (n + 1) lines (and_parts (are_bytes line) (are_texts lines) h).1, and_parts, all_joined, line_read, words_read)
+    grind (arith, nat_tests, lines_read (n + 1) lines (and_parts (are_bytes line) (are_texts lines) h).1, and_parts, all_joined, and_from, words_read)
 
 pub significant_read : (text : List ℕ) → list_all is_byte text ≡ true → are_read (significant text) ≡ true
 significant_read text h = lines_read 1 (text_lines text) (kept_bytes (slice_split is_newline text) (split_bytes is_newline text h))

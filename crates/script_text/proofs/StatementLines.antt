@@ -1,5 +1,5 @@
 -- Statements that are printed: their words are cut again, and say what they said.
-use Rattle.script_text.proofs.Words.{◌≡◌, ◌∙◌, ℕ, List, [], ◌∷◌, ◌++◌, map, true, Option, Some, None, refl, ap, codes, list_all, and_parts, and_from, AllZip, all_joined, Attr, Dim, Extra, type_word, line, bracketed, joined, shown_extra, shown_attr, Word, Plain, is_name, type_of}
+use Rattle.script_text.proofs.Words.{◌≡◌, ◌∙◌, ℕ, List, [], ◌∷◌, ◌++◌, map, true, Option, Some, None, refl, ap, codes, list_all, and_parts, and_from, AllZip, all_joined, Attr, Dim, Extra, type_word, line, bracketed, joined, shown_extra, shown_attr, Word, Plain, is_name, type_of, arith, nat_tests}
 use Rattle.std.proofs.Common.{flat_map}
 use Rattle.script_spelling.specs.Statements.{Statement, RanksAre, HintIs, IsFilled, DimIs, VarIs, AttIs, VarLine, owner_word, IsOwner, Says}
 use Rattle.script_spelling.proofs.Steps.{all_more}
@@ -66,10 +66,7 @@ dim_shown version d named len = (and_from _ _ (name_plain d.name named) (and_fro
 
 pub var_shown : (version : ℕ) (l : VarLine) → type_of version (type_word l.kind) ≡ Some l.kind → is_name l.name ≡ true → list_all is_name l.dims ≡ true → Shown version (line_of_var l) (VarIs l)
 var_shown version l kind named dims =
-    let items = all_more is_name _ name_item l.dims dims in (
-      and_from _ _ (type_plain l.kind) (and_from _ _ (name_plain l.name named) (and_from _ _ (bracketed_plain l.dims items) refl)),
-      (type_word l.kind, bracketed l.dims, joined 44 l.dims, refl, kind, named, brackets_again (joined 44 l.dims), parts_again l.dims items, dims),
-    )
+    let items = all_more is_name _ name_item l.dims dims in grind (arith, nat_tests, type_plain l.kind, name_plain l.name named, bracketed_plain l.dims items, joined 44 l.dims, brackets_again (joined 44 l.dims), parts_again l.dims items)
 
 owner_plain : (o : Option (List ℕ)) → IsOwner o → is_plain (owner_word o) ≡ true
 owner_plain None is = refl

@@ -1,5 +1,5 @@
 -- A whole script: what is printed of it spells it, and is so read as it.
-use Rattle.script_text.proofs.Words.{◌≡◌, ◌∙◌, ℕ, zero, suc, ◌^◌, ◌≤◌, ◌<◌, List, [], ◌∷◌, ◌++◌, map, length, Bool, true, false, not, cond, ◌==◌, Option, Some, None, refl, sym, ap, subst, append_assoc, append-nil, arith, nat_tests, codes, decimal, list_all, list_all-append, list_all-map, AllZip, and_parts, and_from, or_cases, cond-true, cond-false, ne_eqb, eq-eqb, eqb-true, all_joined, length-map, range_with_len, Dim, Header, Extra, Script, is_version, is_lawful, shown, Word, Plain, text_lines, significant, no_definition, header_of, most_bytes, most_lines, Reads}
+use Rattle.script_text.proofs.Words.{◌≡◌, ◌∙◌, ℕ, zero, suc, ◌≤◌, List, [], ◌∷◌, ◌++◌, map, length, Bool, true, false, not, cond, ◌==◌, refl, sym, ap, subst, append_assoc, append-nil, arith, nat_tests, codes, decimal, list_all, list_all-append, list_all-map, AllZip, and_parts, and_from, or_cases, cond-false, ne_eqb, eq-eqb, eqb-true, all_joined, length-map, range_with_len, Dim, Header, Extra, Script, is_version, is_lawful, shown, Word, Plain, text_lines, significant, no_definition, header_of, most_bytes, most_lines, Reads}
 use Rattle.serial_spec.proofs.Common.{lawful_parts}
 use Rattle.script_spelling.specs.Statements.{Statement, RanksAre, IsFilled, VarLine, Stand}
 use Rattle.script_spelling.specs.Described.{IsVarOf, calls_in, ToDataset, ranks_in, hint_values, fills_in, extras_in, attrs_of}
@@ -12,7 +12,7 @@ use Rattle.script_text.proofs.Numerals.{size_again, size_plain}
 use Rattle.script_text.proofs.PrintedValues.{is_read}
 use Rattle.script_text.proofs.PrintedDefinitions.{within_again, within_plain}
 use Rattle.script_text.proofs.CallLines.{are_named, call_lines, called_from, calls_named, calls_shown, calls_again, all_below, words_numbered}
-use Rattle.script_text.proofs.StatementLines.{extra_line, of_extra, AllAgain, all_again, Shows, shows_joined}
+use Rattle.script_text.proofs.StatementLines.{of_extra, AllAgain, all_again, Shows, shows_joined}
 use Rattle.script_text.proofs.DefinedChains.{line_for, DefinedOk, definition_lines, definition_statements, defined_shown, defined_stand, Parts, parts, defined_parts, vars_told}
 use Rattle.script_text.proofs.KeptDefinitions.{defined_kept, ExtrasOk, extras_kept}
 use Rattle.script_text.proofs.ReadWords.{significant_read}
@@ -101,16 +101,8 @@ extras_told i (extra.Att o a ∷ es) = ap (λ (t : Added). (t.0, t.1, t.2, extra
 opened_content : (s : Script) → s.header ≡ header_of 0 no_definition → s.filled ≡ false → ExtrasOk [] [] [] s.extra → Content false s
 opened_content s empty none ok =
     subst (λ (b : Bool). Content false (record s { filled = b })) (sym none) (subst (λ (h : Header). Content false (record s { header = h; filled = false })) (sym empty)
-    (let ss = map of_extra s.extra in
-    let told = extras_told 0 s.extra in
-    record {
-      shown = shows_joined 5 (map extra_line s.extra) ss [] [] ok.0 (refl, tt);
-      stand = subst (Stand true [] [] []) (sym (append-nil ss)) ok.1;
-      no_ranks = ap (λ (t : Added). t.0) told;
-      no_hints = λ i. ap (λ (t : Added). t.1) (extras_told i s.extra);
-      fills = ap (λ (t : Added). t.2) told;
-      dataset = record { header = refl; extra = sym (ap (λ (t : Added). t.3) told) };
-    }))
+    (let told = extras_told 0 s.extra in
+    grind (arith, nat_tests, shows_joined, append-nil, extras_told, ok.1, Added)))
 
 -- ---- the head
 
@@ -122,16 +114,8 @@ head_kept : (ws : List Word) (fresh : Bool) (version : ℕ) → SpellsHead ws fr
 head_kept ws true version (w, are, told) = grind (arith, nat_tests)
 head_kept ws false version h = h.1
 
-version_low : (version : ℕ) → is_version version ≡ true → version < 2 ^ 63
-version_low version h = grind (arith, nat_tests, eqb-true, or_cases)
-
-abbrev version_by : Option ℕ → Option ℕ
-version_by o = elim o [ None ↦ None | Some n ↦ cond (is_version n) (Some n) None ]
-
 head_shown : (fresh : Bool) (version : ℕ) → HeadFits fresh version → (is_line (head_words fresh version) ≡ true) × SpellsHead (head_words fresh version) fresh version
-head_shown true version h =
-    let low = version_low version h in
-    (and_from _ _ (size_plain version low) refl, (decimal version, refl, ap version_by (size_again version low) ∙ cond-true _ _ _ h))
+head_shown true version h = grind (arith, nat_tests, eqb-true, or_cases, size_plain, size_again)
 head_shown false version h = (refl, (refl, h))
 
 -- ---- a whole text
@@ -182,8 +166,7 @@ spells_shown s lawful fits c named short few =
 
 content_kept : (fresh : Bool) (s : Script) (ss : List Statement) → AllAgain (version_of_lines s.header.version) ss → Stand (not fresh) [] [] [] ss → HeadFits fresh s.header.version → fills_in ss ≡ cond s.filled 1 0 → ToDataset fresh ss s → Content fresh s
 content_kept true s ss again stand new filled d =
-    let version = s.header.version in
-    new_content s new d.records d.extra (defined_kept version ss s d (subst (λ (v : ℕ). AllAgain v ss) (cond-false (version == 0) 5 version (new_version version new)) again) stand)
+    grind (arith, nat_tests, new_content s new d.records d.extra, defined_kept s.header.version ss s d, new_version s.header.version new)
 content_kept false s ss again stand old filled d =
     opened_content s d.header (not_filled s.filled (fills_in ss) filled (no_fill ss [] [] [] stand))
     (subst (ExtrasOk [] [] []) (sym d.extra) (extras_kept [] [] [] ss (subst (λ (v : ℕ). AllAgain (version_of_lines v) ss) old again) stand))
@@ -199,7 +182,4 @@ shown_again text s reads short few =
     let h = read_spelled text s reads in
     let bytes = significant_read text (valid_bytes text (eq-eqb _ _ h.utf8)) in
     let read = sections_read h.sections (ap all_read (sym h.lines) ∙ (list_all-map (list_all is_read) words_of (significant text) ∙ bytes)) in
-    let again = all_again (version_of_lines s.header.version) h.sections.before_data h.statements h.say read.0 in
-    let fits = head_kept h.sections.head s.fresh s.header.version h.head in
-    let named = ap are_named h.describes.calls ∙ calls_named s.ranks h.sections.after_data h.called h.call read.1 in
-    spelled_read (shown s) s (spells_shown s h.lawful fits (content_kept s.fresh s h.statements again h.stand fits h.describes.filled h.describes.dataset) named short (λ long. few))
+    grind (arith, nat_tests, all_again, head_kept, calls_named, spelled_read, spells_shown, content_kept, h.describes.calls, h.stand, h.describes.filled, h.describes.dataset)
