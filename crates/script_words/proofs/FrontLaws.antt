@@ -1,19 +1,13 @@
 -- A number at the front of a line.
-use Rattle.script_words.proofs.Cited.{◌≡◌, ℕ, zero, suc, ◌+◌, ◌-◌, ◌≤◌, ◌<◌, ◌==◌, List, [], ◌∷◌, length, take, drop, Bool, true, false, Option, Some, None, ℤ, refl, sym, ap, ◌∙◌, arith, option_map, nat_lt, nat_le, ◌&&◌, ◌^◌, pos, neg_ℤ, position_or_len, list_all, and_parts, nat_tests, cond_some, and_first, and_second, take_all, common_steps, digit_bounds, tens, is_blank, is_digit, is_digits, begins_blank, digits_value, natural_of, number_of_text, words, after_blanks, first_for}
+use Rattle.script_words.proofs.Cited.{◌≡◌, ℕ, zero, suc, ◌+◌, ◌-◌, ◌≤◌, ◌<◌, ◌==◌, List, [], ◌∷◌, length, take, drop, Bool, true, false, Some, None, ℤ, refl, sym, ap, ◌∙◌, arith, ◌^◌, pos, neg_ℤ, position_or_len, list_all, nat_tests, and_first, and_second, take_all, common_steps, digit_bounds, tens, is_blank, is_digit, begins_blank, digits_value, natural_of, number_of_text, words, after_blanks, first_for}
 use Rattle.script_words.proofs.WordLaws.{takes_plain}
-
-digit_no_blank : (c : ℕ) → is_digit c ≡ true → is_blank c ≡ false
-digit_no_blank c h = let bounds = digit_bounds c h in grind (arith, common_steps)
 
 -- digits behind which a blank stands, or nothing, are the first word
 pub digits_end : (line : List ℕ) (n : ℕ) → n ≤ length line → list_all is_digit (take n line) ≡ true → begins_blank (drop n line) ≡ true → position_or_len is_blank line ≡ n
 digits_end [] zero le all blank = refl
 digits_end (c ∷ cs) zero le all blank = rw blank refl
 digits_end [] (suc n) le all blank = absurd (omega arith)
-digits_end (c ∷ cs) (suc n) le all blank =
-    let parts = and_parts (is_digit c) (list_all is_digit (take n cs)) all in
-    let more = digits_end cs n (omega arith) parts.1 blank in
-    rw (digit_no_blank c parts.0) (omega (arith, more))
+digits_end (c ∷ cs) (suc n) le all blank = grind (arith, nat_tests, digits_end cs n, digit_bounds, common_steps)
 
 pub digits_say : (line : List ℕ) (n : ℕ) → n ≤ length line → 0 < n → n ≤ 18 → list_all is_digit (take n line) ≡ true → natural_of (take n line) ≡ Some (digits_value (take n line))
 digits_say line n within some few all = grind (arith, common_steps)
@@ -39,18 +33,7 @@ signed_says line cs c n e minus h =
 
 -- what says a number has no quote in front
 no_quote : (c : ℕ) (cs : List ℕ) (z : ℤ) → number_of_text (c ∷ cs) ≡ Some z → (c == 34) ≡ false
-no_quote c cs z h = by_sign (c == 45) refl
-  where
-    by_digits : (o : Option ℕ) → natural_of (c ∷ cs) ≡ o → option_map (λ n. pos n) o ≡ Some z → (c == 34) ≡ false
-    by_digits None e h = absurd (cc)
-    by_digits (Some n) e h =
-        let all = and_second (nat_lt 0 (length (c ∷ cs)) && nat_le (length (c ∷ cs)) 20) (list_all is_digit (c ∷ cs)) (cond_some (is_digits (c ∷ cs)) (digits_value (c ∷ cs)) n e).0 in
-        let bounds = digit_bounds c (and_first (is_digit c) (list_all is_digit cs) all) in
-        grind (arith, nat_tests)
-
-    by_sign : (b : Bool) → (c == 45) ≡ b → (c == 34) ≡ false
-    by_sign true e = grind (arith, nat_tests)
-    by_sign false e = by_digits (natural_of (c ∷ cs)) refl (rw e at h)
+no_quote c cs z h = grind (arith, nat_tests, and_second, digit_bounds c, and_first)
 
 pub number_first : (rest line : List ℕ) (z : ℤ) → after_blanks rest ≡ line → number_of_text (take (position_or_len is_blank line) line) ≡ Some z
     → first_for number_of_text (words rest) ≡ Some (z, words (drop (position_or_len is_blank line) line))

@@ -1,5 +1,5 @@
 -- The first line of a text.
-use Rattle.script_words.proofs.Cited.{◌≡◌, ◌≢◌, ℕ, suc, ◌+◌, ◌<◌, ◌≤◌, List, [], ◌∷◌, length, take, drop, Bool, true, false, not, Option, Some, None, refl, ap, ◌∙◌, arith, position, cond, get_or, slice_split_first, length-slice_split, prefix_len-le-length, count_by-le-length, position_or_len_is, false_from_ne_true, IsFirstByte, is_byte, position_or_len, slice_split, onto_first, before_first, after_first, length-enumerate_from, first_line_kept, text_lines, is_newline, without_empty_end, is_comma}
+use Rattle.script_words.proofs.Cited.{◌≡◌, ◌≢◌, ℕ, suc, ◌+◌, ◌<◌, ◌≤◌, List, [], ◌∷◌, length, take, drop, Bool, not, Option, Some, None, refl, ap, ◌∙◌, arith, position, cond, get_or, slice_split_first, length-slice_split, prefix_len-le-length, count_by-le-length, position_or_len_is, false_from_ne_true, IsFirstByte, is_byte, position_or_len, slice_split, onto_first, before_first, after_first, length-enumerate_from, first_line_kept, text_lines, is_newline, without_empty_end, is_comma, nat_tests}
 
 -- what `position` found
 pub found_at : {X : Type 0} (p : X → Bool) (xs : List X) (n : ℕ) → position p xs ≡ Some n → (position_or_len p xs ≡ n) × (n < length xs)
@@ -21,13 +21,11 @@ lines_cut text n h =
     let parts : slice_split is_newline text ≡ before_first is_newline text ∷ slice_split is_newline (after_first is_newline text) =
     slice_split_first is_newline text 0 (omega arith) in
     let more : 0 < length (slice_split is_newline (after_first is_newline text)) = omega (arith, length-slice_split is_newline (after_first is_newline text)) in
-    let first = ap without_empty_end parts ∙ first_line_kept (before_first is_newline text) (slice_split is_newline (after_first is_newline text)) more in
-    first ∙ ap (λ (k : ℕ). take k text ∷ text_lines (drop (k + 1) text)) at.0
+    grind (arith, nat_tests, first_line_kept, at.0, take, drop)
 
 longer_part : {X : Type 0} (x : X) (xs : List X) (n : ℕ) (parts : List (List X)) (b : Bool) → cond (not b) (1 + n) 0 ≡ suc (length xs) → (n ≡ length xs → parts ≡ xs ∷ [])
     → cond b ([] ∷ parts) (onto_first x parts) ≡ (x ∷ xs) ∷ []
-longer_part x xs n parts true e rest = absurd (omega arith)
-longer_part x xs n parts false e rest = ap (onto_first x) (rest (omega arith))
+longer_part x xs n parts b e rest = grind (arith, nat_tests)
 
 -- where nothing passes, the list is the one part
 whole_part : {X : Type 0} (p : X → Bool) (xs : List X) → position_or_len p xs ≡ length xs → slice_split p xs ≡ xs ∷ []
@@ -38,8 +36,7 @@ pub not_found : {X : Type 0} (p : X → Bool) (xs : List X) → position p xs �
 not_found p xs h = grind (arith, prefix_len-le-length (λ x. not (p x)) xs)
 
 alone : (text : List ℕ) → text ≢ [] → without_empty_end (text ∷ []) ≡ text ∷ []
-alone [] some = absurd (some refl)
-alone (c ∷ cs) some = refl
+alone text some = grind (arith, nat_tests)
 
 pub lines_last : (text : List ℕ) → position is_newline text ≡ None → text ≢ [] → text_lines text ≡ text ∷ []
 lines_last text h some = ap without_empty_end (whole_part is_newline text (not_found is_newline text h)) ∙ alone text some

@@ -11,10 +11,10 @@ value_more ds i d h = ap digits_value (take_more ds i d h) ∙ fold_push (λ n x
 
 -- ---- hexadecimal digits
 
-pub sixteens-fits : (i : ℕ) → i ≤ 16 → sixteens i ≤ 2 ^ 64
+sixteens-fits : (i : ℕ) → i ≤ 16 → sixteens i ≤ 2 ^ 64
 sixteens-fits i h = sixteens-le i (16 - i) 16 (omega arith)
 
-pub hex_more : (hs : List ℕ) (i d n : ℕ) → i < length hs → fold hex_sum (Some n) (drop i hs) ≡ fold hex_sum (hex_sum (Some n) (get_or hs i d)) (drop (i + 1) hs)
+hex_more : (hs : List ℕ) (i d n : ℕ) → i < length hs → fold hex_sum (Some n) (drop i hs) ≡ fold hex_sum (hex_sum (Some n) (get_or hs i d)) (drop (i + 1) hs)
 hex_more hs i d n h = rw (add-one, drop-cons hs i d) refl
 
 pub sixteens-more : (i : ℕ) → i < 16 → 16 * sixteens i ≤ 2 ^ 64
