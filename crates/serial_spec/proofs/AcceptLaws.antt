@@ -1,5 +1,5 @@
 -- The elements of an accepted region are elements of the variable, and their bytes lie within the file of the records that it needs.
-use Rattle.serial_spec.proofs.Words.{◌≡◌, ℕ, zero, suc, ◌+◌, ◌-◌, ◌*◌, ◌<◌, ◌≤◌, refl, sym, ◌∙◌, ap, subst, List, [], ◌∷◌, length, map, drop, Bool, true, false, not, ◌||◌, cond, Option, Some, None, arith, mul-le-mul_right, nat_tests, list_any, AllByRecursion, range_with_len, flat_map, slice_get, slice_index, MatchBool, ◌==◌, not-false, length-map, or_first_false, or_second_false, equal_zero, equal_suc, and_first, and_second, each_map, each_append, each_flat_map, each_weaker, Header, Var, Region, Direction, Put, Get, Code, Post, size_of, product, length_of, lengths, starts_with_zero, without_record, end_of, place, record_of, within_record, HasRecord, IsIndex, IsElementBelow, is_sound, coordinates, index_at, elements, places, bound, bounds, bad_edge, some_edge, some_start, other_shape, asks_too_much, first_code, check_var, check_some, check, records_of, records_of_some, needed, needed_by, Puts, bytes_of, bytes_of_some, covered, eqb-true}
+use Rattle.serial_spec.proofs.Words.{◌≡◌, ℕ, zero, suc, ◌+◌, ◌-◌, ◌*◌, ◌<◌, ◌≤◌, refl, sym, ◌∙◌, subst, List, [], ◌∷◌, length, map, drop, Bool, true, false, not, Option, Some, None, arith, mul-le-mul_right, nat_tests, list_any, AllByRecursion, range_with_len, flat_map, slice_get, slice_index, MatchBool, ◌==◌, length-map, or_first_false, or_second_false, equal_zero, equal_suc, and_first, and_second, each_map, each_append, each_flat_map, each_weaker, Header, Var, Region, Direction, Put, Get, Code, Post, size_of, product, length_of, lengths, starts_with_zero, without_record, end_of, place, record_of, within_record, HasRecord, IsIndex, IsElementBelow, is_sound, coordinates, index_at, elements, places, bound, bounds, bad_edge, some_edge, some_start, other_shape, asks_too_much, first_code, check_var, check_some, check, records_of, records_of_some, needed, needed_by, Puts, bytes_of, bytes_of_some, covered}
 use Rattle.nc_base.specs.declared.answer.Code.TheVariants as code
 use Rattle.serial_spec.proofs.RowLaws.{row_below}
 use Rattle.serial_spec.proofs.RoomLaws.{none_later, element_inside, end_grows}
@@ -26,9 +26,6 @@ BelowBounds (b ∷ bounds) [] = ⊥
 BelowBounds (None ∷ bounds) (i ∷ index) = BelowBounds bounds index
 BelowBounds (Some n ∷ bounds) (i ∷ index) = (i < n) × BelowBounds bounds index
 
-one_below : (m s n d i : ℕ) → bad_edge (Some m) s n d ≡ false → i < n → s + i * d < m
-one_below m s n d i h l = grind (arith, nat_tests, mul-le-mul_right)
-
 below_bounds : (bs : List (Option ℕ)) (starts counts strides c : List ℕ) → length starts ≡ length bs → length counts ≡ length bs → length strides ≡ length bs
     → IsIndex counts c → some_edge bs starts counts strides ≡ false → BelowBounds bs (index_at starts strides c)
 unfolding BelowBounds
@@ -36,10 +33,8 @@ below_bounds [] [] counts strides c a b d h e = tt
 below_bounds (x ∷ bs) (s ∷ starts) (n ∷ counts) (t ∷ strides) [] a b d h e = absurd h
 below_bounds (None ∷ bs) (s ∷ starts) (n ∷ counts) (t ∷ strides) (i ∷ c) a b d h e =
     below_bounds bs starts counts strides c (omega arith) (omega arith) (omega arith) h.1 (or_second_false (bad_edge None s n t) (some_edge bs starts counts strides) e)
-below_bounds (Some m ∷ bs) (s ∷ starts) (n ∷ counts) (t ∷ strides) (i ∷ c) a b d h e = (
-  one_below m s n t i (or_first_false (bad_edge (Some m) s n t) (some_edge bs starts counts strides) e) h.0,
-  below_bounds bs starts counts strides c (omega arith) (omega arith) (omega arith) h.1 (or_second_false (bad_edge (Some m) s n t) (some_edge bs starts counts strides) e),
-)
+below_bounds (Some m ∷ bs) (s ∷ starts) (n ∷ counts) (t ∷ strides) (i ∷ c) a b d h e =
+    grind (arith, nat_tests, mul-le-mul_right, or_first_false, below_bounds bs starts counts strides c, or_second_false, h.1, index_at)
 below_bounds _ _ _ _ c a b d h e = absurd (omega arith)
 
 -- ---- from bounds to lengths
@@ -49,18 +44,11 @@ fixed_bound way known zero h = equal_zero h
 fixed_bound Put known (suc n) h = refl
 fixed_bound Get known (suc n) h = refl
 
-some_below : (n : ℕ) (b : Option ℕ) (bs : List (Option ℕ)) (i : ℕ) (index : List ℕ) → b ≡ Some n → BelowBounds (b ∷ bs) (i ∷ index) → (i < n) × BelowBounds bs index
-unfolding BelowBounds
-some_below n None bs i index e h = absurd cc
-some_below n (Some m) bs i index e h = let same : m ≡ n = cc in (subst (λ (k : ℕ). i < k) same h.0, h.1)
-
 -- lengths that are not 0 bound each coordinate
 fixed_index : (way : Direction) (known : ℕ) (ls index : List ℕ) → AllByRecursion (λ n. (n == 0) ≡ false) ls → BelowBounds (map (bound way known) ls) index → IsIndex ls index
 unfolding BelowBounds
 fixed_index way known [] [] some h = tt
-fixed_index way known (n ∷ ls) (i ∷ index) some h =
-    let both = some_below n (bound way known n) (map (bound way known) ls) i index (fixed_bound way known n some.0) h in
-    (both.0, fixed_index way known ls index some.1 both.1)
+fixed_index way known (n ∷ ls) (i ∷ index) some h = grind (arith, nat_tests, fixed_bound, fixed_index way known ls index some.1)
 fixed_index way known _ _ some h = absurd h
 
 record_rest : (way : Direction) (known : ℕ) (bs : List (Option ℕ)) (r : ℕ) (index : List ℕ) → BelowBounds (bound way known 0 ∷ bs) (r ∷ index) → BelowBounds bs index
@@ -100,20 +88,7 @@ accepted header v g known way h =
     let starts : List (Bool × Code) = (some_start (bounds header v known way) g.start g.count, code.EInvalCoords) ∷ edges in
     let strides : List (Bool × Code) = (list_any (λ d. d == 0) g.stride, code.EStride) ∷ starts in
     let a = first_ok (other_shape (length v.dims) g) code.EInvalCoords strides (λ e. absurd cc) h in
-    let b = first_ok (list_any (λ d. d == 0) g.stride) code.EStride starts (λ e. absurd cc) a.1 in
-    let c = first_ok (some_start (bounds header v known way) g.start g.count) code.EInvalCoords edges (λ e. absurd cc) b.1 in
-    let d = first_ok (some_edge (bounds header v known way) g.start g.count g.stride) code.EEdge large (λ e. absurd cc) c.1 in
-    let f = first_ok (asks_too_much header v g) code.ETooLarge [] (λ e. absurd cc) d.1 in
-    let shape = not-false _ a.0 in
-    let three = and_first _ _ shape in
-    let two = and_first _ _ three in
-    record {
-      starts = eqb-true _ _ (and_first _ _ two);
-      counts = eqb-true _ _ (and_second _ _ two);
-      strides = eqb-true _ _ (and_second _ _ three);
-      edges = d.0;
-      small = f.0;
-    }
+    grind (arith, nat_tests, first_ok (some_start (bounds header v known way) g.start g.count) code.EInvalCoords edges, first_ok (some_edge (bounds header v known way) g.start g.count g.stride) code.EEdge large, first_ok (asks_too_much header v g) code.ETooLarge [], and_first, and_second)
 
 -- ---- its elements
 
@@ -127,9 +102,7 @@ record_needed header v g c a b d h e =
     subst (λ (n : ℕ). record_of (index_at g.start g.stride c) < n) (sym needed_is) (by_lists v.dims g.start g.count g.stride c a b d h e)
   where
     needed_is : records_of header v g ≡ slice_index g.start 0 + (slice_index g.count 0 - 1) * slice_index g.stride 0 + 1
-    needed_is =
-        ap (λ (t : Bool). cond (not t || product g.count == 0) 0 (slice_index g.start 0 + (slice_index g.count 0 - 1) * slice_index g.stride 0 + 1)) e
-        ∙ ap (λ (t : Bool). cond t 0 (slice_index g.start 0 + (slice_index g.count 0 - 1) * slice_index g.stride 0 + 1)) (some_product g.count c h)
+    needed_is = grind (arith, nat_tests, some_product g.count c h)
 
     by_lists : (dims starts counts strides c : List ℕ) → length starts ≡ length dims → length counts ≡ length dims → length strides ≡ length dims
         → IsIndex counts c → starts_with_zero (map (λ id. length_of (slice_get header.dims id)) dims) ≡ true
@@ -145,9 +118,7 @@ accepted_at : (header : Header) (k : ℕ) (v : Var) (g : Region) (known : ℕ) (
     → IsAccepted header v g known way → IsIndex g.count c → IsElementBelow header v (records_of header v g) (index_at g.start g.stride c)
 accepted_at header k v g known way c sound there a h =
     let one : length (bounds header v known way) ≡ length v.dims = length-map (lengths header v) (bound way known) ∙ length-map v.dims (λ id. length_of (slice_get header.dims id)) in
-    by_lengths way known (records_of header v g) (lengths header v) (index_at g.start g.stride c) (none_later header k v sound there)
-    (below_bounds (bounds header v known way) g.start g.count g.stride c (a.starts ∙ sym one) (a.counts ∙ sym one) (a.strides ∙ sym one) h a.edges)
-    (λ e. record_needed header v g c a.starts a.counts a.strides h e)
+    grind (arith, nat_tests, by_lengths way known (records_of header v g) (lengths header v) (index_at g.start g.stride c), none_later header k v sound there, below_bounds (bounds header v known way) g.start g.count g.stride c (a.starts ∙ sym one) (a.counts ∙ sym one), record_needed header v g c a.starts a.counts a.strides h)
 
 -- the elements of an accepted region are elements of the variable, in records below those that it needs
 pub accepted_elements : (header : Header) (k : ℕ) (v : Var) (g : Region) (known : ℕ) (way : Direction) → is_sound header ≡ true → slice_get header.vars k ≡ Some v

@@ -1,5 +1,5 @@
 -- What is added to a header keeps its variables: their kinds, and the lengths of their dimensions.
-use Rattle.serial_spec.proofs.Words.{◌≡◌, ℕ, zero, suc, ◌+◌, refl, sym, ◌∙◌, ap, List, [], ◌∷◌, ◌++◌, length, map, true, false, Some, None, append_assoc, arith, append-nil, position_from-zero, enumerate_from, AllByRecursion, slice_get, position, bytes_eq, nat_le, leb-false, and_second, both_none, none_of_test, none_before_map, Header, Dim, Var, Attr, Extra, length_of, first_check, first_with, fault_if, two_record_dims, record_later, bad_id, is_sound, with_var_attr, with_extra, added, begins_by_number, begin_of_number, with_begins, redefined_header, KeepsVars, fails_each, entry_map, get_left, entry_numbered, nat_tests, either}
+use Rattle.serial_spec.proofs.Words.{◌≡◌, ℕ, zero, suc, ◌+◌, refl, sym, ◌∙◌, ap, List, [], ◌∷◌, ◌++◌, length, map, true, false, Some, None, append_assoc, arith, append-nil, position_from-zero, enumerate_from, AllByRecursion, slice_get, position, bytes_eq, nat_le, and_second, both_none, none_of_test, none_before_map, Header, Dim, Var, Attr, Extra, length_of, first_check, first_with, fault_if, two_record_dims, record_later, bad_id, is_sound, with_var_attr, with_extra, added, begins_by_number, begin_of_number, with_begins, redefined_header, KeepsVars, fails_each, entry_map, get_left, entry_numbered, nat_tests, either}
 use Rattle.nc_base.specs.declared.script.Extra.TheVariants as extra
 use Rattle.nc_base.specs.declared.errors.HeaderErr.TheVariants as fault
 use Rattle.serial_spec.proofs.RoomLaws.{untested}
@@ -73,8 +73,7 @@ records_stay header (e ∷ extras) = grind (arith, nat_tests, records_stay (with
 same_lengths : (dims more : List Dim) (ids : List ℕ) → AllByRecursion (λ id. nat_le (length dims) id ≡ false) ids
     → map (λ id. length_of (slice_get (dims ++ more) id)) ids ≡ map (λ id. length_of (slice_get dims id)) ids
 same_lengths dims more [] h = refl
-same_lengths dims more (id ∷ ids) h =
-    λ t. ap length_of (get_left dims more id (leb-false (length dims) id h.0)) t ∷ same_lengths dims more ids h.1 t
+same_lengths dims more (id ∷ ids) h = grind (arith, nat_tests, get_left, same_lengths dims more ids h.1, length_of)
 
 ids_known : (header : Header) (k : ℕ) (v : Var) → is_sound header ≡ true → slice_get header.vars k ≡ Some v
     → AllByRecursion (λ id. nat_le (length header.dims) id ≡ false) v.dims
@@ -92,12 +91,4 @@ redefined_keeps old extras sound k v h =
     let header = added old extras in
     let new = redefined_header old extras in
     let grew = grew_on old header new (all_more old extras) (placed_more header (begins_by_number header (length old.vars))) in
-    let found = grew.vars k v h in
-    let ids = ids_known old k v sound h in (
-      found.0,
-      found.1,
-      found.2,
-      ap (λ (is : List ℕ). map (λ id. length_of (slice_get new.dims id)) is) found.3
-          ∙ ap (λ (ds : List Dim). map (λ id. length_of (slice_get ds id)) v.dims) grew.dims
-          ∙ same_lengths old.dims grew.more v.dims ids,
-    )
+    grind (arith, nat_tests, ids_known old k v sound h, same_lengths old.dims grew.more v.dims (ids_known old k v sound h))

@@ -1,5 +1,5 @@
 -- The boxes of a range of row-major numbers have just the indices with these numbers, in order.
-use Rattle.serial_spec.proofs.Words.{◌≡◌, ℕ, zero, suc, ◌+◌, ◌-◌, ◌*◌, ◌/◌, ◌%◌, ◌<◌, ◌≤◌, refl, sym, ◌∙◌, ap, List, [], ◌∷◌, ◌++◌, length, map, take, drop, replicate, false, append_assoc, arith, add-mul, le_of_mul-le-mul_right, mul-le-mul_right, drop-append-add, take-append-add, div-add-mod', mod_below, le-div, drop-drop, drop-append-le, take-append-le, length-drop, map-append, append-nil, length-map, flat_map-append, flat_map, ◌==◌, range_with_len, eqb-false, some_factor, map_map, flat_same, Part, product, coordinates, boxes, in_row, whole_rows, shifted, box_indices, AreBoxes, part, part_joined, part_none, part_map, nat_tests, leb_tells, inl, inr, holds_or_not, ltb-true, ltb-false, eqb-true}
+use Rattle.serial_spec.proofs.Words.{◌≡◌, ℕ, zero, suc, ◌+◌, ◌-◌, ◌*◌, ◌/◌, ◌%◌, ◌<◌, ◌≤◌, refl, sym, ◌∙◌, ap, List, [], ◌∷◌, ◌++◌, length, map, take, drop, replicate, append_assoc, arith, add-mul, le_of_mul-le-mul_right, mul-le-mul_right, drop-append-add, take-append-add, div-add-mod', mod_below, drop-drop, drop-append-le, take-append-le, length-drop, map-append, append-nil, length-map, flat_map-append, flat_map, ◌==◌, range_with_len, some_factor, map_map, flat_same, Part, product, coordinates, boxes, in_row, whole_rows, shifted, box_indices, AreBoxes, part, part_joined, part_none, part_map, nat_tests, leb_tells, inl, inr, holds_or_not, ltb-true, ltb-false}
 use Rattle.serial_spec.proofs.ElementLaws.{length-coordinates}
 
 -- ---- rows of one length
@@ -12,8 +12,7 @@ drop_rows f p l (suc i) a (suc n) m h e = grind (arith, nat_tests, drop_rows f p
 
 take_rows : {A : Type 0} (f : ℕ → List A) (p : ℕ) → ((x : ℕ) → length (f x) ≡ p) → (i a n m : ℕ) → i ≤ n → m ≡ i * p
     → take m (flat_map f (range_with_len a n)) ≡ flat_map f (range_with_len a i)
-take_rows f p l zero a n m h e =
-    let none : m ≡ 0 = omega arith in ap (λ (k : ℕ). take k (flat_map f (range_with_len a n))) none
+take_rows f p l zero a n m h e = grind (arith, nat_tests)
 take_rows f p l (suc i) a zero m h e = absurd (omega arith)
 take_rows f p l (suc i) a (suc n) m h e =
     grind (arith, nat_tests, take_rows f p l i (a + 1) n (i * p) (omega arith) refl, take-append-add (f a) (flat_map f (range_with_len (a + 1) n)) (i * p))
@@ -28,7 +27,6 @@ part_within : {A : Type 0} (f : ℕ → List A) (p : ℕ) → ((x : ℕ) → len
     → base ≡ q * p → from ≡ base + lo → to ≡ base + hi → part from to (flat_map f (range_with_len 0 n)) ≡ part lo hi (f q)
 part_within f p l n q lo hi base from to h k m b e g =
     let many : to - from ≡ hi - lo = omega arith in
-    let long : length (f q) ≡ p = l q in
     let left = length-drop lo (f q) in
     ap (λ ys. take (to - from) ys)
     (ap (λ (i : ℕ). drop i (flat_map f (range_with_len 0 n))) e ∙ sym (drop-drop lo base (flat_map f (range_with_len 0 n))) ∙ ap (λ ys. drop lo ys) (at_row ∙ first_row (n - q) (omega arith))
@@ -37,9 +35,7 @@ part_within f p l n q lo hi base from to h k m b e g =
     ∙ ap (λ (i : ℕ). take i (drop lo (f q))) many
   where
     at_row : drop base (flat_map f (range_with_len 0 n)) ≡ flat_map f (range_with_len q (n - q))
-    at_row =
-        let first : 0 + q ≡ q = omega arith in
-        drop_rows f p l q 0 n base (omega arith) b ∙ ap (λ (i : ℕ). flat_map f (range_with_len i (n - q))) first
+    at_row = grind (arith, nat_tests, drop_rows f p l q 0 n base)
 
     first_row : (k : ℕ) → 0 < k → flat_map f (range_with_len q k) ≡ f q ++ flat_map f (range_with_len (q + 1) (k - 1))
     first_row zero h = absurd (omega arith)
@@ -60,9 +56,7 @@ map_flat f g (x ∷ xs) = map-append f (g x) (flat_map g xs) ∙ ap (λ ys. map 
 
 rows_from : {B : Type 0} (f : ℕ → List B) (first a n : ℕ) → flat_map (λ i. f (first + i)) (range_with_len a n) ≡ flat_map f (range_with_len (first + a) n)
 rows_from f first a zero = refl
-rows_from f first a (suc n) =
-    let next : first + (a + 1) ≡ first + a + 1 = omega arith in
-    ap (λ ys. f (first + a) ++ ys) (rows_from f first (a + 1) n ∙ ap (λ (k : ℕ). flat_map f (range_with_len k n)) next)
+rows_from f first a (suc n) = grind (arith, nat_tests, rows_from f first (a + 1) n)
 
 -- a box of one first coordinate
 row_indices : (i : ℕ) (p : Part) → box_indices (record { start = i ∷ p.start; count = 1 ∷ p.count }) ≡ map (λ c. i ∷ c) (box_indices p)
@@ -99,10 +93,7 @@ whole_box lengths first count =
     ∙ ap (λ (k : ℕ). flat_map (slice lengths) (range_with_len k count)) plain
   where
     each : (i : ℕ) → map (λ c. shifted (first ∷ replicate (length lengths) 0) c) (slice lengths i) ≡ slice lengths (first + i)
-    each i =
-        map_map (λ c. shifted (first ∷ replicate (length lengths) 0) c) (λ c. i ∷ c) (coordinates lengths)
-        ∙ sym (map_map (λ c. (first + i) ∷ c) (λ c. shifted (replicate (length lengths) 0) c) (coordinates lengths))
-        ∙ ap (λ ys. map (λ c. (first + i) ∷ c) ys) (unshifted lengths)
+    each i = grind (arith, nat_tests, map_map, unshifted lengths)
 
 whole_indices : (lengths : List ℕ) (first last : ℕ) → flat_map box_indices (whole_rows lengths first last) ≡ flat_map (slice lengths) (range_with_len first (last - first))
 whole_indices lengths first last = grind (arith, nat_tests, append-nil, whole_box, ltb-false)
@@ -125,10 +116,7 @@ in_row_of : (size x : ℕ) → 0 < size → InRow size x (x / size) (x % size)
 in_row_of size x h = record { whole = div-add-mod' x size; less = mod_below x size h }
 
 row_less : (n size q x : ℕ) → q * size ≤ x → x < n * size → q < n
-row_less n size q x h k = elim (leb_tells (suc q) n) [
-  | inl e ↦ e.1
-  | inr e ↦ (let past : n ≤ q = omega (arith, e.1) in absurd (omega (arith, mul-le-mul_right size past, h, k)))
-]
+row_less n size q x h k = grind (arith, nat_tests)
 
 -- a part of one row: of row n, which isn't there, it is empty
 row_part : (n : ℕ) (lengths : List ℕ) (q lo hi from to : ℕ) → Right lengths → lo ≤ hi → hi ≤ product lengths → (lo < hi → q < n)
@@ -149,7 +137,6 @@ from_front : (n : ℕ) (lengths : List ℕ) (p q r to : ℕ) → Right lengths �
     → flat_map box_indices (whole_rows lengths p q ++ in_row q (boxes lengths 0 r)) ≡ part (p * product lengths) to (coordinates (n ∷ lengths))
 from_front n lengths p q r to ih w h k =
     let sum = w.whole in
-    let less = w.less in
     let upto : q * product lengths ≤ n * product lengths = omega arith in
     let few : q ≤ n = le_of_mul-le-mul_right upto (omega arith) in
     let over : p * product lengths ≤ q * product lengths = mul-le-mul_right (product lengths) k in
@@ -161,17 +148,9 @@ from_front n lengths p q r to ih w h k =
     (omega arith) (sym sum) t)
     ∙ sym (part_joined (coordinates (n ∷ lengths)) (p * product lengths) (q * product lengths) to over (omega arith))
 
-rest_small : (n size x : ℕ) → x ≤ n * size → x % size ≤ size
-rest_small n size x h = grind (arith, nat_tests, mod_below)
-
 same_row : (n : ℕ) (lengths : List ℕ) (from to : ℕ) → Right lengths → from ≤ to → to ≤ n * product lengths → from / product lengths ≡ to / product lengths
     → flat_map box_indices (in_row (from / product lengths) (boxes lengths (from % product lengths) (to % product lengths))) ≡ part from to (coordinates (n ∷ lengths))
-same_row n lengths from to ih h k e =
-    let size = product lengths in
-    let a : from / size * size + from % size ≡ from = div-add-mod' from size in
-    let b : from / size * size + to % size ≡ to = ap (λ (q : ℕ). q * size + to % size) e ∙ div-add-mod' to size in
-    row_part n lengths (from / size) (from % size) (to % size) from to ih (omega (arith, a, b)) (rest_small n size to k)
-    (λ l. row_less n size (from / size) from (omega (arith, a)) (omega (arith, a, b, l))) (sym a) (sym b)
+same_row n lengths from to ih h k e = grind (arith, nat_tests, row_part, mod_below, row_less, flat_map, box_indices, in_row, product, boxes)
 
 -- from within one row to a later one
 first_part : (n : ℕ) (lengths : List ℕ) (p q r s from to : ℕ) → Right lengths → InRow (product lengths) from p r → InRow (product lengths) to q s
@@ -179,7 +158,6 @@ first_part : (n : ℕ) (lengths : List ℕ) (p q r s from to : ℕ) → Right le
     → flat_map box_indices (in_row p (boxes lengths r (product lengths)) ++ whole_rows lengths (p + 1) q ++ in_row q (boxes lengths 0 s)) ≡ part from to (coordinates (n ∷ lengths))
 first_part n lengths p q r s from to ih v w h k =
     let a = v.whole in
-    let b = w.whole in
     let l = v.less in
     let m = w.less in
     let next : p + 1 ≤ q = omega arith in
@@ -194,32 +172,19 @@ first_part n lengths p q r s from to ih v w h k =
     ∙ sym (part_joined (coordinates (n ∷ lengths)) from ((p + 1) * product lengths) to (omega arith) (omega arith))
 
 rows_right : (n : ℕ) (lengths : List ℕ) → Right lengths → Right (n ∷ lengths)
-rows_right n lengths ih from to h k = elim (holds_or_not (from / product lengths == to / product lengths)) [
-  | inl e ↦ rw (e, boxes) (same_row n lengths from to ih h k (eqb-true _ _ e))
-  | inr e ↦
-      (let some : 0 < product lengths = some_factor n (product lengths) from (omega (arith, ordered e)) in
-      let last = in_row_of (product lengths) to some in
-      elim (holds_or_not (from % product lengths == 0)) [
-        | inl z ↦
-            (let front : from / product lengths * product lengths ≡ from = omega (arith, eqb-true (from % product lengths) 0 z, div-add-mod' from (product lengths)) in
-            rw (e, boxes) (rw z (from_front n lengths (from / product lengths) (to / product lengths) (to % product lengths) to ih last k (omega (arith, later some e))
-            ∙ ap (λ (x : ℕ). part x to (coordinates (n ∷ lengths))) front)))
-        | inr z ↦
-            rw (e, boxes) (rw z (first_part n lengths (from / product lengths) (to / product lengths) (from % product lengths) (to % product lengths) from to ih
-            (in_row_of (product lengths) from some) last k (later some e)))
-      ])
-]
-  where
-    ordered : (from / product lengths == to / product lengths) ≡ false → from < to
-    ordered e = elim (leb_tells (suc from) to) [
-      | inl f ↦ f.1
-      | inr f ↦ (let same : from ≡ to = omega (arith, f.1) in absurd (eqb-false _ _ e (ap (λ (x : ℕ). x / product lengths) same)))
-    ]
-
-    later : 0 < product lengths → (from / product lengths == to / product lengths) ≡ false → from / product lengths < to / product lengths
-    later some e =
-        let a = div-add-mod' from (product lengths) in
-        omega (arith, eqb-false _ _ e, le-div (from / product lengths) to (product lengths) some (omega arith))
+rows_right n lengths ih from to h k =
+    grind (
+      arith,
+      nat_tests,
+      holds_or_not (from / product lengths == to / product lengths),
+      same_row n lengths from to ih h k,
+      some_factor n (product lengths) from,
+      in_row_of (product lengths) to,
+      holds_or_not (from % product lengths == 0),
+      from_front n lengths (from / product lengths) (to / product lengths) (to % product lengths) to ih,
+      first_part n lengths (from / product lengths) (to / product lengths) (from % product lengths),
+      in_row_of (product lengths) from,
+    )
 
 pub boxes_right : (lengths : List ℕ) (from to : ℕ) → from ≤ to → to ≤ product lengths → AreBoxes lengths from to (boxes lengths from to)
 boxes_right [] = scalar_boxes

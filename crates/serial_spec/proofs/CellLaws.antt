@@ -30,21 +30,13 @@ said_or_none : (c : Cell) (x : ℕ) → c.0 ≤ x → x < c.0 + length c.1 → (
 said_or_none c x low high [] h = inr refl
 said_or_none c x low high (d ∷ ds) h =
     let whole = said_append (enumerate_from d.0 d.1) (said_by ds) x in
-    elim (said_or_none c x low high ds h.1) [
-      | inl s ↦ inl (whole ∙ first_counts (said_at (said_by ds) x) _ _ s)
-      | inr s ↦ elim h.0 [
-        | inl e ↦ inl (whole ∙ second_counts (said_at (said_by ds) x) _ s ∙ said_by_one c d x e low high)
-        | inr a ↦ inr (whole ∙ neither_some (said_at (said_by ds) x) _ s (unsaid_by_one d c.0 (length c.1) x a low high))
-      ]
-    ]
+    grind (arith, nat_tests, said_or_none c x low high ds h.1, first_counts (said_at (said_by ds) x), second_counts (said_at (said_by ds) x), said_by_one c d x, neither_some (said_at (said_by ds) x), unsaid_by_one d c.0 (length c.1) x)
 
 pub said_of : (c : Cell) (x : ℕ) → c.0 ≤ x → x < c.0 + length c.1 → (ds : List Cell) → AllByRecursion (IsOrApart c) ds → In ds c
     → said_at (said_by ds) x ≡ Some (get_or c.1 (x - c.0) 0)
 said_of c x low high [] h m = absurd m
 said_of c x low high (d ∷ ds) h (inl e) = grind (arith, nat_tests, said_append, said_or_none, first_counts, second_counts, said_by_one)
-said_of c x low high (d ∷ ds) h (inr m) =
-    said_append (enumerate_from d.0 d.1) (said_by ds) x
-    ∙ first_counts (said_at (said_by ds) x) (said_at (enumerate_from d.0 d.1) x) _ (said_of c x low high ds h.1 m)
+said_of c x low high (d ∷ ds) h (inr m) = grind (arith, nat_tests, said_append, first_counts, said_of c x low high ds h.1 m, said_at, said_by, get_or)
 
 -- cells that lie apart from a place say nothing of it
 pub unsaid : (x : ℕ) (ds : List Cell) → AllByRecursion (λ d. AreApart d.0 (length d.1) x 1) ds → said_at (said_by ds) x ≡ None
@@ -66,9 +58,7 @@ read_long file x (suc n) = ap suc (read_long file (x + 1) n)
 pub read_at : (file : List ℕ) (x n j : ℕ) → j < n → get_or (read file x n) j 0 ≡ at file (x + j)
 read_at file x zero j h = absurd (omega arith)
 read_at file x (suc n) zero h = let plain : x ≡ x + 0 = omega arith in ap (λ (k : ℕ). at file k) plain
-read_at file x (suc n) (suc j) h =
-    let next : x + 1 + j ≡ x + suc j = omega arith in
-    read_at file (x + 1) n j (omega arith) ∙ ap (λ (k : ℕ). at file k) next
+read_at file x (suc n) (suc j) h = grind (arith, nat_tests, read_at file (x + 1) n j)
 
 pub read_same : (f g : List ℕ) (a b n : ℕ) → ((j : ℕ) → j < n → at f (a + j) ≡ at g (b + j)) → read f a n ≡ read g b n
 read_same f g a b zero h = refl

@@ -1,5 +1,5 @@
 -- No step makes a file shorter.
-use Rattle.serial_spec.proofs.Words.{ℕ, ◌≤◌, List, [], ◌∷◌, length, map, take, drop, set, max, Option, Some, None, arith, common_steps, flat_map, fold, enumerate_from, le_two, Pair, Var, Post, Mark, Meet, Solo, size_of, written, Counted, Setting, after_puts, end_for, put_post, put_some, puts_of, raised, told, count, needed_by, cells, places, Going, advance, after_mark, offers_of, Puts, nat_tests}
+use Rattle.serial_spec.proofs.Words.{ℕ, ◌≤◌, List, [], ◌∷◌, length, map, take, drop, set, max, Option, Some, None, arith, common_steps, flat_map, fold, enumerate_from, le_two, Pair, Mark, Meet, Solo, written, Counted, Setting, after_puts, end_for, put_post, puts_of, raised, told, count, needed_by, cells, Going, advance, after_mark, offers_of, Puts, nat_tests}
 use Rattle.serial_spec.proofs.FileLaws.{longer_long}
 
 pub written_grows : (file : List ℕ) (x : ℕ) (b : List ℕ) → length file ≤ length (written file x b)
@@ -9,13 +9,9 @@ cells_grow : (size : ℕ) (ps bytes file : List ℕ) → length file ≤ length 
 cells_grow size [] bytes file = omega arith
 cells_grow size (p ∷ ps) bytes file = grind (arith, nat_tests, cells_grow size ps (drop size bytes) (written file p (take size bytes)), written_grows)
 
-post_grows : (s : Setting) (v : Option Var) (post : Post) (file : List ℕ) → length file ≤ length (put_some s v post file)
-post_grows s None post file = omega arith
-post_grows s (Some v) post file = cells_grow (size_of v.kind) (places s.header v post.region) post.bytes file
-
 puts_grow : (s : Setting) (puts : Puts) (file : List ℕ) → length file ≤ length (fold (put_post s) file puts)
 puts_grow s [] file = omega arith
-puts_grow s (p ∷ puts) file = grind (arith, nat_tests, puts_grow s puts (put_post s file p), post_grows)
+puts_grow s (p ∷ puts) file = grind (arith, nat_tests, puts_grow s puts (put_post s file p), cells_grow)
 
 pub after_long : (s : Setting) (puts : Puts) (file : List ℕ) → max (length file) (end_for s (needed_by s.header puts)) ≤ length (after_puts s puts None file)
 after_long s puts file = grind (arith, nat_tests, longer_long, puts_grow)
@@ -33,6 +29,5 @@ mark_grows s state (Meet k) =
     let offers = offers_of (map (advance s.header) state.1) in
     let puts = flat_map puts_of (enumerate_from 0 offers) in
     let file = after_puts s puts (told s puts) state.0.file in
-    le_two (length state.0.file) (length file) _ (after_grows s puts (told s puts) state.0.file)
-    (raised_grows s (record { file = file; records = state.0.records }) _)
+    grind (arith, nat_tests, le_two (length state.0.file) (length file), after_grows s puts (told s puts) state.0.file, raised_grows s (record { file = file; records = state.0.records }))
 mark_grows s state (Solo r c) = grind (arith, nat_tests, after_grows, set)

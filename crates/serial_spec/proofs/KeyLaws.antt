@@ -1,5 +1,5 @@
 -- Keys in order: the least of some keys, keys without repetition, and the two least of them.
-use Rattle.serial_spec.proofs.Words.{◌≡◌, ◌<◌, ◌≤◌, refl, sym, ◌∙◌, subst, inl, inr, ◌⊎◌, List, [], ◌∷◌, length, Bool, true, false, ◌||◌, not, cond, arith, nat_tests, filter, fold, list_any, or_cases, not-true, not_from_false, and_first, and_second, no_false, or_first_false, Key, same_key, key_below, distinct, lesser_key, least_key, In, either, holds_or_not, eqb-true}
+use Rattle.serial_spec.proofs.Words.{◌≡◌, ◌<◌, ◌≤◌, refl, subst, inl, inr, ◌⊎◌, List, [], ◌∷◌, length, Bool, true, false, ◌||◌, not, cond, arith, nat_tests, filter, fold, list_any, or_cases, not-true, not_from_false, and_first, and_second, no_false, or_first_false, Key, same_key, key_below, distinct, lesser_key, least_key, In, either, holds_or_not, eqb-true}
 use Rattle.serial_spec.proofs.MemberLaws.{any_member, in_filter, filter_in}
 
 -- ---- keys
@@ -23,16 +23,8 @@ above a b h k = grind (arith, nat_tests)
 lower_kept : (a k m : Key) → key_below k a ≡ false → key_below a m ≡ false → key_below k m ≡ false
 lower_kept a k m h g = grind (arith, nat_tests)
 
-lower_new : (a k m : Key) → key_below k a ≡ true → key_below k m ≡ false → key_below a m ≡ false
-lower_new a k m h g = grind (arith, nat_tests)
-
 lower : (a k m : Key) → key_below (lesser_key a k) m ≡ false → (key_below a m ≡ false) × (key_below k m ≡ false)
-lower a k m =
-    either (λ (x : Key). key_below x m ≡ false → (key_below a m ≡ false) × (key_below k m ≡ false)) (key_below k a) k a
-    (λ e h. (lower_new a k m e h, h)) (λ e h. (h, lower_kept a k m e h))
-
-lesser_cases : (a k : Key) → (lesser_key a k ≡ a) ⊎ (lesser_key a k ≡ k)
-lesser_cases a k = grind (arith, nat_tests)
+lower a k m = grind (arith, nat_tests, lower_kept, key_below)
 
 -- ---- membership
 
@@ -56,15 +48,7 @@ record IsLeast (a : Key) (ks : List Key) (m : Key) : Type 0 where
 
 fold_least : (a : Key) (ks : List Key) → IsLeast a ks (fold lesser_key a ks)
 fold_least a [] = record { below_first = grind (arith, nat_tests); below_all = λ k h. absurd h; member = inl refl }
-fold_least a (j ∷ ks) =
-    let r = fold_least (lesser_key a j) ks in
-    let m = fold lesser_key (lesser_key a j) ks in
-    let two = lower a j m r.below_first in
-    record {
-      below_first = two.0;
-      below_all = λ k h. elim h [ inl e ↦ subst (λ (x : Key). key_below x m ≡ false) e two.1 | inr g ↦ r.below_all k g ];
-      member = elim r.member [ inl e ↦ elim (lesser_cases a j) [ inl c ↦ inl (e ∙ c) | inr c ↦ inr (inl (sym (e ∙ c))) ] | inr g ↦ inr (inr g) ];
-    }
+fold_least a (j ∷ ks) = grind (arith, nat_tests, fold_least (lesser_key a j) ks, lower, lesser_key, key_below)
 
 -- ---- without repetition
 
@@ -100,11 +84,7 @@ two_of _ n l = absurd (omega arith)
 
 least_key_is : (ks : List Key) (j : Key) → In ks j → In ks (least_key ks) × ((i : Key) → In ks i → key_below i (least_key ks) ≡ false)
 least_key_is [] j h = absurd h
-least_key_is (k ∷ ks) j h =
-    let r = fold_least k ks in (
-      elim r.member [ inl e ↦ inl (sym e) | inr g ↦ inr g ],
-      λ i g. elim g [ inl e ↦ subst (λ (x : Key). key_below x (fold lesser_key k ks) ≡ false) e r.below_first | inr q ↦ r.below_all i q ],
-    )
+least_key_is (k ∷ ks) j h = grind (arith, nat_tests, fold_least k ks)
 
 -- the two least of some keys without repetition
 pub record AreLeast (ks : List Key) (first second : Key) : Type 0 where
@@ -131,8 +111,5 @@ two_least ks n l =
       has_first = low.0;
       has_second = from.0;
       in_order = above s f (low.1 s from.0) (not-true (same_key s f) from.1);
-      others = λ a h. elim (key_tells a f) [
-        | inl e ↦ inl e
-        | inr e ↦ inr (elim (key_tells a s) [ inl d ↦ inl d | inr d ↦ inr (above a s (next.1 a (in_filter test ks a h (not_from_false (same_key a f) e))) d) ])
-      ];
+      others = grind (arith, nat_tests, key_tells, above, in_filter test ks, next.1, same_key);
     }

@@ -1,5 +1,5 @@
 -- Every spelling of a header has the length of the one that is written.
-use Rattle.serial_spec.proofs.Words.{◌≡◌, ℕ, ◌+◌, ◌≤◌, List, [], ◌∷◌, ◌++◌, length, Bool, cond, refl, sym, ap, ◌∙◌, length-append, inl, inr, arith, flat_map, ◌==◌, Width, w32, w64, byte_len, to_be_bytes, length-replicate, Header, Dim, Attr, Var, NcType, size_of, vsize, count_width, begin_width, padded, count, tag, name, list_of, dimension, attribute, variable, magic, canon, header_len, number_of, Joined, ◌▹◌, Exactly, Each, Number, Padded, NameOf, ListOf, TypeOf, DimensionOf, AttributeOf, VariableOf, RecordsOf, Spells, nat_tests}
+use Rattle.serial_spec.proofs.Words.{◌≡◌, ℕ, ◌+◌, ◌≤◌, List, [], ◌∷◌, ◌++◌, length, Bool, cond, sym, ap, ◌∙◌, length-append, inl, inr, arith, flat_map, ◌==◌, Width, w32, w64, byte_len, to_be_bytes, length-replicate, Header, Dim, Attr, Var, NcType, size_of, vsize, count_width, begin_width, padded, count, tag, name, list_of, dimension, attribute, variable, magic, canon, header_len, number_of, Joined, ◌▹◌, Exactly, Each, Number, Padded, NameOf, ListOf, TypeOf, DimensionOf, AttributeOf, VariableOf, RecordsOf, Spells, nat_tests}
 use Rattle.serial_spec.proofs.ValueLaws.{be_long}
 
 -- every string of the set has the length of the text
@@ -26,17 +26,12 @@ each_long : {A : Type 0} (P : A → List ℕ → Type 0) (f : A → List ℕ) �
 each_long P f h [] = exactly_long []
 each_long P f h (x ∷ xs) = joined_long (f x) (flat_map f xs) (h x) (each_long P f h xs)
 
-plus_zero : (n : ℕ) → n + 0 ≡ n
-plus_zero n = omega arith
-
 cons_nil : {A : Type 0} (x : A) (xs : List A) → (x ∷ xs) ≡ [] → ⊥
 cons_nil x xs h = absurd cc
 
 list_long : {A : Type 0} (v t : ℕ) (P : A → List ℕ → Type 0) (f : A → List ℕ) → ((x : A) → Long (P x) (f x)) → (xs : List A) → Long (ListOf v t P xs) (list_of v t f xs)
 list_long v t P f h [] s (inl k) = ap (λ (u : List ℕ). length u) k.1
-list_long v t P f h [] s (inr k) =
-    joined_long (tag t ++ count v 0) [] (joined_long (tag t) (count v 0) (exactly_long (tag t)) (number_long (count_width v) 0)) (exactly_long []) s k
-    ∙ length-append (tag t ++ count v 0) [] ∙ plus_zero _ ∙ length-append (tag t) (count v 0) ∙ sym (length-append (tag 0) (count v 0))
+list_long v t P f h [] s (inr k) = grind (arith, nat_tests, joined_long, exactly_long, number_long, Long, list_of)
 list_long v t P f h (x ∷ xs) s (inl k) = absurd (cons_nil x xs k.0)
 list_long v t P f h (x ∷ xs) s (inr k) =
     joined_long (tag t ++ count v (length (x ∷ xs))) (flat_map f (x ∷ xs)) (joined_long (tag t) (count v (length (x ∷ xs))) (exactly_long (tag t)) (number_long (count_width v) (length (x ∷ xs)))) (each_long P f h (x ∷ xs)) s k

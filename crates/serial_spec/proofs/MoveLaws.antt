@@ -1,9 +1,9 @@
 -- The redefined file has the new header, each old element at its new place, and zeros between.
-use Rattle.serial_spec.proofs.Words.{◌≡◌, ℕ, zero, suc, ◌+◌, ◌-◌, ◌<◌, ◌≤◌, min, max, refl, sym, ◌∙◌, ap, subst, inl, inr, List, [], ◌∷◌, ◌++◌, length, map, take, drop, replicate, get_or, true, Option, Some, None, length-append, arith, common_steps, fold-append, same_number_lists, length-take, get_or-take, get_or-append_right, get_or-drop, length-replicate, length-drop, AllByRecursion, flat_map, fold, zip, slice_get, each_map, each_flat_map, each_weaker, Header, Var, at, read, written, size_of, lengths, end_of, place, row, IsIndex, IsElementBelow, AreApart, canon, header_len, is_sound, known_lengths, all_indices, moved, redefined, Moves, KeepsVars, IsRedefined, said_at, byte_or, Cell, write_cells, said_by, cases_eq, nat_tests, In}
+use Rattle.serial_spec.proofs.Words.{◌≡◌, ℕ, zero, suc, ◌+◌, ◌-◌, ◌<◌, ◌≤◌, min, max, refl, sym, ◌∙◌, ap, inl, inr, List, [], ◌∷◌, ◌++◌, length, map, take, drop, replicate, get_or, true, Option, Some, None, length-append, arith, common_steps, fold-append, same_number_lists, length-take, get_or-take, get_or-append_right, get_or-drop, length-replicate, length-drop, AllByRecursion, flat_map, fold, zip, slice_get, each_map, each_flat_map, each_weaker, Header, Var, at, read, written, size_of, lengths, end_of, place, row, IsIndex, IsElementBelow, AreApart, canon, header_len, is_sound, known_lengths, all_indices, moved, redefined, Moves, KeepsVars, IsRedefined, said_at, byte_or, Cell, write_cells, said_by, nat_tests, In}
 use Rattle.serial_spec.proofs.ApartLaws.{elements_apart, elements_past_header}
 use Rattle.serial_spec.proofs.ElementLaws.{coordinates_at}
 use Rattle.serial_spec.proofs.SaidLaws.{cells_said}
-use Rattle.serial_spec.proofs.RoomLaws.{known_of, index_is_element, element_inside}
+use Rattle.serial_spec.proofs.RoomLaws.{index_is_element, element_inside}
 use Rattle.serial_spec.proofs.AcceptLaws.{coordinates_all}
 use Rattle.serial_spec.proofs.CellLaws.{same_index, IsOrApart, said_of, unsaid, cells_within, read_long, read_at, read_same}
 use Rattle.serial_spec.proofs.MemberLaws.{in_map, in_flat, at_in}
@@ -92,8 +92,7 @@ kept old new keeps k v w h g = grind (arith, nat_tests)
 -- an index of the old variable is one of the new
 still : (old new : Header) (k : ℕ) (v w : Var) (n : ℕ) (index : List ℕ) → is_sound new ≡ true → slice_get new.vars k ≡ Some w → Kept old new k v w
     → IsIndex (known_lengths old v n) index → IsElementBelow new w n index
-still old new k v w n index sound g a i =
-    index_is_element new k w n index sound g (subst (λ (ls : List ℕ). IsIndex (map (known_of n) ls) index) (sym a.lens) i)
+still old new k v w n index sound g a i = grind (arith, nat_tests, index_is_element new k w n index sound g)
 
 pub resized : (a n b m s t : ℕ) → n ≡ s → m ≡ t → AreApart a n b m → AreApart a s b t
 resized a n b m s t p q (inl h) = inl (omega arith)
@@ -107,25 +106,20 @@ or_apart : (old new : Header) (file : List ℕ) → is_sound new ≡ true → Ke
     → (k : ℕ) (v w : Var) (index : List ℕ) → slice_get old.vars k ≡ Some v → slice_get new.vars k ≡ Some w → IsIndex (known_lengths old v old.records) index
     → (m : ℕ) (x y : Var) (other : List ℕ) → slice_get old.vars m ≡ Some x → slice_get new.vars m ≡ Some y → IsIndex (known_lengths old x old.records) other
     → IsOrApart (cell_at old new file v w index) (cell_at old new file x y other)
-or_apart old new file sound keeps k v w index h g i m x y other f e j = elim (cases_eq m k) [
-  | inr n ↦ apart (λ p. n p.0)
-  | inl p ↦ elim (same_index other index) [
-    | inr n ↦ apart (λ q. n q.1)
-    | inl q ↦
-        (let one : Some x ≡ Some v = sym f ∙ ap (λ (n : ℕ). slice_get old.vars n) p ∙ h in
-        let two : Some y ≡ Some w = sym e ∙ ap (λ (n : ℕ). slice_get new.vars n) p ∙ g in
-        let old_same : x ≡ v = cc in
-        let new_same : y ≡ w = cc in
-        inl (λ t. cell_at old new file (old_same t) (new_same t) (q t)))
-  ]
-]
-  where
-    apart : ((m ≡ k) × (other ≡ index) → ⊥) → IsOrApart (cell_at old new file v w index) (cell_at old new file x y other)
-    apart n =
-        let a = kept old new keeps k v w h g in
-        let b = kept old new keeps m x y f e in
-        inr (resized (place new y other) (size_of y.kind) (place new w index) (size_of w.kind) _ _ (cell_long old new file m x y other b) (cell_long old new file k v w index a)
-        (elements_apart new m k y w other index sound e g (still old new m x y old.records other sound e b j).0 (still old new k v w old.records index sound g a i).0 n))
+or_apart old new file sound keeps k v w index h g i m x y other f e j =
+    grind (
+      arith,
+      nat_tests,
+      same_index other index,
+      kept old new keeps k v w h g,
+      kept old new keeps m x y f e,
+      resized (place new y other) (size_of y.kind) (place new w index) (size_of w.kind),
+      cell_long old new file m x y other (kept old new keeps m x y f e),
+      cell_long old new file k v w index (kept old new keeps k v w h g),
+      elements_apart new m k y w other index sound e g,
+      still old new m x y old.records other sound e (kept old new keeps m x y f e) j,
+      still old new k v w old.records index sound g (kept old new keeps k v w h g) i,
+    )
 
 abbrev end_after : Header → Header → ℕ
 end_after old new = end_of new (header_len new) old.records

@@ -26,9 +26,7 @@ end_fixed header n v e = ap (λ (t : Bool). cond t (cond (n == 0) 0 (v.begin + (
 
 end_record : (header : Header) (n : ℕ) (v : Var) → is_record header v ≡ true → (n == 0) ≡ false
     → end_of_var header n v ≡ v.begin + (n - 1) * recsize header + last_share header v
-end_record header n v e f =
-    ap (λ (t : Bool). cond t (cond (n == 0) 0 (v.begin + (n - 1) * recsize header + last_share header v)) (v.begin + vsize header v)) e
-    ∙ ap (λ (t : Bool). cond t 0 (v.begin + (n - 1) * recsize header + last_share header v)) f
+end_record header n v e f = grind (arith, nat_tests)
 
 pub some_record : (r n : ℕ) → r < n → (n == 0) ≡ false
 some_record r n h = grind (arith, nat_tests)
@@ -52,13 +50,8 @@ greatest_grows : (f g : Var → ℕ) → ((v : Var) → f v ≤ g v) → (vs : L
 greatest_grows f g h [] = omega arith
 greatest_grows f g h (v ∷ vs) = let a = h v in let b = greatest_grows f g h vs in omega arith
 
-var_grows : (header : Header) (n m : ℕ) → n ≤ m → (v : Var) → end_of_var header n v ≤ end_of_var header m v
-var_grows header n m h v = grind (arith, nat_tests, end_fixed, mul-le-mul_right, end_record)
-
 pub end_grows : (header : Header) (first n m : ℕ) → n ≤ m → end_of header first n ≤ end_of header first m
-end_grows header first n m h =
-    let l = greatest_grows (λ v. end_of_var header n v) (λ v. end_of_var header m v) (var_grows header n m h) header.vars in
-    omega arith
+end_grows header first n m h = grind (arith, nat_tests, greatest_grows, end_fixed, end_record, mul-le-mul_right)
 
 -- ---- an index below the known lengths
 

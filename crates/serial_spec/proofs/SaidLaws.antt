@@ -1,5 +1,5 @@
 -- A byte after writes and puts is what the last of them that has it says, else the old one.
-use Rattle.serial_spec.proofs.Words.{◌≡◌, ℕ, suc, ◌+◌, ◌-◌, ◌<◌, ◌≤◌, refl, sym, ◌∙◌, ap, List, [], ◌∷◌, ◌++◌, length, take, drop, get_or, Bool, true, false, cond, Option, Some, None, arith, common_steps, flat_map-append, fold-append, get_or-append_right, get_or_append_left, nat_tests, fold, flat_map, zip, ◌==◌, slice_get, enumerate_from, range_with_len, option_or, length-range_with_len, equal_above, equal_below, neither_some, option_or_assoc, none_last, Header, Var, Post, at, longer, written, one_says, said_at, byte_or, Cell, write_cells, said_by, size_of, cells, places, Puts, bytes_of_some, said_by_puts, Setting, put_post, put_some, after_puts, zero, ltb-true, ltb-false}
+use Rattle.serial_spec.proofs.Words.{◌≡◌, ℕ, suc, ◌+◌, ◌-◌, ◌<◌, ◌≤◌, refl, ◌∙◌, ap, List, [], ◌∷◌, ◌++◌, length, take, drop, get_or, Bool, true, false, cond, Option, Some, None, arith, common_steps, flat_map-append, fold-append, get_or-append_right, get_or_append_left, nat_tests, fold, flat_map, zip, ◌==◌, slice_get, enumerate_from, range_with_len, option_or, length-range_with_len, equal_above, equal_below, neither_some, option_or_assoc, none_last, Header, Var, Post, at, longer, written, one_says, said_at, byte_or, Cell, write_cells, said_by, size_of, cells, places, Puts, bytes_of_some, said_by_puts, Setting, put_post, put_some, after_puts, ltb-true, ltb-false}
 use Rattle.std.proofs.lemmas.List.{length-append}
 use Rattle.serial_spec.proofs.FileLaws.{at-longer, at-written_before, at-written_after, written-front}
 
@@ -30,13 +30,9 @@ pub said_past : {A : Type 0} (p : ℕ) (b : List A) (x : ℕ) → p + length b �
 said_past p [] x h = refl
 said_past p (v ∷ b) x h = neither_some (said_at (enumerate_from (p + 1) b) x) _ (said_past (p + 1) b x (omega arith)) (one_miss p x v (equal_below p x (omega arith)))
 
-get_or_cons : {A : Type 0} (v : A) (b : List A) (n : ℕ) (d : A) → get_or (v ∷ b) n d ≡ cond (n == 0) v (get_or b (n - 1) d)
-get_or_cons v b zero d = refl
-get_or_cons v b (suc n) d = grind (arith, nat_tests)
-
 pub said_inside : {A : Type 0} (p : ℕ) (b : List A) (x : ℕ) (d : A) → p ≤ x → x < p + length b → said_at (enumerate_from p b) x ≡ Some (get_or b (x - p) d)
 said_inside p [] x d h k = absurd (omega arith)
-said_inside p (v ∷ b) x d h k = grind (arith, nat_tests, said_inside (p + 1) b x d, said_below (p + 1) b x, get_or_cons)
+said_inside p (v ∷ b) x d h k = grind (arith, nat_tests, said_inside (p + 1) b x d, said_below (p + 1) b x)
 
 -- ---- a write
 
@@ -56,8 +52,7 @@ written_said file b p x = grind (arith, nat_tests, ltb-true, at-written_inside, 
 
 pub said_append : {A : Type 0} (ps qs : List (ℕ × A)) (x : ℕ) → said_at (ps ++ qs) x ≡ option_or (said_at qs x) (said_at ps x)
 said_append [] qs x = none_last (said_at qs x)
-said_append (p ∷ ps) qs x =
-    ap (λ o. option_or o (one_says p.0 p.1 x)) (said_append ps qs x) ∙ option_or_assoc (said_at qs x) (said_at ps x) (one_says p.0 p.1 x)
+said_append (p ∷ ps) qs x = grind (arith, nat_tests, said_append ps qs x, option_or_assoc, said_at, one_says)
 
 -- each byte of a file after cells were written
 pub cells_said : (cells : List Cell) (file : List ℕ) (x : ℕ) → at (write_cells file cells) x ≡ byte_or (said_at (said_by cells) x) (at file x)
@@ -106,9 +101,7 @@ range_and_rest p n rest b = grind (arith, nat_tests, zip_append, length-range_wi
 
 pub cells_say : (size : ℕ) (ps bytes : List ℕ) → said_by (cells size ps bytes) ≡ zip (flat_map (λ x. range_with_len x size) ps) bytes
 cells_say size [] bytes = refl
-cells_say size (p ∷ ps) bytes =
-    ap (λ rest. enumerate_from p (take size bytes) ++ rest) (cells_say size ps (drop size bytes))
-    ∙ sym (range_and_rest p size (flat_map (λ x. range_with_len x size) ps) bytes)
+cells_say size (p ∷ ps) bytes = grind (arith, nat_tests, cells_say size ps (drop size bytes), range_and_rest p size)
 
 pub post_says : (header : Header) (v : Option Var) (post : Post) → said_by (cells_of_some header v post) ≡ zip (bytes_of_some header v post) post.bytes
 post_says header None post = refl

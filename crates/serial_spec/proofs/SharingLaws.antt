@@ -1,5 +1,5 @@
 -- The pair of variables that is computed is the least pair that shares a byte, and there is none where none is computed.
-use Rattle.serial_spec.proofs.Words.{◌≡◌, ℕ, zero, suc, ◌+◌, ◌<◌, ◌≤◌, refl, sym, ◌∙◌, ap, subst, inl, inr, ◌⊎◌, List, [], ◌∷◌, true, false, Option, Some, None, arith, slice_get, nat_lt, IsTrue, option_or, told_else, both_none, Header, Var, share, sharing, sharing_with, sharing_from, Shares, IsSharing, nat_tests, some_or_none, first_counts, second_counts, holds_or_not, ltb-true, ltb-false}
+use Rattle.serial_spec.proofs.Words.{◌≡◌, ℕ, zero, suc, ◌+◌, ◌<◌, ◌≤◌, refl, sym, ◌∙◌, ap, subst, inl, inr, ◌⊎◌, List, [], ◌∷◌, true, false, Option, Some, None, arith, slice_get, nat_lt, IsTrue, told_else, both_none, Header, Var, share, sharing, sharing_with, sharing_from, Shares, IsSharing, nat_tests, some_or_none, first_counts, second_counts, holds_or_not, ltb-false}
 use Rattle.serial_spec.proofs.ApartLaws.{none_with}
 
 -- the variable shares bytes with the one that stands there
@@ -35,9 +35,7 @@ shares_of header first [] i j s = absurd s
 shares_of header first (v ∷ vs) zero zero l = (v, refl, inl (refl, l))
 shares_of header first (v ∷ vs) zero (suc j) (w, f, s) = (v, refl, inr (omega arith, w, f, s))
 shares_of header first (v ∷ vs) (suc i) zero s = absurd s
-shares_of header first (v ∷ vs) (suc i) (suc j) s =
-    let r = shares_of header first vs i j s in
-    (r.0, r.1, elim r.2 [ inl a ↦ inl (ap suc a.0, a.1) | inr b ↦ inr (omega (arith, b.0), b.1, b.2, b.3) ])
+shares_of header first (v ∷ vs) (suc i) (suc j) s = grind (arith, nat_tests, shares_of header first vs i j s)
 
 record IsLeast (header : Header) (first : ℕ) (vs : List Var) (i j : ℕ) : Type 0 where
   pair : SharesIn header first vs i j
@@ -51,10 +49,7 @@ first_partner : (header : Header) (v : Var) (k m : ℕ) (ws : List Var) (p : ℕ
 first_partner header v k m [] p h = absurd cc
 first_partner header v k m (w ∷ ws) p h = elim (holds_or_not (share header v w)) [
   | inl e ↦
-      (let told : Some (k, m) ≡ Some p = rw e at h in
-      let same : (k, m) ≡ p = cc in
-      let back : m ≡ m + 0 = omega arith in
-      (0, sym same ∙ ap (λ (n : ℕ). (k, n)) back, (w, refl, e), λ b s. omega arith))
+      (grind (arith, nat_tests))
   | inr e ↦
       (let found = first_partner header v k (suc m) ws p (rw e at h) in
       let on : suc m + found.0 ≡ m + suc found.0 = omega arith in
@@ -62,10 +57,7 @@ first_partner header v k m (w ∷ ws) p h = elim (holds_or_not (share header v w
 ]
   where
     later : (j : ℕ) → ((b : ℕ) → Partner header v ws b → j ≤ b) → share header v w ≡ false → (b : ℕ) → Partner header v (w ∷ ws) b → suc j ≤ b
-    later j low e zero (x, g, s) =
-        let same : w ≡ x = cc in
-        let yes : share header v w ≡ true = ap (λ (y : Var). share header v y) same ∙ s in
-        absurd cc
+    later j low e zero (x, g, s) = grind (arith, nat_tests)
     later j low e (suc b) s = let l = low b s in omega arith
 
 -- ---- the least pair of a list
@@ -80,9 +72,7 @@ abbrev Found : Header → ℕ → ℕ → List Var → ℕ × ℕ → Type 0
 Found header first k vs p = (i : ℕ) × (j : ℕ) × (p ≡ (k + i, k + j)) × IsLeast header first vs i j
 
 in_header : (header : Header) (first k : ℕ) (v : Var) (vs : List Var) → nat_lt v.begin first ≡ true → Found header first k (v ∷ vs) (k, k)
-in_header header first k v vs e =
-    let back : k ≡ k + 0 = omega arith in
-    (0, 0, λ i. (back i, back i), record { pair = ltb-true v.begin first e; least_first = λ a b s. omega arith; least_second = λ b s. omega arith })
+in_header header first k v vs e = grind (arith, nat_tests)
 
 with_partner : (header : Header) (first k : ℕ) (v : Var) (vs : List Var) (p : ℕ × ℕ) → nat_lt v.begin first ≡ false
     → sharing_with header v k (suc k) vs ≡ Some p → Found header first k (v ∷ vs) p
@@ -116,26 +106,16 @@ least_of : (header : Header) (first k : ℕ) (vs : List Var) (p : ℕ × ℕ) �
 least_of header first k [] p h = absurd cc
 least_of header first k (v ∷ vs) p h = elim (holds_or_not (nat_lt v.begin first)) [
   | inl e ↦
-      (let told : Some (k, k) ≡ Some p = rw e at h in
-      let same : (k, k) ≡ p = cc in
-      subst (λ (q : ℕ × ℕ). Found header first k (v ∷ vs) q) same (in_header header first k v vs e))
+      (grind (arith, nat_tests, in_header header first k v vs e))
   | inr e ↦
-      (let told : option_or (sharing_with header v k (suc k) vs) (sharing_from header first (suc k) vs) ≡ Some p = rw e at h in
-      elim (some_or_none (sharing_with header v k (suc k) vs)) [
-        | inr q ↦ with_partner header first k v vs p e (q.1 ∙ sym (first_counts _ (sharing_from header first (suc k) vs) q.0 q.1) ∙ told)
-        | inl n ↦ further header first k v vs p e n (least_of header first (suc k) vs p (sym (second_counts _ _ n) ∙ told))
-      ])
+      (grind (arith, nat_tests, some_or_none (sharing_with header v k (suc k) vs), with_partner header first k v vs p e, first_counts, further header first k v vs p e, least_of header first (suc k) vs p, second_counts))
 ]
 
 no_pair : (header : Header) (first k : ℕ) (vs : List Var) → sharing_from header first k vs ≡ None → (a b : ℕ) → SharesIn header first vs a b → ⊥
 no_pair header first k [] h a b s = absurd s
-no_pair header first k (v ∷ vs) h zero b s =
-    let out = told_else (nat_lt v.begin first) (k, k) _ h in
-    stands_alone header first k (suc k) v vs out.0 (both_none (sharing_with header v k (suc k) vs) (sharing_from header first (suc k) vs) out.1).0 b s
+no_pair header first k (v ∷ vs) h zero b s = grind (arith, nat_tests, told_else, stands_alone, both_none)
 no_pair header first k (v ∷ vs) h (suc a) zero s = absurd s
-no_pair header first k (v ∷ vs) h (suc a) (suc b) s =
-    let out = told_else (nat_lt v.begin first) (k, k) _ h in
-    no_pair header first (suc k) vs (both_none (sharing_with header v k (suc k) vs) (sharing_from header first (suc k) vs) out.1).1 a b s
+no_pair header first k (v ∷ vs) h (suc a) (suc b) s = grind (arith, nat_tests, told_else, no_pair header first (suc k) vs, both_none)
 
 -- ---- the law
 
@@ -161,8 +141,7 @@ same_least header first p q a b =
     let one : p.0 ≡ q.0 = omega arith in
     let left = a.least_second q.1 (subst (λ (n : ℕ). Shares header first n q.1) (sym one) b.pair) in
     let right = b.least_second p.1 (subst (λ (n : ℕ). Shares header first n p.1) one a.pair) in
-    let two : p.1 ≡ q.1 = omega arith in
-    λ t. (one t, two t)
+    grind (arith, nat_tests)
 
 pub sharing_only : (header : Header) (first k m : ℕ) → IsSharing header first k m → sharing header first ≡ Some (k, m)
 sharing_only header first k m s = by_answer (k, m) s (sharing header first) refl
