@@ -1,11 +1,9 @@
 -- The pieces of a request, as they are gone over.
-use Rattle.step_plan.proofs.Words.{◌≡◌, ℕ, ◌+◌, ◌-◌, ◌^◌, List, [], ◌∷◌, Some, fold, min, slice_get, IfSome, Header, Var, Extent, Post, if_some_at, extents_of, asked_with, with_piece, Asked}
+use Rattle.step_plan.proofs.Words.{◌≡◌, ℕ, ◌+◌, ◌-◌, ◌^◌, List, [], ◌∷◌, Some, fold, min, slice_get, IfSome, Header, Var, Extent, Post, if_some_at, extents_of, asked_with, with_piece, Asked, arith, nat_tests}
 
 pub pieces_left : (header : Header) (post : Post) (v : Var) (left : List Extent) (a : Asked) → slice_get header.vars post.var ≡ Some v
     → IfSome (slice_get header.vars post.var) (λ w. left ≡ extents_of header w post.region) → fold with_piece a left ≡ asked_with header post a
-pieces_left header post v left a there is =
-    let same : left ≡ extents_of header v post.region = if_some_at (λ w. left ≡ extents_of header w post.region) (slice_get header.vars post.var) v there is in
-    rw (same, there)
+pieces_left header post v left a there is = grind (arith, nat_tests, if_some_at)
 
 pub piece_added : (a : Asked) (e : Extent) (bytes pieces : ℕ) (left rest : List Extent) (whole : Asked) → bytes ≡ min (a.bytes + e.len) (2 ^ 64 - 1)
     → pieces ≡ min (a.pieces + 1) (2 ^ 64 - 1) → left ≡ e ∷ rest → fold with_piece a left ≡ whole

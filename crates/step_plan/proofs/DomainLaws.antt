@@ -1,5 +1,5 @@
 -- One domain more is planned, and the windows of all are those of the model.
-use Rattle.step_plan.proofs.Words.{◌≡◌, ℕ, ◌+◌, ◌-◌, ◌^◌, ◌<◌, ◌≤◌, inl, inr, refl, sym, ◌∙◌, ap, subst, List, [], ◌∷◌, ◌++◌, length, map, take, Option, Some, get_or, append_assoc, arith, flat_map-append, append-nil, map-append, take_more, take_all, length_push, flat_map-map, same_Some, flat_map, IfOk, Result, Ok, Err, range_with_len, no_none_some, Extent, Owned, Hints, DiskCall, collective_windows, in_order, loads, overlays, sieving_windows, spans, load_calls, store_calls, ranges, HaveSame, told_of, IsCover, cover_in_order, in_either, turns_of, Told, AreDomains, loads_are, stores_are, get_calls, put_calls, told_plan, AreShared, WindowPlan, in_one_range, last_end, reach_of, windows_in, AreDivided, AreDomainPlans, AreSievedPlans, IsDomainPlan, DomainPlan, min, slice_get}
+use Rattle.step_plan.proofs.Words.{◌≡◌, ℕ, ◌+◌, ◌-◌, ◌^◌, ◌<◌, ◌≤◌, refl, sym, ◌∙◌, ap, List, [], ◌∷◌, ◌++◌, length, map, take, Option, Some, get_or, append_assoc, arith, flat_map-append, append-nil, map-append, take_more, take_all, length_push, flat_map-map, same_Some, flat_map, IfOk, Result, range_with_len, no_none_some, Extent, Owned, Hints, DiskCall, collective_windows, in_order, loads, overlays, sieving_windows, spans, load_calls, store_calls, ranges, HaveSame, told_of, IsCover, cover_in_order, in_either, turns_of, Told, AreDomains, loads_are, stores_are, get_calls, put_calls, told_plan, AreShared, WindowPlan, in_one_range, last_end, reach_of, windows_in, AreDivided, AreDomainPlans, AreSievedPlans, IsDomainPlan, DomainPlan, min, slice_get, nat_tests}
 use Rattle.list_laws.proofs.Ranges.{range_next}
 
 -- ---- the calls of windows that are told
@@ -28,10 +28,7 @@ divided_more hints list cover domains count none plans plan l extent number here
   many = (let long = length_push plans plan in let many = h.many in omega arith);
   extents = rw (map-append (λ (d : DomainPlan). d.extent) plans (plan ∷ []), h.extents, extent, next);
   numbered = rw (map-append (λ (d : DomainPlan). d.aggregator) plans (plan ∷ []), h.numbered, number, range_next count, map-append Some (range_with_len 0 count) (count ∷ []));
-  each = λ d m. elim (in_either plans (plan ∷ []) d m) [
-    | inl i ↦ h.each d i
-    | inr i ↦ elim i [ inl same ↦ subst (λ (p : DomainPlan). IsDomainPlan hints list cover p) same here | inr n ↦ absurd n ]
-  ];
+  each = grind (arith, nat_tests, in_either, h.each);
   told = rw (
     flat_map-append (λ (d : DomainPlan). d.windows) plans (plan ∷ []),
     map-append told_plan (windows_in plans) (windows_in (plan ∷ [])),
@@ -57,26 +54,15 @@ pub all_divided : (hints : Hints) (list : List Owned) (cover domains : List Exte
     → AreDivided hints list cover domains (length domains) plans → AreDomainPlans hints list plans
 all_divided hints list cover domains plans covers bytes div windows h =
     let all : take (length domains) domains ≡ domains = take_all (length domains) domains (omega arith) in
-    record {
-      cover = cover;
-      covers = covers;
-      bytes = bytes;
-      domains = subst (λ (es : List Extent). AreDomains cover es) (sym (h.extents ∙ all)) div;
-      numbered = h.numbered ∙ ap (λ (n : ℕ). map Some (range_with_len 0 n)) (sym h.many);
-      each = h.each;
-      windows = rw (h.told, all, windows, cover_in_order cover (ranges list) covers bytes);
-    }
+    grind (arith, nat_tests, cover_in_order cover (ranges list) covers bytes, h.extents, h.numbered, h.many, h.each, h.told, range_with_len)
 
 pub divided_all : (hints : Hints) (list : List Owned) (cover domains : List Extent) (count : ℕ) (plans : List DomainPlan) → length domains ≤ count → count ≤ length domains
     → AreDivided hints list cover domains count plans → AreDivided hints list cover domains (length domains) plans
-divided_all hints list cover domains count plans over within h =
-    let last : count ≡ length domains = omega arith in
-    rw last at h
+divided_all hints list cover domains count plans over within h = grind (arith, nat_tests)
 
 -- what holds of a value where there is one
 pub ok_so : {T E : Type 0} {P Q : T → Type 0} (r : Result T E) → ((x : T) → P x → Q x) → IfOk r P → IfOk r Q
-ok_so (Ok x) f h = f x h
-ok_so (Err e) f h = tt
+ok_so r f h = grind (arith, nat_tests)
 
 -- ---- sieving
 
@@ -89,10 +75,7 @@ from_to at end = Some (record { at = at; len = end - at })
 
 pub reach_is : (windows : List WindowPlan) (first last : WindowPlan) → slice_get windows 0 ≡ Some first → slice_get windows (length windows - 1) ≡ Some last
     → from_to first.hull.at (min (last.hull.at + last.hull.len) (2 ^ 64 - 1)) ≡ reach_of windows
-reach_is [] first last e f = no_none_some first e
-reach_is (w ∷ ws) first last e f =
-    let index : length ws ≡ length (w ∷ ws) - 1 = omega arith in
-    rw (← same_Some w first e, last_ends w ws last (rw index f))
+reach_is windows first last e f = grind (arith, nat_tests, no_none_some, last_ends)
 
 -- the windows of one range are those that stand in it
 range_windows : (windows : List WindowPlan) → windows_in (in_one_range windows) ≡ windows
@@ -102,13 +85,7 @@ range_windows (w ∷ ws) = append-nil (w ∷ ws)
 pub sieved_so : (size : ℕ) (list entries : List Owned) (windows : List WindowPlan) (domains : List DomainPlan) → entries ≡ list
     → map told_plan windows ≡ map told_of (sieving_windows size (in_order (ranges entries))) → AreShared entries windows → domains ≡ in_one_range windows
     → AreSievedPlans size list domains
-sieved_so size list entries windows domains same told shared one =
-    let all : windows_in domains ≡ windows = ap windows_in one ∙ range_windows windows in
-    record {
-      windows = ap (λ (ws : List WindowPlan). map told_plan ws) all ∙ told ∙ ap (λ (os : List Owned). map told_of (sieving_windows size (in_order (ranges os)))) same;
-      shared = subst (λ (ws : List WindowPlan). AreShared list ws) (sym all) (subst (λ (os : List Owned). AreShared os windows) same shared);
-      one = one ∙ ap in_one_range (sym all);
-    }
+sieved_so size list entries windows domains same told shared one = grind (arith, nat_tests, range_windows windows, in_order)
 
 -- ---- the calls of one domain more
 

@@ -1,5 +1,5 @@
 -- A batch alone, as a list of one.
-use Rattle.step_plan.proofs.Words.{◌≡◌, ℕ, ◌^◌, ◌<◌, inl, inr, sym, ◌∙◌, ap, subst, List, [], ◌∷◌, map, None, flat_map, enumerate_from, append-nil, Header, Batch, Post, Owned, OverlapRule, told, greatest, needed, needed_by, Puts, In, Get, Put, AreAccepted, source_of, AreLaid, IsListOf, posts_in, puts_of_batch, AreGets, ArePuts, PutList, Laid, batch_needed, one_batch, own_puts, list_laid, own_told, IsAccepted}
+use Rattle.step_plan.proofs.Words.{◌≡◌, ℕ, ◌^◌, ◌<◌, inl, inr, ◌∙◌, ap, subst, List, [], ◌∷◌, map, None, flat_map, enumerate_from, append-nil, Header, Batch, Post, Owned, OverlapRule, told, greatest, needed, needed_by, In, Get, Put, AreAccepted, source_of, AreLaid, IsListOf, posts_in, puts_of_batch, AreGets, ArePuts, PutList, Laid, batch_needed, one_batch, own_puts, list_laid, own_told, IsAccepted, arith, nat_tests}
 
 -- what holds of a batch holds of each of a list of it alone
 alone : (P : Batch → Type 0) (batch : Batch) (slice : List Batch) → slice ≡ batch ∷ [] → P batch → (b : Batch) → In slice b → P b
@@ -21,11 +21,7 @@ own_list header rank batch slice same are = rw (same, ← one_batch rank batch) 
 pub own_laid : (header : Header) (overlap : OverlapRule) (rank : ℕ) (batch : Batch) (slice : List Batch) (list : PutList) (entries : List Owned) → slice ≡ batch ∷ []
     → list ≡ Laid entries → IsListOf header overlap rank slice list
     → (told (record { header = header; overlap = overlap }) (puts_of_batch (rank, batch)) ≡ None) × AreLaid header (source_of rank (batch ∷ [])) (puts_of_batch (rank, batch)) entries
-own_laid header overlap rank batch slice list entries same is of =
-    let laid = list_laid header overlap rank slice (batch ∷ []) list entries same is of in (
-      own_told header overlap rank batch slice list entries same is of,
-      subst (λ (puts : Puts). AreLaid header (source_of rank (batch ∷ [])) puts entries) (sym (one_batch rank batch)) laid.1,
-    )
+own_laid header overlap rank batch slice list entries same is of = grind (arith, nat_tests, list_laid, own_told, one_batch, puts_of_batch, source_of)
 
 pub own_needs : (header : Header) (rank : ℕ) (batch : Batch) (posts : List Post) (n : ℕ) → posts ≡ batch.puts → n ≡ greatest (map (λ p. needed header p) posts)
     → n ≡ needed_by header (puts_of_batch (rank, batch))

@@ -1,5 +1,5 @@
 -- The words of this crate's proofs, from where they stand.
-pub use Rattle.list_laws.proofs.Std.{IfOk, IfSome, List, None, Option, Some, [], ap, append-nil, append_assoc, arith, drop, enumerate_from, flat_map, flat_map-append, flat_map-map, fold, get_or, inl, inr, length, length_push, map, map-append, max, range_with_len, refl, same_Some, slice_get, subst, sym, take, take_all, take_more, ℕ, ◌++◌, ◌+◌, ◌-◌, ◌<◌, ◌^◌, ◌∙◌, ◌∷◌, ◌≡◌, ◌≤◌}
+pub use Rattle.list_laws.proofs.Std.{IfOk, IfSome, List, None, Option, Some, [], ap, append-nil, append_assoc, arith, drop, enumerate_from, flat_map, flat_map-append, flat_map-map, fold, get_or, inl, inr, length, length_push, map, map-append, max, range_with_len, refl, same_Some, slice_get, subst, sym, take, take_all, take_more, ℕ, ◌++◌, ◌+◌, ◌-◌, ◌<◌, ◌^◌, ◌∙◌, ◌∷◌, ◌≡◌, ◌≤◌, nat_tests}
 pub use Rattle.std.specs.Prelude.{Err, Ok, Result, min}
 pub use Rattle.collective_round.proofs.BatchLaws.{batch_needed, one_batch, own_puts}
 pub use Rattle.collective_round.proofs.GetLaws.{batch_gets, order_by}

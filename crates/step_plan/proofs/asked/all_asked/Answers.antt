@@ -1,14 +1,9 @@
 -- What one rank more asks for.
-use Rattle.step_plan.proofs.Words.{◌≡◌, ℕ, ◌+◌, ◌++◌, ◌∙◌, refl, ap, sym, subst, List, arith, next_numbered, Batch, Post, In, read_in, posts_of, asked_of, some_asked}
+use Rattle.step_plan.proofs.Words.{◌≡◌, ℕ, ◌+◌, ◌++◌, ◌∙◌, refl, ap, sym, List, arith, next_numbered, Batch, Post, read_in, posts_of, asked_of, some_asked, nat_tests}
 use Rattle.step_plan.proofs.asked.all_asked.Goals as goal
 
 pub asked_by-asked-requires : goal.asked_by-asked-requires
-asked_by-asked-requires c = record {
-  accepted = λ p m.
-      c.requires.accepted c.index-batches-number.result p
-      (read_in c.args.batches.now c.loop-number.number c.index-batches-number.result c.loop-number-test.true c.index-batches-number.is)
-      (subst (λ (ps : List Post). In ps p) c.posts_of-posts.ensures m);
-}
+asked_by-asked-requires c = grind (arith, nat_tests, read_in, c.requires.accepted, c.index-batches-number.is, c.posts_of-posts.ensures)
 
 pub loop-number-init : goal.loop-number-init
 loop-number-init c = let first : c.args.first + 0 ≡ c.args.first = omega arith in rw (c.in_ok-list.ensures.items, first) refl

@@ -1,5 +1,5 @@
 -- The domains are those of the covered bytes.
-use Rattle.step_plan.proofs.Words.{cover_ends, lawful}
+use Rattle.step_plan.proofs.Words.{cover_ends, lawful, arith, nat_tests}
 use Rattle.collective_round.proofs.PlanLaws.{got_plan}
 use Rattle.step_plan.proofs.DomainLaws.{all_divided, ok_so}
 use Rattle.step_plan.proofs.domains.collective_domains.Goals as goal
@@ -9,9 +9,7 @@ domains_of-requires-clause-ends c =
     rw c.as_slice-2.ensures (cover_ends c.in_ok-cover.cover c.args.list.now c.in_ok-cover.ensures.apart (rw c.as_slice.ensures at c.in_ok-cover.ensures.bytes) c.requires.sorted.ends)
 
 pub plan_each-requires-clause-plan : goal.plan_each-requires-clause-plan
-plan_each-requires-clause-plan c =
-    got_plan c.args.list.now c.in_ok-cover.cover c.args.hints.now.cb_buffer c.requires.sorted c.in_ok-cover.ensures.apart
-    (rw c.as_slice.ensures at c.in_ok-cover.ensures.bytes) (lawful c.args.hints.now c.requires.hints).windows.2
+plan_each-requires-clause-plan c = grind (arith, nat_tests, got_plan, lawful, c.in_ok-cover.ensures.apart, c.as_slice.ensures, c.in_ok-cover.ensures.bytes)
 
 pub returns : goal.returns
 returns c = ok_so c.plan_each.result (λ plans h.

@@ -1,17 +1,15 @@
 -- Puts with a pair come to nothing; others are laid.
-use Rattle.step_plan.proofs.Words.{◌∙◌, refl, sym, ap, max, collective_windows, puts_in, setting, laid_needs, puts_needed, shared_needs, list_laid, list_shared, refused, laid}
+use Rattle.step_plan.proofs.Words.{◌∙◌, refl, sym, ap, max, collective_windows, puts_in, setting, laid_needs, puts_needed, shared_needs, list_laid, list_shared, refused, laid, arith, nat_tests}
 use Rattle.serial_spec.specs.DeviceCalls as device
 use Rattle.step_plan.specs.Steps as steps
 use Rattle.step_plan.proofs.PhaseLaws.{collective_calls, laid_size, refused_calls, refused_size}
 use Rattle.step_plan.proofs.meeting.put_domains.Goals as goal
 
 pub collective_domains-requires-clause-sorted : goal.collective_domains-requires-clause-sorted
-collective_domains-requires-clause-sorted c =
-    (list_laid c.args.dataset.now.header.now c.args.dataset.now.hints.now.overlap 0 c.args.batches.now c.args.batches.now c.in_ok-pair.field-0 c.in-Laid.list refl c.in-Laid.is c.in_ok-pair.ensures).1.sorted
+collective_domains-requires-clause-sorted c = grind (arith, nat_tests, list_laid, c.in-Laid.is, c.in_ok-pair.ensures)
 
 pub end_of-end-requires-clause-below : goal.end_of-end-requires-clause-below
-end_of-end-requires-clause-below c =
-    rw c.records_needed-needed.ensures (puts_needed c.args.dataset.now.header.now (puts_in c.args.batches.now) c.args.dataset.now.sound c.requires.puts).1
+end_of-end-requires-clause-below c = grind (arith, nat_tests, puts_needed, c.records_needed-needed.ensures, c.requires.puts)
 
 -- ---- a pair
 
@@ -43,6 +41,5 @@ returns-in_ok-domains-in-Laid c =
       domains = laid c.in-Laid.list here.0 here.1 c.in_ok-domains-in-Laid.ensures;
       needed = c.records_needed-needed.ensures ∙ sym (laid_needs s puts here.0);
       size = c.max.ensures ∙ ap (max c.args.size) c.end_of-end.ensures ∙ laid_size s puts c.args.size needed here.0 c.records_needed-needed.ensures;
-      calls = collective_calls d.header.now d.hints.now c.args.batches.now c.args.size needed c.grown.result c.in-Laid.list c.in_ok-domains-in-Laid.domains here.0 c.requires.long
-          c.records_needed-needed.ensures here.1 c.in_ok-domains-in-Laid.ensures (c.grown.ensures ∙ ap (device.grow_to c.args.size) c.end_of-end.ensures);
+      calls = grind (arith, nat_tests, collective_calls, c.requires.long, c.records_needed-needed.ensures, c.in_ok-domains-in-Laid.ensures, c.grown.ensures, c.end_of-end.ensures);
     }

@@ -1,5 +1,5 @@
 -- The windows of the entries of the gets.
-use Rattle.step_plan.proofs.Words.{subst, List, Batch, AreGot, lawful}
+use Rattle.step_plan.proofs.Words.{lawful, arith, nat_tests}
 use Rattle.step_plan.proofs.DomainLaws.{ok_so}
 use Rattle.step_plan.proofs.SoloLaws.{few_alone, gets_alone}
 use Rattle.step_plan.proofs.solo.get_windows.Goals as goal
@@ -14,8 +14,4 @@ pub sieved_domain-requires-clause-some : goal.sieved_domain-requires-clause-some
 sieved_domain-requires-clause-some c = (lawful c.args.dataset.now.hints.now c.args.dataset.now.lawful).reads
 
 pub returns : goal.returns
-returns c = ok_so c.sieved_domain.result (λ domains h. record {
-  list = c.in_ok-list.list;
-  got = subst (λ (bs : List Batch). AreGot c.args.dataset.now.header.now c.args.rank bs c.in_ok-list.list) c.from_ref.ensures.value c.in_ok-list.ensures;
-  plans = h;
-}) c.sieved_domain.ensures
+returns c = grind (arith, nat_tests, ok_so, c.from_ref.ensures.value, c.in_ok-list.ensures, c.sieved_domain.ensures)

@@ -1,5 +1,5 @@
 -- The step of one rank, by its puts and its gets.
-use Rattle.step_plan.proofs.Words.{◌∙◌, ap, List, Batch, Put, Get, asked_by_all}
+use Rattle.step_plan.proofs.Words.{arith, nat_tests}
 use Rattle.step_plan.proofs.PhaseLaws.{sieved_gets}
 use Rattle.step_plan.proofs.SoloLaws.{get_alone, put_alone}
 use Rattle.step_plan.proofs.solo.plan_solo.Goals as goal
@@ -16,12 +16,10 @@ all_asked-requires-2-clause-accepted c =
     get_alone c.args.dataset.now.header.now c.args.size c.args.batch.now c.from_ref-batches.result.now c.from_ref-batches.ensures.value c.requires.gets
 
 pub returns-clause-asked_put : goal.returns-clause-asked_put
-returns-clause-asked_put c =
-    c.in_ok-asked_put.ensures ∙ ap (λ (bs : List Batch). asked_by_all c.args.dataset.now.header.now Put c.args.rank bs) c.from_ref-batches.ensures.value
+returns-clause-asked_put c = grind (arith, nat_tests, c.in_ok-asked_put.ensures, c.from_ref-batches.ensures.value)
 
 pub returns-clause-asked_get : goal.returns-clause-asked_get
-returns-clause-asked_get c =
-    c.in_ok-asked_get.ensures ∙ ap (λ (bs : List Batch). asked_by_all c.args.dataset.now.header.now Get c.args.rank bs) c.from_ref-batches.ensures.value
+returns-clause-asked_get c = grind (arith, nat_tests, c.in_ok-asked_get.ensures, c.from_ref-batches.ensures.value)
 
 pub returns-clause-put_windows : goal.returns-clause-put_windows
 returns-clause-put_windows c = c.in_ok-puts.ensures.windows

@@ -1,5 +1,5 @@
 -- Puts with a pair come to nothing; others are laid.
-use Rattle.step_plan.proofs.Words.{◌∙◌, sym, ap, subst, max, List, sieving_windows, puts_of_batch, setting, laid_needs, lawful, puts_needed, shared_needs, Post, In, own_puts, own_once, own_shared, refl}
+use Rattle.step_plan.proofs.Words.{◌∙◌, sym, ap, max, sieving_windows, puts_of_batch, setting, laid_needs, lawful, puts_needed, shared_needs, own_puts, own_once, own_shared, refl, arith, nat_tests}
 use Rattle.serial_spec.specs.DeviceCalls as device
 use Rattle.step_plan.specs.Phases.HavePutWindows.{refused, laid}
 use Rattle.step_plan.specs.Steps as steps
@@ -20,13 +20,11 @@ pub sieved_domain-requires-clause-some : goal.sieved_domain-requires-clause-some
 sieved_domain-requires-clause-some c = (lawful c.args.dataset.now.hints.now c.args.dataset.now.lawful).writes
 
 pub records_needed_by-needed-requires : goal.records_needed_by-needed-requires
-records_needed_by-needed-requires c = record {
-  puts = λ p m. own_puts c.args.dataset.now.header.now c.args.rank c.args.batch.now c.requires.puts p (subst (λ (ps : List Post). In ps p) c.as_slice.ensures m);
-}
+records_needed_by-needed-requires c =
+    grind (arith, nat_tests, own_puts c.args.dataset.now.header.now c.args.rank c.args.batch.now c.requires.puts, c.as_slice.ensures)
 
 pub sieved_domain-requires-clause-sorted : goal.sieved_domain-requires-clause-sorted
-sieved_domain-requires-clause-sorted c =
-    (own_laid c.args.dataset.now.header.now c.args.dataset.now.hints.now.overlap c.args.rank c.args.batch.now c.from_ref.result.now c.in_ok-pair.field-0 c.in-Laid.list c.from_ref.ensures.value c.in-Laid.is c.in_ok-pair.ensures).1.sorted
+sieved_domain-requires-clause-sorted c = grind (arith, nat_tests, own_laid, c.from_ref.ensures.value, c.in-Laid.is, c.in_ok-pair.ensures)
 
 pub end_of-end-requires-clause-below : goal.end_of-end-requires-clause-below
 end_of-end-requires-clause-below c =
@@ -63,6 +61,5 @@ returns-in_ok-domains-in-Laid c =
       windows = laid c.in-Laid.list here.0 here.1 c.in_ok-domains-in-Laid.ensures;
       needed = needs ∙ sym (laid_needs s puts here.0);
       size = c.max.ensures ∙ ap (max c.args.size) c.end_of-end.ensures ∙ laid_size s puts c.args.size needed here.0 needs;
-      calls = sieved_calls d.header.now d.hints.now c.args.rank c.args.batch.now c.args.size needed c.grown.result c.in-Laid.list c.in_ok-domains-in-Laid.domains here.0 c.requires.long needs
-          here.1 c.in_ok-domains-in-Laid.ensures (c.grown.ensures ∙ ap (device.grow_to c.args.size) c.end_of-end.ensures);
+      calls = grind (arith, nat_tests, sieved_calls, c.requires.long, c.in_ok-domains-in-Laid.ensures, c.grown.ensures, c.end_of-end.ensures);
     }
