@@ -1,5 +1,7 @@
 -- Puts and gets of two ranks, one each, the put of an only rank, and two gets and a put of one rank alone, as the tests have them.
-use Rattle.std.proofs.Common.{◌≡◌, ℕ, zero, suc, refl, sym, subst, inl, inr, List, [], ◌∷◌, true, Some}
+use Rattle.std.proofs.lemmas.Bool.Decides.{nat_tests}
+use native.Mathlib.Omega.{arith}
+use Rattle.std.proofs.Common.{◌≡◌, ℕ, refl, sym, subst, inl, inr, List, [], ◌∷◌, true, Some}
 use Rattle.std.specs.Prelude.{slice_get}
 use Rattle.serial_spec.proofs.MemberLaws.{at_in}
 use Rattle.nc_base.specs.declared.header.Header.{Header}
@@ -30,13 +32,7 @@ two_are header a b p q r (inr (inl e)) = subst (λ (s : ℕ × Post). IsPut head
 two_are header a b p q r (inr (inr m)) = absurd m
 
 two_keys : (a b : Post) → HaveOwnKeys (puts_in (two a b))
-two_keys a b zero zero p q g h e f = refl
-two_keys a b zero (suc zero) p q g h e f = absurd cc
-two_keys a b zero (suc (suc j)) p q g h e f = absurd cc
-two_keys a b (suc zero) zero p q g h e f = absurd cc
-two_keys a b (suc zero) (suc zero) p q g h e f = refl
-two_keys a b (suc zero) (suc (suc j)) p q g h e f = absurd cc
-two_keys a b (suc (suc i)) j p q g h e f = absurd cc
+two_keys a b xs j p q g h e f = grind (arith, nat_tests)
 
 pub two_puts : (header : Header) (a b : Post) (batches : List Batch) → batches ≡ two a b → IsPut header a → IsPut header b → ArePuts header (puts_in batches)
 two_puts header a b batches e p q = subst (λ (bs : List Batch). ArePuts header (puts_in bs)) (sym e) (two_are header a b p q)
@@ -77,13 +73,10 @@ two_alone header len a b batch e p q = subst (λ (g : Batch). AreGets header len
 -- ---- a put of one rank alone
 
 one_are : (header : Header) (rank : ℕ) (a : Post) → IsPut header a → ArePuts header (puts_of_batch (rank, lone a))
-one_are header rank a p r (inl e) = subst (λ (s : ℕ × Post). IsPut header s.1) e p
-one_are header rank a p r (inr m) = absurd m
+one_are header rank a p r xs = grind (arith, nat_tests)
 
 one_key : (rank : ℕ) (a : Post) → HaveOwnKeys (puts_of_batch (rank, lone a))
-one_key rank a zero zero p q g h e f = refl
-one_key rank a zero (suc j) p q g h e f = absurd cc
-one_key rank a (suc i) j p q g h e f = absurd cc
+one_key rank a xs j p q g h e f = grind (arith, nat_tests)
 
 pub one_own : (header : Header) (rank : ℕ) (a : Post) (batch : Batch) → is_sound header ≡ true → batch ≡ lone a → IsPut header a
     → IsOwnOnce (holdings header (puts_of_batch (rank, batch)))
