@@ -1,5 +1,5 @@
 -- A rank at its offer: what it waits for, and its way after the reply.
-use Rattle.thread_run.proofs.Words.{◌≡◌, ℕ, ◌<◌, ap, sym, subst, ◌∙◌, List, [], ◌∷◌, ◌++◌, length, map, Bool, true, Option, Some, None, append_assoc, arith, slice_get, is_some, IfSome, bytes_eq-Decides, at_in, and_first, Header, Var, Answer, Call, Direction, Region, Script, Mark, Meet, Solo, Offer, OfferKind, is_lawful, most_calls, Open, hear, fits_offer, wanted, check_some, Going, advance, first_going, hears, fits_gets, IsSoundOffer, HasOwnElements, own_elements, IsOnWay, meetings, Keeps, ranks_lawful, call_number, call_waits, way_begins, way_hears, IsAsked, asking, between, calls_of, going_of, HasHeard, IsPlaced, IsPlacedWith, first_runner, Runner, alone_waits, going_held, alone_heard, answered_is, heard_runner, entry_below, nat_tests, OwnerItem, RankItem, refl, IsAccounted, HasStood, Result, RankStop, Memory}
+use Rattle.thread_run.proofs.Words.{◌≡◌, ℕ, ◌<◌, ap, subst, ◌∙◌, List, [], ◌∷◌, ◌++◌, length, map, Bool, true, Option, Some, None, append_assoc, arith, slice_get, is_some, IfSome, bytes_eq-Decides, at_in, and_first, Header, Var, Answer, Call, Direction, Region, Script, Mark, Meet, Solo, Offer, OfferKind, is_lawful, most_calls, Open, hear, fits_offer, wanted, check_some, Going, advance, first_going, hears, fits_gets, IsSoundOffer, HasOwnElements, own_elements, IsOnWay, meetings, Keeps, ranks_lawful, call_number, call_waits, way_begins, way_hears, IsAsked, asking, between, calls_of, going_of, HasHeard, IsPlaced, IsPlacedWith, first_runner, Runner, alone_waits, going_held, alone_heard, answered_is, heard_runner, entry_below, nat_tests, OwnerItem, RankItem, refl, IsAccounted, HasStood, Result, RankStop, Memory}
 use Rattle.nc_base.specs.declared.answer.Code.TheVariants as code
 use Rattle.nc_base.specs.declared.step.OfferKind.TheVariants as offer
 use Rattle.nc_base.specs.declared.step.RankItem.TheVariants as item
@@ -14,11 +14,7 @@ first_between header own runner e = ap (λ (s : Runner). between own s) e
 pub first_way : (script : Script) (header : Header) (r : ℕ) (own : List Call) (runner : Runner) → is_lawful script ≡ true → r < script.ranks → own ≡ calls_of script r
     → runner ≡ first_runner header header.records → IsOnWay script [] r (between own runner) None
 first_way script header r own runner lawful below e f =
-    let long = (ranks_lawful script lawful).one_each in
-    let there = entry_below script.calls r (omega arith) in
-    let is : own ≡ there.0 = e ∙ ap (λ (m : Option (List Call)). elim m [ None ↦ [] | Some calls ↦ calls ]) there.1 in
-    subst (λ (g : Going). IsOnWay script [] r g None) (ap (λ (calls : List Call). first_going header calls) (sym is) ∙ sym (first_between header own runner f))
-    (way_begins script header r there.0 lawful there.1)
+    grind (arith, nat_tests, ranks_lawful script lawful, entry_below script.calls r, first_between header own runner f, way_begins script header r)
 
 -- its answers begin those at its first offer
 pub first_some : (header : Header) (own calls : List Call) (runner : Runner) (answers : List Answer) → own ≡ calls → runner ≡ first_runner header header.records
@@ -36,9 +32,6 @@ later_some header own before mid reply answers e heard (rest, h) = grind (arith,
 placed_held : (script : Script) (header : Header) (order : List Mark) (r : ℕ) (own : List Call) (runner : Runner) (o : Offer) → runner.held ≡ Some o
     → IsPlaced script header order r (going_of own runner) runner.held → IsPlacedWith script header order r (asking own runner, o) o.kind
 placed_held script header order r own runner o e w = grind (arith, nat_tests, going_held)
-
-placed_waits : (script : Script) (header : Header) (order : List Mark) (r : ℕ) (s : Going) (o : Offer) → IsPlacedWith script header order r (s, o) o.kind → Keeps s.rank.«open» o
-placed_waits script header order r s o w = grind (arith, nat_tests, alone_waits, call_waits)
 
 pub placed_number : (script : Script) (header : Header) (order : List Mark) (r : ℕ) (s : Going) (o : Offer) → IsPlacedWith script header order r (s, o) o.kind
     → length s.answers < most_calls
@@ -114,19 +107,7 @@ pub at_offer : (script : Script) (header : Header) (r : ℕ) (own : List Call) (
     → ((put : List RankItem) × (taken : List OwnerItem) × (mid ≡ out ++ put) × (back ≡ from ++ taken) × IsAccounted header own put taken (going_of own runner, runner.held))
     → AtOffer script header r own out mid from back runner o
 at_offer script header r own out mid from back runner o e held w a =
-    let placed = placed_held script header w.0 r own runner o held w.1 in
-    let waits = placed_waits script header w.0 r (asking own runner) o placed in
-    record {
-      order = w.0;
-      placed = placed;
-      waits = waits;
-      fits = λ reply t h. fits_is runner.rank.state.«open» header runner.rank.header o reply t e waits h;
-      put = a.0;
-      taken = a.1;
-      sent = a.2;
-      came = a.3;
-      account = accounted_held header own a.0 a.1 runner o held a.4;
-    }
+    grind (arith, nat_tests, placed_held script header w.0 r own runner o held w.1, alone_waits, call_waits, fits_is runner.rank.state.«open» header runner.rank.header o, accounted_held header own a.0 a.1 runner o held a.4)
 
 -- its offer was put, this item was taken, and so it stood
 pub stood_each : {script : Script} {header : Header} {r : ℕ} {own : List Call} {out mid : List RankItem} {from back : List OwnerItem} {runner : Runner} {o : Offer} {calls : List Call} {left : Runner}

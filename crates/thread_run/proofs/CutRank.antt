@@ -1,5 +1,5 @@
 -- One rank, of whose items the owner saw a beginning.
-use Rattle.thread_run.proofs.Words.{◌≡◌, ℕ, zero, suc, ◌+◌, ◌≤◌, refl, sym, ◌∙◌, ap, subst, inl, inr, List, [], ◌∷◌, ◌++◌, length, replicate, Bool, true, false, Option, Some, None, arith, same_Some, Header, Offer, OwnerItem, Reply, Stop, RankItem, Client, offers_in, is_offer, end_by, fits_offer, offered_by, waiting, waiting_end, Going, advance, hears, Begins, IsBeginning, ends_once, client_end, to_come, waiting_end_reply, waiting_reply, one_if, nat_tests}
+use Rattle.thread_run.proofs.Words.{◌≡◌, ℕ, zero, suc, ◌+◌, ◌≤◌, refl, sym, ◌∙◌, ap, inl, inr, List, [], ◌∷◌, ◌++◌, length, replicate, Bool, true, false, Option, Some, None, arith, Header, Offer, OwnerItem, Reply, Stop, RankItem, Client, offers_in, is_offer, end_by, fits_offer, offered_by, waiting, waiting_end, Going, advance, hears, Begins, IsBeginning, ends_once, client_end, to_come, waiting_end_reply, waiting_reply, one_if, nat_tests}
 use Rattle.nc_base.specs.declared.step.RankItem.TheVariants as item
 use Rattle.nc_base.specs.declared.step.Reply as reply
 
@@ -50,9 +50,7 @@ pub record Waits (header : Header) (t : Going) (o : Offer) (items : List RankIte
 -- an offer of it arrives
 pub offered_now : (header : Header) (x : Client) (g : Going) (c : ℕ) (o : Offer) (items : List RankItem) (given : List OwnerItem) (end : Going) → x.held ≡ None
     → IsPaired header x g (item.Offer c o ∷ items) given end → ((advance header g).1 ≡ Some o) × Waits header (advance header g).0 o items given end
-offered_now header x g c o items given end free t =
-    let b = begin_offer header (advance header g) t.back c o items (subst (λ (m : Option Offer). IsBeginning (item.Offer c o ∷ items) (to_come header m g t.back)) free t.stream) in
-    grind (arith, nat_tests, b, same_Some)
+offered_now header x g c o items given end free t = grind (arith, nat_tests, begin_offer header (advance header g) t.back c o items)
 
 pub held_now : (header : Header) (x : Client) (g : Going) (o : Offer) (items : List RankItem) (given : List OwnerItem) (end : Going) → x.held ≡ Some o → IsPaired header x g items given end
     → Waits header (advance header g).0 o items given end
@@ -70,20 +68,7 @@ heard_now header x t o y items more end free fits w = by_back w.back w.begins w.
     by_back : (back : List OwnerItem) → Begins back (Reply y ∷ more) → IsBeginning items (waiting header t o back) → suc (offers_in items) ≤ length back → waiting_end header t o back ≡ end
         → IsPaired header x (hears header t y) items more end
     by_back [] b i n e = absurd (omega arith)
-    by_back (z ∷ back) (left, b) i n e =
-        let first : z ≡ Reply y = cc in
-        let rest : back ++ left ≡ more = cc in
-        record {
-          back = back;
-          begins = (left, rest);
-          stream = subst (λ (m : Option Offer). IsBeginning items (to_come header m (hears header t y) back)) (sym free)
-              (subst (λ (is : List RankItem). IsBeginning items is) (waiting_reply header t o y back fits)
-              (subst (λ (u : OwnerItem). IsBeginning items (waiting header t o (u ∷ back))) first i));
-          waits = λ p f. let never : None ≡ Some p = sym free ∙ f in absurd cc;
-          enough = let none = ap one_if free in omega arith;
-          ends = ap (λ (m : Option Offer). client_end header m (hears header t y) back) free ∙ sym (waiting_end_reply header t o y back fits)
-              ∙ ap (λ (u : OwnerItem). waiting_end header t o (u ∷ back)) (sym first) ∙ e;
-        }
+    by_back (z ∷ back) (left, b) i n e = grind (arith, nat_tests, waiting_reply, waiting_end_reply)
 
 pub sits_as : (header : Header) (x y : Client) (g : Going) (items same : List RankItem) (given more : List OwnerItem) (end : Going) → x.held ≡ y.held → items ≡ same → given ≡ more
     → IsPaired header x g items given end → IsPaired header y g same more end

@@ -1,5 +1,5 @@
 -- All ranks, of whose items the owner saw a beginning each, at one arrival more that is not strange.
-use Rattle.thread_run.proofs.Words.{◌≡◌, ℕ, zero, suc, ◌<◌, ◌≤◌, refl, sym, ◌∙◌, ap, subst, inl, inr, ◌⊎◌, List, [], ◌∷◌, ◌++◌, length, map, max, set, Bool, true, false, Option, Some, None, arith, ltb-false, or_from, eqb_tells, nat_tests, length-map, length-set, slice_get-map, same_Some, slice_get, flat_map, fold, is_some, enumerate_from, list_all, passes_at, some_or_none, entry_set, entry_set_other, entry_beside, or_first_false, or_second_false, solo_goes, Header, Offer, OwnerItem, Reply, RankItem, Owner, Event, Client, does_meeting, does_solo, event, freed, holds, is_strange, keeps, needed_now, offers_held, own_items, some_true, strange_offer, to_each, Setting, Counted, meeting, puts_of, solo, Arrival, record_limit, Going, advance, after_mark, hears, offers_of, less_max, meeting_small, solo_small, to_one_here, to_one_other, own_here, own_other, fit_passes, meeting_fits, solo_fits, going_after, goings_after, goings_long, meeting_is, meeting_within, offer_at, offers_long, replied, same_offers, solo_of_is, solo_within, Replied, by_event, strange_alone, client_ended, client_held}
+use Rattle.thread_run.proofs.Words.{◌≡◌, ℕ, zero, suc, ◌<◌, ◌≤◌, refl, sym, ◌∙◌, ap, subst, inl, inr, ◌⊎◌, List, [], ◌∷◌, ◌++◌, length, map, max, set, Bool, true, false, Option, Some, None, arith, ltb-false, or_from, eqb_tells, nat_tests, length-map, length-set, slice_get-map, same_Some, slice_get, flat_map, fold, is_some, enumerate_from, list_all, passes_at, some_or_none, entry_set, entry_set_other, entry_beside, or_first_false, or_second_false, solo_goes, Header, Offer, OwnerItem, Reply, RankItem, Owner, Event, Client, does_meeting, does_solo, event, freed, holds, is_strange, keeps, needed_now, offers_held, own_items, strange_offer, to_each, Setting, Counted, meeting, puts_of, solo, Arrival, record_limit, Going, advance, after_mark, hears, offers_of, less_max, meeting_small, solo_small, to_one_here, to_one_other, own_here, own_other, fit_passes, meeting_fits, solo_fits, going_after, goings_after, goings_long, meeting_is, meeting_within, offer_at, offers_long, replied, same_offers, solo_of_is, solo_within, Replied, by_event, strange_alone, client_ended, client_held}
 use Rattle.nc_base.specs.declared.step.RankItem.TheVariants as item
 use Rattle.nc_base.specs.declared.step.Reply as reply
 use Rattle.thread_run.proofs.CutRank.{begin_ended, IsPaired, Waits, offered_now, held_now, hold_it, heard_now, sits_as}
@@ -30,12 +30,9 @@ not_stray : (header : Header) (n m : ℕ) (o : Offer) → n ≤ m → strange_of
 unfolding strange_offer
 not_stray header n m o l h = grind (arith, nat_tests, ltb-false, or_first_false, or_from, or_second_false)
 
-fifth_false : (a b c d e : Bool) → some_true (a ∷ b ∷ c ∷ d ∷ e ∷ []) ≡ false → e ≡ false
-fifth_false a b c d e h = grind (arith, nat_tests)
-
 pub fits_now : (s : Setting) (d : Owner) (r c : ℕ) (o : Offer) → is_strange s d (r, item.Offer c o) ≡ false → strange_offer s.header d.reached (Some o) ≡ false
 unfolding is_strange
-fits_now s d r c o h = grind (arith, nat_tests, fifth_false)
+fits_now s d r c o h = grind (arith, nat_tests)
 
 ended_sits : (header : Header) (x : Client) (g : Going) (m : Bool) (items : List RankItem) (given : List OwnerItem) (end : Going) → IsPaired header x g (item.Ended m ∷ items) given end
     → IsPaired header (client_ended x m) g items given end
@@ -131,9 +128,7 @@ module _ (s : Setting) (d : Owner) (goings : List Going) (r : ℕ) (rest : List 
   }
     where
       here : {z : Client} {h : Going} → slice_get (set d.clients r y) r ≡ Some z → slice_get goings r ≡ Some h → IsPaired s.header z h (own_items r rest) (given r) (end r)
-      here {z} {h} c e =
-          subst (λ (w : Client). IsPaired s.header w h (own_items r rest) (given r) (end r)) (same_Some y z (sym (entry_set d.clients r x y a) ∙ c))
-          (subst (λ (w : Going). IsPaired s.header y w (own_items r rest) (given r) (end r)) (same_Some g h (sym b ∙ e)) mine)
+      here {z} {h} c e = grind (arith, nat_tests, entry_set, s.header)
 
       there : (q : ℕ) (z : Client) (h : Going) → (q ≡ r → ⊥) → slice_get (set d.clients r y) q ≡ Some z → slice_get goings q ≡ Some h → IsPaired s.header z h (own_items q rest) (given q) (end q)
       there q z h n c e =
@@ -149,8 +144,7 @@ module _ (s : Setting) (d : Owner) (goings : List Going) (r : ℕ) (rest : List 
       → Stands s (keeps d (set d.clients r (client_held x o))).owner goings (λ q. own_items q rest) given end
   held_keeps c o given free fit t =
       let now = offered_now s.header x g c o (own_items r rest) (given r) (end r) free (mine_first (item.Offer c o) given t) in
-      set_one (item.Offer c o) (client_held x o) given (hold_it s.header (client_held x o) g o (own_items r rest) (given r) (end r) refl now.0 now.1)
-      (λ p e. subst (λ (q : Offer). strange_offer s.header d.reached (Some q) ≡ false) (same_Some o p e) fit) t
+      grind (arith, nat_tests, set_one (item.Offer c o) (client_held x o) given, hold_it s.header (client_held x o) g o (own_items r rest) (given r) (end r))
 
   -- it makes its step alone
   solo_stands : (c : ℕ) (o : Offer) (given : ℕ → List OwnerItem) → x.held ≡ None → strange_offer s.header d.reached (Some o) ≡ false → Comes (item.Offer c o) (λ q. (does_solo s d r c o).given q ++ given q)

@@ -34,12 +34,7 @@ module _ (s : Setting) (d : Owner) (goings : List Going) (r c : ℕ) (o : Offer)
 
   brings_meeting : (kind : _) → o.kind ≡ offer.Meet kind → list_all holds (set d.clients r (client_held x o)) ≡ true → offers_of (map (advance s.header) goings) ≡ offers_held (set d.clients r (client_held x o))
       → BringsStep s d goings (r, item.Offer c o) (does_meeting s d (set d.clients r (client_held x o)))
-  brings_meeting kind k all same = record {
-    mark = Meet d.met;
-    marks = refl;
-    state = sym (ap (λ (st : Counted × List Going). st.0) (meeting_is s (offers_held (set d.clients r (client_held x o))) d.state goings same));
-    bytes = grind (arith, nat_tests, offers_are (offer.Meet kind) k, set d.clients r (client_held x o));
-  }
+  brings_meeting kind k all same = grind (arith, nat_tests, meeting_is, offers_are, d.met)
 
 pub brings : (s : Setting) (d : Owner) (goings : List Going) (r : ℕ) (i : RankItem) (others : List Arrival) (x : Client) (g : Going) (given : ℕ → List OwnerItem) (end : ℕ → Going) → slice_get d.clients r ≡ Some x
     → slice_get goings r ≡ Some g → is_strange s d (r, i) ≡ false → Stands s d goings (λ q. own_items q ((r, i) ∷ others)) given end → Brings s d goings (r, i) (event s d (r, i))
@@ -129,8 +124,7 @@ next_single header back g c o again p e xs = grind (arith, nat_tests, no_end, si
 single_offered : (header : Header) (back : List OwnerItem) (g : Going) (c : ℕ) (o : Offer) → In (offered header g back) (item.Offer c o) → IsSingleOffer o
 single_offered header [] g c o i = next_single header [] g c o (λ t p j. absurd j) (advance header g) refl i
 single_offered header (Stop ∷ back) g c o i = grind (arith, nat_tests, next_single, no_end)
-single_offered header (Reply y ∷ back) g c o i =
-    next_single header (Reply y ∷ back) g c o (λ t p j. waiting_single header t p y back c o (λ u k. single_offered header back u c o k) j) (advance header g) refl i
+single_offered header (Reply y ∷ back) g c o i = grind (arith, nat_tests, next_single, waiting_single, single_offered header back)
 
 in_either_part : (xs : List RankItem) (c : ℕ) (o : Offer) → In (xs ++ item.Ended true ∷ []) (item.Offer c o) → In xs (item.Offer c o)
 in_either_part [] c o (inl e) = grind (arith, nat_tests)
@@ -158,8 +152,6 @@ single_begun script header arrivals taken long h (r, item.Offer c o) i =
 
     by_begin : (own : List Call) → IsBeginning (own_items r arrivals) (offered header (first_going header own) (taken r)) → In (own_items r arrivals) (item.Offer c o) → IsSingleOffer o
     by_begin own (front, (more, b), inl e) k =
-        single_offered header (taken r) (first_going header own) c o
-        (subst (λ (is : List RankItem). In is (item.Offer c o)) b (in_left front more (item.Offer c o) (subst (λ (is : List RankItem). In is (item.Offer c o)) e k)))
+        grind (arith, nat_tests, single_offered header (taken r) (first_going header own) c o, in_left front more (item.Offer c o))
     by_begin own (front, (more, b), inr e) k =
-        single_offered header (taken r) (first_going header own) c o
-        (subst (λ (is : List RankItem). In is (item.Offer c o)) b (in_left front more (item.Offer c o) (in_either_part front c o (subst (λ (is : List RankItem). In is (item.Offer c o)) e k))))
+        grind (arith, nat_tests, single_offered header (taken r) (first_going header own) c o, in_left front more (item.Offer c o), in_either_part front c o)

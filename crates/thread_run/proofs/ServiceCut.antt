@@ -68,11 +68,7 @@ service_done hints s d ranks arrivals given order e owes =
         none = f.none;
         order_is = e ∙ f.marks;
         gives = λ q l.
-            let k = only_stops (slice_get (served s d f.first).owner.clients q) (filter is_offer (own_items q f.later)) in (
-              k.0,
-              owes q l ∙ ap (λ (xs : List Arrival). owed s d xs q) f.all ∙ on.owed_items q
-                  ∙ ap (λ (items : List OwnerItem). given_along s d f.first q ++ items) (f.owes q ∙ k.1),
-            );
+            let k = only_stops (slice_get (served s d f.first).owner.clients q) (filter is_offer (own_items q f.later)) in grind (arith, nat_tests);
       },
       sym f.owner,
     )

@@ -55,13 +55,9 @@ event_one : (s : Setting) (d : Owner) (a : Arrival) → IsOne (event s d a).mark
 unfolding event
 event_one s d a = grind (arith, nat_tests, set)
 
-one_told : (s : Setting) (u : Counted × List Going) (state : Counted) (after : List Going) (marks : List Mark) → IsOne marks → fold (after_mark s) u marks ≡ (state, after)
-    → map (λ (m : Mark). (m, state.records)) marks ≡ counts_along (after_mark s) count_of u marks
-one_told s u state after marks xs e = grind (arith, nat_tests)
-
 -- from one arrival to the next
 pub tells_more : (s : Setting) (d : Owner) (goings after : List Going) (a : Arrival) (rest : List Arrival) → is_strange s d a ≡ false
     → fold (after_mark s) (d.state, goings) (event s d a).marks ≡ ((event s d a).owner.state, after)
     → owner_told s (event s d a).owner rest ≡ counts_along (after_mark s) count_of ((event s d a).owner.state, after) (served s (event s d a).owner rest).marks
     → owner_told s d (a ∷ rest) ≡ counts_along (after_mark s) count_of (d.state, goings) (served s d (a ∷ rest)).marks
-tells_more s d goings after a rest e folded later = grind (arith, nat_tests, one_told, event_one, told_on, along_two, served_on)
+tells_more s d goings after a rest e folded later = grind (arith, nat_tests, event_one, told_on, along_two, served_on)

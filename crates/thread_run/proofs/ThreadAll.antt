@@ -15,9 +15,7 @@ module _ {script : Script} {header : Header} {arrivals : List Arrival} {given : 
   order_begun {end} o = by (some_or_none end.fault)
     where
       by : (end.fault ≡ None) ⊎ ((e : StepErr) × (end.fault ≡ Some e)) → HasBegun script end.order
-      by (inl none) =
-          let e : end.order ≡ (run_of script header [] arrivals).marks = (o.done none []).order in
-          subst (λ (ms : List Mark). HasBegun script ms) (sym e) (begun t [] arrivals [] (sym (append-nil arrivals)) lawful)
+      by (inl none) = grind (arith, nat_tests, begun t [] arrivals [] (sym (append-nil arrivals)) lawful)
       by (inr (x, some)) =
           let h = o.cut_off x some in
           let e : end.order ≡ (run_of script header [] h.first).marks = (h.cut_off []).order in
@@ -78,6 +76,4 @@ module _ {script : Script} {header : Header} {arrivals : List Arrival} {given : 
 
       cause : end.fault ≡ Some fault.Disk → (before.fault ≡ None) ⊎ ((e : StepErr) × (before.fault ≡ Some e)) → Rose faults failed
       cause disk (inl none) = rose_before faults faults' failed o.later (c.cause none disk)
-      cause disk (inr (e, some)) =
-          let same : Some e ≡ Some fault.Disk = ap (λ (x : StepErr). Some x) (c.first e some disk) in
-          rose_later faults faults' failed (o.cause (some ∙ same)) c.later
+      cause disk (inr (e, some)) = grind (arith, nat_tests, rose_later faults faults' failed)

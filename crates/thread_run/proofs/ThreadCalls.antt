@@ -1,5 +1,5 @@
 -- The owner's run beside the serial run, one arrival after another: its device calls, its offers, and what its ranks know.
-use Rattle.thread_run.proofs.Words.{◌≡◌, ℕ, refl, sym, ◌∙◌, ap, subst, inl, inr, ◌⊎◌, List, [], ◌∷◌, ◌++◌, length, map, set, Bool, true, false, Option, Some, append-nil, length-set, slice_get, list_all, same_Some, Header, Answer, Call, Hints, Mark, MeetKind, Offer, OfferKind, RankItem, In, Owner, Event, Client, at_item, at_offer, event, holds, meets_if, served, meeting_calls, Counted, Setting, Arrival, Rank, Going, advance, go, offers_of, calls_so_far, calls_more, get_set, Stands, served_on, same_offers, event_is, Lasting, client_held, AreSingle, IsSingle, calls_at, calls_at_offer, calls_if, owner_calls, event_calls, IsSingleOffer, quiet_step, calls_on, arith, nat_tests, along}
+use Rattle.thread_run.proofs.Words.{◌≡◌, ℕ, refl, sym, ◌∙◌, ap, subst, inl, inr, ◌⊎◌, List, [], ◌∷◌, length, map, set, Bool, true, false, Option, Some, append-nil, length-set, slice_get, list_all, same_Some, Header, Answer, Call, Hints, MeetKind, Offer, RankItem, In, Owner, Event, Client, at_item, event, holds, meets_if, served, meeting_calls, Setting, Arrival, Rank, Going, advance, go, offers_of, calls_so_far, calls_more, get_set, Stands, served_on, same_offers, event_is, Lasting, client_held, AreSingle, IsSingle, calls_at, calls_if, owner_calls, event_calls, IsSingleOffer, quiet_step, calls_on, arith, nat_tests, along}
 use Rattle.nc_base.specs.declared.step.RankItem.TheVariants as item
 
 -- with one offer more, each that is held is still the next of its rank
@@ -22,12 +22,9 @@ module _ (hints : Hints) (s : Setting) (d : Owner) (goings : List Going) (r : �
       (same_offers s.header (set d.clients r (client_held x o)) goings (length-set d.clients r (client_held x o) ∙ long) h
       (held_next s d goings r x g o at_going e waits)))
 
-  offer_is : (c : ℕ) (o : Offer) (k : OfferKind) → (advance s.header g).1 ≡ Some o → calls_at_offer hints s d (r, o) x k ≡ calls_so_far hints s (d.state, goings) (at_offer s d r c o x k).marks
-  offer_is c o k e = grind (arith, nat_tests, append-nil, meets_is, set)
-
   item_is : (i : RankItem) → ((c : ℕ) (o : Offer) → i ≡ item.Offer c o → (advance s.header g).1 ≡ Some o)
       → calls_at hints s d r i (Some x) ≡ calls_so_far hints s (d.state, goings) (at_item s d r x i).marks
-  item_is i f = grind (arith, nat_tests, offer_is)
+  item_is i f = grind (arith, nat_tests, meets_is, append-nil, set)
 
 -- the owner's device calls are those of the serial run, without the close
 pub calls_along : (hints : Hints) (s : Setting) (Good : ℕ → Going → Type 0) (lasting : Lasting s.header Good) (ks : List MeetKind) (d : Owner) (goings : List Going) (arrivals : List Arrival)
@@ -38,10 +35,7 @@ calls_along hints s Good lasting =
     ap (λ (m : Option Client). calls_at hints s d r i m) o.at_client
     ∙ item_is hints s d goings r o.client o.going o.at_client o.at_going t.paired.long (λ q x' g' o' a b w. ((t.paired.paired_at q x' g' a b).waits o' w).0) i o.offers
     ∙ ap (λ (u : Event). calls_so_far hints s (d.state, goings) u.marks) (sym (event_is s d r i o.client o.at_client)) in
-    calls_on hints s d (r, i) rest o.not_strange ∙ (λ j. here j ++ later j)
-    ∙ ap (λ (z : Counted × List Going). calls_so_far hints s (d.state, goings) (event s d (r, i)).marks ++ calls_so_far hints s z (served s (event s d (r, i)).owner rest).marks) (sym o.stepped.folded)
-    ∙ sym (calls_more hints s (d.state, goings) (event s d (r, i)).marks (served s (event s d (r, i)).owner rest).marks)
-    ∙ ap (λ (ms : List Mark). calls_so_far hints s (d.state, goings) ms) (sym (served_on s d (r, i) rest o.not_strange).marks))
+    grind (arith, nat_tests, calls_on, calls_more, served_on, o.stepped.folded, calls_so_far))
 
 -- ---- offers that raise the count by their kind bring no puts
 

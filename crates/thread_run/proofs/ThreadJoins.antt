@@ -1,5 +1,5 @@
 -- Threads as they are joined.
-use Rattle.thread_run.proofs.Words.{◌≡◌, ℕ, refl, sym, ◌∙◌, ap, inl, inr, ◌⊎◌, List, [], ◌∷◌, ◌++◌, length, map, Some, arith, append-nil, length-map, slice_get, same_Some, RankEnd, OwnerItem, RankItem, End, items_under, IsSettledOf, RankHandle, nat_tests}
+use Rattle.thread_run.proofs.Words.{◌≡◌, ℕ, refl, sym, ◌∙◌, ap, inl, inr, ◌⊎◌, List, [], ◌∷◌, ◌++◌, length, map, Some, arith, append-nil, length-map, slice_get, RankEnd, OwnerItem, RankItem, End, items_under, IsSettledOf, RankHandle, nat_tests}
 use Rattle.thread_run.proofs.ThreadStarts.{get_push}
 
 pub map_snoc : {P X : Type 0} (f : P → X) (ps : List P) (p : P) (xs : List X) → map f (ps ++ p ∷ []) ++ xs ≡ map f ps ++ f p ∷ xs
@@ -16,12 +16,7 @@ settled_first arrivals ones lines ends e r one line end a b d = grind (arith, na
 pub settled_push : (arrivals now : List (ℕ × RankItem)) (ones : List RankHandle) (lines : List (End OwnerItem)) (ends ends' : List RankEnd) (n : ℕ) (one : RankHandle) (line : End OwnerItem) (end : RankEnd)
     → ends' ≡ ends ++ end ∷ [] → length ends ≡ n → now ≡ arrivals → one.child.promise.ends.value.out.number ≡ n → slice_get ones n ≡ Some one → slice_get lines n ≡ Some line
     → IsSettledOf one (items_under one.child.promise.ends.value.out.number now) line.items end → AreSettledSoFar arrivals ones lines ends → AreSettledSoFar arrivals ones lines ends'
-settled_push arrivals now ones lines ends ends' n one line end e l same number at_one at_line k h r x y z a b d = by (get_push ends end z r (sym (ap (λ (v : List RankEnd). slice_get v r) e) ∙ d))
-  where
-    by : (slice_get ends r ≡ Some z) ⊎ ((r ≡ length ends) × (end ≡ z)) → IsSettledOf x (items_under r arrivals) y.items z
-    by (inl f) = h r x y z a b f
-    by (inr (m, f)) =
-        grind (arith, nat_tests, same_Some one x (sym at_one ∙ ap (slice_get ones) (sym (m ∙ l)) ∙ a), same_Some line y (sym at_line ∙ ap (slice_get lines) (sym (m ∙ l)) ∙ b))
+settled_push arrivals now ones lines ends ends' n one line end e l same number at_one at_line k h r x y z a b d = grind (arith, nat_tests, get_push ends end z r)
 
 pub of_either : {A B P : Type 0} → A ⊎ B → (A → P) → (B → P) → P
 of_either (inl a) f h = f a

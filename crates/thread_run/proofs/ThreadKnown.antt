@@ -1,5 +1,5 @@
 -- The counts that the ranks know at their ends are such that the header can have.
-use Rattle.thread_run.proofs.Words.{◌≡◌, ℕ, ◌^◌, ◌<◌, refl, sym, ◌∙◌, subst, List, length, max, set, Bool, true, false, Some, None, arith, nat_tests, length-set, slice_get, flat_map, nat_lt, enumerate_from, list_all, same_Some, or_first_false, or_second_false, Header, Post, MeetKind, Offer, RankItem, Owner, Client, holds, needed_now, offers_held, refused, served, strange_offer, Setting, puts_of, header_len, is_sound, Arrival, end_of, needed, Going, advance, sound_end, put_needed, bad_put, passes_accepted, Stands, served_on, offer_at, offers_long, Lasting, client_held, one_held, entry_beside, along, by_event, does_meeting, does_solo, event, is_offer, strange_alone, IsKept, meeting_kept, solo_kept}
+use Rattle.thread_run.proofs.Words.{◌≡◌, ℕ, ◌^◌, ◌<◌, refl, sym, ◌∙◌, subst, List, length, max, set, true, false, Some, None, arith, nat_tests, length-set, slice_get, flat_map, enumerate_from, list_all, same_Some, or_first_false, or_second_false, Header, Post, MeetKind, Offer, RankItem, Owner, Client, holds, needed_now, offers_held, refused, served, strange_offer, Setting, puts_of, header_len, is_sound, Arrival, end_of, needed, Going, advance, sound_end, put_needed, bad_put, passes_accepted, Stands, served_on, offer_at, offers_long, Lasting, client_held, one_held, entry_beside, along, by_event, does_meeting, does_solo, event, is_offer, strange_alone, IsKept, meeting_kept, solo_kept}
 use Rattle.nc_base.specs.declared.request.Direction.TheVariants as way
 use Rattle.nc_base.specs.declared.step.RankItem.TheVariants as item
 use Rattle.file_owner.proofs.StrangeLaws.{whole_length}
@@ -20,18 +20,11 @@ module _ (header : Header) (sound : is_sound header ≡ true) where
   near_zero = sound_end header 0 sound (omega arith)
 
   near_max : (a b : ℕ) → EndsNear a → EndsNear b → EndsNear (max a b)
-  near_max a b h k = by (nat_lt a b) refl
-    where
-      by : (t : Bool) → nat_lt a b ≡ t → EndsNear (max a b)
-      by t e = grind (arith, nat_tests)
+  near_max a b h k = grind (arith, nat_tests)
 
   near_post : (known : ℕ) (post : Post) → bad_put header known post ≡ false → EndsNear (needed header post)
   unfolding EndsNear
-  near_post known post h =
-      (put_needed header post (record {
-        accepted = (known, way.Put, passes_accepted _ (or_first_false _ _ h));
-        whole = whole_length header post (or_second_false (refused header known way.Put post) _ h);
-      })).1
+  near_post known post h = grind (arith, nat_tests, put_needed, passes_accepted, or_first_false, whole_length, or_second_false, refused, EndsNear)
 
   near_kept : IsKept header EndsNear
   near_kept = record { none = near_zero; most = near_max; post = near_post }

@@ -1,5 +1,5 @@
 -- A run on threads without a fault is the serial run of its order.
-use Rattle.thread_run.proofs.Words.{◌≡◌, ℕ, ◌+◌, ◌<◌, sym, ◌∙◌, ap, subst, List, [], ◌++◌, map, max, true, Option, Some, arith, slice_get, nat_lt, enumerate_from, same_Some, Header, Call, RankEnd, Script, Mark, OwnerItem, Owner, run_calls, store_records, Counted, raised, is_sound, Arrival, IsLegal, IsJoined, back_of, close_by, opening_owner, rank_ends, run_of, is_lawful, greatest, rank_end, Going, first_going, serial_from, setting_of, as_setting, counted, blank, AreAlike, AreNear, end_alike, lawful_agrees, whole_run, HasFinished, AreSingle, owner_calls, IsDone, IsDoneSo, passed, most_known_of, NoneBroke, map_map, rows_same, raised_records}
+use Rattle.thread_run.proofs.Words.{◌≡◌, ℕ, ◌+◌, ◌<◌, sym, ◌∙◌, ap, subst, List, [], ◌++◌, map, max, true, Option, Some, arith, slice_get, nat_lt, enumerate_from, same_Some, Header, Call, RankEnd, Script, Mark, OwnerItem, Owner, run_calls, store_records, Counted, raised, is_sound, Arrival, IsLegal, IsJoined, back_of, close_by, opening_owner, rank_ends, run_of, is_lawful, greatest, rank_end, Going, first_going, serial_from, setting_of, as_setting, counted, blank, AreAlike, AreNear, end_alike, lawful_agrees, whole_run, HasFinished, AreSingle, owner_calls, IsDone, IsDoneSo, passed, most_known_of, NoneBroke, map_map, rows_same, raised_records, nat_tests}
 use Rattle.serial_spec.specs.RankMachine as machine
 use Rattle.serial_spec.specs.SerialEnd.{End}
 use Rattle.thread_run.proofs.ThreadTies.{Told, finished_of, joined, low_rank, own_of, puts, takes, took_all}
@@ -106,7 +106,4 @@ module _ {script : Script} {header : Header} {arrivals : List Arrival} {given : 
       calls : run_calls script header file order
           ≡ owner_calls script.hints (setting_of script header) (opening_owner script header file) arrivals
           ++ store_records (setting_of script header) (nat_lt (run_of script header file arrivals).owner.state.records (serial_from script header file order).records)
-      calls =
-          ap (λ (ms : List Mark). run_calls script header file ms) (order_is file) ∙ calls_all script header file arrivals sound lawful (joined_at file)
-          ∙ ap (λ (ms : List Mark). owner_calls script.hints (setting_of script header) (opening_owner script header file) arrivals
-          ++ store_records (setting_of script header) (nat_lt (run_of script header file arrivals).owner.state.records (serial_from script header file ms).records)) (sym (order_is file))
+      calls = grind (arith, nat_tests, order_is file, calls_all script header file arrivals sound lawful (joined_at file), joined_at file)

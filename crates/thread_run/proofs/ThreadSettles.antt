@@ -1,5 +1,5 @@
 -- What the threads tell when all are joined.
-use Rattle.thread_run.proofs.Words.{◌≡◌, ℕ, ◌<◌, zero, suc, sym, ◌∙◌, ap, subst, List, [], ◌∷◌, ◌++◌, All, length, Some, true, All-head, All-tail, slice_get, nat_lt, IsTrue, list_all, same_Some, Header, RankEnd, Script, OwnerItem, RankItem, End, Receiver, items_under, own_items, Arrival, is_lawful, ranks_lawful, AreRankHandles, AreSettled, IsSettled, IsSettledOf, IsToldToGo, calls_of, HasTaken, HavePut, arrived, gained, RankHandle, Word, Go, entry_beside}
+use Rattle.thread_run.proofs.Words.{◌≡◌, ℕ, ◌<◌, zero, suc, sym, ◌∙◌, ap, subst, List, [], ◌∷◌, ◌++◌, All, length, Some, true, All-head, All-tail, slice_get, nat_lt, IsTrue, list_all, same_Some, Header, RankEnd, Script, OwnerItem, RankItem, End, Receiver, items_under, own_items, Arrival, is_lawful, ranks_lawful, AreRankHandles, AreSettled, IsSettled, IsSettledOf, IsToldToGo, calls_of, HasTaken, HavePut, arrived, gained, RankHandle, Go, entry_beside, arith, nat_tests}
 use Rattle.thread_run.proofs.ThreadTies.{Told}
 use Rattle.thread_run.specs.Threads.{HaveStarted}
 use Rattle.thread_run.specs.declared.rank_threads.StartedRanks.{StartedRanks}
@@ -43,15 +43,7 @@ handles_told {started} {told} {lines} {back} s = record {
       let a = entry_beside told started.ones.items r b s.long at_one in
       let before = entry_beside back lines r after s.put.long at_line in
       let go = s.go r a.0 b a.1 at_one in
-      let own = s.handles.each r a.0 before.0 a.1 before.1 in
-      let line = put_on lines back r before.0 after s.put before.1 at_line in
-      record {
-        number = ap (λ z. z.promise.ends.value.out.number) go.child ∙ own.number;
-        of_inbox = ap (λ z. z.promise.ends.value.out.of) go.child ∙ own.of_inbox ∙ sym s.taken.of;
-        word = go.of ∙ own.word ∙ sym (ap (λ z. z.promise.ends.value.word.of) go.child);
-        back = ap (λ (z : End OwnerItem). z.of) line ∙ own.back ∙ sym (ap (λ z. z.promise.ends.value.back.of) go.child);
-        told = go.words ∙ ap (λ (ws : List Word). ws ++ Go ∷ []) own.told;
-      };
+      grind (arith, nat_tests, put_on lines back r before.0 after s.put before.1 at_line);
 }
 
 empty_at : (lines : List (End OwnerItem)) (r : ℕ) (line : End OwnerItem) → All (λ l. l.items ≡ []) lines → slice_get lines r ≡ Some line → line.items ≡ []

@@ -1,5 +1,5 @@
 -- What was put before the last item, and the last item.
-use Rattle.thread_run.proofs.Words.{◌≡◌, ap, sym, subst, refl, ◌∙◌, [], ◌∷◌, ◌++◌, Bool, true, false, Result, Memory, RankEnd, RankStop, HasAttended, HasStood, runner_end, calls_of}
+use Rattle.thread_run.proofs.Words.{◌≡◌, ap, sym, subst, refl, ◌∙◌, [], ◌∷◌, ◌++◌, Bool, true, false, Result, Memory, RankEnd, RankStop, HasAttended, HasStood, runner_end, calls_of, arith, nat_tests}
 use Rattle.nc_base.specs.declared.run.RankStop.TheVariants as stop
 use Rattle.nc_base.specs.declared.step.RankItem.TheVariants as item
 use Rattle.thread_run.proofs.AttendLaws.{attended_broken, attended_through}
@@ -16,15 +16,7 @@ returns-clause-attended g c =
     elim c.match-make_calls.branch [
       | in-Ok w ↦
           let here = subst (λ (r : Result RankStop Memory). HasStood header own stood.0 stood.1 runner r) w.in-Ok.is stood.4 in
-          let put = stood.0 ++ item.Ended false ∷ [] in (
-            put,
-            stood.1,
-            items_more c.args.out.now.items c.make_calls.new.out.items c.put.new.self.items stood.0 c.last_item.result (item.Ended false) stood.2 c.put.ensures.items
-                (c.last_item.ensures ∙ ap (λ (b : Bool). item.Ended b) (not_wanted w.in-Ok.end w.end-is here.stands.not_broken)),
-            stood.3,
-            subst (λ (x : RankEnd). HasAttended header own put stood.1 x) (sym c.into_end.ensures)
-                (subst (λ (end : RankStop). HasAttended header own put stood.1 (runner_end end runner)) (sym w.end-is) (attended_through header own stood.0 stood.1 runner w.in-Ok.end here)),
-          )
+          grind (arith, nat_tests, items_more c.args.out.now.items c.make_calls.new.out.items c.put.new.self.items stood.0 c.last_item.result, attended_through header own stood.0 stood.1 runner w.in-Ok.end here, c.last_item.ensures, c.into_end.ensures)
       | in-Err w ↦
           let here = subst (λ (r : Result RankStop Memory). HasStood header own stood.0 stood.1 runner r) w.in-Err.is stood.4 in
           let put = stood.0 ++ item.Ended true ∷ [] in (

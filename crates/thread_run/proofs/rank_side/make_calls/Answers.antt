@@ -1,5 +1,5 @@
 -- From one offer to the next, or to the end.
-use Rattle.thread_run.proofs.Words.{ℕ, ◌<◌, ap, sym, subst, refl, ◌∙◌, length, List, [], ◌∷◌, Ok, length-append, arith, append-nil, Answer, Call, advance, HasStood, asking, between, calls_of, going_of, Runner, fits_open, heard_runner, IsAccounted}
+use Rattle.thread_run.proofs.Words.{ℕ, ◌<◌, ap, sym, refl, ◌∙◌, length, List, [], ◌∷◌, length-append, arith, append-nil, Answer, advance, asking, between, calls_of, going_of, Runner, fits_open, heard_runner, IsAccounted, nat_tests}
 use Rattle.nc_base.specs.declared.run.RankStop.TheVariants as stop
 use Rattle.nc_base.specs.declared.step.OwnerItem.TheVariants as owner_item
 use Rattle.nc_base.specs.declared.step.RankItem.TheVariants as item
@@ -98,8 +98,7 @@ offers-smaller g c =
     let few = placed_number c.args.script.now c.args.header.now at.order c.number-number.result (asking c.own_calls-calls.result.now c.offers.runner) c.in-Some.offer at.placed in
     let heard = c.in_ok-hear.ensures.heard in
     let one = ap (λ (xs : List Answer). length xs) heard.answers ∙ length-append c.offers.runner.answers (heard.answer ∷ []) in
-    let more = c.in_ok-go_on-2.ensures.more in
-    omega arith
+    grind (arith, nat_tests, c.in_ok-go_on-2.ensures.more)
 
 pub offers-preserved : goal.offers-preserved
 offers-preserved g c =
@@ -143,11 +142,4 @@ returns-clause-stood g c =
     let account = c.offers.invariant.accounted in
     let here = accounted_free header own account.0 account.1 runner (sym c.in_default.ensures.value) account.4 in
     let all = c.own_calls-calls.ensures ∙ ap (calls_of c.args.script.now) c.number-number.ensures in
-    let left : Runner = record { rank = runner.rank; answers = runner.answers; held = c.take.new.self } in (
-      account.0,
-      account.1,
-      account.2,
-      account.3,
-      subst (λ (cs : List Call). HasStood header cs account.0 account.1 left (Ok stop.Done)) all
-          (stood_done header own account.0 account.1 (between own runner) left here refl refl),
-    )
+    let left : Runner = record { rank = runner.rank; answers = runner.answers; held = c.take.new.self } in grind (arith, nat_tests, stood_done header own account.0 account.1 (between own runner) left here)

@@ -1,13 +1,10 @@
 -- One thread more.
-use Rattle.thread_run.proofs.Words.{◌≡◌, ℕ, sym, ◌∙◌, ap, subst, ◌++◌, [], ◌<◌, All, All-push, length, rules, slice_get_within}
+use Rattle.thread_run.proofs.Words.{◌≡◌, sym, ◌∙◌, ap, subst, ◌++◌, [], ◌<◌, All, All-push, length, slice_get_within, arith, nat_tests}
 use Rattle.thread_run.proofs.ThreadStarts.{all_middle, both_long, get_middle, number_middle, of_push, handle_at, handles_push, snoc_append}
 use Rattle.thread_run.proofs.rank_threads.start_all.Goals as goal
 
 pub start-requires-clause-number : goal.start-requires-clause-number
-start-requires-clause-number g c κs within =
-    let middle = ap (λ v. c.loop-out.yielded ++ v) (sym c.in-Some.ensures.steps.0) ∙ c.loop-out.invariant.all in
-    let number = number_middle (λ s. s.number) c.loop-out.yielded c.in-Some.out _ c.args.senders.items c.args.lent.now.run.now.script.now.ranks middle c.requires.numbers in
-    subst (λ (n : ℕ). n < c.args.lent.now.run.now.script.now.ranks) (sym number.0) number.1
+start-requires-clause-number g c κs within = grind (arith, nat_tests, number_middle, c.in-Some.ensures.steps.0, c.loop-out.invariant.all, c.requires.numbers)
 
 pub start-requires-clause-put : goal.start-requires-clause-put
 start-requires-clause-put g c κs within =
@@ -18,19 +15,13 @@ pub push_reserved-requires : goal.push_reserved-requires
 push_reserved-requires g c =
     let middle = ap (λ v. c.loop-out.yielded ++ v) (sym c.in-Some.ensures.steps.0) ∙ c.loop-out.invariant.all in
     let low : length c.loop-out.yielded < length c.args.senders.items = slice_get_within c.args.senders.items (length c.loop-out.yielded) c.in-Some.out (get_middle c.loop-out.yielded c.in-Some.out _ c.args.senders.items middle) in
-    let long = c.loop-out.invariant.long in
-    let room = c.requires.ones_room in
-    let same = c.loop-out.invariant.ones_room in
-    search rules
+    grind (arith, nat_tests, c.loop-out.invariant.long, c.requires.ones_room, c.loop-out.invariant.ones_room)
 
 pub push_reserved-requires-in-Some-start : goal.push_reserved-requires-in-Some-start
 push_reserved-requires-in-Some-start g c =
     let middle = ap (λ v. c.loop-out.yielded ++ v) (sym c.in-Some.ensures.steps.0) ∙ c.loop-out.invariant.all in
     let low : length c.loop-out.yielded < length c.args.senders.items = slice_get_within c.args.senders.items (length c.loop-out.yielded) c.in-Some.out (get_middle c.loop-out.yielded c.in-Some.out _ c.args.senders.items middle) in
-    let long = c.loop-out.invariant.as_long in
-    let room = c.requires.lines_room in
-    let same = c.loop-out.invariant.lines_room in
-    search rules
+    grind (arith, nat_tests, c.loop-out.invariant.as_long, c.requires.lines_room, c.loop-out.invariant.lines_room)
 
 pub loop-out-preserved : goal.loop-out-preserved
 loop-out-preserved g c =

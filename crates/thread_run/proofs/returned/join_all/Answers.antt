@@ -1,5 +1,5 @@
 -- One thread more was joined.
-use Rattle.thread_run.proofs.Words.{◌≡◌, ◌<◌, ◌++◌, refl, sym, ◌∙◌, ap, length, map, rules, slice_get_within}
+use Rattle.thread_run.proofs.Words.{◌<◌, ◌++◌, refl, sym, ◌∙◌, ap, length, map, slice_get_within, arith, nat_tests}
 use Rattle.thread_run.proofs.ThreadStarts.{both_long, get_mapped, own_number}
 use Rattle.thread_run.proofs.ThreadJoins.{map_snoc, none_left, of_either, settled_first, settled_push}
 use Rattle.thread_run.proofs.returned.join_all.Goals as goal
@@ -26,10 +26,7 @@ pub push_reserved-requires : goal.push_reserved-requires
 push_reserved-requires g c =
     let ones = ap (λ v. map (λ p. p.0) c.loop-one.yielded ++ v) (sym c.in-Some.ensures.steps.0.0) ∙ c.loop-one.invariant.ones in
     let low : length c.loop-one.yielded < length c.args.ones.items = slice_get_within c.args.ones.items (length c.loop-one.yielded) c.in-Some.one (get_mapped (λ p. p.0) c.loop-one.yielded c.in-Some.one _ c.args.ones.items ones) in
-    let long = c.loop-one.invariant.long in
-    let room = c.requires.room in
-    let same = c.loop-one.invariant.room in
-    search rules
+    grind (arith, nat_tests, c.loop-one.invariant.long, c.requires.room, c.loop-one.invariant.room)
 
 pub loop-one-preserved : goal.loop-one-preserved
 loop-one-preserved g c =
@@ -38,27 +35,10 @@ loop-one-preserved g c =
     let one = get_mapped (λ p. p.0) c.loop-one.yielded c.in-Some.one _ c.args.ones.items ones in
     let line = get_mapped (λ p. p.1) c.loop-one.yielded c.in-Some.line _ c.args.lines.items lines in
     let own = c.requires.handles.each (length c.loop-one.yielded) c.in-Some.one c.in-Some.line one line in
-    record {
-      ones = map_snoc (λ p. p.0) c.loop-one.yielded (c.in-Some.one, c.in-Some.line) _ ∙ ones;
-      lines = map_snoc (λ p. p.1) c.loop-one.yielded (c.in-Some.one, c.in-Some.line) _ ∙ lines;
-      inbox = c.join_one-end.ensures.inbox ∙ c.loop-one.invariant.inbox;
-      long = both_long c.loop-one.ends.items _ c.join_one-end.result.0 c.loop-one.yielded (c.in-Some.one, c.in-Some.line) c.push_reserved.ensures.items c.loop-one.invariant.long;
-      settled = settled_push c.args.inbox.items c.loop-one.inbox.items c.args.ones.items c.args.lines.items c.loop-one.ends.items _ (length c.loop-one.yielded) c.in-Some.one c.in-Some.line c.join_one-end.result.0
-          c.push_reserved.ensures.items c.loop-one.invariant.long (ap (λ z. z.items) c.loop-one.invariant.inbox) own.number one line c.join_one-end.ensures.settled c.loop-one.invariant.settled;
-      room = c.push_reserved.ensures.capacity ∙ c.loop-one.invariant.room;
-    }
+    grind (arith, nat_tests, map_snoc, both_long, settled_push, c.join_one-end.ensures.inbox, c.loop-one.invariant.inbox, c.loop-one.invariant.long, c.join_one-end.ensures.settled, c.loop-one.invariant.settled, c.push_reserved.ensures.capacity, c.loop-one.invariant.room)
 
 pub returns : goal.returns
 returns g c = record {
-  long = of_either c.in-None.ensures.steps
-      (λ s.
-      let none = s.1.0 in
-      let left : length c.loop-one.one-iterator.a.rest.items ≡ 0 = search rules in
-      c.loop-one.invariant.long ∙ none_left (λ p. p.0) c.loop-one.yielded c.loop-one.one-iterator.a.rest.items c.args.ones.items c.loop-one.invariant.ones left)
-      (λ s.
-      let none = s.1.0 in
-      let left : length c.loop-one.one-iterator.b.rest.items ≡ 0 = search rules in
-      c.loop-one.invariant.long ∙ none_left (λ p. p.1) c.loop-one.yielded c.loop-one.one-iterator.b.rest.items c.args.lines.items c.loop-one.invariant.lines left
-      ∙ sym c.requires.handles.long);
+  long = grind (arith, nat_tests, of_either, none_left, c.loop-one.invariant.long, c.loop-one.invariant.ones, c.loop-one.invariant.lines, c.requires.handles.long);
   each = c.loop-one.invariant.settled;
 }
