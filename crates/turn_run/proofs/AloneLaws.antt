@@ -1,5 +1,5 @@
 -- A rank that goes from one offer to the next by itself.
-use Rattle.turn_run.proofs.Words.{inl, inr, ◌≡◌, ℕ, suc, refl, sym, ◌∙◌, ap, subst, List, [], ◌∷◌, ◌++◌, length, map, set, drop, true, max, Option, Some, None, append_assoc, append-nil, set-set, slice_get, is_some, IfSome, Header, Call, Answer, Post, Hints, Script, Mark, Solo, DiskCall, Offer, OfferKind, Reply, after, with_end, Setting, Counted, puts_of, solo, told, needed_now, solo_calls, Open, wanted, Going, advance, hears, counted, is_solo_of, IsOnWay, AsksAlone, hears_keeps, solo_keeps, IsAsked, asking, between, calls_of, going_of, HasHeard, IsPlaced, IsPlacedWith, IsRunner, solo_to, step_calls, step_to, Arrived, IsLike, gots_long, solo_like, arrived, stage, HasGone, IsGrownBy, Leads, LeadsAlike, rank_stage, Runner, entry_set, set_own, one_of, all_joined, offer_of, calls_at}
+use Rattle.turn_run.proofs.Words.{◌≡◌, ℕ, refl, sym, ◌∙◌, ap, subst, List, [], ◌∷◌, ◌++◌, length, map, set, drop, true, max, Option, Some, None, append_assoc, append-nil, set-set, slice_get, is_some, IfSome, Header, Call, Answer, Post, Hints, Script, Mark, Solo, DiskCall, Offer, Reply, after, with_end, Setting, Counted, puts_of, solo, told, needed_now, solo_calls, Open, wanted, Going, advance, hears, counted, is_solo_of, IsOnWay, AsksAlone, hears_keeps, solo_keeps, IsAsked, asking, between, calls_of, going_of, HasHeard, IsPlaced, IsRunner, solo_to, step_calls, step_to, Arrived, IsLike, gots_long, solo_like, arrived, stage, HasGone, IsGrownBy, Leads, LeadsAlike, rank_stage, Runner, entry_set, set_own, one_of, all_joined, offer_of, calls_at, arith, nat_tests}
 use Rattle.nc_base.specs.declared.step.OfferKind.TheVariants as offer
 use Rattle.turn_run.proofs.RunnerLaws.{advance_ended}
 use Rattle.turn_run.proofs.StageLaws.{alike_then, led_none, led_then}
@@ -22,10 +22,7 @@ going_held own runner o e = ap (λ (m : Option Offer). elim m [ None ↦ between
 -- going through its calls leads to no other offer
 pub arrived_gone : (header : Header) (own : List Call) (old new : Runner) → old.held ≡ None → advance header (between own old) ≡ (going_of own new, new.held)
     → (new.held ≡ None → drop (length new.answers) own ≡ []) → arrived header own old ≡ arrived header own new
-arrived_gone header own old new free gone ended = arrived_free header own old free ∙ gone ∙ elim (some_or_none new.held) [
-  | inl e ↦ (λ i. (going_free own new e i, e i)) ∙ sym (arrived_free header own new e ∙ advance_ended header own new.rank.state new.answers (ended e))
-  | inr o ↦ (λ i. (going_held own new o.0 o.1 i, o.1 i)) ∙ sym (arrived_held header own new o.0 o.1)
-]
+arrived_gone header own old new free gone ended = grind (arith, nat_tests, arrived_free, some_or_none, going_free, advance_ended, going_held, arrived_held, arrived)
 
 -- ---- one solo step
 
@@ -68,8 +65,7 @@ gone_same hints s r order held calls from to e = record {
   more = [];
   grown = sym (append-nil order);
   own = refl;
-  led = λ records ranks g. subst (λ (others : List Arrived). Leads hints s [] (stage held calls records ranks) (stage held calls records others))
-      (sym (set_own ranks r to (g ∙ ap (λ (a : Arrived). Some a) e))) (led_none hints s (stage held calls records ranks));
+  led = grind (arith, nat_tests, set_own, led_none, stage);
   alike = λ records ranks g stand w. subst (λ (others : List Arrived). IsLike stand records others) (sym (set_own ranks r to (g ∙ ap (λ (a : Arrived). Some a) e))) w;
 }
 
@@ -123,35 +119,29 @@ order_is r n answers before now e f = e ∙ ap (λ (k : ℕ). before ++ Solo r k
 
 pub went_runner : (script : Script) (header : Header) (order : List Mark) (r : ℕ) (own : List Call) (new : Runner) → own ≡ calls_of script r → new.rank.header ≡ header
     → IsPlaced script header order r (going_of own new) new.held → IfSome new.held (IsAsked header new.rank.state.known) → IsRunner script header order r new
-went_runner script header order r own new e h p a =
-    record { of_header = h; placed = subst (λ (o : List Call). IsPlaced script header order r (going_of o new) new.held) e p; asked = a }
+went_runner script header order r own new e h p a = grind (arith, nat_tests)
 
 pub taken_asks : (header : Header) (own : List Call) (a b : Runner) (o : Offer) → a.held ≡ Some o → b.rank ≡ a.rank → b.answers ≡ a.answers → (asking own b, Some o) ≡ arrived header own a
-taken_asks header own a b o e f h =
-    (λ i. (let g : Going = record { rank = (f i).state; answers = h i; calls = drop (suc (length (h i))) own } in g, Some o)) ∙ sym (arrived_held header own a o e)
+taken_asks header own a b o e f h = grind (arith, nat_tests, arrived_held header own a o e)
 
 -- it went on to that offer
 pub asks_on : (header : Header) (own all : List Call) (old new taken : Runner) (o : Offer) → own ≡ all → old.held ≡ None → advance header (between own old) ≡ (going_of own new, new.held)
     → (new.held ≡ None → drop (length new.answers) own ≡ []) → new.held ≡ Some o → taken.rank ≡ new.rank → taken.answers ≡ new.answers → (asking all taken, Some o) ≡ arrived header all old
-asks_on header own all old new taken o e free went ended held rank answers =
-    taken_asks header all new taken o held rank answers ∙ sym (subst (λ (cs : List Call). arrived header cs old ≡ arrived header cs new) e (arrived_gone header own old new free went ended))
+asks_on header own all old new taken o e free went ended held rank answers = grind (arith, nat_tests, taken_asks, arrived_gone, asking, arrived)
 
 pub same_runner : (a b : Runner) → b.rank ≡ a.rank → b.answers ≡ a.answers → b.held ≡ a.held → b ≡ a
 same_runner a b e f h = λ i. record { rank = e i; answers = f i; held = h i }
 
 pub alone_asks : (script : Script) (header : Header) (order : List Mark) (r : ℕ) (own : List Call) (runner : Runner) (o : Offer) → runner.held ≡ Some o → o.kind ≡ offer.Solo
     → IsPlaced script header order r (going_of own runner) runner.held → AsksAlone script header order r (asking own runner) o
-alone_asks script header order r own runner o e k w = subst (λ (j : OfferKind). IsPlacedWith script header order r (asking own runner, o) j) k
-    (subst (λ (s : Going). IsPlaced script header order r s (Some o)) (going_held own runner o e) (subst (λ (m : Option Offer). IsPlaced script header order r (going_of own runner) m) e w))
+alone_asks script header order r own runner o e k w = grind (arith, nat_tests, going_held own runner o e)
 
 -- its offer was taken
 pub taken_alone : (script : Script) (header : Header) (order : List Mark) (r : ℕ) (own all : List Call) (runner taken : Runner) (o : Offer) → own ≡ all → runner.held ≡ Some o → o.kind ≡ offer.Solo
     → taken.rank ≡ runner.rank → taken.answers ≡ runner.answers → IsPlaced script header order r (going_of own runner) runner.held → AsksAlone script header order r (asking all taken) o
 taken_alone script header order r own all runner taken o e held kind rank answers placed =
-    subst (λ (s : Going). AsksAlone script header order r s o) (ap (λ a. a.0) (sym (arrived_held header all runner o held) ∙ sym (taken_asks header all runner taken o held rank answers)))
-    (alone_asks script header order r all runner o held kind (subst (λ (cs : List Call). IsPlaced script header order r (going_of cs runner) runner.held) e placed))
+    grind (arith, nat_tests, arrived_held, taken_asks, alone_asks, asking, going_of)
 
 pub way_free : (script : Script) (header : Header) (order : List Mark) (r : ℕ) (own : List Call) (runner : Runner) → runner.held ≡ None
     → IsPlaced script header order r (going_of own runner) runner.held → IsOnWay script order r (between own runner) None
-way_free script header order r own runner e w =
-    subst (λ (s : Going). IsOnWay script order r s None) (going_free own runner e) (subst (λ (m : Option Offer). IsPlaced script header order r (going_of own runner) m) e w)
+way_free script header order r own runner e w = grind (arith, nat_tests, going_free own runner e)

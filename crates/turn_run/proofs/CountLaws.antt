@@ -1,5 +1,5 @@
 -- Record counts that a header can have.
-use Rattle.turn_run.proofs.Words.{◌≡◌, ℕ, ◌^◌, ◌<◌, ◌≤◌, sym, ◌∙◌, subst, true, max, inl, inr, arith, Header, Post, header_len, is_sound, end_of, record_limit, needed, end_grows, sound_end, canon_len, sound_small, IsPut, counted_sound, put_needed, IsCount, IsRise, some_limit}
+use Rattle.turn_run.proofs.Words.{◌≡◌, ℕ, ◌^◌, ◌<◌, ◌≤◌, sym, subst, true, max, inl, inr, arith, Header, Post, header_len, is_sound, end_of, record_limit, needed, end_grows, sound_end, canon_len, sound_small, IsPut, counted_sound, put_needed, IsCount, IsRise, some_limit, nat_tests}
 use Rattle.list_laws.proofs.Std.{cases_lt}
 
 pub count_small : (header : Header) (len n : ℕ) → IsCount header len n → n < record_limit header.version
@@ -17,16 +17,12 @@ pub count_still : (header : Header) (len more n m : ℕ) → IsCount header len 
 count_still header len more n m h l e = subst (λ (k : ℕ). IsCount header more k) (sym e) (count_longer header len more n l h)
 
 counted_end : (header : Header) (n m : ℕ) → is_sound (record header { records = n }) ≡ true → m ≤ n → end_of header (header_len header) m < 2 ^ 62
-counted_end header n m h l =
-    let same : header_len (record header { records = n }) ≡ header_len header = canon_len (record header { records = n }) ∙ sym (canon_len header) in
-    subst (λ (first : ℕ). end_of header first m < 2 ^ 62) same (sound_end (record header { records = n }) m h l)
+counted_end header n m h l = grind (arith, nat_tests, canon_len (record header { records = n }), canon_len header, sound_end (record header { records = n }) m h l)
 
 -- a smaller count
 pub count_less : (header : Header) (len n m : ℕ) → is_sound header ≡ true → IsCount header len n → m ≤ n → IsCount header len m
 count_less header len n m sound h l =
-    let low = counted_end header n m h.sound l in let small = count_small header len n h in
-    let grows = end_grows header (header_len header) m n l in let long = h.long in
-    record { sound = counted_sound header m sound (omega arith) low; long = omega arith }
+    grind (arith, nat_tests, counted_end header n m h.sound l, count_small header len n h, end_grows header (header_len header) m n l, counted_sound header m sound)
 
 pub rise_longer : (header : Header) (len more n : ℕ) → len ≤ more → IsRise header len n → IsRise header more n
 rise_longer header len more n l (inl e) = inl e

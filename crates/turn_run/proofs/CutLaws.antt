@@ -1,5 +1,5 @@
 -- A run that was cut off, step by step.
-use Rattle.turn_run.proofs.Words.{IfSome_then, ◌≡◌, ℕ, ◌<◌, refl, sym, ◌∙◌, ap, subst, inl, List, [], ◌∷◌, ◌++◌, set, Bool, true, Option, Some, Result, Err, append-nil, slice_get, fold, ◌&&◌, byte_len, Hints, Script, Mark, Solo, Offer, StepErr, Memory, after, BothTold, Setting, Counted, puts_of, solo, count_width, Going, covered, IsTorn, IsLeft, counted, torn_wider, Header, DiskCall, is_lawful, completed_by, point, AreRunners, Arrived, Stand, step_to, solo_to, HasGone, IsGrownBy, rank_stage, StopsAt, HasStopped, MayFollow, IsNext, bytes_at, Runner, in_step, entry_set, offer_of, IsErrAnd, Ok, None}
+use Rattle.turn_run.proofs.Words.{IfSome_then, ◌≡◌, ℕ, ◌<◌, refl, sym, ◌∙◌, ap, subst, inl, List, [], ◌∷◌, ◌++◌, set, true, Option, Some, Result, Err, append-nil, slice_get, fold, byte_len, Hints, Script, Mark, Solo, Offer, StepErr, Memory, after, BothTold, Setting, Counted, puts_of, solo, count_width, Going, covered, IsTorn, IsLeft, counted, torn_wider, Header, DiskCall, is_lawful, completed_by, point, AreRunners, Arrived, Stand, step_to, solo_to, HasGone, IsGrownBy, rank_stage, StopsAt, HasStopped, MayFollow, IsNext, bytes_at, Runner, in_step, entry_set, offer_of, IsErrAnd, Ok, None, arith, nat_tests}
 use Rattle.turn_run.proofs.AloneLaws.{grown_then}
 use Rattle.turn_run.proofs.TurnSteps.{step_begun}
 use Rattle.turn_run.specs.Cuts.StopsAt.{between}
@@ -59,18 +59,6 @@ stopped_solo F r n t o {s} {before} {held} f same torn records ranks e = record 
       ));
 }
 
--- the step was done, and its reply was not heard
-pub stopped_unheard : (r n : ℕ) (t : Going) (o : Offer) {F : Mark → Type 0} {s : Setting} {fault : StepErr} {before now : List Mark} {held left : Option (List ℕ)}
-    → fault ≡ Memory → now ≡ before ++ Solo r n ∷ [] → left ≡ after (λ file. (solo s r o (counted file 0)).0.file) held
-    → (records : ℕ) (ranks : List Arrived) → slice_get ranks r ≡ Some (t, Some o) → HasStopped F s fault (point before held records) ranks (point now left records)
-stopped_unheard r n t o {s} {held} memory grown bytes records ranks e = record {
-  more = Solo r n ∷ [];
-  grown = grown;
-  ends = some_each held (λ file there.
-      let c = solo_at s r n (counted file records) ranks t o e in
-      ((solo s r o (counted file records)).0.file, rw there at bytes, between memory (ap (λ (c : Counted). c.file) c) (ap (λ (c : Counted). c.records) c)));
-}
-
 -- ---- the cause of an answer
 
 -- want of memory that is handed on
@@ -96,6 +84,4 @@ gone_stopped F mid {s} {r} {fault} {last} {from} {to} g next records ranks e =
 pub follows_next : (script : Script) (header : Header) (len : ℕ) (before now : List Mark) (runners : List Runner) (n : ℕ) → is_lawful script ≡ true
     → AreRunners script header len before runners → n < script.ranks → IsGrownBy n before now → (m : Mark) → MayFollow script n now m → IsNext script now m
 follows_next script header len before now runners n lawful a l g m f =
-    let one : IsGrownBy n now (now ++ m ∷ []) = record { more = m ∷ []; grown = refl; own = ap (λ (t : Bool). t && true) f.0 } in
-    let b = step_begun script header len before (now ++ m ∷ []) runners n a l (grown_then n before now (now ++ m ∷ []) g one) f.1 in
-    completed_by script now m lawful b.known_ranks b.each_rank
+    grind (arith, nat_tests, step_begun script header len before (now ++ m ∷ []) runners n a l, grown_then n before now (now ++ m ∷ []) g, completed_by script now m lawful)

@@ -1,5 +1,5 @@
 -- A meeting that was cut off.
-use Rattle.turn_run.proofs.Words.{◌≡◌, ℕ, ◌+◌, ◌<◌, ◌≤◌, refl, sym, ◌∙◌, ap, subst, inl, inr, ◌⊎◌, List, [], ◌∷◌, ◌++◌, length, max, Bool, true, false, cond, Option, Some, None, arith, append-nil, flat_map, nat_lt, ◌==◌, if◌then◌else◌, enumerate_from, list_any, byte_len, Batch, Call, Mark, Meet, Offer, StepErr, Memory, after, BothTold, needed_now, at, Setting, Counted, after_puts, puts_of, raised, told, count, count_width, with_records, Puts, covered, IsTorn, IsLeft, at-written_before, after_keeps, after_round, counted, puts_in, counted_past, torn_by, torn_sides, round_grows, told_as, Header, Script, is_lawful, meetings, completed_by, point, AreRunners, HaveArrived, HaveMet, HasStopped, IsNext, bytes_at, in_step, step_to, arrived_all, held_offers, met, Runner, after_grows, raised_grows, ext_get_or, may_change}
+use Rattle.turn_run.proofs.Words.{◌≡◌, ℕ, ◌+◌, ◌<◌, ◌≤◌, refl, sym, ◌∙◌, ap, subst, inl, inr, ◌⊎◌, List, [], ◌∷◌, ◌++◌, length, max, Bool, true, false, cond, Option, Some, None, arith, append-nil, flat_map, nat_lt, ◌==◌, if◌then◌else◌, list_any, byte_len, Batch, Call, Mark, Meet, StepErr, Memory, after, BothTold, needed_now, at, Setting, Counted, after_puts, raised, told, count, count_width, with_records, Puts, covered, IsTorn, IsLeft, at-written_before, after_keeps, after_round, counted, puts_in, counted_past, torn_by, torn_sides, round_grows, told_as, Header, Script, is_lawful, meetings, completed_by, point, AreRunners, HaveArrived, HaveMet, HasStopped, IsNext, bytes_at, in_step, step_to, arrived_all, held_offers, met, Runner, after_grows, raised_grows, ext_get_or, may_change, nat_tests}
 use Rattle.turn_run.proofs.MeetDone.{begun_after}
 use Rattle.turn_run.specs.Cuts.StopsAt.{between}
 use Rattle.turn_run.proofs.HalfLaws.{needed_of_none}
@@ -28,8 +28,7 @@ none_covered : (s : Setting) (puts : Puts) → puts ≡ [] → (x : ℕ) → lis
 none_covered s puts e x = ap (λ (ps : Puts). list_any (λ y. y == x) (covered s.header ps)) e
 
 round_none : (s : Setting) (puts : Puts) (r : ℕ) (old : List ℕ) → puts ≡ [] → (after_round s puts (counted old r)).file ≡ after_puts s puts (told s puts) old
-round_none s puts r old e =
-    ap (λ (n : ℕ). (raised s (laid s puts old r) n).file) (needed_of_none s puts e) ∙ ap (λ (c : Counted). c.file) (raised_none s (laid s puts old r) 0 (omega arith))
+round_none s puts r old e = grind (arith, nat_tests, raised, needed_of_none, raised_none, after_round, counted, laid)
 
 keeps_none : (s : Setting) (puts : Puts) (r : ℕ) (old : List ℕ) → puts ≡ [] → (x : ℕ) → at (after_round s puts (counted old r)).file x ≡ at old x
 keeps_none s puts r old e x = ap (λ (f : List ℕ). at f x) (round_none s puts r old e) ∙ after_keeps s puts (told s puts) old x (none_covered s puts e x)
@@ -44,9 +43,7 @@ pub round_met : (s : Setting) (batches : List Batch) (r known : ℕ) (held left 
 round_met s batches r known held left b one = told_as (RoundTorn s batches r) (MetTorn s batches r known) held left (λ old bytes t. by_one old bytes t one) b
   where
     by_one : (old bytes : List ℕ) → RoundTorn s batches r old bytes → (known ≡ 0) ⊎ (puts_in batches ≡ []) → MetTorn s batches r known old bytes
-    by_one old bytes t (inl e) =
-        let same : needed_now s (puts_in batches) ≡ max (needed_now s (puts_in batches)) known = omega arith in
-        subst (λ (n : ℕ). IsTorn (covered s.header (puts_in batches)) (field_of s) old (raised s (laid s (puts_in batches) old r) n).file bytes) same t
+    by_one old bytes t (inl e) = grind (arith, nat_tests, raised s (laid s (puts_in batches) old r))
     by_one old bytes t (inr e) =
         let u = torn_sides _ _ _ _ _ t in let keep = keeps_none s (puts_in batches) r old e in
         let short = t.short in let wide = ap (λ (f : List ℕ). length f) (round_none s (puts_in batches) r old e) in
@@ -67,9 +64,7 @@ raised_kept s c n x h = by_test (nat_lt c.records n) h
 pub met_torn : (s : Setting) (batches : List Batch) (r known : ℕ) (old : List ℕ) → MetTorn s batches r known old (met s batches known (counted old r)).file
 met_torn s batches r known old =
     let grown = after_grows s (puts_in batches) (told s (puts_in batches)) old in
-    let risen = raised_grows s (laid s (puts_in batches) old r) (max (needed_now s (puts_in batches)) known) in
-    torn_by _ _ old _ _ (omega arith) (omega arith) (λ x h. inr refl) (λ x h l k. inr refl)
-    (λ x h k. raised_kept s (laid s (puts_in batches) old r) (max (needed_now s (puts_in batches)) known) x k ∙ after_keeps s (puts_in batches) (told s (puts_in batches)) old x h)
+    grind (arith, nat_tests, raised_grows s (laid s (puts_in batches) old r) (max (needed_now s (puts_in batches)) known), torn_by, raised_kept s (laid s (puts_in batches) old r) (max (needed_now s (puts_in batches)) known), after_keeps s (puts_in batches) (told s (puts_in batches)) old, told s (puts_in batches), laid, puts_in)
 
 -- all was written, and a later call was refused
 pub met_done : (s : Setting) (batches : List Batch) (r known : ℕ) (held now : Option (List ℕ)) → now ≡ after (λ file. (met s batches known (counted file r)).file) held
@@ -84,7 +79,6 @@ met_done_of s batches r known held now e one = met_done s batches r known held n
 -- what is torn between a file and itself is that file
 pub torn_same : (bytes : List ℕ) (field : ℕ) (old left : List ℕ) → IsTorn bytes field old old left → left ≡ old
 torn_same bytes field old left t =
-    let long = t.long in let short = t.short in
     ext_get_or 0 left old (omega arith) (λ x l. by_test x l (may_change bytes field x) refl)
   where
     by_test : (x : ℕ) → x < length left → (b : Bool) → may_change bytes field x ≡ b → at left x ≡ at old x
@@ -114,20 +108,13 @@ count_met s batches r n known (Some old) mid now e k b one =
         (subst (λ (f : List ℕ). IsTorn [] (field_of s) f (met s batches known (counted old r)).file left) whole t) in
         subst (λ (f : List ℕ). MetTorn s batches r known old f) (sym is) (met_torn s batches r known old)
     by_one left (inr z) t =
-        let u = torn_sides _ _ _ _ _ t in let grown = round_grows s (puts_in batches) r old in
-        let long = t.long in let keep = keeps_none s (puts_in batches) r old z in
-        torn_by _ _ old _ left (omega arith) t.short (λ x h. cc (none_covered s (puts_in batches) z x)) (λ x h l q. first_is (u.beside x l q) (keep x)) (λ x h q. u.outside x refl q ∙ keep x)
-      where
-        first_is : {a b c d : ℕ} → (a ≡ b) ⊎ (a ≡ c) → b ≡ d → (a ≡ d) ⊎ (a ≡ c)
-        first_is (inl p) q = inl (p ∙ q)
-        first_is (inr p) q = inr p
+        grind (arith, nat_tests, torn_sides, round_grows s (puts_in batches) r old, keeps_none s (puts_in batches) r old z, torn_by, none_covered s (puts_in batches) z)
 
 -- ---- the step of the runners
 
 bytes_meet : (s : Setting) {calls : List (List Call)} {runners : List Runner} {batches : List Batch} {known : ℕ} (k : ℕ) → IsTaken calls runners batches known
     → covered s.header (puts_in batches) ≡ bytes_at s (arrived_all s.header calls runners) (Meet k)
-bytes_meet s {calls} {runners} k t = sym (ap (λ (os : List Offer). covered s.header (flat_map puts_of (enumerate_from 0 os))) (offers_are s.header calls runners t.long t.hold)
-    ∙ ap (λ (ps : Puts). covered s.header ps) (puts_same 0 (held_offers runners)) ∙ ap (λ (bs : List Batch). covered s.header (puts_in bs)) (sym t.offered))
+bytes_meet s {calls} {runners} k t = grind (arith, nat_tests, offers_are, puts_same, puts_in, bytes_at, arrived_all, flat_map, held_offers)
 
 pub stopped_meet : {F : Mark → Type 0} {s : Setting} {fault : StepErr} (k : ℕ) {before now : List Mark} {held left : Option (List ℕ)} {calls : List (List Call)} {runners : List Runner} {batches : List Batch}
     {known r n : ℕ} → IsTaken calls runners batches known → F (Meet k) → now ≡ before → BothTold (MetTorn s batches r known) held left
@@ -156,16 +143,8 @@ stopped_deaf {F} {s} {fault} k {before} {now} {held} {left} {calls} {runners} {b
       more = Meet k ∷ [];
       grown = grown;
       ends = some_each held (λ file there.
-          let same = meet_at s k (counted file r) t in (
-            (met s batches known (counted file r)).file,
-            rw there at bytes,
-            between memory (ap (λ (c : Counted). c.file) same) (count ∙ sym (met_count s batches known file r) ∙ ap (λ (c : Counted). c.records) same),
-          ));
+          let same = meet_at s k (counted file r) t in grind (arith, nat_tests, at, met_count));
     }
-
--- the count that is left where that of the ranks was not written
-pub count_kept : (s : Setting) (puts : Puts) (r n known : ℕ) → n ≡ r → (known ≡ 0) ⊎ (puts ≡ []) → (n ≡ r) ⊎ (n ≡ max r (max (needed_now s puts) known))
-count_kept s puts r n known e one = inl e
 
 pub count_left : (s : Setting) (puts : Puts) (r n m known : ℕ) → n ≡ max r (needed_now s puts) → m ≡ n → (known ≡ 0) ⊎ (puts ≡ []) → (m ≡ r) ⊎ (m ≡ max r (max (needed_now s puts) known))
 count_left s puts r n m known e f (inl z) = inr (omega arith)
@@ -178,5 +157,4 @@ count_all s puts r n m known e f one = inr (omega arith)
 pub next_meets : {script : Script} {header : Header} {len : ℕ} {order same : List Mark} {runners : List Runner} → is_lawful script ≡ true → AreRunners script header len order runners → HaveMet runners
     → HaveArrived script runners → same ≡ order → IsNext script same (Meet (meetings order))
 next_meets {script} {header} {len} {order} {same} {runners} lawful a m come e =
-    let b = begun_after {now_order = order ++ Meet (meetings order) ∷ []} a m come refl in
-    subst (λ (ms : List Mark). IsNext script ms (Meet (meetings order))) (sym e) (completed_by script order (Meet (meetings order)) lawful b.known_ranks b.each_rank)
+    grind (arith, nat_tests, begun_after {now_order = order ++ Meet (meetings order) ∷ []} a m come, completed_by script order (Meet (meetings order)) lawful)

@@ -1,5 +1,5 @@
 -- A run in turn that was cut off, from its first stage on.
-use Rattle.turn_run.proofs.Words.{IfSome_then, ◌≡◌, ℕ, refl, sym, ◌∙◌, ap, subst, inl, inr, ◌⊎◌, List, [], ◌++◌, length, map, true, Option, Some, None, arith, replicate, slice_get, fold, IfSome, length-replicate, byte_len, Answer, Header, Script, DiskCall, Mark, Meet, Solo, Offer, StepErr, after, BothTold, Setting, Counted, puts_of, raised, count_width, IsLegal, is_lawful, greatest, Going, advance, after_mark, closed, first_state, setting_of, state_after, close_by, covered, IsTorn, IsLeft, StoodAt, IsCutRun, HasAnswers, HasAnswersOfEach, bytes_of_mark, as_setting, counted, torn_by, completed, point, HasBegun, StopsAt, HasStopped, IsNext, bytes_at, in_step, Arrived, Stand, step_to, HasLed, arrived_all, stage, all_between, HaveAnswers, first_runner, Runner, entry_map, map_map, entry_map_none, mapped_entry, raised_grows, gone_up, arrival_step, arrival_steps, raised_records, max}
+use Rattle.turn_run.proofs.Words.{IfSome_then, ◌≡◌, ℕ, refl, sym, ◌∙◌, ap, subst, inl, inr, ◌⊎◌, List, [], ◌++◌, length, map, true, Option, Some, None, arith, replicate, slice_get, fold, IfSome, length-replicate, byte_len, Answer, Header, Script, DiskCall, Mark, Meet, Solo, StepErr, after, BothTold, Setting, Counted, raised, count_width, IsLegal, is_lawful, greatest, Going, advance, after_mark, first_state, setting_of, state_after, close_by, IsTorn, IsLeft, StoodAt, IsCutRun, HasAnswers, HasAnswersOfEach, bytes_of_mark, as_setting, counted, torn_by, completed, point, HasBegun, StopsAt, HasStopped, IsNext, bytes_at, in_step, Arrived, Stand, step_to, HasLed, arrived_all, stage, all_between, HaveAnswers, first_runner, Runner, entry_map, map_map, entry_map_none, mapped_entry, raised_grows, gone_up, arrival_step, arrival_steps, raised_records, max, nat_tests}
 use Rattle.nc_base.specs.declared.step.StepErr.TheVariants as fault
 use Rattle.serial_spec.specs.RankMachine as machine
 use Rattle.serial_spec.specs.Torn.StoodAt.{in_step as stood_step, in_close as stood_close, between as stood_between}
@@ -39,20 +39,7 @@ raised_torn header (Some old) now count n e = (
 
 bytes_up : (s : Setting) (goings : List Going) (m : Mark) → bytes_at s (map (advance s.header) goings) m ≡ bytes_of_mark s goings m
 bytes_up s goings (Meet k) = refl
-bytes_up s goings (Solo r n) = elim (some_or_none (slice_get goings r)) [
-  | inl e ↦ ap (λ (m : Option Arrived). some (elim m [ None ↦ None | Some a ↦ a.1 ])) (entry_map_none (advance s.header) goings r e)
-      ∙ sym (ap (λ (m : Option Going). some (elim m [ None ↦ None | Some g ↦ (advance s.header g).1 ])) e)
-  | inr g ↦ ap (λ (m : Option Arrived). some (elim m [ None ↦ None | Some a ↦ a.1 ])) (entry_map (advance s.header) goings r g.0 g.1)
-      ∙ sym (ap (λ (m : Option Going). some (elim m [ None ↦ None | Some g ↦ (advance s.header g).1 ])) g.1)
-]
-  where
-    some : Option Offer → List ℕ
-    some o = elim o [ None ↦ [] | Some x ↦ covered s.header (puts_of (r, x)) ]
-
-closed_up : (s : Setting) (c : Counted) (goings : List Going)
-    → closed_at s (gone_up s (c, goings)) ≡ record { file = (closed s (c, goings)).bytes; records = (closed s (c, goings)).records }
-closed_up s c goings =
-    ap (λ (gs : List Going). let last = close_by s c gs in record { file = last.bytes; records = last.records }) (map_map (λ (a : Arrived). a.0) (advance s.header) goings)
+bytes_up s goings (Solo r n) = grind (arith, nat_tests, some_or_none, entry_map_none, entry_map, bytes_at)
 
 -- ---- where a whole run stood that was cut off
 
@@ -69,9 +56,7 @@ module _ (script : Script) (header : Header) (e : StepErr) (records : ℕ) (firs
   up : (file : List ℕ) (more : List Mark) → order ≡ before ++ more
       → fold (step_to s) (counted file records, arrived_all header script.calls first) more ≡ gone_up s (state_after script header file order)
   up file more grown =
-      ap (λ (ms : List Mark). fold (step_to s) (counted file records, arrived_all header script.calls first) ms) (sym (grown ∙ ap (λ (ms : List Mark). ms ++ more) none))
-      ∙ ap (λ (stand : Stand). fold (step_to s) stand order) (first_stage script header records first lawful same_count all file)
-      ∙ arrival_steps s (first_state header file script.calls) order
+      grind (arith, nat_tests, first_stage script header records first lawful same_count all file, arrival_steps s (first_state header file script.calls) order)
 
   may_follow : (later : List Mark) × IsLegal script (order ++ later)
   may_follow = completed script order lawful begun.known_ranks begun.each_rank
@@ -106,15 +91,7 @@ module _ (script : Script) (header : Header) (e : StepErr) (records : ℕ) (firs
       → (total ≡ count) ⊎ (total ≡ max count (most_known last)) → Stood script header e order held now total
   stood_closing last now {count} {total} long over legal h torn which = IfSome_then held h.led (λ file l.
       let q = subst (λ (m : Option (List ℕ)). BothTold (λ old bytes. IsTorn [] (byte_len (count_width header.version)) old (raised (as_setting header) (counted old count) (most_known last)).file bytes) m now) l.told torn in
-      let state = state_after script header file order in
-      let stand : (counted l.left count, arrived_all header script.calls last) ≡ gone_up s state = sym l.state ∙ up file h.more h.grown in
-      let closing = closing_at script header (counted l.left count) last long over ∙ ap (closed_at s) stand ∙ closed_up s state.0 state.1 in
-      let records = subst (λ (n : ℕ). (total ≡ count) ⊎ (total ≡ n)) (sym (raised_records s (counted l.left count) (most_known last))) which in (
-        q.0,
-        q.1,
-        stood_close legal (subst (λ (old : Counted). IsLeft header [] old (record { file = (closed s state).bytes; records = (closed s state).records }) q.0 total) (ap (λ (x : Stand). x.0) stand)
-            (subst (λ (new : Counted). IsLeft header [] (counted l.left count) new q.0 total) closing (q.2, records))),
-      ))
+      grind (arith, nat_tests, up file h.more h.grown, closing_at script header (counted l.left count) last long over, map_map, raised_records s (counted l.left count) (most_known last), l.state, q.0, q.1, q.2, s, counted))
 
 -- want of memory may follow another fault
 pub stood_as : {script : Script} {s : Setting} {x e : StepErr} {state : Counted × List Going} {order : List Mark} {left : List ℕ} {records : ℕ} → (x ≡ e) ⊎ (e ≡ fault.Memory)
@@ -149,8 +126,7 @@ cut_answers script header e x records first last before order file answers lawfu
     s = setting_of script header
 
     state : fold (after_mark s) (counted file records, all_between script.calls first) h.more ≡ state_after script header file order
-    state = ap (λ (ms : List Mark). fold (after_mark s) (counted file records, all_between script.calls first) ms) (sym (h.grown ∙ ap (λ (ms : List Mark). ms ++ h.more) none))
-        ∙ (λ i. fold (after_mark s) (counted file (count i), first_goings script header records first lawful count all i) order)
+    state = grind (arith, nat_tests, first_goings script header records first lawful count all)
 
     by_cause : (e ≡ x) ⊎ (e ≡ fault.Memory) → (runner : Runner) → HasAnswers header x g runner.answers → HasAnswers header e g runner.answers
     by_cause (inl q) runner k = subst (λ (y : StepErr). HasAnswers header y g runner.answers) (sym q) k

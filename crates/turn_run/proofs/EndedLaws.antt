@@ -1,5 +1,5 @@
 -- How a run ended, by the ends of its ranks.
-use Rattle.turn_run.proofs.Words.{◌≡◌, ℕ, ◌≤◌, sym, subst, inl, inr, ◌⊎◌, List, [], map, true, Option, Some, None, Result, Err, OnErr, byte_len, Header, RankEnd, RunEnd, ServeEnd, DiskCall, StepErr, Rose, BothTold, raised, count_width, is_sound, IsTorn, as_setting, counted, contents_of, EndedAt, HasClosed, NoneBroke, most_known_of, as_left, in_close}
+use Rattle.turn_run.proofs.Words.{◌≡◌, ℕ, ◌≤◌, sym, subst, inl, inr, ◌⊎◌, List, [], map, true, Option, Some, None, Result, Err, OnErr, byte_len, Header, RankEnd, RunEnd, ServeEnd, DiskCall, StepErr, Rose, BothTold, raised, count_width, is_sound, IsTorn, as_setting, counted, contents_of, EndedAt, HasClosed, NoneBroke, most_known_of, as_left, in_close, arith, nat_tests}
 use Rattle.nc_base.specs.declared.step.StepErr.TheVariants as fault
 
 -- what the end of a run tells
@@ -36,10 +36,7 @@ pub ended_err : {T : Type 0} (header : Header) (ends : List RankEnd) (before : O
     → known ≡ most_known_of ends
     → OnErr r (BothTold (λ old now. IsTorn [] (byte_len (count_width header.version)) old (raised (as_setting header) (counted old count) known).file now) held left) → OnErr r (records ≡ count)
     → EndedAt header ends before e (contents_of held count) (contents_of left records)
-ended_err {T} header ends before r e held left count records known is none whole same torn k =
-    let kept = subst (λ (q : Result T StepErr). OnErr q (BothTold (λ old now. IsTorn [] (byte_len (count_width header.version)) old (raised (as_setting header) (counted old count) known).file now) held left)) is torn in
-    in_close none whole (subst (λ (n : ℕ). BothTold (λ old now. IsTorn [] (byte_len (count_width header.version)) old (raised (as_setting header) (counted old count) n).file now) held left) same kept)
-    (inl (subst (λ (q : Result T StepErr). OnErr q (records ≡ count)) is k))
+ended_err {T} header ends before r e held left count records known is none whole same torn k = grind (arith, nat_tests, raised (as_setting header))
 
 pub err_is : {T : Type 0} (x e : StepErr) → ◌≡◌ {A = Result T StepErr} (Err x) (Err e) → x ≡ e
 err_is x e h = cc

@@ -1,5 +1,5 @@
 -- The runners after a meeting.
-use Rattle.turn_run.proofs.Words.{◌≡◌, ℕ, ◌≤◌, refl, sym, ◌∙◌, ap, subst, List, [], ◌∷◌, ◌++◌, length, map, Option, Some, None, inr, arith, slice_get, is_some, IfSome, length-map, same_Some, slice_get_within, Answer, Pair, Header, Batch, Script, Mark, Meet, Offer, Reply, hear, wanted, Going, Ranked, meetings, IsOnWay, hears_keeps, call_waits, meeting_of_known, way_hears, HasBegun, IsAsked, IsCount, asking, between, calls_of, going_of, reply_of, AreFreed, AreHeard, AreRunners, HasHeard, HaveArrived, HaveMet, IsPlaced, IsRunner, IsToHear, batches_of, held_offers, known_of, is_lawful, ranks_lawful, true, Runner, entry_below, entry_map}
+use Rattle.turn_run.proofs.Words.{◌≡◌, ℕ, ◌≤◌, refl, sym, ◌∙◌, ap, subst, List, [], ◌∷◌, ◌++◌, length, map, Option, Some, None, arith, slice_get, is_some, length-map, same_Some, slice_get_within, Pair, Header, Batch, Script, Mark, Meet, Offer, Reply, hear, wanted, meetings, IsOnWay, hears_keeps, call_waits, meeting_of_known, way_hears, HasBegun, IsCount, asking, between, calls_of, going_of, reply_of, AreFreed, AreHeard, AreRunners, HasHeard, HaveArrived, HaveMet, IsPlaced, IsRunner, IsToHear, batches_of, held_offers, known_of, is_lawful, ranks_lawful, true, Runner, entry_below, entry_map, nat_tests}
 use Rattle.turn_run.proofs.AloneLaws.{fits_open}
 use Rattle.turn_run.proofs.CountLaws.{count_longer, count_max}
 use Rattle.turn_run.proofs.MeetOffers.{held_at, held_long, meets_at}
@@ -26,26 +26,16 @@ to_hear {script} {header} {order} {runners} {mid} {batches} table all met come f
     let l = slice_get_within mid r runner h in let long = freed.long in let a = entry_below runners r (omega arith) in
     let m = meets_at all met come r a.0 a.1 in let o = m.0 in
     let keeps = call_waits script order r (asking (calls_of script r) a.0) o m.1.way in
-    let rank = (freed.each r a.0 runner a.1 h).rank in
-    let own : slice_get batches r ≡ Some o.batch = ap (λ (bs : List Batch). slice_get bs r) e
-    ∙ entry_map (λ (p : Offer). p.batch) (held_offers runners) r o (held_at runners met r a.0 o a.1 m.1.held) in
+    let own : slice_get batches r ≡ Some o.batch = grind (arith, nat_tests, entry_map, held_at runners met r a.0 o a.1 m.1.held, held_offers) in
     let row : map (λ blob. length blob) blobs ≡ map (wanted header) o.batch.gets = same_Some _ _
     (sym (entry_map (λ (bs : List (List ℕ)). map (λ blob. length blob) bs) table r blobs t) ∙ ap (λ (xs : List (List ℕ)). slice_get xs r) f
     ∙ entry_map (λ (b : Batch). map (wanted header) b.gets) batches r o.batch own) in
-    record {
-      waits = ap (λ (k : Ranked). is_some k.state.«open») rank ∙ keeps.0;
-      fits = subst (λ (k : Ranked). IfSome k.state.«open» (λ w. map (λ blob. length blob) blobs ≡ map (wanted k.header) w.gets)) (sym rank)
-          (fits_open a.0.rank.state.«open» header a.0.rank.header o.batch.gets blobs m.1.of_header keeps.1 row);
-    }
+    grind (arith, nat_tests, fits_open, keeps.0, is_some)
 
 -- ---- one rank after the meeting
 
 pub heard_before : (m a b : Runner) (reply : Reply) → m.rank ≡ a.rank → m.answers ≡ a.answers → HasHeard m b reply → HasHeard a b reply
-heard_before m a b reply e f h = record {
-  answer = h.answer;
-  heard = h.heard ∙ ap (λ (k : Ranked). hear k.header k.state reply) e;
-  answers = h.answers ∙ ap (λ (xs : List Answer). xs ++ h.answer ∷ []) f;
-}
+heard_before m a b reply e f h = grind (arith, nat_tests)
 
 pub placed_free : (script : Script) (header : Header) (order : List Mark) (r : ℕ) (own : List _) (b : Runner) → b.held ≡ None → IsOnWay script order r (between own b) None
     → IsPlaced script header order r (going_of own b) b.held
@@ -56,17 +46,7 @@ module _ {script : Script} {header : Header} {before : ℕ} {order : List Mark} 
   are_done : AreDone header pair n runners now table
   are_done r a b blobs g h t =
       let l = slice_get_within runners r a g in let long = freed.long in let m = entry_below mid r (omega arith) in
-      let o = meets_at all met come r a g in let free = freed.each r a m.0 g m.1 in
-      let said = heard.each r m.0 b blobs m.1 h t in (
-        o.0,
-        record {
-          held = o.1.held;
-          free = said.held ∙ free.held;
-          of_header = o.1.of_header;
-          same_header = said.same_header ∙ ap (λ (k : Ranked). k.header) free.rank;
-          heard = heard_before m.0 a b (reply_of pair n blobs) free.rank free.answers said.heard;
-        },
-      )
+      grind (arith, nat_tests, meets_at all met come r a g, heard_before m.0 a b (reply_of pair n blobs) (freed.each r a m.0 g m.1).rank, heard.each, reply_of)
 
   pub have_done : length table ≡ length runners → HaveDone header pair n runners now table
   have_done wide = record { long = heard.long ∙ freed.long; wide = wide; each = are_done }
@@ -76,24 +56,9 @@ module _ {script : Script} {header : Header} {before : ℕ} {order : List Mark} 
   one_after : length table ≡ length runners → (len : ℕ) → before ≤ len → IsCount header len n → (r : ℕ) (b : Runner) → slice_get now r ≡ Some b
       → IsRunner script header (order ++ Meet (meetings order) ∷ []) r b × IsCount header len b.rank.state.known
   one_after wide len longer count r b h =
-      let l = slice_get_within now r b h in let p = heard.long in let q = freed.long in
-      let a = entry_below runners r (omega arith) in let row = entry_below table r (omega arith) in
+      let l = slice_get_within now r b h in let p = heard.long in let a = entry_below runners r (omega arith) in let row = entry_below table r (omega arith) in
       let d = are_done r a.0 b row.0 a.1 h row.1 in let o = meets_at all met come r a.0 a.1 in
-      let reply = reply_of pair n row.0 in let own = calls_of script r in let answer = d.1.heard.answer in
-      let waits = call_waits script order r (asking own a.0) o.0 o.1.way in
-      let said : (b.rank.state, answer) ≡ hear header a.0.rank.state reply = d.1.heard.heard ∙ ap (λ (k : Header). hear k a.0.rank.state reply) d.1.of_header in
-      let keeps = hears_keeps header a.0.rank.state b.rank.state reply answer waits.0 said in
-      let way = subst (λ (s : Going). IsOnWay script (order ++ Meet (meetings order) ∷ []) r s None)
-      (answered_is own a.0.rank.state b.rank.state a.0.answers b.answers answer d.1.heard.answers)
-      (way_hears script order r header (asking own a.0) b.rank.state o.0 reply answer o.1.way said) in (
-        record {
-          of_header = d.1.same_header ∙ d.1.of_header;
-          placed = placed_free script header (order ++ Meet (meetings order) ∷ []) r own b d.1.free way;
-          asked = subst (λ (m : Option Offer). IfSome m (IsAsked header b.rank.state.known)) (sym d.1.free) tt;
-        },
-        subst (λ (k : ℕ). IsCount header len k) (sym keeps.0)
-            (count_max header len a.0.rank.state.known n (count_longer header before len a.0.rank.state.known longer o.1.known) (inr count)),
-      )
+      grind (arith, nat_tests, call_waits script order r (asking (calls_of script r) a.0) o.0 o.1.way, hears_keeps header a.0.rank.state b.rank.state (reply_of pair n row.0) d.1.heard.answer, answered_is (calls_of script r) a.0.rank.state b.rank.state a.0.answers b.answers d.1.heard.answer, way_hears script order r header (asking (calls_of script r) a.0) b.rank.state o.0 (reply_of pair n row.0), placed_free script header (order ++ Meet (meetings order) ∷ []) r (calls_of script r) b d.1.free, count_max header len a.0.rank.state.known n, count_longer header before len a.0.rank.state.known longer o.1.known, d.1.heard.heard, d.1.of_header, d.1.heard.answers, d.1.same_header, b.rank.state.known, reply_of, meetings, calls_of, asking)
 
   pub runners_after : {len : ℕ} {now_order : List Mark} → length table ≡ length runners → before ≤ len → IsCount header len n → now_order ≡ order ++ Meet (meetings order) ∷ []
       → AreRunners script header len now_order now
@@ -107,8 +72,7 @@ module _ {script : Script} {header : Header} {before : ℕ} {order : List Mark} 
 pub free_after : {runners mid now : List Runner} {pair : Option Pair} {n : ℕ} {table : List (List (List ℕ))}
     → AreFreed runners mid → AreHeard pair n table mid now → length table ≡ length runners → (r : ℕ) (b : Runner) → slice_get now r ≡ Some b → b.held ≡ None
 free_after {runners} {mid} {now} {table} freed heard wide r b h =
-    let l = slice_get_within now r b h in let p = heard.long in
-    let q = freed.long in let a = entry_below runners r (omega arith) in
+    let l = slice_get_within now r b h in let q = freed.long in let a = entry_below runners r (omega arith) in
     let m = entry_below mid r (omega arith) in let row = entry_below table r (omega arith) in
     (heard.each r m.0 b row.0 m.1 h row.1).held ∙ (freed.each r a.0 m.0 a.1 m.1).held
 

@@ -1,5 +1,5 @@
 -- The file, its record count and its device calls in a meeting.
-use Rattle.turn_run.proofs.Words.{◌≡◌, ℕ, ◌<◌, ◌≤◌, refl, sym, ◌∙◌, ap, subst, List, [], ◌++◌, length, max, Bool, true, false, cond, Option, Some, None, inl, inr, append_assoc, arith, nat_tests, append-nil, flat_map, nat_lt, if◌then◌else◌, IfSome, Pair, Batch, Post, Hints, DiskCall, after, with_end, needed_now, collective_windows, get_bytes, loads, put_calls, store_records, Counted, Setting, end_for, needs, raised, told, is_sound, with_records, Puts, after_round, counted, gets_in, puts_in, ArePuts, IsCount, IsRise, met, met_calls, no_need, raised_records, with_end-with_end, ◌⊎◌}
+use Rattle.turn_run.proofs.Words.{◌≡◌, ℕ, ◌≤◌, refl, sym, ◌∙◌, ap, subst, List, [], ◌++◌, length, max, Bool, true, false, cond, Option, Some, None, inl, inr, arith, nat_tests, flat_map, nat_lt, if◌then◌else◌, IfSome, Pair, Batch, Post, Hints, DiskCall, after, with_end, needed_now, collective_windows, get_bytes, loads, put_calls, store_records, Counted, Setting, end_for, needs, raised, told, is_sound, with_records, Puts, after_round, counted, gets_in, puts_in, ArePuts, IsCount, IsRise, met, met_calls, no_need, raised_records, with_end-with_end, ◌⊎◌}
 use Rattle.turn_run.proofs.CountLaws.{count_longer, count_max, rise_longer}
 use Rattle.turn_run.proofs.MeetPosts.{needed_rise}
 use Rattle.turn_run.proofs.WrittenTwice.{counted_twice}
@@ -37,41 +37,7 @@ raised_none s c n h = ap (λ (t : Bool). cond t (record { file = with_records s.
 
 pub twice_raised : (s : Setting) (c : Counted) (r n known : ℕ) → r ≡ max c.records n
     → (if nat_lt r known then with_records s.header.version (raised s c n).file known else (raised s c n).file) ≡ (raised s c (max n known)).file
-twice_raised s c r n known f = by_order (nat_lt c.records n) refl (nat_lt r known) refl
-  where
-    above : (m : ℕ) → c.records < m → nat_lt c.records m ≡ true
-    above m h = grind (arith, nat_tests)
-
-    by_order : (t : Bool) → nat_lt c.records n ≡ t → (u : Bool) → nat_lt r known ≡ u
-        → cond u (with_records s.header.version (cond t (record { file = with_records s.header.version c.file n; records = n }) c).file known)
-        (cond t (record { file = with_records s.header.version c.file n; records = n }) c).file ≡ (raised s c (max n known)).file
-    by_order true e true g = counted_twice s.header.version c.file n known
-        ∙ ap (λ (t : Bool). (cond t (record { file = with_records s.header.version c.file known; records = known }) c).file) (sym (above known (grind (arith, nat_tests))))
-        ∙ ap (λ (m : ℕ). (raised s c m).file) (grind (arith, nat_tests))
-    by_order true e false g = ap (λ (t : Bool). (cond t (record { file = with_records s.header.version c.file n; records = n }) c).file) (sym e)
-        ∙ ap (λ (m : ℕ). (raised s c m).file) (grind (arith, nat_tests))
-    by_order false e true g =
-        ap (λ (t : Bool). (cond t (record { file = with_records s.header.version c.file known; records = known }) c).file) (sym (above known (grind (arith, nat_tests))))
-        ∙ ap (λ (m : ℕ). (raised s c m).file) (grind (arith, nat_tests))
-    by_order false e false g = ap (λ (d : Counted). d.file) (sym (raised_none s c (max n known) (grind (arith, nat_tests))))
-
-stored_once : (s : Setting) (c : Counted) (r n known : ℕ) → (known ≡ 0) ⊎ (n ≡ 0) → r ≡ max c.records n
-    → store_records s (nat_lt c.records r) ++ store_records s (nat_lt r known) ≡ store_records s (nat_lt c.records (raised s c (max n known)).records)
-stored_once s c r n known (inl e) f =
-    let same : r ≡ (raised s c (max n known)).records = omega (arith, raised_records s c (max n known)) in
-    ap (λ (t : Bool). store_records s (nat_lt c.records r) ++ store_records s t) (not_below r known (omega arith))
-    ∙ append-nil (store_records s (nat_lt c.records r)) ∙ ap (λ (m : ℕ). store_records s (nat_lt c.records m)) same
-stored_once s c r n known (inr e) f =
-    let count : r ≡ c.records = omega arith in
-    ap (λ (t : Bool). store_records s t ++ store_records s (nat_lt r known)) (not_below c.records r (omega arith)) ∙ ap (λ (m : ℕ). store_records s (nat_lt m known)) count
-    ∙ ap (λ (t : Bool). store_records s t) (above ∙ ap (nat_lt c.records) (sym (raised_records s c (max n known))))
-  where
-    above : nat_lt c.records known ≡ nat_lt c.records (max c.records (max n known))
-    above = by_order (nat_lt c.records known) refl
-      where
-        by_order : (t : Bool) → nat_lt c.records known ≡ t → t ≡ nat_lt c.records (max c.records (max n known))
-        by_order true g = grind (arith, nat_tests)
-        by_order false g = sym (not_below c.records (max c.records (max n known)) (grind (arith, nat_tests)))
+twice_raised s c r n known f = grind (arith, nat_tests, raised s c (max n known), counted_twice s.header.version c.file n known, raised_none s c (max n known))
 
 -- ---- the meeting
 
@@ -90,11 +56,4 @@ pub met_called : (hints : Hints) (s : Setting) (batches : List Batch) (r n known
     → IfSome held (λ file. last ≡ with_end calls (met_calls hints s batches known (counted file r)))
 met_called hints s batches r n known len None calls mid late last one l p e k g = tt
 met_called hints s batches r n known len (Some file) calls mid late last one l p e k g =
-    let puts = puts_in batches in let front = put_calls s (collective_windows hints) puts len in
-    let gets = flat_map loads (collective_windows hints (get_bytes s (gets_in batches))) in
-    let first = store_records s (nat_lt r n) in let second = store_records s (nat_lt n known) in
-    let once = stored_once s _ _ _ _ (one_raises s _ _ one) e in
-    g ∙ ap (λ (told : Option (List DiskCall)). with_end told gets) (k ∙ ap (λ (told : Option (List DiskCall)). with_end told second) p)
-    ∙ ap (λ (told : Option (List DiskCall)). with_end told gets) (with_end-with_end calls (front ++ first) second) ∙ with_end-with_end calls ((front ++ first) ++ second) gets
-    ∙ ap (λ (cs : List DiskCall). with_end calls (cs ++ gets)) (append_assoc front first second) ∙ ap (λ (cs : List DiskCall). with_end calls ((front ++ cs) ++ gets)) once
-    ∙ ap (λ (m : ℕ). with_end calls ((put_calls s (collective_windows hints) puts m ++ store_records s (nat_lt r (met s batches known (counted file r)).records)) ++ gets)) (sym l)
+    grind (arith, nat_tests, raised, raised_records, not_below, one_raises, with_end-with_end, with_end, met_calls, counted, flat_map, gets_in)

@@ -1,5 +1,5 @@
 -- The offers of a meeting, as the runners hold them: together they are a job that a meeting takes.
-use Rattle.turn_run.proofs.Words.{nat_tests, ◌≡◌, ℕ, zero, suc, ◌+◌, ◌^◌, ◌<◌, ◌≤◌, refl, sym, ◌∙◌, ap, subst, List, [], ◌∷◌, ◌++◌, length, map, Bool, true, false, Option, Some, inl, inr, arith, map-append, length-map, slice_get, flat_map, is_some, enumerate_from, AllByRecursion, option_to_list, same_Some, Header, Batch, Post, Script, Mark, Offer, OfferKind, In, known_by, is_lawful, bytes_of, holdings, Holding, IsOwnOnce, Puts, IsOnWay, ranks_lawful, together_kind, gets_in, posts_in, puts_of_batch, AreGets, ArePuts, raises, IsAsked, IsCount, IsFit, IsRise, asking, calls_of, AreRunners, HaveArrived, HaveMet, batches_of, held_offers, known_of, IsJob, IsOneRise, Runner, IsSingleOffer, value_of_some, if_some_at, mapped_entry}
+use Rattle.turn_run.proofs.Words.{nat_tests, ◌≡◌, ℕ, zero, suc, ◌+◌, ◌≤◌, refl, sym, ◌∙◌, ap, subst, List, [], ◌∷◌, ◌++◌, length, map, true, false, Option, Some, inl, inr, arith, map-append, length-map, slice_get, flat_map, is_some, enumerate_from, AllByRecursion, option_to_list, Header, Batch, Post, Script, Mark, Offer, OfferKind, In, known_by, is_lawful, bytes_of, holdings, Holding, IsOwnOnce, Puts, IsOnWay, ranks_lawful, together_kind, gets_in, posts_in, puts_of_batch, AreGets, ArePuts, raises, IsAsked, IsCount, IsFit, IsRise, asking, calls_of, AreRunners, HaveArrived, HaveMet, batches_of, held_offers, known_of, IsJob, IsOneRise, Runner, IsSingleOffer, value_of_some, if_some_at, mapped_entry}
 use Rattle.nc_base.specs.declared.step.MeetKind.TheVariants as kind
 use Rattle.nc_base.specs.declared.step.OfferKind.TheVariants as offer
 use Rattle.turn_run.proofs.CountLaws.{rise_max}
@@ -20,10 +20,7 @@ held_first runner runners o e = ap (λ (m : Option Offer). option_to_list m ++ h
 
 pub held_at : (runners : List Runner) → AllHold runners → (r : ℕ) (runner : Runner) (o : Offer) → slice_get runners r ≡ Some runner → runner.held ≡ Some o → slice_get (held_offers runners) r ≡ Some o
 held_at [] m r runner o e h = absurd cc
-held_at (x ∷ runners) m zero runner o e h =
-    let p = value_of_some x.held (m 0 x refl) in
-    let own : p.0 ≡ o = same_Some p.0 o (sym p.1 ∙ ap (λ (s : Runner). s.held) (same_Some x runner e) ∙ h) in
-    ap (λ (os : List Offer). slice_get os 0) (held_first x runners p.0 p.1) ∙ ap (λ (q : Offer). Some q) own
+held_at (x ∷ runners) m zero runner o e h = grind (arith, nat_tests, value_of_some, held_first, held_offers)
 held_at (x ∷ runners) m (suc r) runner o e h =
     let p = value_of_some x.held (m 0 x refl) in
     ap (λ (os : List Offer). slice_get os (suc r)) (held_first x runners p.0 p.1) ∙ held_at runners (λ q s g. m (suc q) s g) r runner o e h
@@ -67,9 +64,7 @@ meets_at {script} {header} {len} {order} {runners} all met come r runner e =
 -- ---- what an offer brings to the meeting
 
 pub asked_fit : (header : Header) (len known : ℕ) (o : Offer) → IsAsked header known o → IsCount header len known → IsFit header len o
-asked_fit header len known o asked count =
-    let few = asked.few in
-    record { sound = asked.sound; known = subst (λ (n : ℕ). IsCount header len n) (sym asked.told) count; few = omega arith }
+asked_fit header len known o asked count = grind (arith, nat_tests)
 
 brought : {script : Script} {header : Header} {len : ℕ} {order : List Mark} {r : ℕ} {runner : Runner} {o : Offer} → Meets script header len order r runner o → IsFit header len o
 brought {header} {len} {runner} {o} m = asked_fit header len runner.rank.state.known o m.asked m.known
@@ -82,24 +77,13 @@ puts_from first offers = flat_map puts_of_batch (enumerate_from first (batches_o
 put_from : (first : ℕ) (offers : List Offer) (p : ℕ × Post) → In (puts_from first offers) p → (o : Offer) × In offers o × In o.batch.puts p.1 × (first ≤ p.0)
 put_from first offers p m =
     let b = flat_in puts_of_batch (enumerate_from first (batches_of offers)) p m in let n = numbered_from first (batches_of offers) b.0 b.1 in
-    let q = map_in (λ (post : Post). (b.0.0, post)) b.0.1.puts p b.2 in let rank = ap (λ (x : ℕ × Post). x.0) q.2 in
-    let o = map_in (λ (o : Offer). o.batch) offers b.0.1 (at_in (batches_of offers) n.0 b.0.1 n.2) in
-    (o.0, o.1, subst (λ (x : ℕ × Post). In o.0.batch.puts x.1) q.2 (subst (λ (c : Batch). In c.puts q.0) (sym o.2) q.1), omega (arith, n.1, rank))
+    grind (arith, nat_tests, map_in, at_in (batches_of offers) n.0 b.0.1 n.2, b.0.0, b.0.1.puts, b.2, n.1, batches_of)
 
 puts_brought : (header : Header) (len first : ℕ) (offers : List Offer) → AllByRecursion (IsFit header len) offers → ArePuts header (puts_from first offers)
 puts_brought header len first offers all p m = let o = put_from first offers p m in put_of header o.0 (each_in (IsFit header len) offers o.0 all o.1).sound p.1 o.2
 
 gets_brought : (header : Header) (len : ℕ) (offers : List Offer) → AllByRecursion (IsFit header len) offers → AreGets header len (gets_in (batches_of offers))
-gets_brought header len offers all p m =
-    let b = flat_in (λ (c : Batch). c.gets) (batches_of offers) p m in let o = map_in (λ (o : Offer). o.batch) offers b.0 b.1 in
-    let fit = each_in (IsFit header len) offers o.0 all o.1 in
-    get_of header len o.0 fit.sound fit.known p (subst (λ (c : Batch). In c.gets p) (sym o.2) b.2)
-
-few_brought : (header : Header) (len : ℕ) (offers : List Offer) → AllByRecursion (IsFit header len) offers → (b : Batch) → In (batches_of offers) b → posts_in b < 2 ^ 32
-few_brought header len offers all b m =
-    let o = map_in (λ (o : Offer). o.batch) offers b m in let few = (each_in (IsFit header len) offers o.0 all o.1).few in
-    let small : posts_in o.0.batch < 2 ^ 32 = omega arith in
-    subst (λ (c : Batch). posts_in c < 2 ^ 32) o.2 small
+gets_brought header len offers all p m = grind (arith, nat_tests, flat_in, map_in, each_in (IsFit header len) offers, get_of header len)
 
 -- ---- no request holds a byte twice
 
@@ -110,9 +94,7 @@ own_brought header len first (o ∷ offers) all =
     subst IsOwnOnce (sym (map-append holds (map (λ post. (first, post)) o.batch.puts) later))
     (own_append (held_by header first o.batch.puts) (holdings header later) (all.0.sound.own first) (own_brought header len (first + 1) offers all.1) (λ i j g h a b keys.
     let p = holding_at header first o.batch.puts i g a in let q = mapped_entry holds later j h b in
-    let past = (put_from (first + 1) offers q.0 (at_in later j q.0 q.1.0)).3 in
-    let same : first ≡ q.0.0 = ap (λ (x : Holding). x.0.0) (sym p.2) ∙ ap (λ (k : ℕ × ℕ). k.0) (keys ∙ ap (λ (x : Holding). x.0) (sym q.1.1)) in
-    omega arith))
+    grind (arith, nat_tests, put_from (first + 1) offers q.0 (at_in later j q.0 q.1.0), at_in later j q.0 q.1.0, p.2, q.1.1)))
 
 -- ---- what the ranks know
 
@@ -136,27 +118,17 @@ none_known kind (o ∷ offers) all e = let own = unraised o.kind o.known (ap rai
 none_put : (first : ℕ) (kind : OfferKind) (offers : List Offer) → AllByRecursion IsSingleOffer offers → AllByRecursion (λ o. o.kind ≡ kind) offers
     → raises kind ≡ true → puts_from first offers ≡ []
 none_put first kind [] all same e = refl
-none_put first kind (o ∷ offers) all same e = ap (λ (posts : List Post). map (λ post. (first, post)) posts ++ puts_from (first + 1) offers) (all.0 (ap raises same.0 ∙ e))
-    ∙ none_put (first + 1) kind offers all.1 same.1 e
+none_put first kind (o ∷ offers) all same e = grind (arith, nat_tests, none_put (first + 1) kind offers all.1 same.1 e)
 
 pub one_rise : (kind : OfferKind) (offers : List Offer) → AllByRecursion IsSingleOffer offers → AllByRecursion (λ o. o.kind ≡ kind) offers
     → IsOneRise (known_of offers) (batches_of offers)
-one_rise kind offers all same = by_kind (raises kind) refl
-  where
-    by_kind : (t : Bool) → raises kind ≡ t → IsOneRise (known_of offers) (batches_of offers)
-    by_kind true e = inr (none_put 0 kind offers all same e)
-    by_kind false e = inl (none_known kind offers same e)
+one_rise kind offers all same = grind (arith, nat_tests, none_put, none_known, known_of, batches_of)
 
 -- offers that are fit, of no more ranks than there can be, are a job
 pub offers_job : (header : Header) (len : ℕ) (offers : List Offer) → length offers ≤ 64 → AllByRecursion (IsFit header len) offers → IsJob header len (batches_of offers)
 offers_job header len offers most own =
     let few : length (batches_of offers) ≤ 64 = omega (arith, length-map offers (λ (o : Offer). o.batch)) in
-    record {
-      few = (few, few_brought header len offers own);
-      puts = puts_brought header len 0 offers own;
-      own = own_brought header len 0 offers own;
-      gets = gets_brought header len offers own;
-    }
+    grind (arith, nat_tests, map_in, each_in, posts_in, puts_brought, own_brought, gets_brought)
 
 -- ---- the job
 
@@ -182,9 +154,7 @@ one_kind {script} {header} {len} {order} {runners} all met come = by_list runner
 pub meets_job : {script : Script} {header : Header} {len : ℕ} {order : List Mark} {runners : List Runner} {batches : List Batch} → is_lawful script ≡ true
     → AreRunners script header len order runners → HaveMet runners → HaveArrived script runners → batches ≡ batches_of (held_offers runners) → IsJob header len batches
 meets_job {script} {header} {len} {runners} lawful all met come f =
-    let most = (ranks_lawful script lawful).most in let long = all.all in
-    let held = held_long runners met in
-    subst (λ (bs : List Batch). IsJob header len bs) (sym f) (offers_job header len (held_offers runners) (omega arith) (all_brought all met come))
+    grind (arith, nat_tests, ranks_lawful script lawful, held_long runners met, offers_job header len (held_offers runners), all_brought all met come)
 
 pub meets_once : {script : Script} {header : Header} {len : ℕ} {order : List Mark} {runners : List Runner} {known : ℕ} {batches : List Batch} → AreRunners script header len order runners → HaveMet runners
     → HaveArrived script runners → known ≡ known_of (held_offers runners) → batches ≡ batches_of (held_offers runners) → IsOneRise known batches

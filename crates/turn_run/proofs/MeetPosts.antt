@@ -1,39 +1,25 @@
 -- What the posts of an offer are to a step, and what the puts of a step need.
-use Rattle.turn_run.proofs.Words.{◌≡◌, ℕ, zero, suc, ◌+◌, ◌-◌, ◌*◌, ◌<◌, ◌≤◌, refl, sym, ◌∙◌, ap, subst, List, [], ◌∷◌, length, map, max, Bool, true, false, cond, not, ◌||◌, Option, Some, None, inl, inr, arith, nat_tests, slice_get, slice_index, ◌==◌, length-map, Header, Var, Post, Put, Get, Offer, In, needed_now, Setting, end_for, needs, puts_of, told, header_len, is_sound, end_of, greatest, lengths, product, starts_with_zero, needed, records_of_some, bad_edge, bound, check_some, some_edge, accepted, end_grows, pair_of, IsPut, ArePuts, AreGets, PutEnd, Done, Overlap, IsCount, IsRise, needed_after, equal_suc, equal_zero, or_first_false, map_map}
+use Rattle.turn_run.proofs.Words.{◌≡◌, ℕ, zero, suc, ◌+◌, ◌-◌, ◌*◌, ◌≤◌, refl, sym, ◌∙◌, ap, subst, List, [], ◌∷◌, length, map, max, Bool, true, false, cond, not, ◌||◌, Option, Some, None, inl, inr, arith, nat_tests, slice_get, slice_index, ◌==◌, length-map, Header, Var, Post, Put, Get, Offer, In, needed_now, Setting, end_for, needs, puts_of, told, header_len, is_sound, end_of, greatest, lengths, product, starts_with_zero, needed, records_of_some, bound, check_some, some_edge, accepted, end_grows, pair_of, IsPut, ArePuts, AreGets, PutEnd, Done, Overlap, IsCount, IsRise, needed_after, equal_suc, equal_zero, or_first_false, map_map}
 use Rattle.nc_base.specs.declared.answer.Code.TheVariants as code
 use Rattle.rank_core.specs.Offered as offered
 use Rattle.turn_run.proofs.CountLaws.{count_longer, count_max, put_count, rise_max}
 
 -- ---- a get that is accepted asks for no record past those that are known
 
-fixed_need : (t : Bool) (n m k : ℕ) → t ≡ false → cond (not t || n == 0) 0 m ≤ k
-fixed_need true n m k e = absurd cc
-fixed_need false n m k e = omega arith
-
 some_need : (t : Bool) (m k : ℕ) → (t ≡ false → m ≤ k) → cond t 0 m ≤ k
 some_need true m k h = omega arith
 some_need false m k h = h refl
-
-edge_within : (known s n t : ℕ) → 0 < n → bad_edge (Some known) s n t ≡ false → s + (n - 1) * t + 1 ≤ known
-edge_within known s n t l e = grind (arith, nat_tests)
-
-no_product : {A : Type 0} (n : ℕ) → n ≡ 0 → (n == 0) ≡ false → A
-no_product n e h = equal_zero (subst (λ (k : ℕ). (k == 0) ≡ false) e h)
 
 record_within : (known : ℕ) (ls starts counts strides : List ℕ) → length starts ≡ length ls → length counts ≡ length ls → length strides ≡ length ls
     → some_edge (map (bound Get known) ls) starts counts strides ≡ false
     → cond (not (starts_with_zero ls) || product counts == 0) 0 (slice_index starts 0 + (slice_index counts 0 - 1) * slice_index strides 0 + 1) ≤ known
 record_within known [] starts counts strides a b d e = omega arith
-record_within known (suc m ∷ ls) starts counts strides a b d e =
-    fixed_need (suc m == 0) (product counts) (slice_index starts 0 + (slice_index counts 0 - 1) * slice_index strides 0 + 1) known (equal_suc m)
+record_within known (suc m ∷ ls) starts counts strides a b d e = grind (arith, nat_tests, equal_suc)
 record_within known (zero ∷ ls) [] counts strides a b d e = absurd (omega arith)
 record_within known (zero ∷ ls) (s ∷ starts) [] strides a b d e = absurd (omega arith)
 record_within known (zero ∷ ls) (s ∷ starts) (n ∷ counts) [] a b d e = absurd (omega arith)
-record_within known (zero ∷ ls) (s ∷ starts) (zero ∷ counts) (t ∷ strides) a b d e =
-    some_need (product (zero ∷ counts) == 0) (s + (zero - 1) * t + 1) known (λ f. no_product (product (zero ∷ counts)) (omega arith) f)
-record_within known (zero ∷ ls) (s ∷ starts) (suc n ∷ counts) (t ∷ strides) a b d e =
-    let own = edge_within known s (suc n) t (omega arith) (or_first_false (bad_edge (Some known) s (suc n) t) (some_edge (map (bound Get known) ls) starts counts strides) e) in
-    some_need (product (suc n ∷ counts) == 0) (s + (suc n - 1) * t + 1) known (λ f. own)
+record_within known (zero ∷ ls) (s ∷ starts) (zero ∷ counts) (t ∷ strides) a b d e = grind (arith, nat_tests, some_need, equal_zero)
+record_within known (zero ∷ ls) (s ∷ starts) (suc n ∷ counts) (t ∷ strides) a b d e = grind (arith, nat_tests, or_first_false, some_need)
 
 pub get_needed : (header : Header) (post : Post) (known : ℕ) → offered.IsGet header known post → needed header post ≤ known
 get_needed header post known h = by_var (slice_get header.vars post.var) h
@@ -52,9 +38,7 @@ put_of header o h p i = let q = h.puts p i in record { accepted = (o.known, Put,
 
 pub get_of : (header : Header) (len : ℕ) (o : Offer) → offered.IsSoundOffer header o → IsCount header len o.known → AreGets header len o.batch.gets
 get_of header len o h k p i =
-    let q = h.gets p i in let long = k.long in
-    let below = end_grows header (header_len header) (needed header p) o.known (get_needed header p o.known q) in
-    record { accepted = (o.known, Get, q); there = omega arith }
+    let q = h.gets p i in grind (arith, nat_tests, end_grows header (header_len header) (needed header p) o.known (get_needed header p o.known q), get_needed header p o.known q, accepted)
 
 pub ranked_puts : (header : Header) (r : ℕ) (posts : List Post) → ((p : Post) → In posts p → IsPut header p) → ArePuts header (map (λ p. (r, p)) posts)
 ranked_puts header r [] h p i = absurd i
@@ -90,6 +74,4 @@ pub solo_count : (s : Setting) (r before mid len n : ℕ) (o : Offer) (end : Put
 solo_count s r before mid len n o end h sound k l same e long is =
     let f = needed_solo s r o.batch.puts end e in
     let room : end_for s (needed_after s.header o.batch.puts end) ≤ len = subst (λ (m : ℕ). end_for s m ≤ len) (sym f) (omega arith) in
-    subst (λ (m : ℕ). IsCount s.header len m) (sym is)
-    (count_max s.header len o.known (needed_after s.header o.batch.puts end) (count_longer s.header before len o.known (omega arith) k)
-    (needed_risen s.header len o.batch.puts end h (put_of s.header o sound) room))
+    grind (arith, nat_tests, count_max s.header len o.known (needed_after s.header o.batch.puts end), count_longer s.header before len o.known, needed_risen s.header len o.batch.puts end h (put_of s.header o sound) room, put_of s.header o sound, needed_after)

@@ -1,5 +1,5 @@
 -- A meeting of the serial run, by the offers that the runners hold.
-use Rattle.turn_run.proofs.Words.{◌≡◌, ℕ, suc, ◌+◌, refl, sym, ◌∙◌, ap, subst, List, [], ◌∷◌, ◌++◌, length, map, max, Option, Some, None, arith, append-nil, slice_get, flat_map, zip, nat_lt, IfSome, enumerate_from, Pair, Header, Batch, Post, Call, Hints, DiskCall, Mark, Meet, Offer, Reply, after, with_end, needed_now, collective_windows, get_bytes, gets_of, loads, meeting_calls, put_calls, store_records, Counted, Setting, after_puts, get_post, meeting, puts_of, raised, told, advance, offers_of, Puts, counted, gets_in, puts_in, puts_of_batch, reply_of, HasHeard, heard, step_to, Arrived, IsLike, gots_long, meets_like, AllTell, wanted, arrived, arrived_all, stage, HasLed, Leads, LeadsAlike, batches_of, held_offers, known_of, met, met_calls, Runner, value_of_some, if_some_at, map_map, raised_records, all_between, between, entry_below, hears, slice_get_within}
+use Rattle.turn_run.proofs.Words.{◌≡◌, ℕ, suc, ◌+◌, refl, sym, ◌∙◌, ap, List, [], ◌∷◌, ◌++◌, length, map, max, Option, Some, None, arith, append-nil, slice_get, flat_map, zip, IfSome, enumerate_from, Pair, Header, Batch, Post, Call, Hints, DiskCall, Mark, Meet, Offer, Reply, after, with_end, needed_now, gets_of, meeting_calls, Counted, Setting, after_puts, get_post, meeting, puts_of, raised, told, advance, offers_of, Puts, counted, gets_in, puts_in, puts_of_batch, reply_of, HasHeard, heard, step_to, Arrived, gots_long, meets_like, AllTell, wanted, arrived_all, stage, HasLed, Leads, LeadsAlike, batches_of, held_offers, known_of, met, met_calls, Runner, value_of_some, if_some_at, map_map, raised_records, all_between, entry_below, hears, slice_get_within, nat_tests}
 use Rattle.turn_run.proofs.AloneLaws.{arrived_held}
 use Rattle.turn_run.proofs.MeetOffers.{held_first, AllHold}
 use Rattle.turn_run.proofs.RunnerLaws.{heard_runner}
@@ -17,17 +17,13 @@ gets_same (o ∷ offers) = ap (λ (gets : List Post). o.batch.gets ++ gets) (get
 
 pub met_is : (s : Setting) (offers : List Offer) (batches : List Batch) (known : ℕ) (c : Counted) → batches ≡ batches_of offers → known ≡ known_of offers
     → (meeting s offers c).0 ≡ met s batches known c
-met_is s offers batches known c e f =
-    ap (λ (puts : Puts). raised s (counted (after_puts s puts (told s puts) c.file) c.records) (max (needed_now s puts) (known_of offers))) (puts_same 0 offers)
-    ∙ (λ i. met s (sym e i) (sym f i) c)
+met_is s offers batches known c e f = grind (arith, nat_tests, raised s, told s, puts_same 0 offers)
 
 pub met_calls_are : (hints : Hints) (s : Setting) (offers : List Offer) (batches : List Batch) (known : ℕ) (c : Counted) → batches ≡ batches_of offers → known ≡ known_of offers
     → meeting_calls hints s offers c ≡ met_calls hints s batches known c
 met_calls_are hints s offers batches known c e f =
     let puts = puts_same 0 offers ∙ ap puts_in (sym e) in let gets = gets_same offers ∙ ap gets_in (sym e) in
-    let file = met_is s offers batches known c e f in
-    λ i. put_calls s (collective_windows hints) (puts i) (length c.file) ++ store_records s (nat_lt c.records (file i).records)
-    ++ flat_map loads (collective_windows hints (get_bytes s (gets i)))
+    grind (arith, nat_tests, met_is, c.file, c.records, flat_map)
 
 -- ---- the replies
 
@@ -72,11 +68,7 @@ done_behind d = record { long = omega arith; wide = omega arith; each = λ r x y
 pub between_done : (header : Header) (pair : Option Pair) (n : ℕ) (calls : List (List Call)) (runners now : List Runner) (table : List (List (List ℕ))) → HaveDone header pair n runners now table
     → map (λ p. hears header p.0.0 p.1) (zip (arrived_all header calls runners) (map (reply_of pair n) table)) ≡ all_between calls now
 between_done header pair n (own ∷ calls) (a ∷ runners) (b ∷ now) (blobs ∷ table) d =
-    let first = d.each 0 a b blobs refl refl refl in let reply = reply_of pair n blobs in
-    let one : hears header (arrived header own a).0 reply ≡ between own b =
-    ap (λ (x : Arrived). hears header x.0 reply) (arrived_held header own a first.0 first.1.held) ∙ sym (heard_runner header own a b reply first.1.of_header first.1.heard) in
-    let others = between_done header pair n calls runners now table (done_behind d) in
-    λ i. one i ∷ others i
+    let first = d.each 0 a b blobs refl refl refl in grind (arith, nat_tests, arrived_held, heard_runner, between_done header pair n calls runners now table (done_behind d), done_behind)
 between_done header pair n [] runners now table d = refl
 between_done header pair n (own ∷ calls) [] [] table d = refl
 between_done header pair n calls runners now table d = absurd (omega arith)
@@ -118,8 +110,7 @@ met_count s batches known file r = raised_records s (counted (after_puts s (puts
 
 pub meet_at : (s : Setting) {calls : List (List Call)} {runners : List Runner} {batches : List Batch} {known : ℕ} (k : ℕ) (c : Counted) → IsTaken calls runners batches known
     → met s batches known c ≡ (step_to s (c, arrived_all s.header calls runners) (Meet k)).0
-meet_at s {calls} {runners} {batches} {known} k c t =
-    sym (ap (λ (os : List Offer). (meeting s os c).0) (offers_are s.header calls runners t.long t.hold) ∙ met_is s (held_offers runners) batches known c t.offered t.most)
+meet_at s {calls} {runners} {batches} {known} k c t = grind (arith, nat_tests, offers_are, met_is, met, step_to, arrived_all)
 
 -- the replies, where the offers that the runners hold are those of the ranks
 pub replies_of : {s : Setting} {calls : List (List Call)} {runners : List Runner} {batches : List Batch} {known r n : ℕ} {file : List ℕ} {left : Option (List ℕ)} {pair : Option Pair} {table : List (List (List ℕ))}
@@ -134,10 +125,7 @@ pub step_over : {s : Setting} {calls : List (List Call)} {runners now : List Run
     → IsTaken calls runners batches known → HaveDone s.header pair n runners now table → HasGiven s batches known r n (Some file) left pair table
     → step_to s (counted file r, arrived_all s.header calls runners) (Meet k) ≡ (counted (met s batches known (counted file r)).file n, arrived_all s.header calls now)
 step_over {s} {calls} {runners} {now} {batches} {known} {r} {n} {file} {left} {pair} {table} k t d h =
-    let ranks = arrived_all s.header calls runners in let c = counted file r in
-    let replies = replies_of t h in let count = h.count ∙ sym (met_count s batches known file r) in
-    let done = ranks_done s.header pair n calls runners now table d in
-    (λ i. (sym (meet_at s k c t) i, map (heard s.header) (zip ranks (replies i)))) ∙ (λ i. (counted (met s batches known c).file (sym count i), done i))
+    grind (arith, nat_tests, replies_of t h, met_count s batches known file r, ranks_done s.header pair n calls runners now table d, meet_at s k (counted file r) t)
 
 -- the replies of a meeting over any file tell what these tell, but for the bytes of the gets
 tells_table : (s : Setting) (one pair : Option Pair) (m n : ℕ) (file : List ℕ) (offers : List Offer) (table : List (List (List ℕ))) → one ≡ pair → m ≡ n
@@ -145,8 +133,7 @@ tells_table : (s : Setting) (one pair : Option Pair) (m n : ℕ) (file : List �
     → AllTell (map (λ (o : Offer). reply_of one m (map (get_post s file) o.batch.gets)) offers) (map (reply_of pair n) table)
 tells_table s one pair m n file [] [] e f fits = tt
 tells_table s one pair m n file (o ∷ offers) (blobs ∷ table) e f fits =
-    let head : map (λ (blob : List ℕ). length blob) blobs ≡ map (wanted s.header) o.batch.gets = cc in
-    (record { pair = e; records = f; lengths = gots_long s file o.batch.gets ∙ sym head }, tells_table s one pair m n file offers table e f cc)
+    grind (arith, nat_tests, gots_long, tells_table s one pair m n file offers table e f cc, reply_of)
 tells_table s one pair m n file offers table e f fits = absurd cc
 
 -- the lengths of the bytes that the gets of a meeting give
@@ -160,15 +147,12 @@ meeting_alike s {calls} {runners} {now} {batches} {known} {r} {n} k {pair} {tabl
     let offers = offers_are s.header calls runners t.long t.hold in let held = held_offers runners in
     let c = stand.0 in
     let records_is : (meeting s held c).0.records ≡ n =
-    ap (λ (x : Counted). x.records) (met_is s held batches known c t.offered t.most) ∙ met_count s batches known c.file c.records
-    ∙ ap (λ (j : ℕ). max j (max (needed_now s (puts_in batches)) known)) like.records ∙ sym count in
+    grind (arith, nat_tests, met_is, met_count, like.records, puts_in) in
     let both : told s (flat_map puts_of (enumerate_from 0 held)) ≡ pair = ap (told s) (puts_same 0 held ∙ ap puts_in (sym t.offered)) ∙ sym shared in
     let tells : AllTell (meeting s held c).1 (map (reply_of pair n) table) =
     tells_table s (told s (flat_map puts_of (enumerate_from 0 held))) pair (meeting s held c).0.records n (meeting s held c).0.file held table both records_is
     (fits ∙ ap (λ (bs : List Batch). map (λ (b : Batch). map (wanted s.header) b.gets) bs) t.offered) in
-    subst (λ (to : List Arrived). IsLike (step_to s stand (Meet k)) n to) (ranks_done s.header pair n calls runners now table d)
-    (meets_like s stand k r n (arrived_all s.header calls runners) (map (reply_of pair n) table) like (ap (λ (os : List Offer). (meeting s os c).0.records) offers ∙ records_is)
-    (subst (λ (os : List Offer). AllTell (meeting s os c).1 (map (reply_of pair n) table)) (sym offers) tells))
+    grind (arith, nat_tests, ranks_done s.header pair n calls runners now table d, meets_like s stand k r n (arrived_all s.header calls runners) (map (reply_of pair n) table) like, step_to, arrived_all, reply_of)
 
 pub meeting_led : {hints : Hints} {s : Setting} {order now_order : List Mark} {calls : List (List Call)} {runners now : List Runner} {batches : List Batch} {known r n : ℕ} (k : ℕ)
     {held left : Option (List ℕ)} {before made : Option (List DiskCall)} {pair : Option Pair} {table : List (List (List ℕ))}

@@ -1,5 +1,5 @@
 -- How the rank of a runner goes on.
-use Rattle.turn_run.proofs.Words.{◌≡◌, ℕ, suc, ◌+◌, ◌^◌, ◌<◌, ◌≤◌, refl, sym, ◌∙◌, ap, subst, List, [], ◌∷◌, ◌++◌, length, drop, get_or, true, false, Option, Some, None, length-append, append_assoc, arith, append-nil, slice_get, filter, Header, Call, Answer, Script, Mark, Offer, OfferKind, Reply, Want, concerns, marks, most_parts, step, hear, Going, go, advance, hears, posts_held, answered, IsOnWay, AsksAlone, posts_offered, IsSoundWant, meets_keeps, says_at, solo_keeps, comes_on, comes_to_meeting, comes_to_solo, way_answers, way_meets, way_solo, raises, IsAsked, asking, between, HasHeard, IsPlaced, IsPlacedWith, Runner, meets_quiet, drop_at, entry_read, said_at, inl, inr, ◌⊎◌}
+use Rattle.turn_run.proofs.Words.{◌≡◌, ℕ, suc, ◌+◌, ◌^◌, ◌<◌, ◌≤◌, refl, sym, ◌∙◌, ap, subst, List, [], ◌∷◌, ◌++◌, length, drop, get_or, Option, Some, None, length-append, append_assoc, arith, append-nil, slice_get, filter, Header, Call, Answer, Script, Mark, Offer, OfferKind, Reply, Want, concerns, marks, most_parts, step, hear, Going, go, advance, hears, posts_held, answered, IsOnWay, AsksAlone, posts_offered, IsSoundWant, meets_keeps, says_at, solo_keeps, comes_on, comes_to_meeting, comes_to_solo, way_answers, way_meets, way_solo, IsAsked, asking, between, HasHeard, IsPlaced, IsPlacedWith, Runner, meets_quiet, drop_at, entry_read, said_at, inl, inr, ◌⊎◌, nat_tests}
 use Rattle.nc_base.specs.declared.step.Mark.TheVariants as mark
 use Rattle.nc_base.specs.declared.step.OfferKind.TheVariants as offer
 use Rattle.nc_base.specs.declared.step.Want.TheVariants as want
@@ -56,18 +56,14 @@ next_call own answers n c e l g = subst (λ (k : ℕ). slice_get own k ≡ Some 
 -- at the end of its calls it is where it has gone up to
 pub advance_ended : (header : Header) (own : List Call) (rank : machine.Rank) (answers : List Answer) → drop (length answers) own ≡ []
     → advance header (at own rank answers) ≡ (at own rank answers, None)
-advance_ended header own rank answers e =
-    let f = sym e in
-    ap (λ (cs : List Call). go header rank answers cs) e ∙ (λ i. (record { rank = rank; answers = answers; calls = f i }, None))
+advance_ended header own rank answers e = grind (arith, nat_tests)
 
 -- ---- what it hears
 
 pub heard_runner : (header : Header) (own : List Call) (before now : Runner) (reply : Reply) → before.rank.header ≡ header → HasHeard before now reply
     → between own now ≡ hears header (asking own before) reply
 heard_runner header own before now reply e h =
-    let said : (now.rank.state, h.answer) ≡ hear header before.rank.state reply = h.heard ∙ ap (λ (k : Header). hear k before.rank.state reply) e in
-    sym (answered_is own before.rank.state now.rank.state before.answers now.answers h.answer h.answers)
-    ∙ ap (λ (p : machine.Rank × Answer). answered (at own before.rank.state before.answers) p.0 p.1 (drop (suc (length before.answers)) own)) said
+    grind (arith, nat_tests, answered_is own before.rank.state now.rank.state before.answers now.answers h.answer h.answers)
 
 -- it is on its way after a solo step
 pub alone_heard : (script : Script) (header : Header) (order : List Mark) (r : ℕ) (own : List Call) (before now : Runner) (o : Offer) (reply : Reply) → before.rank.header ≡ header
@@ -98,11 +94,7 @@ alone_done script header order r s o reply asks =
 
 pub placed_rest : (script : Script) (header : Header) (order : List Mark) (r : ℕ) (s : Going) (held : Option Offer) → IsPlaced script header order r s held → HasRest script order r
 placed_rest script header order r s None w = way_rest script order r s None w
-placed_rest script header order r s (Some o) w = by_kind o.kind w
-  where
-    by_kind : (k : OfferKind) → IsPlacedWith script header order r (s, o) k → HasRest script order r
-    by_kind offer.Solo h = alone_rest script header order r s o h
-    by_kind (offer.Meet kind) h = way_rest script order r s (Some o) h
+placed_rest script header order r s (Some o) w = grind (arith, nat_tests, alone_rest, way_rest, HasRest)
 
 -- ---- the offer that the rank makes at its next call
 
@@ -127,33 +119,20 @@ makes_offer script header same r own rank next answers o c w e said g posts soun
     let says = says_at header rank c (next, want.Meet o) step in let rest = drop (suc (length answers)) own in
     record {
       known = kept.0;
-      asked = record {
-        sound = sound_at header same w (want.Meet o) e is sound;
-        told = kept.1.0 ∙ sym kept.0;
-        few = few_at w (want.Meet o) (posts_held rank) is few room;
-        one = meets_quiet header rank next c o step;
-      };
+      asked = grind (arith, nat_tests, sound_at, few_at, meets_quiet, step, kept.1.0, kept.0);
       placed = λ order way. subst (λ (k : OfferKind). IsPlacedWith script header order r (at_call own next answers, o) k) (sym says.meets)
           (way_meets script order r header (at own rank answers) next o c rest way (drop_at own (length answers) c g) step posts);
       advanced = comes_to_meeting header (at own rank answers) (at own rank answers) next o c rest refl (drop_at own (length answers) c g) step;
     }
 makes_offer script header same r own rank next answers o c w e said g posts sound few room (inr is) =
-    let step = said_at header same rank next c w (want.Solo o) e said is in let kept = solo_keeps header rank next c o step in
-    let says = says_at header rank c (next, want.Solo o) step in let rest = drop (suc (length answers)) own in
-    record {
-      known = kept.1.0;
-      asked = record {
-        sound = sound_at header same w (want.Solo o) e is sound;
-        told = kept.1.1.0 ∙ sym kept.1.0;
-        few = few_at w (want.Solo o) (posts_held rank) is few room;
-        one = λ raised. let f : false ≡ true = sym (ap raises kept.0) ∙ raised in absurd cc;
-      };
-      placed = λ order way. subst (λ (k : OfferKind). IsPlacedWith script header order r (at_call own next answers, o) k) (sym says.is_solo) (record {
-        before = rank;
-        call = c;
-        way = subst (λ (cs : List Call). IsOnWay script order r (record { rank = rank; answers = answers; calls = cs }) None) (drop_at own (length answers) c g) way;
-        step = step;
-        few = posts;
-      });
-      advanced = comes_to_solo header (at own rank answers) (at own rank answers) next o c rest refl (drop_at own (length answers) c g) step;
-    }
+    grind (
+      arith,
+      nat_tests,
+      said_at header same rank next c w (want.Solo o) e said is,
+      solo_keeps header rank next c o (said_at header same rank next c w (want.Solo o) e said is),
+      says_at header rank c (next, want.Solo o) (said_at header same rank next c w (want.Solo o) e said is),
+      sound_at header same w (want.Solo o) e is sound,
+      few_at w (want.Solo o) (posts_held rank) is few room,
+      drop_at own (length answers) c g,
+      comes_to_solo header (at own rank answers) (at own rank answers) next o c (drop (suc (length answers)) own),
+    )

@@ -1,5 +1,5 @@
 -- The answers of ranks that a fault cut off.
-use Rattle.turn_run.proofs.Words.{inl, inr, IfSome_then, ◌≡◌, ℕ, suc, ◌<◌, ◌≤◌, ◌≢◌, refl, sym, ◌∙◌, ap, subst, List, [], ◌∷◌, ◌++◌, length, map, set, Bool, true, false, cond, Option, Some, None, length-append, append_assoc, arith, nat_tests, fold-append, append-nil, append_cancel_left, filter-append, same_Some, slice_get_within, slice_get, fold, filter, ◌==◌, IfSome, Answer, Header, Call, Hints, Script, DiskCall, Mark, Meet, Solo, Offer, Reply, StepErr, Disk, Memory, Setting, Counted, solo, concerns, hear, Going, advance, after_mark, hears, solo_of, Begins, HasAnswers, counted, Arrived, Stand, step_to, point, HasSaid, SaysAt, AllSay, HasReached, AreAnswers, HaveAnswers, all_between, between, calls_of, AreFree, HasArrived, Stage, IsLed, HasGone, HasLed, IsGrownBy, arrived, arrived_all, stage, rank_stage, Runner, if_some_at, entry_set, entry_set_other, entry_map, stand_at, state_at, gone_up, arrival_steps}
+use Rattle.turn_run.proofs.Words.{inl, inr, IfSome_then, ◌≡◌, ℕ, suc, ◌<◌, ◌≤◌, ◌≢◌, refl, sym, ◌∙◌, ap, subst, List, [], ◌∷◌, ◌++◌, length, map, set, Option, Some, None, length-append, append_assoc, arith, nat_tests, fold-append, append-nil, append_cancel_left, filter-append, same_Some, slice_get_within, slice_get, fold, filter, IfSome, Answer, Header, Call, Hints, Script, DiskCall, Mark, Meet, Solo, Offer, Reply, StepErr, Disk, Memory, Setting, Counted, solo, concerns, hear, Going, advance, after_mark, hears, solo_of, Begins, HasAnswers, counted, Arrived, Stand, step_to, point, HasSaid, SaysAt, AllSay, HasReached, AreAnswers, HaveAnswers, all_between, between, calls_of, AreFree, HasArrived, Stage, IsLed, HasGone, HasLed, IsGrownBy, arrived, arrived_all, stage, rank_stage, Runner, if_some_at, entry_set, entry_set_other, entry_map, stand_at, state_at, gone_up, arrival_steps}
 use Rattle.run_laws.proofs.WayLaws.{others_filter as solos_beside}
 use Rattle.turn_run.proofs.AloneLaws.{arrived_free, arrived_held, step_at}
 use Rattle.turn_run.proofs.RunnerLaws.{advance_ended, answers_begin}
@@ -15,10 +15,7 @@ pub said_here : (fault : StepErr) (a : Arrived) (answers : List Answer) → answ
 said_here fault a answers e = record { begins = ([], append-nil answers ∙ e); all = λ d. let l = ap (λ (xs : List Answer). length xs) e in omega arith }
 
 pub said_part : (fault : StepErr) (a : Arrived) (answers : List Answer) → fault ≡ Memory → Begins answers a.0.answers → HasSaid fault a answers
-said_part fault a answers memory b = record { begins = b; all = λ d. absurd (not_both (sym d ∙ memory)) }
-  where
-    not_both : Disk ≡ Memory → ⊥
-    not_both e = cc
+said_part fault a answers memory b = grind (arith, nat_tests)
 
 -- where it heard its last reply
 pub begins_up : (header : Header) (g : Going) → Begins g.answers (advance header g).0.answers
@@ -39,17 +36,11 @@ said_up header Disk g answers h = (
 said_up header Memory g answers h = (h.begins, tt)
 
 pub said_between : (header : Header) (fault : StepErr) (g : Going) (answers : List Answer) → answers ≡ g.answers → HasAnswers header fault g answers
-said_between header Disk g answers e = (
-  subst (λ (xs : List Answer). Begins xs (advance header g).0.answers) (sym e) (begins_up header g),
-  (let l = ap (λ (xs : List Answer). length xs) e in omega arith),
-)
+said_between header Disk g answers e = grind (arith, nat_tests, begins_up header g)
 said_between header Memory g answers e = (subst (λ (xs : List Answer). Begins xs (advance header g).0.answers) (sym e) (begins_up header g), tt)
 
 pub arrived_said : (header : Header) (own : List Call) (runner : Runner) → HasArrived own runner → (arrived header own runner).0.answers ≡ runner.answers
-arrived_said header own runner h = elim (some_or_none runner.held) [
-  | inl e ↦ ap (λ (a : Arrived). a.0.answers) (arrived_free header own runner e ∙ advance_ended header own runner.rank.state runner.answers (h.ended e))
-  | inr o ↦ ap (λ (a : Arrived). a.0.answers) (arrived_held header own runner o.0 o.1)
-]
+arrived_said header own runner h = grind (arith, nat_tests, some_or_none, arrived_free, advance_ended, arrived_held, arrived)
 
 pub says_here : (r : ℕ) (fault : StepErr) (answers : List Answer) (from : Arrived) (c : Counted) (ranks : List Arrived) → slice_get ranks r ≡ Some from → HasSaid fault from answers
     → SaysAt r fault answers (c, ranks)
@@ -58,10 +49,7 @@ says_here r fault answers from c ranks e h a g = subst (λ (x : Arrived). HasSai
 -- the answers of a rank that went on through its calls, and was cut off
 pub part_arrived : (header : Header) (own all : List Call) (old : Runner) (answers : List Answer) → own ≡ all → old.held ≡ None
     → (rest : List Answer) × (answers ++ rest ≡ (advance header (between own old)).0.answers) → Begins answers (arrived header all old).0.answers
-part_arrived header own all old answers e free (rest, h) = (
-  rest,
-  h ∙ ap (λ (cs : List Call). (advance header (between cs old)).0.answers) e ∙ sym (ap (λ (a : Arrived). a.0.answers) (arrived_free header all old free)),
-)
+part_arrived header own all old answers e free (rest, h) = grind (arith, nat_tests, arrived_free, arrived, between)
 
 -- ---- steps before
 
@@ -104,20 +92,12 @@ solo_beside : (s : Setting) (q r : ℕ) (c : Counted) (ranks : List Arrived) (m 
 solo_beside s q r c ranks None n = refl
 solo_beside s q r c ranks (Some a) n = entry_set_other ranks q r (advance s.header (solo_of s q c a).1) (λ e. n (sym e))
 
-not_equal : (q r : ℕ) → (q == r) ≡ false → q ≢ r
-not_equal q r h e = grind (arith, nat_tests)
-
 -- of steps that leave what is seen of rank r, where they are of another one
 beside : {X G : Type 0} (step : X → Mark → X) (see : X → G) (r : ℕ) (more : List Mark) (x : X) → ((x : X) (q n : ℕ) → q ≢ r → see (step x (Solo q n)) ≡ see x) → filter (concerns r) more ≡ []
     → see (fold step x more) ≡ see x
 beside step see r [] x one e = refl
 beside step see r (Meet k ∷ more) x one e = absurd cc
-beside {X} step see r (Solo q n ∷ more) x one e = by_test (q == r) refl e (λ next h. beside step see r more next one h)
-  where
-    by_test : (t : Bool) → (q == r) ≡ t → cond t (Solo q n ∷ filter (concerns r) more) (filter (concerns r) more) ≡ []
-        → ((next : X) → filter (concerns r) more ≡ [] → see (fold step next more) ≡ see next) → see (fold step (step x (Solo q n)) more) ≡ see x
-    by_test true t h again = absurd cc
-    by_test false t h again = again (step x (Solo q n)) h ∙ one x q n (not_equal q r t)
+beside {X} step see r (Solo q n ∷ more) x one e = grind (arith, nat_tests, beside step see r more)
 
 pub marks_beside : (s : Setting) (r : ℕ) (more : List Mark) (stand : Stand) → filter (concerns r) more ≡ [] → slice_get (fold (step_to s) stand more).1 r ≡ slice_get stand.1 r
 marks_beside s r more stand e = beside (step_to s) (λ (x : Stand). slice_get x.1 r) r more stand (λ x q n ne. solo_beside s q r x.0 x.1 (slice_get x.1 q) ne) e

@@ -1,5 +1,5 @@
 -- The answers of the ranks of a meeting, also where it was cut off.
-use Rattle.turn_run.proofs.Words.{◌≡◌, ℕ, zero, suc, ◌<◌, ◌≤◌, sym, ◌∙◌, ap, subst, inl, inr, ◌⊎◌, List, [], ◌∷◌, ◌++◌, length, map, set, true, Option, Some, append_assoc, arith, fold-append, append_cancel_left, same_Some, slice_get_within, slice_get, fold, zip, IfSome, Answer, Pair, Header, Batch, Call, Hints, Script, Mark, Meet, Offer, Reply, StepErr, Memory, Setting, Counted, meeting, Going, advance, after_mark, hears, offers_of, Begins, counted, Arrived, Stand, heard, step_to, point, HasSaid, AllSay, HasReached, AreAnswers, HaveAnswers, HaveHeardInPart, KeepAnswers, all_between, asking, between, calls_of, reply_of, AreFreed, HasHeard, HaveArrived, AreRunners, Stage, Leads, IsLed, HasLed, arrived, arrived_all, stand_of, Runner, if_some_at, entry_below, entry_map, gone_up, is_lawful, ranks_lawful, setting_of}
+use Rattle.turn_run.proofs.Words.{◌≡◌, ℕ, zero, suc, ◌<◌, ◌≤◌, sym, ◌∙◌, ap, subst, inl, inr, ◌⊎◌, List, [], ◌∷◌, ◌++◌, length, map, set, true, Option, Some, append_assoc, arith, fold-append, append_cancel_left, same_Some, slice_get_within, slice_get, fold, zip, IfSome, Answer, Pair, Header, Batch, Call, Hints, Script, Mark, Meet, Offer, Reply, StepErr, Memory, Setting, Counted, meeting, Going, advance, after_mark, hears, offers_of, Begins, counted, Arrived, Stand, heard, step_to, point, HasSaid, AllSay, HasReached, AreAnswers, HaveAnswers, HaveHeardInPart, KeepAnswers, all_between, asking, between, calls_of, reply_of, AreFreed, HasHeard, HaveArrived, AreRunners, Stage, Leads, IsLed, HasLed, arrived, arrived_all, stand_of, Runner, if_some_at, entry_below, entry_map, gone_up, is_lawful, ranks_lawful, setting_of, nat_tests}
 use Rattle.turn_run.proofs.AloneLaws.{arrived_held}
 use Rattle.turn_run.proofs.MeetDone.{heard_before}
 use Rattle.turn_run.proofs.MeetOffers.{meets_at}
@@ -16,10 +16,7 @@ pub all_say_here : (script : Script) (header : Header) (fault : StepErr) (runner
     → HaveArrived script runners → KeepAnswers runners now → AllSay fault now (c, arrived_all header script.calls runners)
 all_say_here script header fault runners now c long same come kept r b k a g =
     let within : r < length runners = (let l = slice_get_within now r b k in omega arith) in
-    let was = entry_below runners r within in
-    let is : arrived header (calls_of script r) was.0 ≡ a =
-    same_Some _ _ (sym (arrived_at script header runners r was.0 long was.1) ∙ g) in
-    said_here fault a b.answers (kept r was.0 b was.1 k ∙ sym (arrived_said header (calls_of script r) was.0 (come r was.0 was.1)) ∙ ap (λ (x : Arrived). x.0.answers) is)
+    grind (arith, nat_tests, entry_below runners r within, arrived_at script header runners r (entry_below runners r within).0 long (entry_below runners r within).1, said_here fault a b.answers, arrived_said header (calls_of script r) (entry_below runners r within).0)
 
 pub all_reached_here : {script : Script} {header : Header} {len : ℕ} {fault : StepErr} {before now_order : List Mark} {held : Option (List ℕ)} {records : ℕ} {runners : List Runner} (now : List Runner)
     → is_lawful script ≡ true → AreRunners script header len before runners → length now ≡ length runners → HaveArrived script runners → KeepAnswers runners now → now_order ≡ before
@@ -30,9 +27,6 @@ all_reached_here {script} {header} {fault} {before} {now_order} {held} {records}
 
 pub keep_own : (runners : List Runner) → KeepAnswers runners runners
 keep_own runners r a b e f = ap (λ (x : Runner). x.answers) (sym (same_Some a b (sym e ∙ f)))
-
-pub keep_freed : (runners now : List Runner) → AreFreed runners now → KeepAnswers runners now
-keep_freed runners now f r a b e g = (f.each r a b e g).answers
 
 -- of those before one element it is known, and those after it are as they were
 at_part : (P : ℕ → Runner → Runner → Type 0) (old now : List Runner) (i : ℕ) (was new : Runner) → slice_get now i ≡ Some was
@@ -82,8 +76,7 @@ pub part_of_freed : (pair : Option Pair) (n : ℕ) (table : List (List (List ℕ
     → HaveHeardInPart pair n table runners now
 part_of_freed pair n table runners mid now long freed part r a b blobs e g t =
     let m = entry_below mid r (let l = slice_get_within runners r a e in omega arith) in
-    let free = freed.each r a m.0 e m.1 in
-    elim (part r m.0 b blobs m.1 g t) [ inl q ↦ inl (q ∙ free.answers) | inr q ↦ inr (heard_before m.0 a b (reply_of pair n blobs) free.rank free.answers q) ]
+    grind (arith, nat_tests, heard_before m.0 a b (reply_of pair n blobs) (freed.each r a m.0 e m.1).rank)
 
 pub reached_deaf : {script : Script} {header : Header} {len : ℕ} {fault : StepErr} {order now_order : List Mark} {runners : List Runner} (now : List Runner) {batches : List Batch} {known r n : ℕ} (k : ℕ) {s : Setting}
     {held left : Option (List ℕ)} {pair : Option Pair} {table : List (List (List ℕ))} → s.header ≡ header → fault ≡ Memory → now_order ≡ order ++ Meet k ∷ []

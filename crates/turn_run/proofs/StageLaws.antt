@@ -1,5 +1,5 @@
 -- Stages: steps one after another.
-use Rattle.turn_run.proofs.Words.{IfSome_then, ◌≡◌, ℕ, refl, sym, ◌∙◌, ap, subst, List, [], ◌++◌, Option, Some, None, append_assoc, append-nil, fold-append, fold, IfSome, Hints, Mark, DiskCall, with_end, Setting, calls_over, step_to, Arrived, Stand, IsLike, stage, stand_of, HasLed, IsLed, Leads, LeadsAlike, Stage, with_end-with_end, with_end-nil, if_some_at, HasGone, rank_stage, set, slice_get}
+use Rattle.turn_run.proofs.Words.{IfSome_then, ◌≡◌, ℕ, refl, sym, ◌∙◌, ap, subst, List, [], ◌++◌, Option, Some, None, append_assoc, append-nil, fold-append, fold, IfSome, Hints, Mark, DiskCall, with_end, Setting, calls_over, step_to, Arrived, Stand, IsLike, stage, stand_of, HasLed, IsLed, Leads, LeadsAlike, Stage, with_end-with_end, with_end-nil, if_some_at, HasGone, rank_stage, set, slice_get, arith, nat_tests}
 use Rattle.run_laws.proofs.ArrivalLaws.{calls_split}
 
 -- ---- steps one after another
@@ -18,10 +18,7 @@ led_then hints s marks more a b c first second = IfSome_then a.held first (λ fi
       left = next.left;
       told = next.told;
       state = fold-append (step_to s) (stand_of file a) marks more ∙ ap (λ (stand : Stand). fold (step_to s) stand more) h.state ∙ next.state;
-      calls = next.calls ∙ ap (λ (told : Option (List DiskCall)). with_end told (calls_over hints s (stand_of h.left b) more)) h.calls
-          ∙ with_end-with_end a.calls (calls_over hints s (stand_of file a) marks) (calls_over hints s (stand_of h.left b) more)
-          ∙ ap (λ (stand : Stand). with_end a.calls (calls_over hints s (stand_of file a) marks ++ calls_over hints s stand more)) (sym h.state)
-          ∙ ap (λ (cs : List DiskCall). with_end a.calls cs) (sym (calls_split hints s (stand_of file a) marks more));
+      calls = grind (arith, nat_tests, with_end-with_end, calls_split, next.calls, h.left, h.calls, h.state, with_end, calls_over, stand_of);
     })
 
 pub alike_then : (s : Setting) (marks more : List Mark) (n m k : ℕ) (from mid to : List Arrived) → LeadsAlike s marks n from m mid → LeadsAlike s more m mid k to

@@ -1,5 +1,5 @@
 -- What is told of steps, one after another, and of a whole run.
-use Rattle.turn_run.proofs.Words.{IfSome_then, ◌≡◌, ◌+◌, ℕ, refl, sym, ◌∙◌, ap, subst, List, [], ◌∷◌, ◌++◌, length, map, max, replicate, set, take, true, Option, Some, None, append_assoc, length-append, arith, append-nil, append_cancel_left, map-append, fold-append, slice_get, fold, enumerate_from, Header, Batch, Call, Hints, Script, DiskCall, Mark, Meet, Solo, Offer, with_end, needed_now, Counted, Setting, is_lawful, told_of, Going, after_mark, first_state, setting_of, counted, puts_in, step_to, Arrived, Stand, point, arrived_all, stand_of, HasGone, HasLed, IsLed, Stage, rank_stage, first_runner, counts_along, told_marks, told_over, HasTold, HasToldMore, Runner, entry_set, with_end-with_end, with_end-nil, gone_up, arrival_step, if_some_at, take-append_seam}
+use Rattle.turn_run.proofs.Words.{IfSome_then, ◌≡◌, ◌+◌, ℕ, refl, sym, ◌∙◌, ap, subst, List, [], ◌∷◌, ◌++◌, length, map, max, replicate, set, take, true, Option, Some, None, append_assoc, length-append, arith, append-nil, append_cancel_left, map-append, fold-append, slice_get, fold, enumerate_from, Header, Batch, Call, Hints, Script, DiskCall, Mark, Meet, Solo, Offer, with_end, needed_now, Counted, Setting, is_lawful, told_of, Going, after_mark, first_state, setting_of, counted, puts_in, step_to, Arrived, Stand, point, arrived_all, stand_of, HasGone, HasLed, IsLed, Stage, rank_stage, first_runner, counts_along, told_marks, told_over, HasTold, HasToldMore, Runner, entry_set, with_end-with_end, with_end-nil, gone_up, arrival_step, if_some_at, take-append_seam, nat_tests}
 use Rattle.turn_run.proofs.CutLaws.{solo_at}
 use Rattle.turn_run.proofs.StageLaws.{some_each, gone_beside}
 use Rattle.turn_run.proofs.MeetStep.{meet_at, met_count, IsTaken}
@@ -23,19 +23,13 @@ marks_ended (Some front) more = ap (λ (ms : List Mark). Some ms) (map-append (�
 told_one : (s : Setting) (m : Mark) (count : ℕ) (held : Option (List ℕ)) (records : ℕ) (ranks : List Arrived) (before now : List Mark) (told heard : Option (List (Mark × ℕ)))
     → now ≡ before ++ m ∷ [] → heard ≡ with_end told ((m, count) ∷ []) → ((file : List ℕ) → (step_to s (counted file records, ranks) m).0.records ≡ count)
     → HasToldMore s (point before held records) ranks now told heard
-told_one s m count held records ranks before now told heard e f after = record {
-  more = m ∷ [];
-  grown = e;
-  marks = ap told_marks f ∙ marks_ended told ((m, count) ∷ []);
-  counts = some_each held (λ file there. f ∙ ap (λ (n : ℕ). with_end told ((m, n) ∷ [])) (sym (after file)));
-}
+told_one s m count held records ranks before now told heard e f after = grind (arith, nat_tests, marks_ended, some_each, point, with_end)
 
 -- a solo step, which leaves the count of the file
 pub told_alone : (s : Setting) (r n : ℕ) (held : Option (List ℕ)) (records : ℕ) (before now : List Mark) (told heard : Option (List (Mark × ℕ))) (t : Going) (o : Offer)
     → now ≡ before ++ Solo r n ∷ [] → heard ≡ with_end told ((Solo r n, records) ∷ [])
     → (ranks : List Arrived) → slice_get ranks r ≡ Some (t, Some o) → HasToldMore s (point before held records) ranks now told heard
-told_alone s r n held records before now told heard t o e f ranks at = told_one s (Solo r n) records held records ranks before now told heard e f
-    (λ file. ap (λ (c : Counted). c.records) (sym (solo_at s r n (counted file records) ranks t o at)))
+told_alone s r n held records before now told heard t o e f ranks at = grind (arith, nat_tests, told_one, solo_at, point, counted)
 
 pub told_meeting : {s : Setting} (k : ℕ) {held : Option (List ℕ)} {calls : List (List Call)} {runners : List Runner} {batches : List Batch} {known r n : ℕ} {before now : List Mark}
     {told heard : Option (List (Mark × ℕ))} → IsTaken calls runners batches known → now ≡ before ++ Meet k ∷ [] → heard ≡ with_end told ((Meet k, n) ∷ [])
@@ -62,11 +56,7 @@ told_then hints s before now later a b told heard last first led second = record
       let front = told_over s (stand_of file a) first.more in
       let state : fold (step_to s) (stand_of file a) first.more ≡ stand_of l.left b =
       subst (λ (ms : List Mark). fold (step_to s) (stand_of file a) ms ≡ stand_of l.left b) (append_cancel_left before led.more first.more (sym led.grown ∙ first.grown)) l.state in
-      if_some_at (λ (f : List ℕ). last ≡ with_end heard (told_over s (stand_of f b) second.more)) b.held l.left l.told second.counts
-      ∙ ap (λ (h : Option (List (Mark × ℕ))). with_end h (told_over s (stand_of l.left b) second.more)) (if_some_at (λ (f : List ℕ). heard ≡ with_end told (told_over s (stand_of f a) first.more)) a.held file there first.counts)
-      ∙ with_end-with_end told front (told_over s (stand_of l.left b) second.more)
-      ∙ ap (λ (stand : Stand). with_end told (front ++ told_over s stand second.more)) (sym state)
-      ∙ ap (λ (ts : List (Mark × ℕ)). with_end told ts) (sym (told_split s (stand_of file a) first.more second.more)));
+      grind (arith, nat_tests, if_some_at, with_end-with_end told front (told_over s (stand_of l.left b) second.more), told_split s (stand_of file a) first.more second.more, b.held, l.told, second.counts, a.held, first.counts, with_end, told_over, stand_of));
 }
 
 -- one rank's steps, and then others of it
@@ -105,11 +95,7 @@ told_along script header file order = along (after_mark (setting_of script heade
 
 counts_up : (s : Setting) (state : Counted × List Going) (order : List Mark) → counts_along (after_mark s) (λ u. u.0.records) state order ≡ told_over s (gone_up s state) order
 counts_up s state [] = refl
-counts_up s state (m ∷ order) =
-    let up = sym (arrival_step s state m) in
-    let first : (after_mark s state m).0.records ≡ (step_to s (gone_up s state) m).0.records = ap (λ (stand : Stand). stand.0.records) up in
-    let others = counts_up s (after_mark s state m) order ∙ ap (λ (stand : Stand). told_over s stand order) up in
-    λ i. (m, first i) ∷ others i
+counts_up s state (m ∷ order) = grind (arith, nat_tests, arrival_step s state m, counts_up s (after_mark s state m) order)
 
 told_from_first : (script : Script) (header : Header) (file : List ℕ) (records : ℕ) (runners : List Runner) (order : List Mark) → is_lawful script ≡ true
     → records ≡ header.records → runners ≡ replicate script.ranks (first_runner header records)
@@ -120,10 +106,7 @@ told_from_first script header file records runners order lawful e first =
 
 -- before the first step
 pub told_nothing : (script : Script) (header : Header) (held : Option (List ℕ)) (told : Option (List (Mark × ℕ))) (order : List Mark) → order ≡ [] → HasTold script header held told told order
-told_nothing script header held told order e = subst (λ (ms : List Mark). HasTold script header held told told ms) (sym e) (record {
-  marks = sym (with_end-nil (told_marks told));
-  counts = some_each held (λ file there. sym (with_end-nil told));
-})
+told_nothing script header held told order e = grind (arith, nat_tests, with_end-nil, some_each, told_marks)
 
 pub told_whole : (script : Script) (header : Header) (held : Option (List ℕ)) (records : ℕ) (runners : List Runner) (none made order : List Mark) (told heard : Option (List (Mark × ℕ)))
     → is_lawful script ≡ true → records ≡ header.records → runners ≡ replicate script.ranks (first_runner header records) → none ≡ [] → order ≡ made

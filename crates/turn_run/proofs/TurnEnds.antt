@@ -1,5 +1,5 @@
 -- When all ranks have met, or have ended.
-use Rattle.turn_run.proofs.Words.{inl, inr, ◌≡◌, ℕ, zero, suc, ◌+◌, ◌<◌, refl, sym, ◌∙◌, ap, subst, List, [], ◌∷◌, ◌++◌, length, map, drop, true, Option, Some, None, arith, slice_get, is_some, same_Some, slice_get_within, Header, Call, Answer, Script, Mark, Meet, Offer, OfferKind, IsLegal, is_lawful, most_calls, Going, meetings, IsOnWay, ranks_lawful, order_legal, together_all, together_number, meetings_met, all_between, asking, between, calls_of, going_of, AreFree, AreRunners, HasArrived, HaveArrived, HaveMet, IsMet, IsPlaced, IsPlacedWith, Arrived, arrived, arrived_all, Runner, entry_below, some_rank}
+use Rattle.turn_run.proofs.Words.{inl, inr, ◌≡◌, ℕ, zero, suc, ◌+◌, ◌<◌, refl, sym, ◌∙◌, ap, subst, List, [], ◌∷◌, ◌++◌, length, map, drop, true, Option, Some, None, arith, slice_get, is_some, same_Some, slice_get_within, Header, Call, Answer, Script, Mark, Meet, Offer, OfferKind, IsLegal, is_lawful, most_calls, Going, meetings, IsOnWay, ranks_lawful, order_legal, together_all, together_number, meetings_met, all_between, asking, between, calls_of, going_of, AreFree, AreRunners, HasArrived, HaveArrived, HaveMet, IsMet, IsPlaced, IsPlacedWith, Arrived, arrived, arrived_all, Runner, entry_below, some_rank, nat_tests}
 use Rattle.nc_base.specs.declared.step.OfferKind.TheVariants as offer
 use Rattle.serial_spec.specs.RankMachine as machine
 use Rattle.turn_run.proofs.AloneLaws.{arrived_free}
@@ -30,12 +30,10 @@ comes script header len order runners a h r runner e = let is = a.each r runner 
 -- with an offer, or without
 pub holding : (script : Script) (order : List Mark) (r : ℕ) (runner : Runner) (o : Offer) → runner.held ≡ Some o → Comes script order r runner
     → IsOnWay script order r (asking (calls_of script r) runner) (Some o)
-holding script order r runner o e w =
-    subst (λ (m : Option Offer). IsOnWay script order r (elim m [ None ↦ between (calls_of script r) runner | Some x ↦ asking (calls_of script r) runner ]) m) e w
+holding script order r runner o e w = grind (arith, nat_tests)
 
 pub free : (script : Script) (order : List Mark) (r : ℕ) (runner : Runner) → runner.held ≡ None → Comes script order r runner → IsOnWay script order r (between (calls_of script r) runner) None
-free script order r runner e w =
-    subst (λ (m : Option Offer). IsOnWay script order r (elim m [ None ↦ between (calls_of script r) runner | Some x ↦ asking (calls_of script r) runner ]) m) e w
+free script order r runner e w = grind (arith, nat_tests)
 
 -- ---- all of them
 
@@ -67,8 +65,7 @@ pub next_meeting : (script : Script) (header : Header) (len : ℕ) (order : List
     → HaveArrived script runners → HaveMet runners → meetings order < most_calls
 next_meeting script header len order runners lawful a h met =
     let first = entry_below runners 0 (let k = some_rank script lawful in let l = a.all in omega arith) in
-    let o = value_of_some first.0.held (met 0 first.0 first.1) in
-    together_number script order 0 _ o.0 lawful (holding script order 0 first.0 o.0 o.1 (comes script header len order runners a h 0 first.0 first.1))
+    grind (arith, nat_tests, value_of_some first.0.held (met 0 first.0 first.1), together_number script order 0, holding script order 0 first.0 (value_of_some first.0.held (met 0 first.0 first.1)).0, comes script header len order runners a h 0 first.0 first.1)
 
 -- the number of the meeting after it
 pub met_number : (before now later : List Mark) (n k : ℕ) → n ≡ meetings before → now ≡ before ++ Meet k ∷ [] → meetings later ≡ meetings now → n + 1 ≡ meetings later
@@ -83,9 +80,7 @@ long_between calls runners e = refl
 
 pub get_between : (calls : List (List Call)) (runners : List Runner) (r : ℕ) (own : List Call) (runner : Runner) → slice_get calls r ≡ Some own → slice_get runners r ≡ Some runner
     → slice_get (all_between calls runners) r ≡ Some (between own runner)
-get_between (c ∷ calls) (s ∷ runners) zero own runner e f =
-    let a : c ≡ own = same_Some c own e in let b : s ≡ runner = same_Some s runner f in
-    λ i. Some (between (a i) (b i))
+get_between (c ∷ calls) (s ∷ runners) zero own runner e f = grind (arith, nat_tests)
 get_between (c ∷ calls) (s ∷ runners) (suc r) own runner e f = get_between calls runners r own runner e f
 get_between calls runners r own runner e f = absurd cc
 

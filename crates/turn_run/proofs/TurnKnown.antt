@@ -1,5 +1,5 @@
 -- The greatest count that ranks know, of their runners and at their ends.
-use Rattle.turn_run.proofs.Words.{◌≡◌, ℕ, suc, ◌+◌, ◌<◌, refl, sym, ap, subst, inl, inr, List, [], ◌∷◌, length, map, take, max, true, Some, Result, Ok, Err, arith, slice_get, slice_index_or, OnOk, map_map, Header, RankEnd, RankStop, greatest, is_sound, IsCount, IsRise, most_known_of, runner_end, Runner, map_more, greatest_joined}
+use Rattle.turn_run.proofs.Words.{◌≡◌, ℕ, suc, ◌+◌, ◌<◌, refl, ap, subst, inl, inr, List, [], ◌∷◌, length, map, take, max, true, Some, Result, Ok, Err, arith, slice_get, slice_index_or, OnOk, map_map, Header, RankEnd, RankStop, greatest, is_sound, IsCount, IsRise, most_known_of, runner_end, Runner, map_more, greatest_joined, nat_tests}
 use Rattle.turn_run.proofs.CountLaws.{count_less, rise_max}
 use Rattle.list_laws.proofs.Std.{cases_lt}
 
@@ -15,9 +15,7 @@ most_rise header len (s ∷ runners) h =
     rise_max header len s.rank.state.known (most_known runners) (inr (h 0 s refl)) (most_rise header len runners (λ r runner e. h (suc r) runner e))
 
 pub rise_sound : (header : Header) (len records n : ℕ) → is_sound header ≡ true → IsCount header len records → IsRise header len n → is_sound (record header { records = n }) ≡ true
-rise_sound header len records n sound h (inl e) =
-    let none = count_less header len records 0 sound h (omega arith) in
-    subst (λ (m : ℕ). is_sound (record header { records = m }) ≡ true) (sym e) none.sound
+rise_sound header len records n sound h (inl e) = grind (arith, nat_tests, count_less header len records 0 sound h)
 rise_sound header len records n sound h (inr k) = k.sound
 
 -- what the runners know, their ends know
@@ -31,8 +29,7 @@ pub known_more : (ends : List RankEnd) (i : ℕ) (end : RankEnd) (before now : �
     → now ≡ max before end.known → now ≡ most_known_of (take (i + 1) ends)
 known_more ends i end before now l e f h =
     let more = ap greatest (map_more (λ (x : RankEnd). x.known) ends i end l e) in
-    let both = greatest_joined (map (λ (x : RankEnd). x.known) (take i ends)) (end.known ∷ []) in
-    omega arith
+    grind (arith, nat_tests, greatest_joined, end.known, take)
 
 -- the greater of two counts that a header can have
 pub raised_sound : {T E : Type 0} (result : Result T E) (header : Header) (before known now : ℕ) → is_sound (record header { records = before }) ≡ true

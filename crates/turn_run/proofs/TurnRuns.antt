@@ -1,5 +1,5 @@
 -- The first and the last stage of a run.
-use Rattle.turn_run.proofs.Words.{IfSome_then, ◌≡◌, ℕ, ◌<◌, ◌≤◌, refl, sym, ◌∙◌, ap, subst, List, [], ◌∷◌, ◌++◌, length, map, replicate, max, true, Option, Some, None, arith, length-replicate, slice_get, nat_lt, fold, IfSome, Answer, Header, Call, Hints, Script, DiskCall, Mark, after, with_end, run_calls, store_records, Setting, raised, header_len, is_sound, marks, is_lawful, end_of, greatest, End, advance, first_going, first_state, serial_from, setting_of, close_by, counted, blank, AreAlikeEnds, IsLike, close_alike, IsOnWay, ranks_lawful, way_begins, contents_of, HasBegun, IsCount, all_between, between, calls_of, AreFree, AreRunners, HaveArrived, IsRunner, calls_over, step_to, Arrived, Stand, all_calls_over, ended_from, arrived_all, stage, HasLed, IsLed, Leads, HasClosed, first_runner, Runner, slice_get_within, raised_records, with_end-with_end, entry_replicate, gone_up, serial_of_arrivals, calls_of_arrivals, first_up}
+use Rattle.turn_run.proofs.Words.{IfSome_then, ◌≡◌, ℕ, ◌<◌, ◌≤◌, refl, sym, ◌∙◌, ap, subst, List, [], ◌∷◌, ◌++◌, length, map, replicate, max, true, Option, Some, None, arith, length-replicate, slice_get, fold, IfSome, Answer, Header, Call, Hints, Script, DiskCall, Mark, after, with_end, run_calls, Setting, raised, header_len, is_sound, marks, is_lawful, end_of, greatest, End, advance, first_going, first_state, serial_from, setting_of, close_by, counted, blank, AreAlikeEnds, IsLike, close_alike, IsOnWay, ranks_lawful, way_begins, contents_of, HasBegun, IsCount, all_between, between, calls_of, AreFree, AreRunners, HaveArrived, IsRunner, calls_over, step_to, Arrived, Stand, all_calls_over, ended_from, arrived_all, stage, HasLed, IsLed, Leads, HasClosed, first_runner, Runner, slice_get_within, raised_records, with_end-with_end, entry_replicate, gone_up, serial_of_arrivals, calls_of_arrivals, first_up, nat_tests}
 use Rattle.serial_spec.specs.RankMachine as machine
 use Rattle.turn_run.proofs.TurnKnown.{most_known}
 use Rattle.turn_run.proofs.TurnEnds.{are_over, map_ended, AreOver}
@@ -17,11 +17,8 @@ first_count header len records h e l = subst (λ (n : ℕ). IsCount header len n
 
 pub first_placed : (script : Script) (header : Header) (r records : ℕ) → is_lawful script ≡ true → r < script.ranks → records ≡ header.records
     → IsOnWay script [] r (between (calls_of script r) (first_runner header records)) None
-first_placed script header r records lawful l e = subst (λ (n : ℕ). IsOnWay script [] r (between (calls_of script r) (first_runner header n)) None) (sym e)
-    (way_begins script header r (calls_of script r) lawful (calls_there script r (below (length script.calls) (ranks_lawful script lawful).one_each)))
-  where
-    below : (k : ℕ) → k ≡ script.ranks → r < k
-    below k f = omega arith
+first_placed script header r records lawful l e =
+    grind (arith, nat_tests, way_begins script header r (calls_of script r) lawful, calls_there script r, ranks_lawful script lawful)
 
 pub first_runners : (script : Script) (header : Header) (len records : ℕ) (runners : List Runner) → is_lawful script ≡ true → is_sound header ≡ true → records ≡ header.records
     → end_of header (header_len header) header.records ≤ len → runners ≡ replicate script.ranks (first_runner header records) → AreRunners script header len [] runners
@@ -46,23 +43,17 @@ first_runners script header len records runners lawful sound e l s = subst (λ (
         })
 
 pub first_free : (header : Header) (ranks records : ℕ) (runners : List Runner) → runners ≡ replicate ranks (first_runner header records) → AreFree runners
-first_free header ranks records runners s r runner f =
-    let same : runner ≡ first_runner header records = entry_replicate ranks r (first_runner header records) runner (ap (λ (ss : List Runner). slice_get ss r) (sym s) ∙ f) in
-    ap (λ (x : Runner). x.held) same
+first_free header ranks records runners s r runner f = grind (arith, nat_tests, entry_replicate, first_runner)
 
 goings_first : (header : Header) (records : ℕ) (calls : List (List Call)) → records ≡ header.records
     → all_between calls (replicate (length calls) (first_runner header records)) ≡ map (first_going header) calls
 goings_first header records [] e = refl
-goings_first header records (own ∷ calls) e =
-    let first : between own (first_runner header records) ≡ first_going header own = ap (λ (n : ℕ). between own (first_runner header n)) e in
-    let others = goings_first header records calls e in
-    λ i. first i ∷ others i
+goings_first header records (own ∷ calls) e = grind (arith, nat_tests, goings_first header records calls e)
 
 module _ (script : Script) (header : Header) (records : ℕ) (runners : List Runner) (lawful : is_lawful script ≡ true) (same_count : records ≡ header.records)
     (first : runners ≡ replicate script.ranks (first_runner header records)) where
   pub first_goings : all_between script.calls runners ≡ map (first_going header) script.calls
-  first_goings = ap (λ (ss : List Runner). all_between script.calls ss) first
-      ∙ ap (λ (n : ℕ). all_between script.calls (replicate n (first_runner header records))) (sym (ranks_lawful script lawful).one_each) ∙ goings_first header records script.calls same_count
+  first_goings = grind (arith, nat_tests, ranks_lawful, goings_first, all_between, first_runner)
 
   pub first_stage : (file : List ℕ) → (counted file records, arrived_all header script.calls runners) ≡ gone_up (setting_of script header) (first_state header file script.calls)
   first_stage file =
@@ -73,14 +64,12 @@ module _ (script : Script) (header : Header) (records : ℕ) (runners : List Run
   -- the run is that of the script
   pub serial_from_first : (file : List ℕ) (order : List Mark) → ended_from (setting_of script header) (counted file records, arrived_all header script.calls runners) order ≡ serial_from script header file order
   serial_from_first file order =
-      let ends = λ (stand : Stand). ended_from (setting_of script header) stand order in
-      ap ends (first_stage file) ∙ sym (serial_of_arrivals script header file order ∙ ap ends (first_up header (setting_of script header) file script.calls refl))
+      grind (arith, nat_tests, first_stage file, serial_of_arrivals script header file order, first_up header (setting_of script header) file script.calls)
 
   pub calls_from_first : (file : List ℕ) (order : List Mark)
       → all_calls_over script.hints (setting_of script header) (counted file records, arrived_all header script.calls runners) order ≡ run_calls script header file order
   calls_from_first file order =
-      let calls = λ (stand : Stand). all_calls_over script.hints (setting_of script header) stand order in
-      ap calls (first_stage file) ∙ sym (calls_of_arrivals script header file order ∙ ap calls (first_up header (setting_of script header) file script.calls refl))
+      grind (arith, nat_tests, first_stage file, calls_of_arrivals script header file order, first_up header (setting_of script header) file script.calls)
 
 -- ---- the close
 
@@ -104,21 +93,15 @@ led_closed script header order calls made later left held count records from run
     let known : greatest (map (λ g. g.rank.known) ends) ≡ most_known runners =
     ap greatest (map_ended (λ (rank : machine.Rank) (answers : List Answer). rank.known) header _ _ long over) in
     let last : ended_from s stand order ≡ close_by s (counted led.left count) ends = ap (λ (t : Stand). close_by s t.0 (map (λ a. a.0) t.1)) led.state in
-    let file_is : (close_by s (counted led.left count) ends).bytes ≡ (raised s (counted led.left count) (most_known runners)).file =
-    ap (λ (n : ℕ). (raised s (counted led.left count) n).file) known in
     let count_is : (close_by s (counted led.left count) ends).records ≡ max count (most_known runners) =
     ap (λ (n : ℕ). (raised s (counted led.left count) n).records) known ∙ raised_records s (counted led.left count) (most_known runners) in
     let records_are : records ≡ (ended_from s stand order).records = r.count ∙ sym count_is ∙ sym (ap (λ (e : End). e.records) last) in
-    let before : count ≡ (fold (step_to s) stand order).0.records = sym (ap (λ (t : Stand). t.0.records) led.state) in
     record {
-      bytes = r.bytes ∙ ap (λ (m : Option (List ℕ)). after (λ f. (raised s (counted f count) (most_known runners)).file) m) led.told
-          ∙ ap (λ (f : List ℕ). Some f) (sym file_is ∙ sym (ap (λ (e : End). e.bytes) last));
+      bytes = grind (arith, nat_tests, raised, r.bytes, led.told, after, counted);
       records = records_are;
       answers = sym (map_ended (λ (rank : machine.Rank) (answers : List Answer). answers) header _ _ long over) ∙ sym (ap (λ (e : End). e.answers) last);
       pending = sym (map_ended (λ (rank : machine.Rank) (answers : List Answer). machine.pending rank) header _ _ long over) ∙ sym (ap (λ (e : End). e.pending) last);
-      calls = r.device ∙ ap (λ (m : Option (List DiskCall)). with_end m (store_records s (nat_lt count records))) led.calls
-          ∙ with_end-with_end calls (calls_over script.hints s stand order) (store_records s (nat_lt count records))
-          ∙ (λ i. with_end calls (calls_over script.hints s stand order ++ store_records s (nat_lt (before i) (records_are i))));
+      calls = grind (arith, nat_tests, with_end-with_end, r.device, led.calls, with_end, calls_over);
     }
 
 -- what the runners of a run that was closed have, for an end over any file

@@ -1,5 +1,5 @@
 -- One rank goes on while the others stand.
-use Rattle.turn_run.proofs.Words.{◌≡◌, ℕ, zero, suc, ◌+◌, ◌<◌, ◌≤◌, ◌≢◌, refl, sym, ◌∙◌, ap, subst, inl, inr, List, [], ◌∷◌, ◌++◌, length, set, true, cond, Option, Some, None, arith, sum_by-append, list_all-append, cases_eq, nat_tests, slice_get, slice_index_or, nat_lt, ◌==◌, list_all, and_from, eqb-true, same_Some, slice_get_within, and_first, and_second, Header, Call, Script, DiskCall, Mark, Meet, Solo, Offer, OfferKind, is_of_rank_below, is_meeting, is_lawful, Going, setting_of, is_solo_of, meetings, ranks_lawful, way_others, others_meetings, HasBegun, IsCount, calls_of, going_of, AreRunners, IsPlaced, IsPlacedWith, IsRunner, Arrived, arrived, arrived_all, stage, HasGone, HasLed, IsGrownBy, rank_stage, Runner, entry_below, entry_set, entry_set_other, length-set}
+use Rattle.turn_run.proofs.Words.{◌≡◌, ℕ, zero, suc, ◌+◌, ◌<◌, ◌≤◌, ◌≢◌, refl, sym, ◌∙◌, ap, subst, inl, inr, List, [], ◌∷◌, ◌++◌, length, set, true, cond, Option, Some, None, arith, sum_by-append, list_all-append, cases_eq, nat_tests, slice_get, slice_index_or, list_all, and_from, slice_get_within, and_first, and_second, Header, Call, Script, DiskCall, Mark, Meet, Solo, Offer, OfferKind, is_of_rank_below, is_meeting, is_lawful, Going, setting_of, is_solo_of, meetings, ranks_lawful, way_others, others_meetings, HasBegun, IsCount, calls_of, going_of, AreRunners, IsPlaced, IsPlacedWith, IsRunner, Arrived, arrived, arrived_all, stage, HasGone, HasLed, IsGrownBy, rank_stage, Runner, entry_below, entry_set, entry_set_other, length-set}
 use Rattle.nc_base.specs.declared.step.OfferKind.TheVariants as offer
 use Rattle.turn_run.proofs.CountLaws.{count_longer}
 use Rattle.turn_run.proofs.RunnerLaws.{placed_rest, HasRest}
@@ -10,12 +10,7 @@ use Rattle.turn_run.proofs.StageLaws.{gone_beside}
 pub solos_known : (ranks n : ℕ) (more : List Mark) → n < ranks → list_all (is_solo_of n) more ≡ true → list_all (is_of_rank_below ranks) more ≡ true
 solos_known ranks n [] l h = refl
 solos_known ranks n (Meet k ∷ more) l h = absurd cc
-solos_known ranks n (Solo q c ∷ more) l h =
-    let e : q ≡ n = eqb-true q n (and_first (q == n) _ h) in
-    and_from _ _ (below q ranks (subst (λ (k : ℕ). k < ranks) (sym e) l)) (solos_known ranks n more l (and_second (q == n) _ h))
-  where
-    below : (a b : ℕ) → a < b → nat_lt a b ≡ true
-    below a b k = grind (arith, nat_tests)
+solos_known ranks n (Solo q c ∷ more) l h = grind (arith, nat_tests, and_first, solos_known ranks n more l, and_second, list_all)
 
 pub grown_known : (ranks n : ℕ) (before now : List Mark) → n < ranks → IsGrownBy n before now → list_all (is_of_rank_below ranks) before ≡ true
     → list_all (is_of_rank_below ranks) now ≡ true
@@ -25,8 +20,7 @@ grown_known ranks n before now l g h = ap (λ (ms : List Mark). list_all (is_of_
 pub grown_meetings : (n : ℕ) (before now : List Mark) → IsGrownBy n before now → meetings now ≡ meetings before
 grown_meetings n before now g =
     let split = sum_by-append (λ (m : Mark). cond (is_meeting m) 1 0) before g.more in
-    let none = others_meetings n g.more g.own in
-    ap (λ (ms : List Mark). meetings ms) g.grown ∙ split ∙ ap (λ (k : ℕ). meetings before + k) none ∙ (omega arith)
+    grind (arith, nat_tests, others_meetings n g.more g.own, g.grown, meetings)
 
 -- ---- where the others are placed
 
@@ -48,12 +42,8 @@ placed_more script header order more r q s (Some o) n h w = placed_with_more scr
 
 pub runner_beside : (script : Script) (header : Header) (before now : List Mark) (r q : ℕ) (runner : Runner) → q ≢ r → IsGrownBy q before now
     → IsRunner script header before r runner → IsRunner script header now r runner
-runner_beside script header before now r q runner n g h = record {
-  of_header = h.of_header;
-  placed = subst (λ (order : List Mark). IsPlaced script header order r (going_of (calls_of script r) runner) runner.held) (sym g.grown)
-      (placed_more script header before g.more r q (going_of (calls_of script r) runner) runner.held n g.own h.placed);
-  asked = h.asked;
-}
+runner_beside script header before now r q runner n g h =
+    grind (arith, nat_tests, placed_more script header before g.more r q (going_of (calls_of script r) runner) runner.held n g.own h.placed)
 
 -- ---- all ranks
 
@@ -71,9 +61,7 @@ get_at xs n d l = absurd (omega arith)
 -- what holds of the new element and held of the others holds of all
 pub set_each : {X : Type 0} (P : ℕ → X → Type 0) (xs : List X) (n : ℕ) (was x : X) → slice_get xs n ≡ Some was → P n x
     → ((r : ℕ) (y : X) → n ≢ r → slice_get xs r ≡ Some y → P r y) → (r : ℕ) (y : X) → slice_get (set xs n x) r ≡ Some y → P r y
-set_each P xs n was x e own others r y f = own_or_other (P r y) n r
-    (λ same. let g : Some x ≡ Some y = sym (entry_set xs n was x e) ∙ ap (λ (k : ℕ). slice_get (set xs n x) k) same ∙ f in
-    subst (λ (k : ℕ). P k y) same (subst (P n) (same_Some x y g) own)) (λ other. others r y other (sym (entry_set_other xs n r x (λ z. other (sym z))) ∙ f))
+set_each P xs n was x e own others r y f = grind (arith, nat_tests, own_or_other, entry_set, entry_set_other)
 
 pub runners_step : (script : Script) (header : Header) (len later : ℕ) (before now : List Mark) (runners : List Runner) (n : ℕ) (was runner : Runner)
     → AreRunners script header len before runners → slice_get runners n ≡ Some was → IsGrownBy n before now → len ≤ later
@@ -104,17 +92,14 @@ pub step_begun : (script : Script) (header : Header) (len : ℕ) (before now : L
 step_begun script header len before now runners n a l g own = record {
   known_ranks = grown_known script.ranks n before now l g a.known_ranks;
   each_rank = λ r m. own_or_other (HasRest script now r) n r (λ same. subst (λ (k : ℕ). HasRest script now k) same own) (λ other. let s = entry_below runners r (omega arith) in
-      let h = runner_beside script header before now r n s.0 other g (a.each r s.0 s.1) in
-      placed_rest script header now r (going_of (calls_of script r) s.0) s.0.held h.placed);
+      grind (arith, nat_tests, runner_beside script header before now r n s.0 other g (a.each r s.0 s.1), placed_rest script header now r (going_of (calls_of script r) s.0) s.0.held));
 }
 
 -- ---- the stage after it
 
 pub get_arrived : (header : Header) (calls : List (List Call)) (runners : List Runner) (r : ℕ) (own : List Call) (runner : Runner) → slice_get calls r ≡ Some own
     → slice_get runners r ≡ Some runner → slice_get (arrived_all header calls runners) r ≡ Some (arrived header own runner)
-get_arrived header (c ∷ calls) (s ∷ runners) zero own runner e f =
-    let a : c ≡ own = same_Some c own e in let b : s ≡ runner = same_Some s runner f in
-    λ i. Some (arrived header (a i) (b i))
+get_arrived header (c ∷ calls) (s ∷ runners) zero own runner e f = grind (arith, nat_tests)
 get_arrived header (c ∷ calls) (s ∷ runners) (suc r) own runner e f = get_arrived header calls runners r own runner e f
 get_arrived header calls runners r own runner e f = absurd cc
 
@@ -122,9 +107,7 @@ pub set_arrived : (header : Header) (calls : List (List Call)) (runners : List R
     → arrived_all header calls (set runners r runner) ≡ set (arrived_all header calls runners) r (arrived header own runner)
 set_arrived header [] runners r own runner e = absurd cc
 set_arrived header (c ∷ calls) [] r own runner e = refl
-set_arrived header (c ∷ calls) (s ∷ runners) zero own runner e =
-    let a : c ≡ own = same_Some c own e in
-    ap (λ (cs : List Call). arrived header cs runner ∷ arrived_all header calls runners) a
+set_arrived header (c ∷ calls) (s ∷ runners) zero own runner e = grind (arith, nat_tests)
 set_arrived header (c ∷ calls) (s ∷ runners) (suc r) own runner e = ap (λ (ranks : List Arrived). arrived header c s ∷ ranks) (set_arrived header calls runners r own runner e)
 
 pub calls_there : (script : Script) (r : ℕ) → r < length script.calls → slice_get script.calls r ≡ Some (calls_of script r)
@@ -142,7 +125,4 @@ pub gone_led : (script : Script) (header : Header) (runners : List Runner) (n : 
     (stage held calls records (arrived_all header script.calls runners)) (stage left made records (arrived_all header script.calls (set runners n runner)))
 gone_led script header runners n was runner before now held left calls made lawful l e g records =
     let one = (ranks_lawful script lawful).one_each in
-    let there = calls_there script n (omega arith) in
-    subst (λ (ranks : List Arrived). HasLed script.hints (setting_of script header) before now (stage held calls records (arrived_all header script.calls runners)) (stage left made records ranks))
-    (sym (set_arrived header script.calls runners n (calls_of script n) runner there))
-    (gone_beside g records (arrived_all header script.calls runners) (get_arrived header script.calls runners n (calls_of script n) was there e))
+    grind (arith, nat_tests, calls_there script n, set_arrived header script.calls runners n (calls_of script n) runner, gone_beside g records (arrived_all header script.calls runners), get_arrived header script.calls runners n (calls_of script n) was, script.hints, stage, arrived_all, calls_of)

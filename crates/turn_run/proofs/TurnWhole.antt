@@ -1,5 +1,5 @@
 -- A run in turn as a whole: its meetings, and then the end by the ends of its ranks.
-use Rattle.turn_run.proofs.Words.{IfSome_then, ◌≡◌, ℕ, ◌≤◌, refl, sym, ◌∙◌, ap, subst, inl, inr, ◌⊎◌, List, [], length, map, max, replicate, true, Option, Some, None, Result, Ok, Err, length-map, IfSome, OnOk, result_err, byte_len, map_map, Header, RankEnd, RankStop, RunEnd, ServeEnd, Script, DiskCall, Mark, StepErr, Rose, with_end, BothTold, rose_before, run_calls, raised, count_width, IsLegal, is_lawful, is_sound, End, serial_from, setting_of, IsCutRun, IsTorn, as_setting, counted, all_calls_over, ended_from, ranks_lawful, point, contents_of, seen, HasBegun, IsCount, HasStopped, IsNext, most_known_of, runner_end, EndedAt, HasClosed, IsRun, AreRunners, all_between, AllSay, HaveAnswers, arrived_all, first_runner, Runner, blank, AreAlikeEnds, same_beside, le_two}
+use Rattle.turn_run.proofs.Words.{IfSome_then, ◌≡◌, ℕ, ◌≤◌, refl, sym, ◌∙◌, ap, subst, inl, inr, ◌⊎◌, List, [], length, map, max, replicate, true, Option, Some, None, Result, Ok, Err, length-map, IfSome, OnOk, result_err, byte_len, map_map, Header, RankEnd, RankStop, RunEnd, ServeEnd, Script, DiskCall, Mark, StepErr, Rose, with_end, BothTold, rose_before, run_calls, raised, count_width, IsLegal, is_lawful, is_sound, End, serial_from, setting_of, IsCutRun, IsTorn, as_setting, counted, all_calls_over, ended_from, ranks_lawful, point, contents_of, seen, HasBegun, IsCount, HasStopped, IsNext, most_known_of, runner_end, EndedAt, HasClosed, IsRun, AreRunners, all_between, AllSay, HaveAnswers, arrived_all, first_runner, Runner, blank, AreAlikeEnds, same_beside, le_two, arith, nat_tests}
 use Rattle.nc_base.specs.declared.step.StepErr.TheVariants as fault
 use Rattle.serial_spec.specs.RankMachine as machine
 use Rattle.turn_run.specs.RankEnds.EndedAt.{as_left, in_close as in_closing}
@@ -30,8 +30,7 @@ pub stopped_first : (script : Script) (header : Header) (held : Option (List ℕ
 stopped_first script header held done faults records end lawful count none memory empty none_pending =
     unbegun_run script header held done faults held done records end memory (subst (λ (ms : List Mark). HasBegun script ms) (sym none) (none_begun script)) (λ e is.
     let wanted = sym (same_cause fault.Memory e (sym memory ∙ is)) in
-    cut_run script header e end.order held held records end.answers (no_rows script e end.answers wanted empty) (λ file there. no_answers script header e end.order file end.answers empty)
-    (stood_first script header e end.order held held records records lawful wanted none refl refl count)) none_pending
+    grind (arith, nat_tests, cut_run script header e end.order held held records end.answers (no_rows script e end.answers wanted empty), no_rows script e end.answers wanted empty, no_answers script header e end.order, stood_first script header e end.order held held records records lawful wanted none)) none_pending
 
 -- what is told of the meetings
 pub record HasMet (script : Script) (header : Header) (len : ℕ) (before : List Mark) (served : ServeEnd) (held : Option (List ℕ)) (calls : Option (List DiskCall)) (faults records : ℕ) (first : List Runner)
@@ -49,8 +48,7 @@ pub record HasMet (script : Script) (header : Header) (len : ℕ) (before : List
 pub known_sound : (script : Script) (header : Header) (len count : ℕ) (order : List Mark) (why : RankStop) (last : List Runner) (ends : List RankEnd) → is_sound header ≡ true → IsCount header len count
     → AreRunners script header len order last → ends ≡ map (runner_end why) last → is_sound (record header { records = most_known_of ends }) ≡ true
 known_sound script header len count order why last ends sound h a are =
-    subst (λ (n : ℕ). is_sound (record header { records = n }) ≡ true) (sym (ap (λ (es : List RankEnd). most_known_of es) are ∙ ends_known why last))
-    (rise_sound header len count (most_known last) sound h (most_rise header len last a.known))
+    grind (arith, nat_tests, ends_known why last, rise_sound header len count (most_known last) sound h (most_rise header len last a.known), most_rise header len last a.known)
 
 module _ (script : Script) (header : Header) (len : ℕ) (before : List Mark) (served : ServeEnd) (held : Option (List ℕ)) (calls : Option (List DiskCall)) (faults records : ℕ) (first : List Runner)
     (left : Option (List ℕ)) (made : Option (List DiskCall)) (failed count : ℕ) (last : List Runner) (why : RankStop) (ends : List RankEnd)
@@ -134,10 +132,7 @@ module _ (script : Script) (header : Header) (len : ℕ) (before : List Mark) (s
     calls = λ good. IfSome_then held (closed_so good) (λ file k. k.calls ∙ ap (λ (cs : List DiskCall). with_end calls cs) (device file));
     sound = c.sound;
     begun = subst (λ (ms : List Mark). HasBegun script ms) (sym c.order) h.begun;
-    fault = λ disk. elim (some_or_none served.fault) [
-      | inl f ↦ rose_before faults failed risen h.later (c.cause f disk)
-      | inr x ↦ rose_later faults failed risen (h.cause (x.1 ∙ ap (λ (y : StepErr). Some y) (c.first x.0 x.1 disk))) c.later
-    ];
+    fault = grind (arith, nat_tests, some_or_none, rose_before, rose_later, c.cause, h.cause, c.first, c.later);
     later = le_two faults failed risen h.later c.later;
     cut = λ e is. cut_in_turn e now total end (cut e is);
     none_pending = c.none_pending;

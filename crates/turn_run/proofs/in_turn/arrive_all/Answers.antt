@@ -1,5 +1,5 @@
 -- One rank more has arrived.
-use Rattle.turn_run.proofs.Words.{◌≡◌, ◌<◌, ◌≤◌, ◌+◌, ℕ, refl, sym, ◌∙◌, subst, Some, None, arith, slice_get, slice_index_or, Runner, calls_of, HasArrived, setting_of, ranks_lawful, IsCount, arrived_all, slice_get_within, left_more}
+use Rattle.turn_run.proofs.Words.{◌≡◌, ◌<◌, ◌≤◌, ◌+◌, ℕ, refl, sym, ◌∙◌, Some, None, arith, slice_get, slice_index_or, Runner, calls_of, HasArrived, setting_of, ranks_lawful, arrived_all, slice_get_within, left_more, nat_tests}
 use Rattle.turn_run.proofs.CountLaws.{count_longer}
 use Rattle.turn_run.proofs.StageLaws.{has_led_none, has_led_then}
 use Rattle.turn_run.proofs.TurnSteps.{arrived_at, below_other, get_at, gone_led, grown_meetings, runners_begun, runners_step, set_each, step_begun}
@@ -37,8 +37,7 @@ arrive-requires-clause-known g c κs within =
     c.loop-number.invariant.runners.known c.loop-number.number _ (get_at c.loop-number.runners c.loop-number.number c.index-runners-number.result (omega arith))
 
 pub returns-in_err-arrive-clause-meetings : goal.returns-in_err-arrive-clause-meetings
-returns-in_err-arrive-clause-meetings g c =
-    grown_meetings c.loop-number.number c.loop-number.progress.order c.arrive.new.progress.order c.arrive.ensures.grown ∙ c.loop-number.invariant.met
+returns-in_err-arrive-clause-meetings g c = grind (arith, nat_tests, grown_meetings, c.arrive.ensures.grown, c.loop-number.invariant.met)
 
 pub returns-in_err-arrive-clause-begun : goal.returns-in_err-arrive-clause-begun
 returns-in_err-arrive-clause-begun g c =
@@ -76,8 +75,7 @@ pub returns-clause-arrived : goal.returns-clause-arrived
 returns-clause-arrived g c r runner e = let l = slice_get_within c.loop-number.runners r runner e in c.loop-number.invariant.arrived r runner (omega arith) e
 
 pub returns-clause-records : goal.returns-clause-records
-returns-clause-records g c = subst (λ (n : ℕ). IsCount c.args.lent.now.setup.header.now (g.D.Disk.len c.loop-number.disk) n) (sym c.loop-number.invariant.count)
-    (count_longer c.args.lent.now.setup.header.now _ _ c.args.progress.now.records c.loop-number.invariant.longer c.requires.records)
+returns-clause-records g c = grind (arith, nat_tests, count_longer, c.loop-number.invariant.count, c.loop-number.invariant.longer, c.requires.records)
 
 pub returns-clause-led : goal.returns-clause-led
 returns-clause-led g c = rw c.loop-number.invariant.count (c.loop-number.invariant.led c.args.progress.now.records)

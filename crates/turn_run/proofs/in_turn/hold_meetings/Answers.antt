@@ -1,7 +1,7 @@
 -- All have arrived, and one meeting more is held.
-use Rattle.turn_run.proofs.Words.{◌<◌, List, Mark, sym, refl, ◌∙◌, ap, true≢false, arith, err_from_is_err_and, most_calls, meetings, setting_of, arrived_all, stage, all_between}
+use Rattle.turn_run.proofs.Words.{◌<◌, sym, refl, ◌∙◌, true≢false, arith, most_calls, meetings, setting_of, arrived_all, stage, all_between, nat_tests}
 use Rattle.turn_run.proofs.StageLaws.{has_led_none, has_led_then}
-use Rattle.turn_run.proofs.TurnCauses.{cause_after, cause_done}
+use Rattle.turn_run.proofs.TurnCauses.{cause_after}
 use Rattle.turn_run.proofs.TurnEnds.{all_ended, met_number, next_meeting}
 use Rattle.turn_run.proofs.CutLaws.{same_err}
 use Rattle.turn_run.proofs.SaidLaws.{between_up, have_reached, reached_then}
@@ -10,18 +10,7 @@ use Rattle.turn_run.proofs.TellLaws.{told_none, told_then}
 use Rattle.turn_run.proofs.in_turn.hold_meetings.Goals as goal
 
 pub meetings-init : goal.meetings-init
-meetings-init g c = record {
-  from = c.requires.from;
-  longer = omega arith;
-  faults = omega arith;
-  number = ap (λ (ms : List Mark). meetings ms) (sym c.requires.none);
-  runners = c.requires.runners;
-  free = c.requires.free;
-  records = c.requires.records;
-  led = has_led_none _ _ _ _;
-  answered = λ e later last h. h;
-  told = told_none _ _ _ _ _ _ _ _ refl refl;
-}
+meetings-init g c = grind (arith, nat_tests, has_led_none, told_none, c.requires.from, c.requires.none, c.requires.runners, c.requires.free, c.requires.records)
 
 pub meet-requires-clause-number : goal.meet-requires-clause-number
 meet-requires-clause-number g c κs within = c.meetings.invariant.number ∙ sym c.in_ok-arrive_all.ensures.meetings
@@ -34,16 +23,14 @@ overflow_add-meetings g c =
     let k = c.meetings.invariant.number in let arrived = c.in_ok-arrive_all.ensures in
     let few : meetings c.arrive_all.new.progress.order < most_calls =
     next_meeting c.args.lent.now.setup.script.now c.args.lent.now.setup.header.now _ c.arrive_all.new.progress.order c.arrive_all.new.runners c.args.lent.now.setup.lawful arrived.runners arrived.arrived (c.all_hold.ensures.0 c.if-not-all_hold.false) in
-    let same = arrived.meetings in
-    omega arith
+    grind (arith, nat_tests)
 
 pub meetings-smaller : goal.meetings-smaller
 meetings-smaller g c =
     let k = c.meetings.invariant.number in let arrived = c.in_ok-arrive_all.ensures in
     let few : meetings c.arrive_all.new.progress.order < most_calls =
     next_meeting c.args.lent.now.setup.script.now c.args.lent.now.setup.header.now _ c.arrive_all.new.progress.order c.arrive_all.new.runners c.args.lent.now.setup.lawful arrived.runners arrived.arrived (c.all_hold.ensures.0 c.if-not-all_hold.false) in
-    let same = arrived.meetings in
-    omega arith
+    grind (arith, nat_tests)
 
 pub meetings-preserved : goal.meetings-preserved
 meetings-preserved g c =
@@ -83,7 +70,7 @@ pub returns-then-not-all_hold-clause-told : goal.returns-then-not-all_hold-claus
 returns-then-not-all_hold-clause-told g c = told_then _ _ _ c.meetings.progress.order _ _ _ _ _ _ c.meetings.invariant.told c.meetings.invariant.led c.arrive_all.ensures.told
 
 pub returns-then-not-all_hold-clause-cause : goal.returns-then-not-all_hold-clause-cause
-returns-then-not-all_hold-clause-cause g c = let k = c.meetings.invariant.faults in let m = c.arrive_all.ensures.cause.later in cause_done _ _ _ (omega arith)
+returns-then-not-all_hold-clause-cause g c = grind (arith, nat_tests, c.meetings.invariant.faults, c.arrive_all.ensures.cause.later)
 
 -- ---- a rank was cut off before a meeting
 
@@ -101,8 +88,7 @@ returns-in_err-arrive_all-clause-told g c = told_then _ _ _ c.meetings.progress.
 
 pub returns-in_err-arrive_all-clause-cause : goal.returns-in_err-arrive_all-clause-cause
 returns-in_err-arrive_all-clause-cause g c =
-    let p = err_from_is_err_and c.from_residual.result c.from_residual.ensures.1 in
-    rw (p.1, p.2) (cause_after (g.D.Disk.faults c.args.disk.now) (g.D.Disk.faults c.meetings.disk) (g.D.Disk.faults c.arrive_all.new.disk) _ c.meetings.invariant.faults c.in_err-arrive_all.ensures.cause)
+    grind (arith, nat_tests, cause_after, c.from_residual.ensures.1, c.meetings.invariant.faults, c.in_err-arrive_all.ensures.cause)
 
 -- ---- the meeting was cut off
 
@@ -127,6 +113,4 @@ returns-in_err-meet-clause-told g c =
 
 pub returns-in_err-meet-clause-cause : goal.returns-in_err-meet-clause-cause
 returns-in_err-meet-clause-cause g c =
-    let p = err_from_is_err_and c.from_residual-in_err-meet.result c.from_residual-in_err-meet.ensures.1 in
-    let k = c.meetings.invariant.faults in let m = c.arrive_all.ensures.cause.later in
-    rw (p.1, p.2) (cause_after (g.D.Disk.faults c.args.disk.now) (g.D.Disk.faults c.arrive_all.new.disk) (g.D.Disk.faults c.meet.new.disk) _ (omega arith) c.in_err-meet.ensures.cause)
+    grind (arith, nat_tests, cause_after, c.from_residual-in_err-meet.ensures.1, c.meetings.invariant.faults, c.arrive_all.ensures.cause.later, c.in_err-meet.ensures.cause)

@@ -1,5 +1,5 @@
 -- The run of a script, from its first stage to its end.
-use Rattle.turn_run.proofs.Words.{◌≡◌, sym, ◌∙◌, ap, subst, List, map, Some, None, Err, rules, with_items_is, result_err, ServeEnd, Mark, StepErr, ranks_lawful, runner_end, AreRunners, Runner}
+use Rattle.turn_run.proofs.Words.{◌≡◌, sym, ◌∙◌, ap, subst, List, map, Some, None, Err, rules, with_items_is, result_err, ServeEnd, Mark, StepErr, ranks_lawful, runner_end, AreRunners, Runner, arith, nat_tests}
 use Rattle.nc_base.specs.declared.step.StepErr.TheVariants as fault
 use Rattle.turn_run.proofs.CutRuns.{first_long}
 use Rattle.turn_run.proofs.TellLaws.{told_nothing, told_whole}
@@ -37,14 +37,12 @@ hold_meetings-done-requires-clause-free g c κs within =
     first_free c.args.header.now c.args.script.now.ranks c.args.records.now c.deref_mut.result.now (c.deref_mut.ensures.value ∙ c.in-Ok-runners_of.ensures)
 
 pub hold_meetings-done-requires-clause-records : goal.hold_meetings-done-requires-clause-records
-hold_meetings-done-requires-clause-records g c κs within =
-    first_count c.args.header.now (g.D.Disk.len c.args.disk.now) c.args.records.now c.requires.sound c.requires.records c.requires.long
+hold_meetings-done-requires-clause-records g c κs within = grind (arith, nat_tests, first_count, c.requires.records, c.requires.long)
 
 -- ---- the end
 
 pub end_run-requires-clause-count : goal.end_run-requires-clause-count
-end_run-requires-clause-count g c κs within = λ none.
-    ok_there c.hold_meetings-done.result c.hold_meetings-done.ensures.records (sym c.err.ensures.value ∙ none)
+end_run-requires-clause-count g c κs within = grind (arith, nat_tests, ok_there)
 
 pub end_run-requires-clause-known : goal.end_run-requires-clause-known
 end_run-requires-clause-known g c κs within = λ none whole.

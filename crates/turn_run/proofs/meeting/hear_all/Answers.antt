@@ -1,5 +1,5 @@
 -- One more rank has heard.
-use Rattle.turn_run.proofs.Words.{◌≡◌, ℕ, sym, ◌∙◌, subst, map, length, List, Some, get_or, arith, slice_get, IfSome, same_Some, slice_get_within, slice_get-get_or, wanted, reply_of, IsAnswered, on_err, left_more, each_more, HasHeard, length-set}
+use Rattle.turn_run.proofs.Words.{◌≡◌, ℕ, sym, ◌∙◌, subst, map, length, List, Some, get_or, arith, slice_get, IfSome, slice_get_within, slice_get-get_or, wanted, reply_of, IsAnswered, on_err, left_more, each_more, length-set, nat_tests}
 use Rattle.turn_run.proofs.SaidMeet.{heard_part}
 use Rattle.turn_run.proofs.meeting.hear_all.Goals as goal
 
@@ -37,8 +37,7 @@ loop-number-preserved c =
       blobs = left_more _ _ _ c.take-got.new.self c.loop-number.invariant.blobs;
       heard = λ r a b blobs l g h t. each_more (λ q x y. (bs : List (List ℕ)) → slice_get c.args.table q ≡ Some bs → IsAnswered (reply_of c.args.pair c.args.records bs) x y)
           _ _ _ _ _ first own (λ bs e. record {
-            heard = subst (λ (v : List (List ℕ)). HasHeard (get_or c.loop-number.runners i c.index-runners-number.result) c.hear.new.self (reply_of c.args.pair c.args.records v))
-                ((c.take-got.ensures.taken ∙ c.index_mut.ensures.value) ∙ same_Some _ _ (sym its ∙ e)) c.in_ok-hear.ensures.heard;
+            heard = grind (arith, nat_tests, c.take-got.ensures.taken, c.index_mut.ensures.value, c.in_ok-hear.ensures.heard);
             same_header = c.in_ok-hear.ensures.header;
             held = c.in_ok-hear.ensures.held;
           })

@@ -1,8 +1,8 @@
 -- The puts raise the count of the file, and then the ranks.
-use Rattle.turn_run.proofs.Words.{◌≡◌, ◌≤◌, ℕ, ◌∙◌, arith, puts_in, setting, on_err}
+use Rattle.turn_run.proofs.Words.{◌≡◌, ◌≤◌, ℕ, ◌∙◌, arith, puts_in, setting, on_err, nat_tests}
 use Rattle.turn_run.proofs.CountLaws.{count_begins, count_longer, count_small, count_still, rise_small}
 use Rattle.turn_run.proofs.MeetFile.{met_bytes, met_called, met_count, round_count}
-use Rattle.turn_run.proofs.CutMeet.{round_met, count_met, met_done_of, count_left, count_kept, count_all}
+use Rattle.turn_run.proofs.CutMeet.{round_met, count_met, met_done_of, count_left, count_all}
 use Rattle.turn_run.proofs.meeting.meet_on_file.Goals as goal
 
 no_less : (a b : ℕ) → b ≡ a → a ≤ b
@@ -15,8 +15,7 @@ pub put_half-requires-clause-long : goal.put_half-requires-clause-long
 put_half-requires-clause-long g c κs within = count_begins c.args.dataset.now.header.now _ c.args.records.now c.requires.records
 
 pub returns-in_err-end-clause-count : goal.returns-in_err-end-clause-count
-returns-in_err-end-clause-count g c =
-    count_still c.args.dataset.now.header.now _ _ c.args.records.now c.put_half.new.records c.requires.records c.in_err-end.ensures.grown c.in_err-end.ensures.kept
+returns-in_err-end-clause-count g c = grind (arith, nat_tests, count_still, c.requires.records, c.in_err-end.ensures.grown, c.in_err-end.ensures.kept)
 
 pub raise_records-requires-clause-records : goal.raise_records-requires-clause-records
 raise_records-requires-clause-records g c κs within = count_small c.args.dataset.now.header.now _ c.put_half.new.records
@@ -78,7 +77,7 @@ returns-in_err-end-clause-refused g c =
     c.in_err-end.ensures.refused)
 
 pub returns-in_err-end-clause-kept : goal.returns-in_err-end-clause-kept
-returns-in_err-end-clause-kept g c = on_err _ (count_kept (setting c.args.dataset.now.header.now c.args.dataset.now.hints.now) (puts_in c.args.job.now.batches) c.args.records.now c.put_half.new.records c.args.known c.in_err-end.ensures.kept)
+returns-in_err-end-clause-kept g c = grind (arith, nat_tests, on_err, c.in_err-end.ensures.kept)
 
 pub returns-in_err-raise_records-clause-refused : goal.returns-in_err-raise_records-clause-refused
 returns-in_err-raise_records-clause-refused g c =
@@ -98,6 +97,4 @@ returns-in_err-table-clause-refused g c =
     c.in_ok-end.ensures.bytes c.in_ok-end.ensures.records c.in_ok-raise_records.ensures.bytes c.in_err-table.ensures.bytes))
 
 pub returns-in_err-table-clause-kept : goal.returns-in_err-table-clause-kept
-returns-in_err-table-clause-kept g c =
-    on_err _ (count_all (setting c.args.dataset.now.header.now c.args.dataset.now.hints.now) (puts_in c.args.job.now.batches) c.args.records.now c.put_half.new.records c.raise_records.new.records c.args.known
-    c.in_ok-end.ensures.records c.in_ok-raise_records.ensures.records)
+returns-in_err-table-clause-kept g c = grind (arith, nat_tests, on_err, count_all, c.in_ok-end.ensures.records, c.in_ok-raise_records.ensures.records)

@@ -1,7 +1,7 @@
 -- One more offer is taken.
-use Rattle.turn_run.proofs.Words.{◌<◌, sym, ◌∙◌, length, get_or, arith, IsFreed, slice_get_within, slice_get-get_or, left_more, each_more}
+use Rattle.turn_run.proofs.Words.{◌<◌, sym, ◌∙◌, length, get_or, arith, IsFreed, slice_get_within, slice_get-get_or, left_more, each_more, nat_tests}
 use Rattle.turn_run.proofs.MeetJob.{batches_next, known_next}
-use Rattle.turn_run.proofs.SaidMeet.{keep_freed, keep_part}
+use Rattle.turn_run.proofs.SaidMeet.{keep_part}
 use Rattle.turn_run.proofs.meeting.take_job.Goals as goal
 
 pub loop-runner-preserved : goal.loop-runner-preserved
@@ -25,10 +25,7 @@ returns-clause-freed c = record {
 }
 
 pub returns-clause-kept : goal.returns-clause-kept
-returns-clause-kept c = keep_freed c.args.runners.now c.loop-runner.runners (record {
-  long = c.loop-runner.auto.runners;
-  each = λ r a b g h. let l = slice_get_within c.loop-runner.runners r b h in let past = c.loop-runner-test.false in c.loop-runner.invariant.freed r a b (omega arith) g h;
-})
+returns-clause-kept c = grind (arith, nat_tests, c.loop-runner.auto.runners, c.loop-runner-test.false, c.loop-runner.invariant.freed)
 
 pub returns-in_err-take_offer-clause-kept : goal.returns-in_err-take_offer-clause-kept
 returns-in_err-take_offer-clause-kept c =

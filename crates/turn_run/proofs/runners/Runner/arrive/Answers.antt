@@ -1,5 +1,5 @@
 -- The rank goes on from one solo offer to the next.
-use Rattle.turn_run.proofs.Words.{◌≡◌, ℕ, refl, sym, ◌∙◌, ap, subst, length, drop, List, [], None, Some, arith, Call, setting_of, IsOnWay, ranks_lawful, IsCount, between, calls_of, Arrived, arrived, HasArrived, HasGone, IsRunner, rank_stage, Answer, call_number, Runner, MayFollow, SaysAt, on_err}
+use Rattle.turn_run.proofs.Words.{◌≡◌, refl, sym, ◌∙◌, ap, subst, List, None, Some, arith, Call, setting_of, IsOnWay, ranks_lawful, between, calls_of, Arrived, arrived, call_number, MayFollow, SaysAt, on_err, nat_tests}
 use Rattle.turn_run.proofs.RunnerLaws.{way_rest}
 use Rattle.turn_run.proofs.AloneLaws.{arrived_gone, asks_on, gone_grown, gone_same, gone_then, grown_then, taken_alone, way_free, went_runner}
 use Rattle.turn_run.proofs.CutLaws.{gone_stopped, stopped_between, memory_of, same_err}
@@ -11,24 +11,11 @@ pub own_calls-calls-requires : goal.own_calls-calls-requires
 own_calls-calls-requires g c = let long = (ranks_lawful c.args.lent.now.setup.script.now c.args.lent.now.setup.lawful).one_each in omega arith
 
 pub alone-init : goal.alone-init
-alone-init g c = record {
-  from = c.requires.from;
-  longer = omega arith;
-  faults = omega arith;
-  of_header = c.requires.runner.of_header;
-  free = c.requires.free;
-  way = way_free c.args.lent.now.setup.script.now c.args.lent.now.setup.header.now c.args.progress.now.order c.args.number _ c.args.self.now c.requires.free c.requires.runner.placed;
-  known = c.requires.known;
-  gone = gone_same _ _ _ _ _ _ _ _ refl;
-  count = refl;
-  told = λ ranks at. told_none _ _ _ _ _ _ _ _ refl refl;
-}
+alone-init g c =
+    grind (arith, nat_tests, way_free, gone_same, told_none, c.requires.from, c.requires.runner.of_header, c.requires.free, c.requires.runner.placed, c.requires.known)
 
 pub go_on-requires-clause-way : goal.go_on-requires-clause-way
-go_on-requires-clause-way g c κs within = (
-  c.alone.progress.order,
-  subst (λ (o : List Call). IsOnWay c.args.lent.now.setup.script.now c.alone.progress.order c.args.number (between o c.alone.self) None) (sym c.own_calls-calls.ensures) c.alone.invariant.way,
-)
+go_on-requires-clause-way g c κs within = grind (arith, nat_tests, c.own_calls-calls.ensures, c.alone.invariant.way)
 
 -- ---- there is no memory to go on
 
@@ -58,28 +45,21 @@ returns-in_err-go_on-clause-told g c = c.alone.invariant.told
 pub returns-in-None-clause-runner : goal.returns-in-None-clause-runner
 returns-in-None-clause-runner g c =
     let script = c.args.lent.now.setup.script.now in let header = c.args.lent.now.setup.header.now in
-    let order = c.alone.progress.order in let r = c.args.number in
-    let way = subst (λ (o : List Call). IsOnWay script order r (between o c.alone.self) None) (sym c.own_calls-calls.ensures) c.alone.invariant.way in
-    subst (λ (x : Runner). IsRunner script header order r x) (sym c.in-None.ensures.left.0)
-    (went_runner script header order r c.own_calls-calls.result.now c.go_on.new.self c.own_calls-calls.ensures c.go_on.ensures.header (c.in_ok-go_on.ensures.placed order way) c.in_ok-go_on.ensures.asked)
+    grind (arith, nat_tests, went_runner, c.own_calls-calls.ensures, c.alone.invariant.way, c.in-None.ensures.left.0, c.go_on.ensures.header, c.in_ok-go_on.ensures.placed, c.in_ok-go_on.ensures.asked)
 
 pub returns-in-None-clause-arrived : goal.returns-in-None-clause-arrived
 returns-in-None-clause-arrived g c =
-    let all = calls_of c.args.lent.now.setup.script.now c.args.number in let new = c.go_on.new.self in
-    let ended = subst (λ (o : List Call). new.held ≡ None → drop (length new.answers) o ≡ []) c.own_calls-calls.ensures c.in_ok-go_on.ensures.ended in
-    subst (λ (x : Runner). HasArrived all x) (sym c.in-None.ensures.left.0) (record { met = c.in-None.ensures.left.1; ended = ended })
+    grind (arith, nat_tests, c.own_calls-calls.ensures, c.in_ok-go_on.ensures.ended, c.in-None.ensures.left.0, c.in-None.ensures.left.1)
 
 pub returns-in-None-clause-known : goal.returns-in-None-clause-known
-returns-in-None-clause-known g c =
-    subst (λ (n : ℕ). IsCount c.args.lent.now.setup.header.now (g.D.Disk.len c.alone.disk) n) (sym (ap (λ (x : Runner). x.rank.state.known) c.in-None.ensures.left.0 ∙ c.in_ok-go_on.ensures.known)) c.alone.invariant.known
+returns-in-None-clause-known g c = grind (arith, nat_tests, c.in-None.ensures.left.0, c.in_ok-go_on.ensures.known, c.alone.invariant.known)
 
 pub returns-in-None-clause-gone : goal.returns-in-None-clause-gone
 returns-in-None-clause-gone g c =
     let script = c.args.lent.now.setup.script.now in let header = c.args.lent.now.setup.header.now in
     let own = c.own_calls-calls.result.now in let all = calls_of script c.args.number in let old = c.alone.self in let new = c.go_on.new.self in
     let same = subst (λ (o : List Call). arrived header o old ≡ arrived header o new) c.own_calls-calls.ensures (arrived_gone header own old new c.alone.invariant.free c.in_ok-go_on.ensures.advanced c.in_ok-go_on.ensures.ended) in
-    subst (λ (a : Arrived). HasGone script.hints (setting_of script header) c.args.number (rank_stage c.args.progress.now.order (g.D.Disk.held c.args.disk.now) (g.D.Disk.calls c.args.disk.now) (arrived header all c.args.self.now)) (rank_stage c.alone.progress.order (g.D.Disk.held c.alone.disk) (g.D.Disk.calls c.alone.disk) a))
-    (same ∙ ap (λ (x : Runner). arrived header all x) (sym c.in-None.ensures.left.0)) c.alone.invariant.gone
+    grind (arith, nat_tests, c.in-None.ensures.left.0, c.alone.invariant.gone)
 
 pub returns-in-None-clause-grown : goal.returns-in-None-clause-grown
 returns-in-None-clause-grown g c = gone_grown _ _ _ _ _ _ _ _ _ _ _ c.alone.invariant.gone
@@ -98,19 +78,12 @@ do_alone-requires-clause-asks g c κs within =
     (c.in_ok-go_on.ensures.placed order way)
 
 pub do_alone-requires-clause-known : goal.do_alone-requires-clause-known
-do_alone-requires-clause-known g c κs within =
-    subst (λ (n : ℕ). IsCount c.args.lent.now.setup.header.now (g.D.Disk.len c.alone.disk) n) (sym (ap (λ z. z.state.known) c.take_alone.ensures.rank ∙ c.in_ok-go_on.ensures.known)) c.alone.invariant.known
+do_alone-requires-clause-known g c κs within = grind (arith, nat_tests, c.take_alone.ensures.rank, c.in_ok-go_on.ensures.known, c.alone.invariant.known)
 
 pub alone-smaller : goal.alone-smaller
 alone-smaller g c =
     let script = c.args.lent.now.setup.script.now in let taken = c.in-Some.ensures.taken in
-    let way = subst (λ (o : List Call). IsOnWay script c.alone.progress.order c.args.number (between o c.alone.self) None) (sym c.own_calls-calls.ensures) c.alone.invariant.way in
-    let asks = taken_alone script c.args.lent.now.setup.header.now c.alone.progress.order c.args.number c.own_calls-calls.result.now (calls_of script c.args.number) c.go_on.new.self c.take_alone.new.self c.in-Some.offer
-    c.own_calls-calls.ensures taken.0 taken.1 c.take_alone.ensures.rank c.take_alone.ensures.answers (c.in_ok-go_on.ensures.placed c.alone.progress.order way) in
-    let few = call_number script c.alone.progress.order c.args.number _ asks.call _ asks.way refl in
-    let one = c.in_ok-do_alone-in-Some.ensures.answers in let more = c.in_ok-go_on.ensures.more in
-    let same = ap (λ (xs : List Answer). length xs) c.take_alone.ensures.answers in
-    omega arith
+    grind (arith, nat_tests, taken_alone, call_number, c.own_calls-calls.ensures, c.alone.invariant.way, c.take_alone.ensures.rank, c.take_alone.ensures.answers, c.in_ok-go_on.ensures.placed, c.in_ok-do_alone-in-Some.ensures.answers, c.in_ok-go_on.ensures.more)
 
 pub alone-preserved : goal.alone-preserved
 alone-preserved g c =
@@ -127,9 +100,7 @@ alone-preserved g c =
       free = c.do_alone.ensures.free;
       way = c.in_ok-do_alone-in-Some.ensures.way;
       known = c.in_ok-do_alone-in-Some.ensures.known;
-      gone = gone_then c.alone.progress.order k.gone
-          (subst (λ (a : Arrived). HasGone hints s r (rank_stage c.alone.progress.order (g.D.Disk.held c.alone.disk) (g.D.Disk.calls c.alone.disk) a) (rank_stage order (g.D.Disk.held c.do_alone.new.disk) (g.D.Disk.calls c.do_alone.new.disk) (arrived header all c.do_alone.new.self)))
-          asks c.in_ok-do_alone-in-Some.ensures.gone);
+      gone = grind (arith, nat_tests, gone_then, c.in_ok-do_alone-in-Some.ensures.gone);
       count = c.do_alone.ensures.records ∙ k.count;
       told = told_gone c.alone.progress.order k.gone k.told asks (λ others there. rw k.count at (c.do_alone.ensures.told others there));
     }

@@ -1,10 +1,11 @@
 -- The step is done, and the rank has heard its reply.
-use Rattle.turn_run.proofs.Words.{◌≡◌, refl, sym, ◌∙◌, ap, subst, List, inr, Mark, advance, setting_of, IsOnWay, IsCount, asking, between, calls_of, arrived, MayFollow, length, [], ◌∷◌, ◌++◌, Solo, Reply, puts_of, told, done_torn, SaysAt, None, ℕ, on_err, lawful_hints, equal_itself, one_of}
+use Rattle.turn_run.proofs.Words.{◌≡◌, refl, sym, subst, List, Mark, setting_of, IsOnWay, asking, between, calls_of, arrived, MayFollow, length, [], ◌∷◌, ◌++◌, Solo, Reply, puts_of, told, done_torn, SaysAt, None, on_err, lawful_hints, equal_itself, one_of, arith, nat_tests, point, counted}
+use Rattle.turn_run.proofs.StageLaws.{some_each}
 use Rattle.turn_run.proofs.CountLaws.{count_longer, count_max}
 use Rattle.turn_run.proofs.MeetOffers.{asked_fit}
 use Rattle.turn_run.proofs.RunnerLaws.{alone_done, alone_heard, alone_rest, heard_runner, HasRest}
 use Rattle.turn_run.proofs.AloneLaws.{alone_alike, alone_led, alone_waits, arrived_free, fits_open, grown_one, heard_known, order_is}
-use Rattle.turn_run.proofs.CutLaws.{stopped_solo, stopped_unheard, memory_of}
+use Rattle.turn_run.proofs.CutLaws.{stopped_solo, memory_of, solo_at}
 use Rattle.turn_run.proofs.SaidLaws.{reached_here, reached_unheard, said_here, says_here}
 use Rattle.turn_run.proofs.TellLaws.{told_alone, told_none}
 use Rattle.turn_run.proofs.runners.Runner.do_alone.Goals as goal
@@ -48,17 +49,13 @@ returns-clause-way g c =
 pub returns-clause-known : goal.returns-clause-known
 returns-clause-known g c =
     let waits = (alone_waits _ _ _ _ _ _ c.requires.asks).0 in
-    subst (λ (n : ℕ). IsCount c.args.lent.now.setup.header.now (g.D.Disk.len c.solo_reply.new.disk) n) (sym (heard_known c.args.self.now c.hear.new.self c.in_ok-reply.reply waits c.in_ok-hear.ensures.heard))
-    (count_max c.args.lent.now.setup.header.now (g.D.Disk.len c.solo_reply.new.disk) c.args.self.now.rank.state.known c.in_ok-reply.reply.records
-    (count_longer c.args.lent.now.setup.header.now (g.D.Disk.len c.args.disk.now) (g.D.Disk.len c.solo_reply.new.disk) c.args.self.now.rank.state.known c.in_ok-reply.ensures.longer c.requires.known)
-    (inr c.in_ok-reply.ensures.count))
+    grind (arith, nat_tests, heard_known c.args.self.now c.hear.new.self c.in_ok-reply.reply waits c.in_ok-hear.ensures.heard, count_max c.args.lent.now.setup.header.now (g.D.Disk.len c.solo_reply.new.disk), count_longer c.args.lent.now.setup.header.now (g.D.Disk.len c.args.disk.now), c.in_ok-reply.ensures.longer, c.requires.known, c.in_ok-reply.ensures.count)
 
 pub returns-clause-gone : goal.returns-clause-gone
 returns-clause-gone g c =
     let own = calls_of c.args.lent.now.setup.script.now c.args.ask.number in
     let header = c.args.lent.now.setup.header.now in
-    let up : arrived header own c.hear.new.self ≡ _ = arrived_free header own c.hear.new.self (c.hear.ensures.held ∙ c.requires.free)
-    ∙ ap (advance header) (heard_runner header own c.args.self.now c.hear.new.self c.in_ok-reply.reply c.requires.header c.in_ok-hear.ensures.heard) in
+    let up : arrived header own c.hear.new.self ≡ _ = grind (arith, nat_tests, arrived_free, heard_runner, c.in_ok-hear.ensures.heard) in
     record {
       more = Solo c.args.ask.number c.len.result ∷ [];
       grown = c.in_ok-note_step.ensures.order;
@@ -94,11 +91,7 @@ returns-in_err-note_step-clause-cut g c e is records ranks at =
     (done_torn s puts (told s puts) (g.D.Disk.held c.args.disk.now) (g.D.Disk.held c.solo_reply.new.disk) c.in_ok-reply.ensures.bytes) records ranks at
 
 pub returns-in_err-hear-clause-cut : goal.returns-in_err-hear-clause-cut
-returns-in_err-hear-clause-cut g c e is records ranks at =
-    stopped_unheard c.args.ask.number (length c.args.self.now.answers) (asking (calls_of c.args.lent.now.setup.script.now c.args.ask.number) c.args.self.now) c.args.ask.offer
-    (memory_of c.from_residual-in_err-hear.result e c.from_residual-in_err-hear.ensures.1 is)
-    (order_is _ _ c.args.self.now.answers c.args.progress.now.order c.note_step.new.order c.in_ok-note_step.ensures.order c.len.ensures)
-    c.in_ok-reply.ensures.bytes records ranks at
+returns-in_err-hear-clause-cut g c e is records ranks at = grind (arith, nat_tests, memory_of, order_is, some_each, solo_at, point, counted, c.from_residual-in_err-hear.ensures.1, c.in_ok-note_step.ensures.order, c.len.ensures, c.in_ok-reply.ensures.bytes)
 
 pub returns-in_err-reply-clause-answered : goal.returns-in_err-reply-clause-answered
 returns-in_err-reply-clause-answered g c e is records ranks at = reached_here (SaysAt c.args.ask.number e c.args.self.now.answers) _ _ _ _ _ _ refl (λ n. says_here _ _ _ _ n ranks at (said_here e _ _ refl))

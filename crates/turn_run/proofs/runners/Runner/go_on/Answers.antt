@@ -1,5 +1,5 @@
 -- One call more, or an offer.
-use Rattle.turn_run.proofs.Words.{◌≡◌, refl, ◌∙◌, ap, length, List, Some, [], ◌∷◌, length-append, arith, Answer, slice_get, call_fresh, call_lawful, call_posts, alone_keeps, between, on_err, drop_at, said_at}
+use Rattle.turn_run.proofs.Words.{◌≡◌, refl, ◌∙◌, ap, length, List, Some, [], ◌∷◌, length-append, arith, Answer, slice_get, call_fresh, call_lawful, call_posts, alone_keeps, between, on_err, drop_at, said_at, nat_tests}
 use Rattle.nc_base.specs.declared.step.Want.TheVariants as want
 use Rattle.turn_run.proofs.RunnerLaws.{next_call, way_on, advance_on, answers_on_way, makes_offer}
 use Rattle.turn_run.proofs.runners.Runner.go_on.Goals as goal
@@ -7,9 +7,7 @@ use Rattle.turn_run.proofs.runners.Runner.go_on.Goals as goal
 pub step-requires-clause-fresh : goal.step-requires-clause-fresh
 step-requires-clause-fresh g c =
     let call = c.index-calls-next.result in let own = c.args.calls.now in
-    let answers = c.calls.self.answers in
-    let there : slice_get own (length answers) ≡ Some call = next_call own answers c.len-next.result call (omega arith) (omega arith) c.index-calls-next.is in
-    call_fresh c.args.script.now c.calls.invariant.way.0 c.args.number (between own c.calls.self) call _ c.calls.invariant.way.1 (drop_at own (length answers) call there)
+    grind (arith, nat_tests, next_call own c.calls.self.answers c.len-next.result call, call_fresh c.args.script.now c.calls.invariant.way.0 c.args.number (between own c.calls.self) call, drop_at own (length c.calls.self.answers) call, c.index-calls-next.is, c.calls.invariant.way.1)
 
 pub calls-preserved : goal.calls-preserved
 calls-preserved g c =
@@ -44,16 +42,7 @@ returns-in-Meet g c =
     let made = makes_offer script c.args.header.now c.calls.self.rank.header c.args.number own rank c.step.new.self.state answers c.in-Meet.offer call c.in_ok-answer.field-0 k.of_header c.in_ok-answer.ensures.step there
     (c.in_ok-answer.ensures.held script.ranks c.args.number lawful) c.in_ok-answer.ensures.sound (c.in_ok-answer.ensures.few script.ranks c.args.number lawful)
     (call_posts script k.way.0 c.args.number (between own c.calls.self) call _ k.way.1 next_is) c.in-Meet.is in
-    record {
-      header = c.in_ok-answer.ensures.header ∙ k.of_header;
-      known = made.known ∙ k.known;
-      placed = λ order way. made.placed order (k.kept order way);
-      more = k.more;
-      asked = made.asked;
-      advanced = k.advanced ∙ made.advanced;
-      ended = λ none. absurd cc;
-      some = tt;
-    }
+    grind (arith, nat_tests, c.in_ok-answer.ensures.header)
 
 pub returns-in_err-answer-clause-some : goal.returns-in_err-answer-clause-some
 returns-in_err-answer-clause-some g c =
