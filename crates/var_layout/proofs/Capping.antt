@@ -1,9 +1,6 @@
 -- Capped sums and products, one step at a time.
 use Rattle.var_layout.proofs.Words.{◌≡◌, ℕ, zero, suc, ◌+◌, ◌*◌, ◌^◌, ◌<◌, ◌≤◌, List, [], ◌∷◌, ◌++◌, length, take, get_or, map, Bool, true, false, refl, sym, ap, ◌∙◌, arith, max, sum_by, filter, take_more, map-append, append-nil, sum_by_more, sum_by_push, filter_more, cases_lt, mul_comm, mul_assoc, mul-one, product, greatest, capped, nat_tests}
 
-small : (n : ℕ) → n < 2 ^ 62 → capped n ≡ n
-small n h = omega arith
-
 large : (n : ℕ) → 2 ^ 62 ≤ n → capped n ≡ 2 ^ 62
 large n h = omega arith
 
@@ -18,7 +15,7 @@ large_product zero a h = omega arith
 large_product (suc b) a h = omega arith
 
 pub capped_product : (a b : ℕ) → capped (capped a * b) ≡ capped (a * b)
-capped_product a b = grind (arith, nat_tests, cases_lt, small, large, large_product)
+capped_product a b = grind (arith, nat_tests, cases_lt, large, large_product)
 
 pub capped_times : (a b s : ℕ) → s ≡ capped b → capped (a * s) ≡ capped (a * b)
 capped_times a b s e = grind (arith, nat_tests, mul_comm, capped_product)

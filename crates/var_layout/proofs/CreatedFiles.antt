@@ -82,19 +82,16 @@ module _ (header : Header) (align : Align) (first : ℕ) where
   pub none_more : (p : Numbered → Bool) (k : ℕ) (v : Var) → Lies header k v
       → (p (k, in_place header align first k v) ≡ true → lies_too_far header (in_place header align first k v) ≡ false)
       → NoneFar header align first p k → NoneFar header align first p (k + 1)
-  none_more p k v lies near none =
-      find_goes_on p (λ w. lies_too_far header w.1) (numbered header align first) k (0, v) _ (numbered_long k lies.within) (numbered_at k v lies) none near
+  none_more p k v lies near none = grind (arith, nat_tests, find_goes_on p, numbered_long k lies.within, numbered_at k v lies)
 
   pub far_here : (p : Numbered → Bool) (k : ℕ) (v : Var) → Lies header k v → p (k, in_place header align first k v) ≡ true
       → lies_too_far header (in_place header align first k v) ≡ true
       → NoneFar header align first p k → find (λ w. lies_too_far header w.1) (filter p (numbered header align first)) ≡ Some (k, in_place header align first k v)
-  far_here p k v lies passes far none =
-      find_stops p (λ w. lies_too_far header w.1) (numbered header align first) k (0, v) _ (numbered_long k lies.within) (numbered_at k v lies) none passes far
+  far_here p k v lies passes far none = grind (arith, nat_tests, find_stops p, numbered_long k lies.within, numbered_at k v lies)
 
   fits_at : (p : Numbered → Bool) (k : ℕ) (v : Var) → Lies header k v → find (λ w. lies_too_far header w.1) (filter p (numbered header align first)) ≡ None
       → p (k, in_place header align first k v) ≡ true → lies_too_far header (in_place header align first k v) ≡ false
-  fits_at p k v lies none passes =
-      fails_at p (λ w. lies_too_far header w.1) (numbered header align first) k (0, v) _ (numbered_long k lies.within) (numbered_at k v lies) none passes
+  fits_at p k v lies none passes = grind (arith, nat_tests, fails_at p, numbered_long k lies.within, numbered_at k v lies)
 
   -- all have been looked at
   pub none_whole : (p : Numbered → Bool) (n : ℕ) → length header.vars ≤ n → NoneFar header align first p n
@@ -116,16 +113,12 @@ module _ (header : Header) (align : Align) (first : ℕ) where
   pub fixed_near : (k : ℕ) (v : Var) → far_fixed (begins header align first) ≡ None → Lies header k v → is_record header v ≡ false
       → round_up align.var (fixed_end header align first k) + vsize header v < 2 ^ 62
   fixed_near k v none lies f =
-      let near = near_end header (in_place header align first k v) (fixed_fits k v none lies f) in
-      let at = begin_fixed k v f in
-      omega arith
+      grind (arith, nat_tests, near_end header (in_place header align first k v) (fixed_fits k v none lies f), fixed_fits k v none lies f, begin_fixed k v f)
 
   pub record_near : (k : ℕ) (v : Var) → far_record (begins header align first) ≡ None → Lies header k v → is_record header v ≡ true
       → first_record header align first + records_before header k + vsize header v < 2 ^ 62
   record_near k v none lies f =
-      let near = near_end header (in_place header align first k v) (record_fits k v none lies f) in
-      let at = begin_record k v f in
-      omega arith
+      grind (arith, nat_tests, near_end header (in_place header align first k v) (record_fits k v none lies f), record_fits k v none lies f, begin_record k v f)
 
   -- ---- the fixed variables and the record variables, as far as the loop has come
 
@@ -138,37 +131,23 @@ module _ (header : Header) (align : Align) (first : ℕ) where
   record_far k begin v far f so e = ap (λ (n : ℕ). lies_too_far header (at_begin v n)) (begin_record k v f ∙ sym so.place) ∙ e
 
   pub fixed_skip : (k end : ℕ) (v : Var) → Lies header k v → is_record header v ≡ true → FixedSoFar header align first k end → FixedSoFar header align first (k + 1) end
-  fixed_skip k end v lies f so = record {
-    place = so.place ∙ sym (fixed_end_same k v lies f);
-    small = so.small;
-    none = none_more (λ w. not (is_record header w.1)) k v lies (λ s. no_both _ s (not_from_true _ f)) so.none;
-  }
+  fixed_skip k end v lies f so = grind (arith, nat_tests, fixed_end_same, none_more, no_both, not)
 
   pub fixed_next : (k end next : ℕ) (v : Var) → Lies header k v → is_record header v ≡ false
       → lies_too_far header (at_begin v (round_up align.var end)) ≡ false → next ≡ round_up align.var end + vsize header v → next < 2 ^ 62
       → FixedSoFar header align first k end → FixedSoFar header align first (k + 1) next
-  fixed_next k end next v lies f near g l so = record {
-    place = g ∙ ap (λ (n : ℕ). round_up align.var n + vsize header v) so.place ∙ sym (fixed_end_more k v lies f);
-    small = l;
-    none = none_more (λ w. not (is_record header w.1)) k v lies (λ s. fixed_far k end v false f so near) so.none;
-  }
+  fixed_next k end next v lies f near g l so = grind (arith, nat_tests, fixed_end_more, none_more, fixed_far, not)
 
   pub fixed_stops : (k end : ℕ) (v : Var) → Lies header k v → is_record header v ≡ false → lies_too_far header (at_begin v (round_up align.var end)) ≡ true
       → FixedSoFar header align first k end → far_fixed (begins header align first) ≡ Some (k, in_place header align first k v)
   fixed_stops k end v lies f far so = far_here (λ w. not (is_record header w.1)) k v lies (not_from_false _ f) (fixed_far k end v true f so far) so.none
 
   pub records_skip : (k begin : ℕ) (v : Var) → Lies header k v → is_record header v ≡ false → RecordsSoFar header align first k begin → RecordsSoFar header align first (k + 1) begin
-  records_skip k begin v lies f so = record {
-    place = so.place ∙ ap (λ (n : ℕ). first_record header align first + n) (sym (records_same header k v lies f));
-    none = none_more (λ w. is_record header w.1) k v lies (λ s. no_both _ s f) so.none;
-  }
+  records_skip k begin v lies f so = grind (arith, nat_tests, records_same, none_more, no_both, first_record)
 
   pub records_next : (k begin next : ℕ) (v : Var) → Lies header k v → is_record header v ≡ true → lies_too_far header (at_begin v begin) ≡ false → next ≡ begin + vsize header v
       → RecordsSoFar header align first k begin → RecordsSoFar header align first (k + 1) next
-  records_next k begin next v lies f near g so = record {
-    place = omega (arith, records_more header k v lies f, so.place);
-    none = none_more (λ w. is_record header w.1) k v lies (λ s. record_far k begin v false f so near) so.none;
-  }
+  records_next k begin next v lies f near g so = grind (arith, nat_tests, records_more, none_more, record_far)
 
   pub records_stop : (k begin : ℕ) (v : Var) → Lies header k v → is_record header v ≡ true → lies_too_far header (at_begin v begin) ≡ true
       → RecordsSoFar header align first k begin → far_record (begins header align first) ≡ Some (k, in_place header align first k v)
@@ -204,52 +183,35 @@ module _ (header : Header) (align : Align) (first : ℕ) (old : List Var) where
   -- the item at the seam
   pub item_there : (now : List Var) (k fixed begin : ℕ) (d : Var) → length now ≡ length old → k < length now → d ≡ get_or now k d
       → WrittenSoFar header align first old now k fixed begin → Lies (whole_header header old) k (get_or now k d)
-  item_there now k fixed begin d l h e so =
-      let within : k < length old = omega arith in
-      let itself = ap (λ (v : Var). get_or now k v) e in
-      record { within = within; there = grind (arith, nat_tests, seam_at, length-placed) }
+  item_there now k fixed begin d l h e so = grind (arith, nat_tests, seam_at, length-placed)
 
   one_written : (now : List Var) (k fixed begin b : ℕ) (v : Var) → Lies (whole_header header old) k v → WrittenSoFar header align first old now k fixed begin
       → b ≡ begin_of (whole_header header old) align first k v
       → set now k (at_begin v b) ≡ take (k + 1) (placed (whole_header header old) align first 0 old) ++ drop (k + 1) old
   one_written now k fixed begin b v lies so is =
       let whole = whole_header header old in
-      let there = get_or-placed whole align first 0 old k v lies.within
-      ∙ ap (λ (n : ℕ). in_place whole align first n (get_or old k v)) (let z : 0 + k ≡ k = omega arith in z)
-      ∙ ap (λ (x : Var). in_place whole align first k x) (sym lies.there) ∙ ap (λ (n : ℕ). at_begin v n) (sym is) in
-      ap (λ vs. set vs k (at_begin v b)) so.items
-      ∙ set_seam (placed whole align first 0 old) old k (at_begin v b) v (length-placed whole align first 0 old) lies.within there
-      ∙ ap (λ (n : ℕ). take n (placed whole align first 0 old) ++ drop n old) (suc_is k)
+      grind (arith, nat_tests, get_or-placed whole align first 0 old k v lies.within, set, set_seam (placed whole align first 0 old) old k (at_begin v b) v (length-placed whole align first 0 old), placed whole align first 0 old, length-placed whole align first 0 old, suc_is k, lies.there, so.items, in_place, get_or, at_begin, take, drop)
 
   pub write_record : (now : List Var) (k fixed begin bytes : ℕ) (v : Var) → Lies (whole_header header old) k v → is_record header v ≡ true
       → far_record (begins (whole_header header old) align first) ≡ None → bytes ≡ capped (vsize header v)
       → WrittenSoFar header align first old now k fixed begin → WrittenSoFar header align first old (set now k (at_begin v begin)) (k + 1) fixed (begin + bytes)
   write_record now k fixed begin bytes v lies f none b so =
       let whole = whole_header header old in
-      let near = record_near whole align first k v none lies f in
-      record {
-        items = one_written now k fixed begin begin v lies so (so.place ∙ sym (begin_record whole align first k v f));
-        fixed_place = so.fixed_place ∙ sym (fixed_end_same whole align first k v lies f);
-        small = so.small;
-        place = omega (arith, records_more whole k v lies f, so.place, near);
-      }
+      grind (arith, nat_tests, record_near whole align first k v none lies f, one_written now k fixed begin begin v lies so (so.place ∙ sym (begin_record whole align first k v f)), begin_record whole align first k v f, fixed_end_same whole align first k v lies f, records_more whole k v lies f, so.fixed_place, so.small)
 
   pub write_fixed : (now : List Var) (k fixed begin bytes place : ℕ) (v : Var) → Lies (whole_header header old) k v → is_record header v ≡ false
       → far_fixed (begins (whole_header header old) align first) ≡ None → bytes ≡ capped (vsize header v) → place ≡ round_up align.var fixed
       → WrittenSoFar header align first old now k fixed begin → WrittenSoFar header align first old (set now k (at_begin v place)) (k + 1) (place + bytes) begin
   write_fixed now k fixed begin bytes place v lies f none b r so =
-      let whole = whole_header header old in
-      let here : place ≡ round_up align.var (fixed_end whole align first k) = r ∙ ap (λ (m : ℕ). round_up align.var m) so.fixed_place in
-      let ends = ends_at place bytes _ (vsize header v) here b (fixed_near whole align first k v none lies f) in
-      record {
-        items = one_written now k fixed begin place v lies so (here ∙ sym (begin_fixed whole align first k v f));
-        fixed_place = ends.0 ∙ sym (fixed_end_more whole align first k v lies f);
-        small = ends.1;
-        place = so.place ∙ ap (λ (n : ℕ). first_record whole align first + n) (sym (records_same whole k v lies f));
-      }
-    where
-      ends_at : (a m d s : ℕ) → a ≡ d → m ≡ capped s → d + s < 2 ^ 62 → (a + m ≡ d + s) × (a + m < 2 ^ 62)
-      ends_at a m d s u w x = (omega arith, omega arith)
+      grind (
+        arith,
+        nat_tests,
+        fixed_near (whole_header header old) align first k v none lies f,
+        one_written now k fixed begin place v lies so,
+        begin_fixed (whole_header header old) align first k v f,
+        fixed_end_more (whole_header header old) align first k v lies f,
+        records_same (whole_header header old) k v lies f,
+      )
 
 pub written_whole : (header : Header) (align : Align) (first : ℕ) (old now : List Var) (k fixed begin : ℕ) → length old ≤ k
     → WrittenSoFar header align first old now k fixed begin → now ≡ placed (whole_header header old) align first 0 old

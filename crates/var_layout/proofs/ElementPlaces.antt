@@ -1,5 +1,5 @@
 -- Rows of elements, one dimension at a time, and where elements end.
-use Rattle.var_layout.proofs.Words.{◌≡◌, ℕ, zero, suc, ◌+◌, ◌-◌, ◌*◌, ◌^◌, ◌<◌, ◌≤◌, List, [], ◌∷◌, inl, inr, holds_or_not, cases_lt, length, drop, get_or, map, Bool, true, false, cond, Some, refl, ap, arith, slice_get, drop_more, row_fits, mul-le, mul-le-mul_left, nat_tests, size_pos, slab_shared, end_fixed, slab_below, index_fixed, index_record, Header, Var, NcType, size_of, product, greatest, is_record, inner_lengths, slab, recsize, last_share, end_of, end_of_var, row, place, record_of, within_record, IsIndex, IsElement, row_below, records_for, header_len, is_sound}
+use Rattle.var_layout.proofs.Words.{◌≡◌, ℕ, zero, suc, ◌+◌, ◌-◌, ◌*◌, ◌^◌, ◌<◌, ◌≤◌, List, [], ◌∷◌, inl, inr, holds_or_not, length, drop, get_or, map, Bool, true, false, cond, Some, refl, ap, arith, slice_get, drop_more, row_fits, mul-le, mul-le-mul_left, nat_tests, size_pos, slab_shared, end_fixed, slab_below, index_fixed, index_record, Header, Var, NcType, size_of, product, greatest, is_record, inner_lengths, slab, recsize, last_share, end_of, end_of_var, row, place, record_of, within_record, IsIndex, IsElement, row_below, records_for, header_len, is_sound}
 use Rattle.var_layout.proofs.Soundness.{var_kept, header_short}
 
 -- ---- a row, one dimension at a time
@@ -17,12 +17,9 @@ pub record RowSoFar (lengths index : List ℕ) (k so_far : ℕ) : Type 0 where
   pub whole : so_far * product (drop k lengths) + row (drop k lengths) (drop k index) ≡ row lengths index
   pub valid : IsIndex (drop k lengths) (drop k index)
 
-step_whole : (a n p i r : ℕ) → a * (n * p) + (i * p + r) ≡ (a * n + i) * p + r
-step_whole a n p i r = omega arith
-
 next_row : (lengths index ns is : List ℕ) (n i so_far : ℕ) (k : ℕ) → drop k lengths ≡ n ∷ ns → drop k index ≡ i ∷ is → RowSoFar lengths index k so_far
     → ((so_far * n + i) * product ns + row ns is ≡ row lengths index) × IsIndex ns is
-next_row lengths index ns is n i so_far k e f h = grind (arith, nat_tests, step_whole)
+next_row lengths index ns is n i so_far k e f h = grind (arith, nat_tests)
 
 pub one_more : (lengths index : List ℕ) (k d n i so_far : ℕ) → k < length lengths → k < length index → n ≡ get_or lengths k d → i ≡ get_or index k 0
     → RowSoFar lengths index k so_far → RowSoFar lengths index (k + 1) (so_far * n + i)
@@ -60,9 +57,6 @@ greatest_holds f (y ∷ xs) (suc k) x h = let l = greatest_holds f xs k x h in o
 end_record : (header : Header) (n : ℕ) (v : Var) → is_record header v ≡ true → 0 < n → end_of_var header n v ≡ v.begin + (n - 1) * recsize header + last_share header v
 end_record header n v e h = grind (arith, nat_tests)
 
-end_none : (header : Header) (n : ℕ) (v : Var) → is_record header v ≡ true → n ≡ 0 → end_of_var header n v ≡ 0
-end_none header n v e h = grind (arith, nat_tests)
-
 for_record : (header : Header) (v : Var) (index : List ℕ) → is_record header v ≡ true → records_for header v index ≡ record_of index + 1
 for_record header v index e = ap (λ (t : Bool). cond t (record_of index + 1) 0) e
 
@@ -91,19 +85,9 @@ greatest_below f (x ∷ xs) n pos h =
 
 var_end : (header : Header) (k : ℕ) (v : Var) (n : ℕ) → is_sound header ≡ true → slice_get header.vars k ≡ Some v → n ≤ header.records → end_of_var header n v < 2 ^ 62
 var_end header k v n h g l =
-    let keeps = (var_kept header k v h g).1 in
-    elim (holds_or_not (is_record header v)) [
-      | inl e ↦ elim (cases_lt 0 n) [
-        | inl p ↦
-            let rows = mul-le (n - 1) (recsize header) (header.records - 1) (recsize header) (omega arith) (omega arith) in
-            omega (arith, rows, end_record header n v e p, keeps.last e (omega arith))
-        | inr p ↦ omega (arith, end_none header n v e (omega arith))
-      ]
-      | inr e ↦ omega (arith, end_fixed header n v e, keeps.end)
-    ]
+    grind (arith, nat_tests, var_kept header k v h g, holds_or_not (is_record header v), end_record header n v, end_fixed header n v)
 
 pub sound_end : (header : Header) (n : ℕ) → is_sound header ≡ true → n ≤ header.records → end_of header (header_len header) n < 2 ^ 62
 sound_end header n h l =
     let all = greatest_below (λ v. end_of_var header n v) header.vars (2 ^ 62) (omega arith) (λ k v g. var_end header k v n h g l) in
-    let short = header_short header h in
-    omega arith
+    grind (arith, nat_tests, header_short)

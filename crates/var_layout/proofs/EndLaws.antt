@@ -1,5 +1,5 @@
 -- The end of a file by the measures of its header.
-use Rattle.var_layout.proofs.Words.{◌≡◌, ℕ, zero, suc, ◌+◌, ◌-◌, ◌*◌, ◌<◌, ◌≤◌, List, [], ◌∷◌, map, Bool, true, false, cond, refl, arith, inr, ◌⊎◌, max, Header, Var, header_len, greatest, is_record, vsize, last_share, recsize, record_variables, end_of, end_of_var, capped, first_end, record_end, equal_suc, nat_tests}
+use Rattle.var_layout.proofs.Words.{◌≡◌, ℕ, zero, suc, ◌+◌, ◌-◌, ◌*◌, ◌<◌, ◌≤◌, List, [], ◌∷◌, map, cond, refl, arith, inr, ◌⊎◌, max, Header, Var, header_len, greatest, is_record, vsize, last_share, recsize, record_variables, end_of, end_of_var, capped, first_end, record_end, equal_suc, nat_tests}
 use Rattle.var_layout.proofs.Capping.{capped_times}
 
 -- ---- later records move the ends of the record variables alone
@@ -17,25 +17,15 @@ later header n v = grind (arith, nat_tests, equal_suc)
 moved : (header : Header) (n : ℕ) (vs : List Var)
     → max (n * recsize header) (ends header (suc n) vs) ≡ max (ends header 0 vs) (first_ends header vs + n * recsize header)
 moved header n [] = omega arith
-moved header n (v ∷ vs) = by_test (is_record header v) (later header n v) (moved header n vs)
-  where
-    by_test : (t : Bool) → end_of_var header (suc n) v ≡ cond t (v.begin + n * recsize header + last_share header v) (v.begin + vsize header v)
-        → max (n * recsize header) (ends header (suc n) vs) ≡ max (ends header 0 vs) (first_ends header vs + n * recsize header)
-        → max (n * recsize header) (max (end_of_var header (suc n) v) (ends header (suc n) vs))
-        ≡ max (max (cond t 0 (v.begin + vsize header v)) (ends header 0 vs)) (max (cond t (v.begin + last_share header v) 0) (first_ends header vs) + n * recsize header)
-    by_test true e h = omega arith
-    by_test false e h = omega arith
+moved header n (v ∷ vs) = grind (arith, nat_tests, later, moved header n vs, v.begin, ends, first_ends)
 
 -- so far a file goes at least, if there is a record variable
 some_record : (header : Header) (n : ℕ) (vs : List Var) → (n * recsize header ≤ ends header (suc n) vs) ⊎ (record_variables header vs ≡ [])
 some_record header n [] = inr refl
 some_record header n (v ∷ vs) = grind (arith, nat_tests, some_record header n vs, later)
 
-no_size : (header : Header) (n : ℕ) → record_variables header header.vars ≡ [] → n * recsize header ≡ 0
-no_size header n e = grind (arith, nat_tests)
-
 end_later : (header : Header) (first n : ℕ) → end_of header first (suc n) ≡ max (end_of header first 0) (record_end header + n * recsize header)
-end_later header first n = grind (arith, nat_tests, some_record header n header.vars, moved header n header.vars, no_size)
+end_later header first n = grind (arith, nat_tests, some_record header n header.vars, moved header n header.vars)
 
 end_after : (header : Header) (first n : ℕ) → 0 < n → end_of header first n ≡ max (end_of header first 0) (record_end header + (n - 1) * recsize header)
 end_after header first zero h = absurd (omega arith)

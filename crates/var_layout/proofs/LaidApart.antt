@@ -1,5 +1,5 @@
 -- No two variables of a laid out header share a byte.
-use Rattle.var_layout.proofs.Words.{◌≡◌, ℕ, zero, suc, ◌+◌, ◌-◌, ◌<◌, ◌≤◌, List, [], ◌∷◌, inl, inr, holds_or_not, length, map, Bool, true, false, cond, ◌&&◌, ◌||◌, Some, None, refl, sym, ap, ◌∙◌, arith, max, filter, sum_by, nat_lt, nat_le, slice_get, nat_tests, length-map, slice_get_read, slab_below, Header, Var, Align, slab, vsize, is_record, recsize, record_size, record_variables, sharing, sharing_with, sharing_from, share, meet, placed, begins, begin_of, HasPlace}
+use Rattle.var_layout.proofs.Words.{◌≡◌, ℕ, zero, suc, ◌+◌, ◌-◌, ◌<◌, ◌≤◌, List, [], ◌∷◌, inl, inr, holds_or_not, length, map, Bool, true, false, cond, ◌||◌, Some, None, refl, sym, ap, ◌∙◌, arith, filter, sum_by, nat_lt, nat_le, slice_get, nat_tests, length-map, slice_get_read, slab_below, Header, Var, Align, slab, vsize, is_record, recsize, record_size, record_variables, sharing, sharing_with, sharing_from, share, meet, placed, begins, begin_of, HasPlace}
 use Rattle.var_layout.proofs.Soundness.{recsize_shared}
 use Rattle.var_layout.proofs.Searches.{Lies}
 use Rattle.var_layout.proofs.CreatedFiles.{in_place}
@@ -12,9 +12,6 @@ abbrev pub shares_by : Bool → Bool → ℕ → ℕ → ℕ → ℕ → ℕ →
 shares_by t u a n b m size =
     cond t (cond u (cond (nat_le a b) (nat_lt b (a + n) || nat_lt (a + size) (b + m)) (nat_lt a (b + m) || nat_lt (b + size) (a + n))) (nat_lt a (b + m)))
     (cond u (nat_lt b (a + n)) (meet a n b m))
-
-fixed_apart : (a n b m size : ℕ) → a + n ≤ b → shares_by false false a n b m size ≡ false
-fixed_apart a n b m size h = ap (λ (t : Bool). t && nat_lt (max a b) (b + m)) (let e : nat_lt (max a b) (a + n) ≡ false = grind (arith, nat_tests) in e)
 
 pub fixed_then_record : (a n b m size : ℕ) → a + n ≤ b → shares_by false true a n b m size ≡ false
 fixed_then_record a n b m size h = let e : nat_lt b (a + n) ≡ false = grind (arith, nat_tests) in e
@@ -55,7 +52,7 @@ get_there header k v lies = slice_get_read header.vars (length header.vars) k v 
 laid_apart : (header : Header) (align : Align) (len first : ℕ) → 0 < align.var → HasPlace header align len first → (i j : ℕ) (v w : Var) → i < j → Lies header i v → Lies header j w
     → (t u : Bool) → is_record header v ≡ t → is_record header w ≡ u
     → shares_by t u (begin_of header align len i v) (slab header v) (begin_of header align len j w) (slab header w) (recsize header) ≡ false
-laid_apart header align len first pos place i j v w l lies lies' false false e f = grind (arith, nat_tests, fixed_at, fixed_grows, slab_below, fixed_apart)
+laid_apart header align len first pos place i j v w l lies lies' false false e f = grind (arith, nat_tests, fixed_at, fixed_grows, slab_below)
 laid_apart header align len first pos place i j v w l lies lies' false true e f =
     fixed_then_record (begin_of header align len i v) (slab header v) (begin_of header align len j w) (slab header w) (recsize header)
     (omega (

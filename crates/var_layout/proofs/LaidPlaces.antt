@@ -1,5 +1,5 @@
 -- Each variable of a laid out header lies where it is placed, before the next of its kind, and keeps its bound.
-use Rattle.var_layout.proofs.Words.{◌≡◌, ℕ, zero, suc, ◌+◌, ◌-◌, ◌^◌, ◌<◌, ◌≤◌, List, [], ◌∷◌, inl, inr, cases_eq, holds_or_not, no_both, length, take, get_or, true, false, Some, None, refl, ap, ◌∙◌, arith, sum_by, nat_lt, slice_get, nat_tests, take_all, get_or_default, sum_by-cons, slice_get_within, get_or_from_slice_get, and_from, Header, Var, Align, vsize, is_record, record_variables, record_share, round_up, placed, begins, begin_of, measure, past_bound, keeps_bound, fixed_end, first_record, HasPlace}
+use Rattle.var_layout.proofs.Words.{◌≡◌, ℕ, zero, suc, ◌+◌, ◌-◌, ◌^◌, ◌<◌, ◌≤◌, List, [], ◌∷◌, inl, inr, holds_or_not, no_both, length, take, get_or, true, false, Some, None, refl, ap, ◌∙◌, arith, sum_by, nat_lt, slice_get, nat_tests, take_all, get_or_default, sum_by-cons, slice_get_within, get_or_from_slice_get, and_from, Header, Var, Align, vsize, is_record, record_variables, record_share, round_up, placed, begins, begin_of, measure, past_bound, keeps_bound, fixed_end, first_record, HasPlace}
 use Rattle.var_layout.proofs.Soundness.{shares_are}
 use Rattle.var_layout.proofs.Searches.{Lies}
 use Rattle.var_layout.proofs.CreatedFiles.{in_place, records_before, fixed_end_more, fixed_end_same, records_more, records_same, begin_fixed, begin_record, fixed_near, record_near}
@@ -27,12 +27,7 @@ lies_get header k d h = record { within = h; there = get_or_default header.vars 
 -- what goes up at each step goes up
 grows : (f : ℕ → ℕ) (n : ℕ) → ((k : ℕ) → k < n → f k ≤ f (k + 1)) → (k m : ℕ) → k ≤ m → m ≤ n → f k ≤ f m
 grows f n step k zero l h = let e : f k ≡ f 0 = ap f (omega arith) in omega arith
-grows f n step k (suc m) l h =
-    let s : f (suc m) ≡ f (m + 1) = ap f (omega arith) in
-    elim (cases_eq k (suc m)) [
-      | inl e ↦ omega (arith, ap f e)
-      | inr e ↦ omega (arith, s, step m (omega arith), grows f n step k m (omega arith) (omega arith))
-    ]
+grows f n step k (suc m) l h = grind (arith, nat_tests, grows f n step k m)
 
 pub fixed_grows : (header : Header) (align : Align) (first k m : ℕ) (d : Var) → 0 < align.var → k ≤ m → m ≤ length header.vars → fixed_end header align first k ≤ fixed_end header align first m
 fixed_grows header align first k m d pos l h = grows (λ n. fixed_end header align first n) (length header.vars) step k m l h
@@ -47,10 +42,8 @@ pub records_grow : (header : Header) (k m : ℕ) (d : Var) → k ≤ m → m ≤
 records_grow header k m d l h = grows (λ n. records_before header n) (length header.vars) step k m l h
   where
     step : (n : ℕ) → n < length header.vars → records_before header n ≤ records_before header (n + 1)
-    step n g = elim (holds_or_not (is_record header (get_or header.vars n d))) [
-      | inl e ↦ omega (arith, records_more header n _ (lies_get header n d g) e)
-      | inr e ↦ omega (arith, records_same header n _ (lies_get header n d g) e)
-    ]
+    step n g =
+        grind (arith, nat_tests, holds_or_not (is_record header (get_or header.vars n d)), records_more header n, lies_get header n d g, records_same header n)
 
 pub all_records : (header : Header) → records_before header (length header.vars) ≡ sum_by (λ v. vsize header v) (record_variables header header.vars)
 all_records header = ap (λ vs. sum_by (λ v. vsize header v) (record_variables header vs)) (take_all (length header.vars) header.vars (omega arith))
@@ -68,10 +61,7 @@ pub record RecordAt (header : Header) (align : Align) (first k begin : ℕ) (v :
   pub high : begin + vsize header v ≡ first_record header align first + records_before header (k + 1)
 
 pub record_at : (header : Header) (align : Align) (first k : ℕ) (v : Var) → Lies header k v → is_record header v ≡ true → RecordAt header align first k (begin_of header align first k v) v
-record_at header align first k v lies e =
-    let at = begin_record header align first k v e in
-    let more = records_more header k v lies e in
-    record { low = at; high = omega arith }
+record_at header align first k v lies e = grind (arith, nat_tests, begin_record, records_more)
 
 pub first_low : (header : Header) (align : Align) (first : ℕ) → 0 < align.var → fixed_end header align first (length header.vars) ≤ first_record header align first
 first_low header align first pos = grind (arith, nat_tests, up, take_all)

@@ -5,13 +5,9 @@ use Rattle.var_layout.proofs.Words.{◌≡◌, ℕ, ◌+◌, ◌<◌, List, [], 
 cut_at : {A : Type 0} (xs : List A) (k : ℕ) (d x : A) → k < length xs → get_or xs k d ≡ x → xs ≡ take k xs ++ x ∷ drop (k + 1) xs
 cut_at xs k d x h e = grind (arith, nat_tests, take-append-drop, drop_more)
 
-found_here : {A : Type 0} (p q : A → Bool) (front rest : List A) (x : A) → find q (filter p front) ≡ None → p x ≡ true → q x ≡ true
-    → find q (filter p (front ++ x ∷ rest)) ≡ Some x
-found_here p q front rest x h e f = grind (arith, nat_tests, filter-append, find-append)
-
 pub find_stops : {A : Type 0} (p q : A → Bool) (xs : List A) (k : ℕ) (d x : A) → k < length xs → get_or xs k d ≡ x
     → find q (filter p (take k xs)) ≡ None → p x ≡ true → q x ≡ true → find q (filter p xs) ≡ Some x
-find_stops p q xs k d x h e none f g = grind (arith, nat_tests, cut_at xs k d x h e, found_here p q (take k xs) (drop (k + 1) xs) x none f g)
+find_stops p q xs k d x h e none f g = grind (arith, nat_tests, cut_at xs k d x h e, filter-append, find-append)
 
 pub find_goes_on : {A : Type 0} (p q : A → Bool) (xs : List A) (k : ℕ) (d x : A) → k < length xs → get_or xs k d ≡ x
     → find q (filter p (take k xs)) ≡ None → (p x ≡ true → q x ≡ false) → find q (filter p (take (k + 1) xs)) ≡ None

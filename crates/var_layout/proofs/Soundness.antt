@@ -88,25 +88,18 @@ padded_slabs header [] = refl
 padded_slabs header (v ∷ vs) =
     rw (sum_by-cons (λ s. round_up 4 s) (slab header v) (map (λ w. slab header w) vs), padded_slabs header vs, sum_by-cons (λ w. vsize header w) v vs) refl
 
--- A record is no larger than its variables with their padding.
-size_below : (header : Header) (vs : List Var) → record_size (map (λ v. slab header v) vs) ≤ sum_by (λ v. vsize header v) vs
-size_below header vs = grind (arith, nat_tests, slab_below, padded_slabs)
-
 pub recsize_below : (header : Header) → recsize header ≤ sum_by (λ v. record_share header v) header.vars
-recsize_below header = grind (arith, nat_tests, size_below, shares_are)
+recsize_below header = grind (arith, nat_tests, slab_below, padded_slabs, shares_are)
 
 pub recsize_small : (header : Header) → is_sound header ≡ true → recsize header < 2 ^ 62
 recsize_small header h = let l = records_small header h in let m = recsize_below header in omega arith
-
-not_one : (n : ℕ) → (suc (suc n) == 1) ≡ false
-not_one n = grind (arith, nat_tests)
 
 -- the size of a record is the sum of the shares
 sizes_shared : (header : Header) (vs : List Var)
     → record_size (map (λ v. slab header v) vs) ≡ sum_by (λ v. cond (length (map (λ w. slab header w) vs) == 1) (slab header v) (vsize header v)) vs
 sizes_shared header [] = refl
 sizes_shared header (v ∷ []) = omega arith
-sizes_shared header (v ∷ w ∷ vs) = grind (arith, nat_tests, padded_slabs header (v ∷ w ∷ vs), not_one)
+sizes_shared header (v ∷ w ∷ vs) = grind (arith, nat_tests, padded_slabs header (v ∷ w ∷ vs))
 
 pub recsize_shared : (header : Header) → recsize header ≡ sum_by (λ v. last_share header v) (record_variables header header.vars)
 recsize_shared header = sizes_shared header (record_variables header header.vars)

@@ -1,5 +1,5 @@
 -- How long the parts of a written header are.
-use Rattle.var_layout.proofs.Words.{◌≡◌, ℕ, ◌+◌, ◌*◌, ◌≤◌, List, [], ◌∷◌, ◌++◌, length, take, ap, ◌∙◌, arith, sum_by, flat_map, byte_len, to_be_bytes, length-append, take_all, length-flat_map, count_long, Header, Var, vsize, count, count_width, begin_width, tag, list_of, name, dimension, attribute, variable, canon, header_len, capped, nat_tests}
+use Rattle.var_layout.proofs.Words.{◌≡◌, ℕ, ◌+◌, ◌*◌, ◌≤◌, List, [], ◌∷◌, ◌++◌, length, take, ap, ◌∙◌, arith, sum_by, flat_map, byte_len, length-append, take_all, length-flat_map, count_long, Header, Var, vsize, count, count_width, begin_width, tag, list_of, name, dimension, attribute, variable, canon, header_len, capped, nat_tests}
 
 pub list_len : {A : Type 0} (version t : ℕ) (entry : A → List ℕ) (xs : List A)
     → length (list_of version t entry xs) ≡ 4 + byte_len (count_width version) + sum_by (λ x. length (entry x)) xs
@@ -18,9 +18,6 @@ ids_len : (version : ℕ) (ids : List ℕ) → length (flat_map (λ id. count ve
 ids_len version [] = omega arith
 ids_len version (id ∷ ids) = grind (arith, nat_tests, ids_len version ids, length-append, count_long)
 
-begin_len : (version n : ℕ) → length (to_be_bytes (begin_width version) n) ≡ byte_len (begin_width version)
-begin_len version n = grind (arith, nat_tests)
-
 joined : (a b : List ℕ) (m n : ℕ) → length a ≡ m → length b ≡ n → length (a ++ b) ≡ m + n
 joined a b m n e f = length-append a b ∙ omega arith
 
@@ -29,15 +26,7 @@ pub variable_len : (header : Header) (v : Var)
     → length (variable header v) ≡ length (name header.version v.name) + byte_len (count_width header.version) + byte_len (count_width header.version) * length v.dims
     + length (list_of header.version 12 (λ a. attribute header.version a) v.attrs) + 4 + byte_len (count_width header.version) + byte_len (begin_width header.version)
 variable_len header v =
-    grind (
-      arith,
-      nat_tests,
-      count_long header.version (length v.dims),
-      ids_len header.version v.dims,
-      count_long header.version (vsize header v),
-      begin_len header.version v.begin,
-      joined,
-    )
+    grind (arith, nat_tests, count_long header.version (length v.dims), ids_len header.version v.dims, count_long header.version (vsize header v), joined)
 
 pub canon_len : (header : Header)
     → header_len header ≡ 4 + byte_len (count_width header.version) + length (list_of header.version 10 (λ d. dimension header.version d) header.dims)

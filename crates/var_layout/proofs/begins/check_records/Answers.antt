@@ -1,4 +1,4 @@
-use Rattle.var_layout.proofs.Words.{List, length, sym, ap, ◌∙◌, arith, option_map, is_record, Var}
+use Rattle.var_layout.proofs.Words.{sym, ◌∙◌, arith, is_record, nat_tests}
 use Rattle.nc_base.specs.declared.errors.LayoutErr.TheVariants as fault
 use Rattle.var_layout.proofs.Searches.{lies_in}
 use Rattle.var_layout.proofs.CreatedFiles.{records_skip, records_next, records_stop, none_whole}
@@ -8,8 +8,7 @@ use Rattle.var_layout.proofs.begins.check_records.Goals.{then-is_record+in-Some,
 pub returns-in-None : goal.returns-in-None
 returns-in-None c =
     let lies = lies_in c.args.header.now _ c.loop-k.k c.var-item.result c.as_slice-var-items.ensures (omega arith) c.var-item.is in
-    sym (ap (λ o. option_map (λ v. fault.BeginRange v.0) o)
-    (records_stop c.args.header.now c.args.align.now c.args.len c.loop-k.k c.loop-k.begin _ lies (sym c.is_record.ensures ∙ c.if-is_record.true) c.in-None.ensures c.loop-k.invariant))
+    grind (arith, nat_tests, records_stop c.args.header.now c.args.align.now c.args.len c.loop-k.k c.loop-k.begin, c.is_record.ensures, c.if-is_record.true, c.in-None.ensures, c.loop-k.invariant)
 
 pub loop-k-preserved : goal.loop-k-preserved
 loop-k-preserved c =
@@ -23,6 +22,4 @@ loop-k-preserved c =
     ]
 
 pub returns : goal.returns
-returns c =
-    let same = ap (λ (vs : List Var). length vs) c.as_slice-var-items.ensures in
-    sym (ap (λ o. option_map (λ v. fault.BeginRange v.0) o) (none_whole c.args.header.now c.args.align.now c.args.len (λ w. is_record c.args.header.now w.1) c.loop-k.k (omega arith) c.loop-k.invariant.none))
+returns c = grind (arith, nat_tests, none_whole, c.as_slice-var-items.ensures, c.loop-k.invariant.none)

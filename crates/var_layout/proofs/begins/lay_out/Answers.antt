@@ -1,4 +1,4 @@
-use Rattle.var_layout.proofs.Words.{◌≡◌, ℕ, List, sym, ap, subst, ◌∙◌, both_none, Header, Var, Align, begins, placed, is_sound, is_writable, HasPlace}
+use Rattle.var_layout.proofs.Words.{◌≡◌, ℕ, List, sym, ap, subst, ◌∙◌, both_none, Header, Var, Align, begins, placed, is_sound, is_writable, HasPlace, arith, nat_tests}
 use Rattle.var_layout.proofs.LaidOut.{laid_sound}
 use Rattle.var_layout.proofs.LaidWritable.{laid_writable}
 use Rattle.var_layout.proofs.begins.lay_out.Goals as goal
@@ -14,9 +14,7 @@ left header align len taken vars e f =
     ap (λ vs. record header { vars = vs }) (f ∙ ap (λ vs. placed (record header { vars = vs }) align len 0 vs) e)
 
 pub returns-clause-begins : goal.returns-clause-begins
-returns-clause-begins c =
-    left c.args.header.now c.args.align.now c.header_len-len.result c.take-vars.result c.with_begins.result c.take-vars.ensures.taken c.with_begins.ensures
-    ∙ ap (λ (n : ℕ). begins c.args.header.now c.args.align.now n) c.in_ok-first.ensures.fits.length
+returns-clause-begins c = grind (arith, nat_tests, left, begins, c.take-vars.ensures.taken, c.with_begins.ensures, c.in_ok-first.ensures.fits.length)
 
 pub returns-clause-sound : goal.returns-clause-sound
 returns-clause-sound c =

@@ -1,4 +1,4 @@
-use Rattle.var_layout.proofs.Words.{◌≡◌, length, sym, ◌∙◌, arith}
+use Rattle.var_layout.proofs.Words.{sym, ◌∙◌, arith, nat_tests}
 use Rattle.var_layout.proofs.CreatedFiles.{whole_header, item_there, record_near, write_record, write_fixed, written_whole}
 use Rattle.var_layout.proofs.begins.write_begins.Goals as goal
 use Rattle.var_layout.proofs.begins.write_begins.Goals.{then-is_record, else-is_record}
@@ -7,9 +7,7 @@ pub overflow_add-record : goal.overflow_add-record
 overflow_add-record c =
     let lies = item_there c.args.header.now c.args.align.now c.args.len c.args.vars.now c.loop-var.vars c.loop-var.var-index c.loop-var.fixed c.loop-var.record _
     c.loop-var.auto.vars (omega arith) c.var-item.is c.loop-var.invariant in
-    let near = record_near (whole_header c.args.header.now c.args.vars.now) c.args.align.now c.args.len c.loop-var.var-index _ c.requires.records_fit lies
-    (sym c.is_record.ensures ∙ c.if-is_record.true) in
-    omega (arith, near, c.vsize_of-bytes.ensures, c.loop-var.invariant.place)
+    grind (arith, nat_tests, record_near (whole_header c.args.header.now c.args.vars.now) c.args.align.now c.args.len c.loop-var.var-index, c.requires.records_fit, c.is_record.ensures, c.if-is_record.true, c.vsize_of-bytes.ensures, c.loop-var.invariant.place)
 
 pub loop-var-preserved : goal.loop-var-preserved
 loop-var-preserved c =
@@ -28,5 +26,4 @@ loop-var-preserved c =
 
 pub returns : goal.returns
 returns c =
-    let same : length c.loop-var.vars ≡ length c.args.vars.now = c.loop-var.auto.vars in
-    written_whole c.args.header.now c.args.align.now c.args.len c.args.vars.now c.loop-var.vars c.loop-var.var-index c.loop-var.fixed c.loop-var.record (omega arith) c.loop-var.invariant
+    grind (arith, nat_tests, written_whole c.args.header.now c.args.align.now c.args.len c.args.vars.now c.loop-var.vars, c.loop-var.auto.vars, c.loop-var.invariant)

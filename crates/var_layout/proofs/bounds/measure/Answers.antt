@@ -1,4 +1,4 @@
-use Rattle.var_layout.proofs.Words.{ap, sym, ◌∙◌, refl, arith, sum_by, take, Var, record_share, capped}
+use Rattle.var_layout.proofs.Words.{ap, sym, ◌∙◌, refl, arith, sum_by, take, Var, record_share, capped, nat_tests}
 use Rattle.var_layout.proofs.Capping.{capped_sum_more}
 use Rattle.var_layout.proofs.Searches.{lies_in}
 use Rattle.var_layout.proofs.Soundness.{stops_at, goes_on_at}
@@ -10,9 +10,7 @@ loop-k-init c = record { left = refl; before = omega arith }
 pub returns-then-not-keeps_bound : goal.returns-then-not-keeps_bound
 returns-then-not-keeps_bound c =
     let header = c.args.header.now in
-    let lies = lies_in header _ c.loop-k.k c.var-item.result c.as_slice-var-items.ensures (omega arith) c.var-item.is in
-    let fails = sym (c.keeps_bound.ensures (sum_by (λ v. record_share header v) (take c.loop-k.k header.vars)) c.loop-k.invariant.before) ∙ c.if-not-keeps_bound.true in
-    sym (stops_at header header.vars c.loop-k.k c.var-item.result lies.within lies.there fails) ∙ c.loop-k.invariant.left
+    grind (arith, nat_tests, lies_in header, stops_at header header.vars c.loop-k.k c.var-item.result, c.as_slice-var-items.ensures, c.var-item.is, c.keeps_bound.ensures, c.loop-k.invariant.before, c.if-not-keeps_bound.true, c.loop-k.invariant.left)
 
 pub loop-k-preserved : goal.loop-k-preserved
 loop-k-preserved c =
