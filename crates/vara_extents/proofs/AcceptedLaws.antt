@@ -1,5 +1,5 @@
 -- What is known of a region that a check accepts.
-use Rattle.vara_extents.proofs.Words.{◌≡◌, ℕ, ◌^◌, ◌<◌, ◌≤◌, ◌∙◌, ap, sym, refl, length, Bool, true, false, cond, eqb, Option, Some, arith, slice_get, list_any, or_parts, leb-false, Header, Var, Region, Direction, Code, record_limit, records_of, check_some, check_var, bounds, other_shape, some_start, some_edge, asks_too_much, IsAccepted, nat_tests}
+use Rattle.vara_extents.proofs.Words.{◌≡◌, ℕ, ◌^◌, ◌<◌, refl, length, Bool, true, false, cond, eqb, Some, arith, slice_get, list_any, or_parts, leb-false, Header, Var, Region, Direction, Code, record_limit, records_of, check_var, bounds, other_shape, some_start, some_edge, asks_too_much, IsAccepted, nat_tests}
 use Rattle.nc_base.specs.declared.answer.Code.TheVariants as code
 
 passes : (b : Bool) (c rest : Code) → (c ≡ code.Ok → ⊥) → cond b c rest ≡ code.Ok → (b ≡ false) × (rest ≡ code.Ok)
@@ -17,14 +17,8 @@ pub record Passes (header : Header) (var : Var) (g : Region) (known : ℕ) (dire
 pub passed : (header : Header) (var : Var) (g : Region) (known : ℕ) (direction : Direction) → check_var header var g known direction ≡ code.Ok → Passes header var g known direction
 passed header var g known direction h = grind (arith, nat_tests, passes)
 
-limit_small : (version : ℕ) → record_limit version ≤ 2 ^ 62
-limit_small version = grind (arith, nat_tests)
-
 pub records_below : (header : Header) (var : Var) (g : Region) → asks_too_much header var g ≡ false → records_of header var g < record_limit header.version
 records_below header var g h = grind (arith, nat_tests, or_parts, leb-false)
 
 pub records_fit : (header : Header) (k : ℕ) (var : Var) (g : Region) → slice_get header.vars k ≡ Some var → IsAccepted header k g → records_of header var g < 2 ^ 62
-records_fit header k var g is accepted =
-    let ok = ap (λ (o : Option Var). check_some header o g accepted.0 accepted.1) (sym is) ∙ accepted.2 in
-    let all = passed header var g accepted.0 accepted.1 ok in
-    omega (arith, records_below header var g all.large, limit_small header.version)
+records_fit header k var g is accepted = grind (arith, nat_tests, passed header var g accepted.0 accepted.1, records_below header var g)

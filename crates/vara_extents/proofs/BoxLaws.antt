@@ -103,8 +103,7 @@ long_all _ _ f g h same = absurd (omega (arith, h))
 pub boxes_share : (starts counts others lengths : List ℕ) → length starts ≡ length counts → length others ≡ length lengths → length lengths ≡ length counts
     → list_any (has_index (box others lengths)) (box starts counts) ≡ boxes_meet starts counts others lengths
 boxes_share starts counts others lengths h k l =
-    long_all starts counts (has_index (box others lengths)) (in_box others lengths) h (λ x e. has_is others lengths x k (omega (arith, e, l)))
-    ∙ boxes_is starts counts others lengths h (omega arith) l
+    grind (arith, nat_tests, long_all starts counts (has_index (box others lengths)) (in_box others lengths) h, has_is others lengths, boxes_is starts counts others lengths h)
 
 any_or : {A : Type 0} (p q : A → Bool) (xs : List A) → list_any (λ x. p x || q x) xs ≡ (list_any p xs || list_any q xs)
 any_or p q [] = refl

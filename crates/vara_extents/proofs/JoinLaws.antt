@@ -31,10 +31,6 @@ same_extent a b m n h k = λ i. extent (h i) (k i)
 pub join_two : (e d : Extent) (es : List Extent) → d.at ≡ e.at + e.len → joined_to e (joined_to d es) ≡ joined_to (lengthened e d.len) es
 join_two e d es h = grind (arith, nat_tests, join_next, cases_eq, same_extent, join_apart)
 
--- before one that does not begin at its end
-pub join_far : (e d : Extent) (es : List Extent) → (d.at ≡ e.at + e.len → ⊥) → joined_to e (joined_to d es) ≡ e ∷ joined_to d es
-join_far e d es h = grind (arith, nat_tests, join_first, join_apart)
-
 -- ---- elements one after another
 
 -- so many extents of one length, the first at this place and each next one where the one before it ends

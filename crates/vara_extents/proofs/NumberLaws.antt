@@ -1,5 +1,5 @@
 -- The element with a number.
-use Rattle.vara_extents.proofs.Words.{◌≡◌, ℕ, zero, suc, ◌+◌, ◌*◌, ◌/◌, ◌%◌, ◌<◌, ◌≤◌, sym, ap, ◌∙◌, List, [], ◌∷◌, length, drop, Some, arith, slice_get, div-add-mod', div_below, mod_below, mul-le, lt_of_mul-lt-mul_right, length-map, Header, Var, Region, size_of, product, row, place, IsIndex, coordinates, index_at, elements, places, length-coordinates, coordinates_at, element_extents, joined, joined_to, coordinates_of, index_of, AreRuns, entry_map, nat_tests}
+use Rattle.vara_extents.proofs.Words.{◌≡◌, ℕ, zero, suc, ◌+◌, ◌*◌, ◌%◌, ◌<◌, ◌≤◌, sym, ap, ◌∙◌, List, [], ◌∷◌, length, drop, Some, arith, slice_get, div_below, mod_below, mul-le, lt_of_mul-lt-mul_right, length-map, Header, Var, Region, size_of, product, row, place, IsIndex, coordinates, index_at, elements, places, length-coordinates, coordinates_at, element_extents, joined, joined_to, coordinates_of, index_of, AreRuns, entry_map, nat_tests}
 use Rattle.vara_extents.proofs.JoinLaws.{run_joined}
 
 some_counts : (n p k : ℕ) → k < n * p → 1 ≤ p
@@ -14,9 +14,7 @@ numbered_index (n ∷ counts) k h =
 pub numbered_row : (counts : List ℕ) (k : ℕ) → k < product counts → row counts (coordinates_of counts k) ≡ k
 numbered_row [] k h = omega arith
 numbered_row (n ∷ counts) k h =
-    let some = some_counts n (product counts) k h in
-    ap (λ (r : ℕ). k / product counts * product counts + r) (numbered_row counts (k % product counts) (mod_below k (product counts) some))
-    ∙ div-add-mod' k (product counts)
+    grind (arith, nat_tests, some_counts, numbered_row counts (k % product counts) (mod_below k (product counts) (some_counts n (product counts) k h)), coordinates_of)
 
 pub numbered_at : (counts : List ℕ) (k : ℕ) → k < product counts → slice_get (coordinates counts) k ≡ Some (coordinates_of counts k)
 numbered_at counts k h =
@@ -49,8 +47,7 @@ run_is header v g zero total k h is low = let some = h.some in absurd (omega ari
 run_is header v g (suc n) total k h is low =
     run_joined (element_extents header v g) (size_of v.kind) (k * suc n) n (place header v (index_of g (k * suc n))) (λ i l.
     let below : k * suc n + i < total = fits i l h.parts.0 h.parts.1 in
-    extent_at header v g (k * suc n + i) (omega arith)
-    ∙ ap (λ (x : ℕ). Some (record { at = x; len = size_of v.kind })) (h.follow k i l below))
+    grind (arith, nat_tests, extent_at, v.kind, h.follow))
   where
     whole : (m : ℕ) → total ≡ m * suc n → k < m
     whole m e = lt_of_mul-lt-mul_right (suc n) (omega arith)

@@ -1,5 +1,5 @@
 -- No byte of an accepted region stands twice.
-use Rattle.vara_extents.proofs.Words.{◌≡◌, ℕ, zero, suc, ◌+◌, ◌*◌, ◌/◌, ◌%◌, ◌<◌, ◌≤◌, inl, inr, refl, sym, ap, subst, ◌∙◌, List, [], ◌∷◌, ◌++◌, length, map, true, false, eqb, Option, Some, None, arith, slice_get, flat_map, range_with_len, list_any, or_parts, eqb-false, cases_eq, div-add-mod', mod_below, slice_get_within, same_Some, length-range_with_len, size_pos, same_factor, Header, Var, Post, Region, size_of, is_sound, product, row, place, IsIndex, index_at, places, bytes_of, bytes_of_some, elements_apart, IsAccepted, extents_of, element_extents, spans, IsOnce, coordinates_of, index_of, get_left, get_right, nat_tests}
+use Rattle.vara_extents.proofs.Words.{◌≡◌, ℕ, zero, suc, ◌+◌, ◌*◌, ◌/◌, ◌%◌, ◌<◌, ◌≤◌, inl, inr, refl, sym, ap, subst, ◌∙◌, List, [], ◌∷◌, ◌++◌, length, map, true, false, eqb, Option, Some, None, arith, slice_get, flat_map, range_with_len, list_any, cases_eq, div-add-mod', mod_below, slice_get_within, same_Some, length-range_with_len, size_pos, same_factor, Header, Var, Post, Region, size_of, is_sound, product, place, IsIndex, index_at, places, bytes_of, bytes_of_some, elements_apart, IsAccepted, extents_of, element_extents, spans, IsOnce, coordinates_of, index_of, get_left, get_right, nat_tests}
 use Rattle.serial_spec.proofs.AcceptLaws as accept
 use Rattle.vara_extents.proofs.AcceptedLaws.{passed}
 use Rattle.vara_extents.proofs.JoinLaws.{joined_spans}
@@ -23,10 +23,6 @@ range_at a (suc n) (suc r) b e = let later = range_at (a + 1) n r b e in omega a
 
 -- ---- elements with other numbers are other elements
 
-some_stride : (t : ℕ) → eqb t 0 ≡ false → 1 ≤ t
-some_stride zero e = absurd (eqb-false 0 0 e refl)
-some_stride (suc t) e = omega arith
-
 same_coordinates : (counts starts strides c d : List ℕ) → length starts ≡ length counts → length strides ≡ length counts → list_any (λ t. eqb t 0) strides ≡ false
     → IsIndex counts c → IsIndex counts d → index_at starts strides c ≡ index_at starts strides d → c ≡ d
 same_coordinates [] starts strides [] [] a b s h k e = refl
@@ -35,12 +31,7 @@ same_coordinates (n ∷ counts) [] strides c d a b s h k e = absurd (omega arith
 same_coordinates (n ∷ counts) (x ∷ starts) [] c d a b s h k e = absurd (omega arith)
 same_coordinates (n ∷ counts) (x ∷ starts) (t ∷ strides) (i ∷ c) [] a b s h k e = absurd k
 same_coordinates (n ∷ counts) (x ∷ starts) (t ∷ strides) (i ∷ c) (j ∷ d) a b s h k e =
-    let some = or_parts (eqb t 0) (list_any (λ t. eqb t 0) strides) s in
-    let first : x + i * t ≡ x + j * t = cc in
-    let later : index_at starts strides c ≡ index_at starts strides d = cc in
-    let here = same_factor i j t (some_stride t some.0) (omega arith) in
-    let rest = same_coordinates counts starts strides c d (omega arith) (omega arith) some.1 h.1 k.1 later in
-    (λ z. here z ∷ rest z)
+    grind (arith, nat_tests, same_factor i j, same_coordinates counts starts strides c d)
 same_coordinates _ _ _ _ d a b s h k e = absurd h
 
 -- ---- the bytes of an accepted region
@@ -49,11 +40,7 @@ module _ (header : Header) (k : ℕ) (v : Var) (g : Region) (sound : is_sound he
   own : (m n : ℕ) → m < product g.count → n < product g.count → index_of g m ≡ index_of g n → m ≡ n
   own m n l h e =
       let a = accept.accepted header v g ok.0 ok.1 (accepted_var header k v g there ok) in
-      let p = passed header v g ok.0 ok.1 (accepted_var header k v g there ok) in
-      let starts : length g.start ≡ length g.count = a.starts ∙ sym a.counts in
-      let strides : length g.stride ≡ length g.count = a.strides ∙ sym a.counts in
-      let same = same_coordinates g.count g.start g.stride (coordinates_of g.count m) (coordinates_of g.count n) starts strides p.stride (numbered_index g.count m l) (numbered_index g.count n h) e in
-      sym (numbered_row g.count m l) ∙ ap (λ (c : List ℕ). row g.count c) same ∙ numbered_row g.count n h
+      grind (arith, nat_tests, passed header v g ok.0 ok.1 (accepted_var header k v g there ok), accepted_var header k v g there ok, same_coordinates g.count g.start g.stride (coordinates_of g.count m) (coordinates_of g.count n), numbered_index g.count m l, numbered_index g.count n h, numbered_row g.count m l, numbered_row g.count n h, a.starts, a.counts, a.strides)
 
   pub bytes_once : IsOnce (flat_map (λ x. range_with_len x (size_of v.kind)) (places header v g))
   bytes_once i j x d e =

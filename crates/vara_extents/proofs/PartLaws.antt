@@ -1,9 +1,9 @@
 -- Parts of one call: the first refusal, the elements that two of them share, and the code of all.
-use Rattle.vara_extents.proofs.Words.{◌≡◌, ℕ, ◌+◌, ◌<◌, ◌≤◌, ◌∙◌, ap, sym, refl, inl, inr, List, [], ◌∷◌, length, map, take, get_or, Bool, true, false, cond, ltb, ◌||◌, ◌&&◌, replicate, arith, flat_map, sum_by, All, list_any, both_ways, and_parts, not-false, eqb-true, lt-ltb, le-ltb, cases_lt, All-nil, All-cons, All-head, All-tail, All-map, sum_by_more, Header, Var, Part, Region, Direction, Code, product, most_elements, elements, coordinates, index_at, check_var, check_parts, first_refusal, is_ok_code, is_put, has_index, part_region, share_element, elements_of_all, capped, boxes_meet, meets_any, some_meet, IsBox, code_by_boxes, refusal_of, together_code, nat_tests}
+use Rattle.vara_extents.proofs.Words.{◌≡◌, ℕ, ◌<◌, ◌≤◌, ◌∙◌, ap, sym, refl, inl, inr, List, [], ◌∷◌, length, map, Bool, true, false, cond, ltb, ◌||◌, ◌&&◌, replicate, arith, flat_map, All, list_any, both_ways, and_parts, not-false, eqb-true, lt-ltb, le-ltb, cases_lt, All-nil, All-cons, All-head, All-tail, All-map, Header, Var, Part, Region, Direction, Code, most_elements, elements, check_var, check_parts, first_refusal, is_ok_code, is_put, has_index, part_region, share_element, elements_of_all, boxes_meet, meets_any, some_meet, IsBox, code_by_boxes, refusal_of, together_code, nat_tests}
 use Rattle.std.specs.Prelude.{not}
 use Rattle.nc_base.specs.declared.answer.Code.TheVariants as code
 use Rattle.vara_extents.proofs.AcceptedLaws.{passed}
-use Rattle.vara_extents.proofs.BoxLaws.{box, boxes_share, any_of}
+use Rattle.vara_extents.proofs.BoxLaws.{boxes_share, any_of}
 
 -- ---- the first refusal
 
@@ -28,33 +28,20 @@ ok_is_not c h e = absurd (both_ways (is_ok_code c) h (ap is_ok_code e))
 
 -- ---- the code by the answers of the tests
 
-abbrev pick : Code → Bool → Bool → Code
-pick refused large shared = cond (not (is_ok_code refused)) refused (cond large code.ETooLarge (cond shared code.ESelf code.Ok))
-
-not_picked : (large shared : Bool) (c : Code) → (c ≡ code.Ok → ⊥) → pick c large shared ≡ c
-not_picked large shared code.Ok n = absurd (n refl)
-not_picked large shared _ n = refl
-
 pub refused_first : (header : Header) (var : Var) (parts : List Region) (known : ℕ) (direction : Direction) (c : Code)
     → c ≡ refusal_of header var parts known direction → (c ≡ code.Ok → ⊥) → c ≡ check_parts header var parts known direction
-refused_first header var parts known direction c h n = grind (arith, nat_tests, not_picked)
+refused_first header var parts known direction c h n = grind (arith, nat_tests)
 
 pub too_many : (header : Header) (var : Var) (parts : List Region) (known : ℕ) (direction : Direction)
     → refusal_of header var parts known direction ≡ code.Ok → most_elements < elements_of_all parts → code.ETooLarge ≡ check_parts header var parts known direction
-too_many header var parts known direction h more =
-    sym (λ j. pick (h j) (lt-ltb most_elements (elements_of_all parts) more j) (is_put direction && share_element parts))
+too_many header var parts known direction h more = grind (arith, nat_tests)
 
 pub by_share : (header : Header) (var : Var) (parts : List Region) (known : ℕ) (direction : Direction) (b : Bool)
     → refusal_of header var parts known direction ≡ code.Ok → elements_of_all parts ≤ most_elements → b ≡ (is_put direction && share_element parts)
     → check_parts header var parts known direction ≡ cond b code.ESelf code.Ok
-by_share header var parts known direction b h few e =
-    λ j. pick (h j) (le-ltb most_elements (elements_of_all parts) few j) (sym e j)
+by_share header var parts known direction b h few e = grind (arith, nat_tests)
 
 -- ---- parts that are accepted are boxes
-
-box_of : (header : Header) (var : Var) (known : ℕ) (direction : Direction) (g : Region)
-    → check_var header var g known direction ≡ code.Ok → g.stride ≡ replicate (length var.dims) 1 → IsBox (length var.dims) g
-box_of header var known direction g h s = grind (arith, nat_tests, passed, not-false, and_parts, eqb-true)
 
 abbrev HasStrides : Var → Region → Type 0
 HasStrides var g = g.stride ≡ replicate (length var.dims) 1
@@ -66,21 +53,16 @@ boxes_of : (header : Header) (var : Var) (known : ℕ) (direction : Direction) (
     → All (Passed header var known direction) parts → All (HasStrides var) parts → All (IsBox (length var.dims)) parts
 boxes_of header var known direction [] h s = All-nil (IsBox (length var.dims))
 boxes_of header var known direction (g ∷ parts) h s =
-    All-cons (IsBox (length var.dims)) g parts
-    (box_of header var known direction g (All-head (Passed header var known direction) g parts h) (All-head (HasStrides var) g parts s))
-    (boxes_of header var known direction parts (All-tail (Passed header var known direction) g parts h) (All-tail (HasStrides var) g parts s))
+    grind (arith, nat_tests, passed, not-false, and_parts, eqb-true, boxes_of header var known direction parts (All-tail (Passed header var known direction) g parts h))
 
 strides_of : (var : Var) (parts : List Part) → All (HasStrides var) (map (part_region var) parts)
 strides_of var parts = All-map (HasStrides var) (part_region var) parts (λ k d l. refl)
 
 -- ---- the elements that they share
 
-elements_box : (dims : ℕ) (g : Region) → IsBox dims g → elements g ≡ box g.start g.count
-elements_box dims g h = ap (λ (s : List ℕ). map (λ c. index_at g.start s c) (coordinates g.count)) (h.2 ∙ sym (ap (λ (n : ℕ). replicate n 1) h.1))
-
 meets_one : (dims : ℕ) (g other : Region) → IsBox dims g → IsBox dims other
     → list_any (has_index (elements other)) (elements g) ≡ boxes_meet g.start g.count other.start other.count
-meets_one dims g other h k = grind (arith, nat_tests, elements_box, boxes_share)
+meets_one dims g other h k = grind (arith, nat_tests, boxes_share)
 
 meets_each : (dims : ℕ) (g : Region) (others : List Region) → IsBox dims g → All (IsBox dims) others
     → meets_any g others ≡ list_any (λ other. list_any (has_index (elements other)) (elements g)) others
@@ -114,42 +96,26 @@ by_code : (header : Header) (var : Var) (parts : List Region) (known : ℕ) (dir
     → c ≡ refusal_of header var parts known direction → All (HasStrides var) parts
     → cond (is_ok_code c) (together_code parts direction) c ≡ check_parts header var parts known direction
 by_code header var parts known direction code.Ok h s =
-    together_is header var parts known direction (sym h)
-    (boxes_of header var known direction parts (each_ok (λ g. check_var header var g known direction) parts (sym h)) s)
+    grind (arith, nat_tests, together_is header var parts known direction (sym h), boxes_of header var known direction parts, each_ok)
 by_code header var parts known direction c h s = refusal_is c (together_code parts direction) (λ e. cc) ∙ refused_first header var parts known direction c h (λ e. cc)
 
 pub code_is : (header : Header) (var : Var) (parts : List Part) (known : ℕ) (direction : Direction)
     → code_by_boxes header var (map (part_region var) parts) known direction ≡ check_parts header var (map (part_region var) parts) known direction
 unfolding code_by_boxes
-code_is header var parts known direction =
-    by_code header var (map (part_region var) parts) known direction (refusal_of header var (map (part_region var) parts) known direction) refl (strides_of var parts)
+code_is header var parts known direction = grind (arith, nat_tests, by_code, strides_of, code_by_boxes)
 
 -- ---- the steps to the code by boxes
 
 pub refused_by : (header : Header) (var : Var) (parts : List Region) (known : ℕ) (direction : Direction) (c : Code)
     → c ≡ refusal_of header var parts known direction → is_ok_code c ≡ false → c ≡ code_by_boxes header var parts known direction
 unfolding code_by_boxes
-refused_by header var parts known direction c h e =
-    h ∙ sym (ap (λ (b : Bool). cond b (together_code parts direction) (refusal_of header var parts known direction)) (ap is_ok_code (sym h) ∙ e))
+refused_by header var parts known direction c h e = grind (arith, nat_tests)
 
 pub accepted_by : (header : Header) (var : Var) (parts : List Region) (known : ℕ) (direction : Direction) (c : Code)
     → c ≡ refusal_of header var parts known direction → is_ok_code c ≡ true → together_code parts direction ≡ code_by_boxes header var parts known direction
 unfolding code_by_boxes
-accepted_by header var parts known direction c h e =
-    sym (ap (λ (b : Bool). cond b (together_code parts direction) (refusal_of header var parts known direction)) (ap is_ok_code (sym h) ∙ e))
-
-pub large_is : (parts listed : List Region) (direction : Direction) → listed ≡ parts → ltb most_elements (elements_of_all listed) ≡ true → code.ETooLarge ≡ together_code parts direction
-large_is parts listed direction same more =
-    sym (ap (λ (b : Bool). cond b code.ETooLarge (cond (is_put direction && some_meet parts) code.ESelf code.Ok)) (ap (λ (l : List Region). ltb most_elements (elements_of_all l)) (sym same) ∙ more))
+accepted_by header var parts known direction c h e = grind (arith, nat_tests)
 
 pub few_are : (parts listed : List Region) (direction : Direction) (put share : Bool) → listed ≡ parts → ltb most_elements (elements_of_all listed) ≡ false
     → is_put direction ≡ put → some_meet parts ≡ share → cond (put && share) code.ESelf code.Ok ≡ together_code parts direction
-few_are parts listed direction put share same few p s =
-    sym (λ j. cond ((ap (λ (l : List Region). ltb most_elements (elements_of_all l)) (sym same) ∙ few) j) code.ETooLarge (cond (p j && s j) code.ESelf code.Ok))
-
--- ---- the sum of the elements, one part more
-
-pub one_part_more : (parts : List Region) (k : ℕ) (d : Region) (s n : ℕ) → k < length parts
-    → s ≡ capped (sum_by (λ (g : Region). product g.count) (take k parts)) → n ≡ capped (product (get_or parts k d).count)
-    → capped (s + n) ≡ capped (sum_by (λ (g : Region). product g.count) (take (k + 1) parts))
-one_part_more parts k d s n h e f = grind (arith, nat_tests, sum_by_more)
+few_are parts listed direction put share same few p s = grind (arith, nat_tests)

@@ -1,5 +1,5 @@
 -- Where the elements of an accepted region lie.
-use Rattle.vara_extents.proofs.Words.{◌≡◌, ℕ, ◌+◌, ◌^◌, ◌<◌, ◌≤◌, sym, ap, ◌∙◌, List, [], ◌∷◌, map, true, false, Option, Some, arith, slice_get, or_parts, leb-false, ltb-false, mul-le, size_pos, each_map, each_weaker, each_at, Header, Var, Extent, Region, size_of, header_len, is_sound, product, end_of, inner_lengths, is_record, recsize, place, within_record, IsElement, IsElementBelow, records_of, check_some, check_var, asks_too_much, elements, places, accepted_elements, slab_fits, index_record, element_inside, product_pos, IsAccepted, element_extents, extents_of, index_of, nat_tests}
+use Rattle.vara_extents.proofs.Words.{◌≡◌, ℕ, ◌+◌, ◌^◌, ◌<◌, ◌≤◌, sym, ap, ◌∙◌, List, [], ◌∷◌, map, true, false, Option, Some, arith, slice_get, or_parts, leb-false, ltb-false, size_pos, each_map, each_weaker, each_at, Header, Var, Extent, Region, size_of, header_len, is_sound, product, end_of, inner_lengths, is_record, recsize, place, within_record, IsElement, IsElementBelow, records_of, check_some, check_var, asks_too_much, elements, places, accepted_elements, slab_fits, index_record, element_inside, product_pos, IsAccepted, element_extents, extents_of, index_of, nat_tests}
 use Rattle.nc_base.specs.declared.answer.Code.TheVariants as code
 use Rattle.vara_extents.proofs.AcceptedLaws.{passed}
 use Rattle.vara_extents.proofs.JoinLaws.{AreSome, EndBy, joined_some, joined_end}
@@ -26,18 +26,13 @@ pub accepted_place : (header : Header) (k : ℕ) (v : Var) (g : Region) (n : ℕ
     → n < product g.count → IsPlaced header v g n
 accepted_place header k v g n sound is h below =
     let ok = accepted_var header k v g is h in
-    let all = accepted_elements header k v g h.0 h.1 sound is ok in
-    let own : IsElementBelow header v (records_of header v g) (index_of g n) = each_at (IsElementBelow header v (records_of header v g)) (elements g) n (index_of g n) all (element_at g n below) in
-    let end = element_inside header (header_len header) (records_of header v g) k v (index_of g n) is own in
-    let small = accepted_small header v g (passed header v g h.0 h.1 ok).large in
-    record { element = own.0; before_end = end; low = omega (arith, small.ends, end) }
+    grind (arith, nat_tests, accepted_elements header k v g h.0 h.1 sound is ok, each_at (IsElementBelow header v (records_of header v g)) (elements g) n (index_of g n), element_at g n below, element_inside header (header_len header) (records_of header v g) k v (index_of g n) is, accepted_small header v g (passed header v g h.0 h.1 ok).large, passed header v g h.0 h.1 ok)
 
 -- a record has bytes, where it has an element
 pub wide_records : (header : Header) (k : ℕ) (v : Var) (index : List ℕ) → slice_get header.vars k ≡ Some v → is_record header v ≡ true → IsElement header v index → 1 ≤ recsize header
 wide_records header k v index there e h =
     let some = product_pos (inner_lengths header v) (within_record index) (index_record header v index e h).1 in
-    let bytes = mul-le 1 1 (product (inner_lengths header v)) (size_of v.kind) some (size_pos v.kind) in
-    omega (arith, bytes, slab_fits header k v there e)
+    grind (arith, nat_tests, size_pos v.kind, slab_fits header k v there e)
 
 -- ---- extents
 

@@ -1,7 +1,7 @@
 -- Rows of runs: in one dimension the places of runs go up by equal steps.
-use Rattle.vara_extents.proofs.Words.{◌≡◌, ℕ, zero, suc, ◌+◌, ◌*◌, ◌/◌, ◌%◌, ◌<◌, ◌≤◌, inl, inr, holds_or_not, refl, sym, ap, subst, ◌∙◌, List, [], ◌∷◌, length, get_or, true, false, arith, slice_get, length-map, div-mul-add, mod-mul-add, div-add-mod', mod_below, mul-le, mul-div_cancel, mul-mod_left, Header, Var, Region, size_of, product, length_of, recsize, is_record, starts_with_zero, lengths_of, place, index_at, coordinates_of, index_of, weighted, AreRuns, HaveRows, nat_tests}
+use Rattle.vara_extents.proofs.Words.{◌≡◌, ℕ, zero, suc, ◌+◌, ◌*◌, ◌/◌, ◌%◌, ◌<◌, ◌≤◌, inl, inr, holds_or_not, refl, sym, ap, subst, ◌∙◌, List, [], ◌∷◌, length, get_or, true, false, arith, slice_get, length-map, div-mul-add, mod-mul-add, div-add-mod', mod_below, mul-le, mul-div_cancel, mul-mod_left, Header, Var, Region, size_of, product, length_of, recsize, is_record, lengths_of, place, index_at, coordinates_of, index_of, weighted, AreRuns, HaveRows, nat_tests}
 use Rattle.serial_spec.specs.Place as spec
-use Rattle.vara_extents.proofs.RowSteps.{record_first, rest, rest_is, fixed_is, record_place_is, record_row, same_rests, split}
+use Rattle.vara_extents.proofs.RowSteps.{rest, rest_is, fixed_is, record_place_is, record_row, same_rests, split}
 use Rattle.vara_extents.proofs.RunLaws.{kept, same_runs}
 
 -- ---- the dimensions of a row
@@ -114,8 +114,7 @@ length-lengths_of header ids = length-map ids (λ id. length_of (slice_get heade
 weighted_first : (counts weights : List ℕ) (weight k : ℕ) → 1 ≤ length counts
     → weighted (weight ∷ weights) (coordinates_of counts k) ≡ k / product (rest counts) * weight + weighted weights (coordinates_of (rest counts) (k % product (rest counts)))
 weighted_first [] weights weight k h = absurd (omega arith)
-weighted_first (n ∷ counts) weights weight k h =
-    ap (λ (xs : List ℕ). k / product xs * weight + weighted weights (coordinates_of xs (k % product xs))) (sym (rest_is n counts))
+weighted_first (n ∷ counts) weights weight k h = grind (arith, nat_tests, rest_is n counts)
 
 -- places are sums of coordinates by weights, from a base on
 record AreSums (header : Header) (v : Var) (g : Region) (weights : List ℕ) (base : ℕ) : Type 0 where
@@ -135,7 +134,6 @@ record_sums : (header : Header) (v : Var) (g : Region) → is_record header v �
     → AreSums header v g (get_or g.stride 0 0 * recsize header ∷ weights_of (size_of v.kind) (lengths_of header (rest v.dims)) (rest g.stride))
     (v.begin + get_or g.start 0 0 * recsize header + spec.row (lengths_of header (rest v.dims)) (rest g.start) * size_of v.kind)
 record_sums header v g e h =
-    let some = record_first header v.dims e in
     let dims = length-lengths_of header (rest v.dims) in
     let starts = same_rests g.start v.dims h.starts in
     let counts = same_rests g.count v.dims h.counts in
@@ -143,15 +141,8 @@ record_sums header v g e h =
     let size = size_of v.kind in
     let weights = weights_of size (lengths_of header (rest v.dims)) (rest g.stride) in
     record {
-      long = ap suc (length-weights_of size (lengths_of header (rest v.dims)) (rest g.stride) (strides ∙ sym dims) ∙ strides ∙ sym counts)
-          ∙ sym (ap (λ (xs : List ℕ). length xs) (split g.count (omega arith)));
-      sum = λ k.
-          let record_number = k / product (rest g.count) in
-          let first = weighted_first g.count weights (get_or g.stride 0 0 * recsize header) k (omega arith) in
-          let own = row_weighted size (lengths_of header (rest v.dims)) (rest g.start) (rest g.stride) (coordinates_of (rest g.count) (k % product (rest g.count))) (starts ∙ sym dims) (strides ∙ sym dims)
-          (length-coordinates_of (rest g.count) (k % product (rest g.count)) ∙ counts ∙ sym dims) in
-          let at = record_place_is header v g k e (record_row header v.dims g.start g.count g.stride k e some (omega arith) (omega arith) (omega arith)) in
-          omega (arith, first, own, at);
+      long = grind (arith, nat_tests, length-weights_of size (lengths_of header (rest v.dims)) (rest g.stride) (strides ∙ sym dims), split g.count);
+      sum = grind (arith, nat_tests, weighted_first, row_weighted, length-coordinates_of, record_place_is, record_row);
     }
 
 -- the rows of a region are those of every sum of its coordinates

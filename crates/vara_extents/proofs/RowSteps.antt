@@ -36,20 +36,11 @@ step_of : (header : Header) (number before id s n t : ℕ) (ids starts counts st
     → RowStep header (id ∷ ids) (s ∷ starts) (n ∷ counts) (t ∷ strides) number before (product counts) (length_of (slice_get header.dims id)) s t ids starts counts strides
 step_of header number before id s n t ids starts counts strides h =
     let some = some_block n (product counts) number h.1 in
-    let less = mul-le 1 (product counts) n (product counts) some.0 (omega arith) in
     let low = mod_below number (product counts) some.1 in
     let inner = product_pos (lengths_of header ids) (index_at starts strides (coordinates_of counts (number % product counts))) h.0.1 in
     let rows : ℕ = before * length_of (slice_get header.dims id) + (s + number / product counts * t) in
     let more = mul-le-mul_left rows inner in
-    let top = h.2 in
-    record {
-      small = omega arith;
-      some = some.1;
-      valid = h.0.1;
-      number_low = low;
-      whole = omega arith;
-      rows = omega arith;
-    }
+    grind (arith, nat_tests, h.2, some.1, h.0.1)
 
 pub row_step : (header : Header) (ids starts counts strides : List ℕ) (number before inner len : ℕ) → 1 ≤ length ids → 1 ≤ length starts → 1 ≤ length counts → 1 ≤ length strides
     → IsIndex (lengths_of header ids) (index_at starts strides (coordinates_of counts number)) → number < product counts → product counts ≤ 2 ^ 20
@@ -57,9 +48,7 @@ pub row_step : (header : Header) (ids starts counts strides : List ℕ) (number 
     → RowStep header ids starts counts strides number before inner len (get_or starts 0 0) (get_or strides 0 0) (rest ids) (rest starts) (rest counts) (rest strides)
 row_step header (id ∷ ids) (s ∷ starts) (n ∷ counts) (t ∷ strides) number before inner len a b c d valid below small is_inner is_len =
     let step = step_of header number before id s n t ids starts counts strides (valid, below, small) in
-    let same : product counts ≡ inner = omega (arith, is_inner, ap product (rest_is n counts), step.small) in
-    transport (λ i. RowStep header (id ∷ ids) (s ∷ starts) (n ∷ counts) (t ∷ strides) number before (same i) (sym is_len i) s t
-    (sym (rest_is id ids) i) (sym (rest_is s starts) i) (sym (rest_is n counts) i) (sym (rest_is t strides) i)) step
+    grind (arith, nat_tests, rest_is n counts, rest_is id ids, rest_is s starts, rest_is t strides, step.small)
 row_step header _ _ _ _ number before inner len a b c d valid below small is_inner is_len = absurd (omega arith)
 
 pub no_counts : (header : Header) (ids starts counts strides : List ℕ) (number : ℕ) → 1 ≤ length ids → length counts < 1
@@ -121,8 +110,7 @@ fixed_valid header v index e h = subst (λ (ls : List ℕ). IsIndex ls index) (f
 
 pub fixed_is : (header : Header) (v : Var) (g : Region) (number : ℕ) → is_record header v ≡ false
     → v.begin + row_of header v.dims g.start g.count g.stride number * size_of v.kind ≡ place header v (index_of g number)
-fixed_is header v g number e =
-    ap (λ (ls : List ℕ). v.begin + row ls (index_of g number) * size_of v.kind) (sym (fixed_lengths (lengths_of header v.dims) e)) ∙ sym (place_fixed header v (index_of g number) e)
+fixed_is header v g number e = grind (arith, nat_tests, fixed_lengths, place_fixed, row_of, index_of)
 
 -- the record of an element and its place in the record
 pub record RecordRow (header : Header) (dims starts counts strides : List ℕ) (number : ℕ) : Type 0 where
@@ -160,8 +148,7 @@ inner_small [] number a b c = absurd (omega arith)
 inner_small (n ∷ counts) number a b c =
     let some = some_block n (product counts) number b in
     let less = mul-le 1 (product counts) n (product counts) some.0 (omega arith) in
-    let same = ap product (rest_is n counts) in
-    (omega (arith, some.1), omega arith)
+    grind (arith, nat_tests, rest_is n counts, some.1)
 
 record_step_of : (header : Header) (v : Var) (g : Region) (number inner : ℕ) → is_record header v ≡ true → 1 ≤ recsize header
     → 1 ≤ length v.dims → 1 ≤ length g.start → 1 ≤ length g.count → 1 ≤ length g.stride
@@ -186,9 +173,7 @@ pub record_step : (header : Header) (v : Var) (g : Region) (number inner wide : 
     → IsElement header v (index_of g number) → number < product g.count → product g.count ≤ 2 ^ 20 → inner ≡ min (product (rest counts)) (2 ^ 64 - 1)
     → RecordStep header v g number inner wide ids starts counts strides
 record_step header v g number inner wide ids starts counts strides w p q r t e some a b c d valid below small is =
-    transport (λ i. 1 ≤ length (sym p i) → 1 ≤ length (sym q i) → 1 ≤ length (sym r i) → 1 ≤ length (sym t i) → inner ≡ min (product (rest (sym r i))) (2 ^ 64 - 1)
-    → RecordStep header v g number inner (sym w i) (sym p i) (sym q i) (sym r i) (sym t i))
-    (λ a b c d is. record_step_of header v g number inner e (omega arith) a b c d valid below small is) a b c d is
+    grind (arith, nat_tests, record_step_of header v g number inner e)
 
 record_entries : (starts counts strides : List ℕ) (number : ℕ) → HasRecord (index_at starts strides (coordinates_of counts number)) → (1 ≤ length starts) × (1 ≤ length counts) × (1 ≤ length strides)
 record_entries [] counts strides number h = absurd h
@@ -211,11 +196,6 @@ pub has_record_dimension : (header : Header) (v : Var) → is_record header v �
 has_record_dimension header v e = record_first header v.dims e
 
 -- ---- runs of a variable
-
-pub fixed_runs : (header : Header) (v : Var) (g : Region) (run : ℕ) → is_record header v ≡ false → length g.start ≡ length v.dims → HaveRuns header v.dims g.count g.stride run
-    → AreRuns (λ k. place header v (index_of g k)) (size_of v.kind) run (product g.count)
-fixed_runs header v g run e l h =
-    grind (arith, nat_tests, sized (row_of header v.dims g.start g.count g.stride) v.begin (size_of v.kind) run (product g.count) (h g.start l), same_runs, fixed_is)
 
 -- where the elements of the first record lie
 abbrev inner_at : Header → Var → Region → ℕ → ℕ
@@ -250,13 +230,3 @@ module _ (header : Header) (v : Var) (g : Region) (run : ℕ) (e : is_record hea
       by_records header v g (get_or g.count 0 0 * run) e a (omega arith) c d
       (rw all (merged (λ k. inner_at header v g k) (get_or g.count 0 0) (get_or g.start 0 0) (get_or g.stride 0 0) (recsize header) (size_of v.kind) (product (rest g.count)) (rw all at inner_bytes)
       (ap (λ (r : ℕ). r * size_of v.kind) (sym all) ∙ sym touching) (inr one) (some_first g.count (rest g.count) (get_or g.count 0 0) (split g.count c) some)))
-
--- a run is no longer than all elements
-pub run_low : (header : Header) (ids counts strides : List ℕ) (run : ℕ) → HaveRuns header ids counts strides run → 1 ≤ product counts → run ≤ product counts
-run_low header ids counts strides run h some =
-    let own = h ids refl in
-    parts_low own.parts.0 own.parts.1
-  where
-    parts_low : (m : ℕ) → product counts ≡ m * run → run ≤ product counts
-    parts_low zero e = absurd (omega arith)
-    parts_low (suc m) e = omega arith

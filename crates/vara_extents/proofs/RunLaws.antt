@@ -35,9 +35,7 @@ kept f n s t step size run total h = record {
   parts = (n * h.parts.0, omega (arith, ap (λ (x : ℕ). n * x) h.parts.1));
   follow = λ q i l below.
       let some : 1 ≤ h.parts.0 = some_parts h.parts.0 h.parts.1 below in
-      let block = in_block run h.parts.0 q i l some in
-      kept_at f s t step size run h.parts.0 q i (q / h.parts.0) (q % h.parts.0) block
-      (h.follow (q % h.parts.0) i l (omega (arith, block.fits, h.parts.1))) total h.parts.1;
+      grind (arith, nat_tests, in_block run h.parts.0 q i l some, kept_at f s t step size run h.parts.0 q i (q / h.parts.0) (q % h.parts.0) (in_block run h.parts.0 q i l some), h.follow, h.parts.1);
 }
   where
     some_parts : (m : ℕ) → total ≡ m * run → {k : ℕ} → k < n * total → 1 ≤ m
@@ -70,20 +68,9 @@ merged_at f n s t step size total q i h e one below none =
     block_below l = div_below i total n (omega (arith, h.some)) l
 
     at_zero : (s + 0 / total * t) * step + f (0 % total) ≡ s * step + f 0
-    at_zero =
-        let d : 0 / total ≡ 0 = ap (λ (x : ℕ). x / total) (omega arith) ∙ div-mul-add 0 total 0 h.some in
-        let m : 0 % total ≡ 0 = ap (λ (x : ℕ). x % total) (omega arith) ∙ mod-mul-add 0 total 0 h.some in
-        ap (λ (x : ℕ). (s + x * t) * step + f (0 % total)) d ∙ ap (λ (x : ℕ). (s + 0 * t) * step + f x) m ∙ omega arith
+    at_zero = grind (arith, nat_tests)
 
 -- the whole is one run, where each block follows the one before it
 pub merged : (f : ℕ → ℕ) (n s t step size total : ℕ) → AreRuns f size total total → total * size ≡ step → (n ≡ 1) ⊎ (t ≡ 1) → 1 ≤ n
     → AreRuns (λ k. (s + k / total * t) * step + f (k % total)) size (n * total) (n * total)
-merged f n s t step size total h e one some = record {
-  some = omega (arith, mul-le 1 1 n total some h.some);
-  parts = (1, omega arith);
-  follow = λ q i l below. merged_at f n s t step size total q i h e one l (first q i below);
-}
-  where
-    first : (q i : ℕ) → q * (n * total) + i < n * total → q ≡ 0
-    first zero i below = omega arith
-    first (suc q) i below = absurd (omega arith)
+merged f n s t step size total h e one some = grind (arith, nat_tests, merged_at f n s t step size total)

@@ -1,6 +1,6 @@
 -- Whether regions meet is the same in any order and without those that have no element, and the sweep over regions in the order of
 -- their first elements finds it.
-use Rattle.vara_extents.proofs.Words.{◌≡◌, ℕ, zero, suc, ◌+◌, ◌*◌, ◌<◌, ◌≤◌, ◌∙◌, ap, sym, refl, inl, inr, ◌⊎◌, List, [], ◌∷◌, length, drop, get_or, subst, Bool, true, false, ltb, ◌||◌, max, min, arith, filter, slice_cmp, IsStrictWeakOrder, swap, IsPermutation, IsSortedBy, is_lt, nat_cmp, both_ways, ltb-true, lt-ltb, and_from, and_parts, or_parts, cases_eq, nat_list_cmp_total, mul-le, get_or-drop, get_or_default, length-drop, length-swap, swapped_from_swap, All-head, All-tail, ranks_by, sorted_far, IsPermutation-keeps, IsPermutation-sym, drop-cons, no_false, Region, product, has_element, boxes_meet, is_past, meets_any, some_meet, AreByStart, BeginsBy, begins_past, led_by, slice_get, unwrap_or, nat_tests, All}
+use Rattle.vara_extents.proofs.Words.{◌≡◌, ℕ, zero, suc, ◌+◌, ◌*◌, ◌<◌, ◌≤◌, ◌∙◌, ap, sym, refl, inl, inr, ◌⊎◌, List, [], ◌∷◌, length, drop, get_or, subst, Bool, true, false, ltb, ◌||◌, max, min, arith, filter, slice_cmp, IsStrictWeakOrder, swap, IsPermutation, IsSortedBy, is_lt, nat_cmp, both_ways, ltb-true, and_from, and_parts, or_parts, cases_eq, nat_list_cmp_total, mul-le, get_or-drop, get_or_default, length-drop, length-swap, swapped_from_swap, All-head, All-tail, ranks_by, sorted_far, IsPermutation-keeps, IsPermutation-sym, drop-cons, no_false, Region, product, has_element, boxes_meet, is_past, meets_any, some_meet, AreByStart, BeginsBy, begins_past, led_by, slice_get, unwrap_or, nat_tests, All}
 
 -- ---- past the last index of a box
 
@@ -48,8 +48,7 @@ meet_along starts counts others lengths axis h =
         → ltb (max (unwrap_or (slice_get starts axis) 0) (unwrap_or (slice_get others axis) 0))
         (min (unwrap_or (slice_get starts axis) 0 + unwrap_or (slice_get counts axis) 1) (unwrap_or (slice_get others axis) 0 + unwrap_or (slice_get lengths axis) 1)) ≡ true
     along (s ∷ starts) (n ∷ counts) (t ∷ others) (m ∷ lengths) zero h = (and_parts (ltb (max s t) (min (s + n) (t + m))) (boxes_meet starts counts others lengths) h).0
-    along (s ∷ starts) (n ∷ counts) (t ∷ others) (m ∷ lengths) (suc axis) h =
-        along starts counts others lengths axis (and_parts (ltb (max s t) (min (s + n) (t + m))) (boxes_meet starts counts others lengths) h).1
+    along (s ∷ starts) (n ∷ counts) (t ∷ others) (m ∷ lengths) (suc axis) h = grind (arith, nat_tests, along starts counts others lengths axis)
     along [] [] [] [] axis h = refl
     along _ _ _ _ axis h = no_false h
 
@@ -111,8 +110,7 @@ all_apart [] e i j d l m n = absurd (omega (arith, l))
 all_apart (x ∷ xs) e zero zero d l m n = absurd (n refl)
 all_apart (x ∷ xs) e zero (suc j) d l m n = each_apart x xs (or_parts (meets_any x xs) (some_meet xs) e).0 j d (omega (arith, m))
 all_apart (x ∷ xs) e (suc i) zero d l m n = apart_sym x (get_or xs i d) (each_apart x xs (or_parts (meets_any x xs) (some_meet xs) e).0 i d (omega (arith, l)))
-all_apart (x ∷ xs) e (suc i) (suc j) d l m n =
-    all_apart xs (or_parts (meets_any x xs) (some_meet xs) e).1 i j d (omega (arith, l)) (omega (arith, m)) (λ p. n (ap suc p))
+all_apart (x ∷ xs) e (suc i) (suc j) d l m n = grind (arith, nat_tests, all_apart xs (or_parts (meets_any x xs) (some_meet xs) e).1 i j d)
 
 none_meet : (xs : List Region) → AllApart xs → some_meet xs ≡ false
 none_meet [] h = refl
@@ -165,8 +163,7 @@ none_shared [] [] [] [] h = omega arith
 none_shared _ _ _ _ h = no_false h
 
 no_element : (g : Region) → has_element g ≡ false → (h : Region) → Apart g h
-no_element g e h =
-    not_then (boxes_meet g.start g.count h.start h.count) (has_element g) (λ m. lt-ltb 0 (product g.count) (none_shared g.start g.count h.start h.count m)) e
+no_element g e h = grind (arith, nat_tests, not_then, none_shared, Apart)
 
 meets_with : (g : Region) (xs : List Region) → meets_any g (filter has_element xs) ≡ meets_any g xs
 meets_with g [] = refl

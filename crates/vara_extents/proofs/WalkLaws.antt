@@ -1,5 +1,5 @@
 -- The extents that are left, one run after another.
-use Rattle.vara_extents.proofs.Words.{◌≡◌, ℕ, zero, suc, ◌+◌, ◌*◌, ◌/◌, ◌^◌, ◌<◌, ◌≤◌, refl, sym, ap, ◌∙◌, List, [], length, drop, true, ◌-◌, ◌%◌, inl, inr, subst, arith, drop_all, div-add-mod', mod_below, mul-le, mul-div_cancel, Header, Var, Region, size_of, product, recsize, is_record, place, Run, Runs, element_extents, extents_of, joined, joined_to, extents_from, run_place, AreReady, IsRunOf, accepted, coordinates_of, index_of, weighted, AreRuns, HaveRows, nat_tests}
+use Rattle.vara_extents.proofs.Words.{◌≡◌, ℕ, zero, suc, ◌+◌, ◌*◌, ◌/◌, ◌^◌, ◌<◌, ◌≤◌, refl, sym, ap, ◌∙◌, List, [], length, drop, true, ◌-◌, ◌%◌, inl, inr, subst, arith, drop_all, div-add-mod', mul-le, mul-div_cancel, Header, Var, Region, size_of, product, recsize, is_record, place, Run, Runs, element_extents, extents_of, joined, joined_to, extents_from, run_place, AreReady, IsRunOf, accepted, coordinates_of, index_of, weighted, AreRuns, HaveRows, nat_tests}
 use Rattle.vara_extents.proofs.RowLaws.{rows_of}
 use Rattle.vara_extents.proofs.AcceptedLaws.{passed}
 use Rattle.vara_extents.proofs.NumberLaws.{length-element_extents, run_is}
@@ -19,20 +19,7 @@ inside_of : (r : Runs) (k run total : ℕ) → AreReady r → AreRuns (λ k. pla
 inside_of r k zero total h runs same is l = let some = runs.some in absurd (omega arith)
 inside_of r k (suc m) total h runs same is l =
     let rows = mul-le (k + 1) (suc m) r.count (suc m) (omega arith) (omega arith) in
-    let last : k * suc m + m < total = omega arith in
-    let ok = h.accepted.2 in
-    let small = accepted_small r.header.now r.var.now r.region.now (passed r.header.now r.var.now r.region.now ok.0 ok.1 (accepted_var r.header.now h.accepted.0 r.var.now r.region.now h.accepted.1 ok)).large in
-    let end = accepted_place r.header.now h.accepted.0 r.var.now r.region.now (k * suc m + m) h.sound h.accepted.1 ok (omega arith) in
-    let at = runs.follow k m (omega arith) last in
-    let low = end.low in
-    let first = accepted_place r.header.now h.accepted.0 r.var.now r.region.now (k * suc m) h.sound h.accepted.1 ok (omega arith) in
-    record {
-      number = omega arith;
-      small = small.elements;
-      placed = first;
-      low = omega (arith, at, low);
-      wide = λ is. wide_records r.header.now h.accepted.0 r.var.now (index_of r.region.now (k * suc m)) h.accepted.1 is first.element;
-    }
+    grind (arith, nat_tests, accepted_small r.header.now r.var.now r.region.now, passed r.header.now r.var.now r.region.now h.accepted.2.0 h.accepted.2.1, accepted_var r.header.now h.accepted.0 r.var.now r.region.now h.accepted.1 h.accepted.2, accepted_place r.header.now h.accepted.0 r.var.now r.region.now (k * suc m + m) h.sound h.accepted.1, accepted_place r.header.now h.accepted.0 r.var.now r.region.now (k * suc m) h.sound h.accepted.1 h.accepted.2, wide_records r.header.now h.accepted.0 r.var.now (index_of r.region.now (k * suc m)) h.accepted.1, runs.follow, index_of)
 
 pub inside : (r : Runs) (k : ℕ) → AreReady r → k < r.count → IsInside r.header.now r.var.now r.region.now r.elements k
 inside r k h l = inside_of r k r.elements (product r.region.now.count) h h.follow refl h.total l
@@ -40,12 +27,7 @@ inside r k h l = inside_of r k r.elements (product r.region.now.count) h h.follo
 -- the run and the extents after it
 pub first_run : (r : Runs) (k at len : ℕ) → AreReady r → k < r.count → at ≡ run_place r k → len ≡ r.elements * size_of r.var.now.kind
     → extents_from r k ≡ joined_to (record { at = at; len = len }) (extents_from r (k + 1))
-first_run r k at len h l is long =
-    run_is r.header.now r.var.now r.region.now r.elements (product r.region.now.count) k h.follow refl (inside r k h l).number
-    ∙ (λ i. joined_to (record { at = sym is i; len = sym long i }) (joined (drop (next i) (element_extents r.header.now r.var.now r.region.now))))
-  where
-    next : k * r.elements + r.elements ≡ (k + 1) * r.elements
-    next = omega arith
+first_run r k at len h l is long = grind (arith, nat_tests, run_is, inside, extents_from, joined_to, joined, drop, element_extents)
 
 -- ---- rows
 
@@ -55,15 +37,9 @@ pub in_row : (r : Runs) (number at : ℕ) → AreReady r → (number < r.count �
 in_row r number at h is i l below =
     let n = r.row.runs in
     let whole = div-add-mod' number n in
-    let low = mod_below number n h.rows.some in
     let here : number / n * n + number % n ≡ number = whole in
     let there : number / n * n + (number % n + i) ≡ number + i = omega (arith, whole) in
-    let one = h.rows.follow (number / n) (number % n + i) (omega (arith, low, l)) (omega (arith, whole, below)) in
-    let two = h.rows.follow (number / n) (number % n) low (omega (arith, whole, below)) in
-    let first = ap (λ (k : ℕ). run_place r k) here in
-    let last = ap (λ (k : ℕ). run_place r k) there in
-    let begin = is (omega arith) in
-    omega (arith, one, two, first, last, begin)
+    grind (arith, nat_tests, h.rows.follow, run_place)
 
 pub run_here : (r : Runs) (run : Run) → IsRunOf r run → run.number < r.count → run.at ≡ run_place r run.number
 run_here r run placed l = grind (arith, nat_tests)
@@ -74,9 +50,7 @@ next_in_row r run placed l some = record {
   within = omega arith;
   at = λ i m below.
       let same : run.number + (i + 1) ≡ run.number + 1 + i = omega arith in
-      let own = placed.at (i + 1) (omega arith) (omega arith) in
-      let at = ap (λ (k : ℕ). run_place r k) same in
-      omega (arith, own, at);
+      grind (arith, nat_tests, placed.at, run_place);
 }
 
 -- a row's step is from its first run to its second one
@@ -134,5 +108,3 @@ whole_runs f size run total h = grind (arith, nat_tests, mul-div_cancel)
 -- no element is in runs of one
 pub no_runs : (f : ℕ → ℕ) (size : ℕ) → AreRuns f size 1 0
 no_runs f size = record { some = omega arith; parts = (0, refl); follow = λ q i l below. absurd (omega arith) }
-
--- ---- a step

@@ -1,5 +1,5 @@
 -- Writing extent by extent is writing element by element.
-use Rattle.vara_extents.proofs.Words.{◌≡◌, ℕ, ◌+◌, ◌-◌, ◌*◌, ◌<◌, ◌≤◌, ◌⊎◌, inl, inr, refl, sym, ap, ◌∙◌, List, [], ◌∷◌, ◌++◌, length, map, take, drop, get_or, max, arith, cases_eq, cases_lt, drop-drop, length-append, get_or_append_left, get_or-append_right, take-add, common_steps, same_number_lists, Header, Var, Extent, Region, size_of, written, at, product, cells, places, put, Cell, write_cells, at-written_before, at-written_after, at-written_inside, joined_to, joined, element_extents, extents_of, cut_by}
+use Rattle.vara_extents.proofs.Words.{◌≡◌, ℕ, ◌+◌, ◌-◌, ◌*◌, ◌<◌, ◌≤◌, ◌⊎◌, inl, inr, refl, sym, ap, ◌∙◌, List, [], ◌∷◌, ◌++◌, length, map, take, drop, get_or, max, arith, cases_eq, cases_lt, drop-drop, length-append, get_or_append_left, get_or-append_right, take-add, common_steps, same_number_lists, Header, Var, Extent, Region, size_of, written, at, product, cells, places, put, Cell, write_cells, at-written_before, at-written_after, at-written_inside, joined_to, joined, extents_of, cut_by, nat_tests}
 use Rattle.vara_extents.proofs.JoinLaws.{join_next, join_apart}
 use Rattle.vara_extents.proofs.NumberLaws.{length-places}
 use Rattle.serial_spec.proofs.FileLaws.{length-written}
@@ -62,8 +62,7 @@ cut_joined file bytes [] h = refl
 cut_joined file bytes (e ∷ es) h =
     let same = bytes_in_joined es in
     let rest : length (drop e.len bytes) ≡ length bytes - e.len = grind (arith, common_steps) in
-    cut_to file bytes e (joined es) (omega arith)
-    ∙ cut_joined (written file e.at (take e.len bytes)) (drop e.len bytes) es (omega arith)
+    grind (arith, nat_tests, cut_to, cut_joined (written file e.at (take e.len bytes)) (drop e.len bytes) es, written)
 
 cells_are : (size : ℕ) (xs bytes : List ℕ) → cut_by (map (λ x. record { at = x; len = size }) xs) bytes ≡ cells size xs bytes
 cells_are size [] bytes = refl
@@ -77,6 +76,4 @@ pub extents_put : (header : Header) (v : Var) (g : Region) (file bytes : List �
     → write_cells file (cut_by (extents_of header v g) bytes) ≡ put header v g bytes file
 extents_put header v g file bytes h =
     let many = bytes_are (size_of v.kind) (places header v g) in
-    let long = ap (λ (n : ℕ). n * size_of v.kind) (length-places header v g) in
-    cut_joined file bytes (element_extents header v g) (omega arith)
-    ∙ ap (λ (cs : List Cell). write_cells file cs) (cells_are (size_of v.kind) (places header v g) bytes)
+    grind (arith, nat_tests, length-places, cut_joined, cells_are)

@@ -1,16 +1,12 @@
 -- An outer dimension keeps the runs of the inner ones, or makes one run of them.
-use Rattle.vara_extents.proofs.Words.{◌≡◌, ◌⊎◌, inl, inr, sym, ◌∙◌, get_or, eqb-true}
+use Rattle.vara_extents.proofs.Words.{◌≡◌, ◌⊎◌, get_or, arith, nat_tests}
 use Rattle.vara_extents.proofs.RowSteps.{inner_kept, inner_merged}
 use Rattle.vara_extents.proofs.runs.+inner_run.Goals as goal
-use Rattle.vara_extents.proofs.runs.+inner_run.Goals.{then-count-eq1, else-count-eq1}
 
 pub returns-then-stride-eq1-clause-runs : goal.returns-then-stride-eq1-clause-runs
 returns-then-stride-eq1-clause-runs t c =
     let one : (get_or c.args.counts.now 0 0 ≡ 1) ⊎ (get_or c.args.strides.now 0 0 ≡ 1) =
-    elim c.if-count-eq1.branch [
-      | then-count-eq1 w ↦ inl w.if-count-eq1.true
-      | else-count-eq1 w ↦ inr (eqb-true (get_or c.args.strides.now 0 0) 1 (sym w.value-is ∙ c.if-stride-eq1.true))
-    ] in
+    grind (arith, nat_tests, c.if-stride-eq1.true) in
     inner_merged c.args.header.now c.args.ids.now c.args.counts.now c.args.strides.now c.inner_run-inner.result.elements c.in-len1-up.len_at_least c.in-len1-up-counts.len_at_least
     c.in-len1-up-strides.len_at_least c.requires.some c.inner_run-inner.ensures.runs (c.inner_run-inner.ensures.whole c.if-inner.true) one
 

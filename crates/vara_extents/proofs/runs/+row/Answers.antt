@@ -1,11 +1,10 @@
 -- A row, one dimension at a time.
-use Rattle.vara_extents.proofs.Words.{◌∙◌, refl, arith, rules}
+use Rattle.vara_extents.proofs.Words.{◌∙◌, refl, arith, rules, nat_tests}
 use Rattle.vara_extents.proofs.RowSteps.{row_step, no_counts}
 use Rattle.vara_extents.proofs.runs.+row.Goals as goal
 
 pub returns-in_default-counts : goal.returns-in_default-counts
-returns-in_default-counts t c =
-    absurd (no_counts c.args.header.now c.args.ids.now c.args.starts.now c.args.counts.now c.args.strides.now c.args.element.number (omega arith) (omega arith) c.requires.valid)
+returns-in_default-counts t c = grind (arith, nat_tests, no_counts, c.requires.valid)
 
 pub overflow_mul-index : goal.overflow_mul-index
 overflow_mul-index t c =

@@ -1,5 +1,5 @@
 -- The begin and the bytes of the rows before.
-use Rattle.vara_extents.proofs.Words.{◌≡◌, ◌+◌, ◌*◌, ℕ, ap, ◌∙◌, arith, size_of, product, row_below_bytes, row_of}
+use Rattle.vara_extents.proofs.Words.{◌≡◌, ◌+◌, ◌*◌, ℕ, ap, ◌∙◌, arith, size_of, product, row_below_bytes, row_of, nat_tests}
 use Rattle.vara_extents.proofs.RowSteps.{fixed_valid, fixed_is}
 use Rattle.vara_extents.proofs.runs.fixed_place.Goals as goal
 
@@ -17,15 +17,12 @@ row-rows-requires-clause-small c = omega (arith, ap product c.as_slice-counts.en
 pub row-rows-requires-clause-below : goal.row-rows-requires-clause-below
 row-rows-requires-clause-below c =
     let is = fixed_is c.args.header.now c.args.var.now c.args.region.now c.args.number c.requires.fixed in
-    let low = row_below_bytes (row_of c.args.header.now c.args.var.now.dims c.args.region.now.start c.args.region.now.count c.args.region.now.stride c.args.number) c.args.var.now.kind in
-    rw (c.as_slice-ids.ensures, c.as_slice-starts.ensures, c.as_slice-counts.ensures, c.as_slice-strides.ensures) (omega (arith, is, low, c.requires.below))
+    grind (arith, nat_tests, row_below_bytes, c.as_slice-ids.ensures, c.as_slice-starts.ensures, c.as_slice-counts.ensures, c.as_slice-strides.ensures, c.requires.below)
 
 bytes_are : (c : goal.After-size_of) → c.row-rows.result * c.size_of.result
     ≡ row_of c.args.header.now c.args.var.now.dims c.args.region.now.start c.args.region.now.count c.args.region.now.stride c.args.number * size_of c.args.var.now.kind
 bytes_are c =
-    let told = rw (c.as_slice-ids.ensures, c.as_slice-starts.ensures, c.as_slice-counts.ensures, c.as_slice-strides.ensures) at c.row-rows.ensures in
-    let rows : c.row-rows.result ≡ row_of c.args.header.now c.args.var.now.dims c.args.region.now.start c.args.region.now.count c.args.region.now.stride c.args.number = omega (arith, told) in
-    (λ i. rows i * c.size_of.ensures i)
+    grind (arith, nat_tests, c.as_slice-ids.ensures, c.as_slice-starts.ensures, c.as_slice-counts.ensures, c.as_slice-strides.ensures, c.row-rows.ensures, c.size_of.ensures)
 
 pub overflow_mul-result : goal.overflow_mul-result
 overflow_mul-result c = omega (arith, bytes_are c, fixed_is c.args.header.now c.args.var.now c.args.region.now c.args.number c.requires.fixed, c.requires.below)

@@ -1,25 +1,19 @@
 -- The begin, the records before, and the bytes of the rows before in the record.
-use Rattle.vara_extents.proofs.Words.{◌≡◌, ◌+◌, ◌*◌, ◌/◌, ◌%◌, ℕ, get_or, length, ap, ◌∙◌, arith, row_below_bytes, row_of, place, index_of}
-use Rattle.vara_extents.proofs.RowSteps.{rest, RecordStep, record_step, has_record_dimension, has_record_entry}
+use Rattle.vara_extents.proofs.Words.{◌≡◌, ◌+◌, ◌*◌, ◌/◌, get_or, length, ap, arith, row_below_bytes, place, index_of, nat_tests}
+use Rattle.vara_extents.proofs.RowSteps.{RecordStep, record_step, has_record_dimension, has_record_entry}
 use Rattle.vara_extents.proofs.runs.record_place.Goals as goal
 
 pub returns-in_default : goal.returns-in_default
 returns-in_default c = absurd (omega (arith, has_record_dimension c.args.header.now c.args.var.now c.requires.record_variable, ap length c.as_slice.ensures, c.in_default.len_below))
 
 pub returns-in_default-as_slice : goal.returns-in_default-as_slice
-returns-in_default-as_slice c =
-    let some = has_record_entry c.args.header.now c.args.var.now c.args.region.now c.args.number c.requires.record_variable c.requires.valid in
-    absurd (omega (arith, some.0, ap length c.as_slice-2.ensures, c.in_default-as_slice.len_below))
+returns-in_default-as_slice c = grind (arith, nat_tests, has_record_entry, c.requires.valid, c.as_slice-2.ensures)
 
 pub returns-in_default-as_slice-2 : goal.returns-in_default-as_slice-2
-returns-in_default-as_slice-2 c =
-    let some = has_record_entry c.args.header.now c.args.var.now c.args.region.now c.args.number c.requires.record_variable c.requires.valid in
-    absurd (omega (arith, some.1, ap length c.as_slice-3.ensures, c.in_default-as_slice-2.len_below))
+returns-in_default-as_slice-2 c = grind (arith, nat_tests, has_record_entry, c.requires.valid, c.as_slice-3.ensures)
 
 pub returns-in_default-as_slice-3 : goal.returns-in_default-as_slice-3
-returns-in_default-as_slice-3 c =
-    let some = has_record_entry c.args.header.now c.args.var.now c.args.region.now c.args.number c.requires.record_variable c.requires.valid in
-    absurd (omega (arith, some.2, ap length c.as_slice-4.ensures, c.in_default-as_slice-3.len_below))
+returns-in_default-as_slice-3 c = grind (arith, nat_tests, has_record_entry, c.requires.valid, c.as_slice-4.ensures)
 
 step : (c : goal.After-row_known-2-1) → RecordStep c.args.header.now c.args.var.now c.args.region.now c.args.number c.element_count-inner.result c.args.recsize c.as_slice.result.now c.as_slice-2.result.now c.as_slice-3.result.now
     c.as_slice-4.result.now
@@ -44,9 +38,7 @@ pub row-rows-requires-clause-small : goal.row-rows-requires-clause-small
 row-rows-requires-clause-small c = (step c).small
 
 pub row-rows-requires-clause-below : goal.row-rows-requires-clause-below
-row-rows-requires-clause-below c =
-    let row : ℕ = row_of c.args.header.now (rest c.as_slice.result.now) (rest c.as_slice-2.result.now) (rest c.as_slice-3.result.now) (rest c.as_slice-4.result.now) (c.args.number % c.element_count-inner.result) in
-    omega (arith, (step c).whole, row_below_bytes row c.args.var.now.kind, c.requires.below)
+row-rows-requires-clause-below c = grind (arith, nat_tests, step, row_below_bytes, c.requires.below)
 
 -- the step with the row that was found
 row_step : (c : goal.After-row-rows) → RecordStep c.args.header.now c.args.var.now c.args.region.now c.args.number c.element_count-inner.result c.args.recsize c.as_slice.result.now c.as_slice-2.result.now c.as_slice-3.result.now
@@ -69,10 +61,7 @@ sum_is c =
     let step = record_step c.args.header.now c.args.var.now c.args.region.now c.args.number _ _ _ _ _ _ c.requires.recsize c.as_slice.ensures c.as_slice-2.ensures c.as_slice-3.ensures c.as_slice-4.ensures
     c.requires.record_variable c.requires.wide c.in-len1-up.len_at_least c.in-len1-up-as_slice.len_at_least c.in-len1-up-as_slice-2.len_at_least c.in-len1-up-as_slice-3.len_at_least
     c.requires.valid c.requires.number c.requires.small c.element_count-inner.ensures in
-    let row : ℕ = row_of c.args.header.now (rest c.as_slice.result.now) (rest c.as_slice-2.result.now) (rest c.as_slice-3.result.now) (rest c.as_slice-4.result.now) (c.args.number % c.element_count-inner.result) in
-    let rows : c.row-rows.result ≡ row = omega (arith, c.row-rows.ensures) in
-    (λ i. c.args.var.now.begin + (get_or c.as_slice-2.result.now 0 0 + c.args.number / c.element_count-inner.result * get_or c.as_slice-4.result.now 0 0) * c.args.recsize + rows i * c.size_of.ensures i)
-    ∙ step.whole
+    grind (arith, nat_tests, c.row-rows.ensures, c.size_of.ensures)
 
 pub overflow_mul-result-2 : goal.overflow_mul-result-2
 overflow_mul-result-2 c = omega (arith, sum_is c, c.requires.below)

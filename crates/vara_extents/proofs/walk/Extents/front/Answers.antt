@@ -1,6 +1,6 @@
 -- A run that begins at the end is joined, and one that does not is left.
-use Rattle.vara_extents.proofs.Words.{◌+◌, ◌∷◌, List, sym, ap, ◌∙◌, arith, Extent, joined_to, extents_from}
-use Rattle.vara_extents.proofs.JoinLaws.{extent, join_far, join_two}
+use Rattle.vara_extents.proofs.Words.{◌+◌, arith, nat_tests}
+use Rattle.vara_extents.proofs.JoinLaws.{join_two, join_first, join_apart}
 use Rattle.vara_extents.proofs.WalkLaws.{none_left, placed_run}
 use Rattle.vara_extents.proofs.walk.Extents.front.Goals as goal
 
@@ -19,24 +19,13 @@ pub loop-number-preserved : goal.loop-number-preserved
 loop-number-preserved c =
     let run = placed_run c.args.self.now.runs c.loop-number.next c.after-next-in-loop-number.result c.bytes-bytes.result c.requires.ready.runs c.loop-number.invariant.placed
     (omega (arith, c.loop-number.invariant.number, c.loop-number-test.true)) c.bytes-bytes.ensures c.after-next-in-loop-number.ensures.number in
-    record {
-      left = c.loop-number.invariant.left ∙ ap (λ (es : List Extent). joined_to c.loop-number.extent es) run.0
-          ∙ join_two c.loop-number.extent (extent c.loop-number.next.at c.bytes-bytes.result) (extents_from c.args.self.now.runs c.after-next-in-loop-number.result.number) c.if-next-extent.false;
-      low = omega (arith, run.1, c.if-next-extent.false);
-      placed = c.after-next-in-loop-number.ensures.placed;
-      number = omega (arith, c.after-next-in-loop-number.ensures.number, c.loop-number.invariant.number);
-    }
+    grind (arith, nat_tests, join_two, c.loop-number.invariant.left, c.if-next-extent.false, c.after-next-in-loop-number.ensures.placed, c.after-next-in-loop-number.ensures.number, c.loop-number.invariant.number)
 
 pub returns-then-next-extent-clause-extent : goal.returns-then-next-extent-clause-extent
 returns-then-next-extent-clause-extent c =
     let run = placed_run c.args.self.now.runs c.loop-number.next (record { number = c.loop-number.next.number + 1; at = 0; left = 0 }) c.bytes-bytes.result c.requires.ready.runs c.loop-number.invariant.placed
     (omega (arith, c.loop-number.invariant.number, c.loop-number-test.true)) c.bytes-bytes.ensures (λ i. c.loop-number.next.number + 1) in
-    c.loop-number.invariant.left ∙ ap (λ (es : List Extent). joined_to c.loop-number.extent es) run.0
-    ∙ join_far c.loop-number.extent (extent c.loop-number.next.at c.bytes-bytes.result) (extents_from c.args.self.now.runs (c.loop-number.next.number + 1)) c.if-next-extent.true
-    ∙ ap (λ (es : List Extent). c.loop-number.extent ∷ es) (sym run.0)
+    grind (arith, nat_tests, join_first, join_apart, c.loop-number.invariant.left, c.if-next-extent.true)
 
 pub returns-clause-extent : goal.returns-clause-extent
-returns-clause-extent c =
-    let none = none_left c.args.self.now.runs c.loop-number.next.number c.requires.ready.runs (omega (arith, c.loop-number.invariant.number, c.loop-number-test.false)) in
-    c.loop-number.invariant.left ∙ ap (λ (es : List Extent). joined_to c.loop-number.extent es) none
-    ∙ ap (λ (es : List Extent). c.loop-number.extent ∷ es) (sym none)
+returns-clause-extent c = grind (arith, nat_tests, none_left, c.loop-number.invariant.number, c.loop-number-test.false, c.loop-number.invariant.left)

@@ -1,5 +1,5 @@
 -- A region that is accepted is a whole number of runs, and they are all of it.
-use Rattle.vara_extents.proofs.Words.{◌≡◌, ◌*◌, ◌/◌, ℕ, refl, sym, ap, subst, ◌∙◌, arith, size_of, product, place, accepted, if_there, Runs, extents_of, extents_from, index_of, AreRuns}
+use Rattle.vara_extents.proofs.Words.{◌≡◌, ◌*◌, ◌/◌, ℕ, refl, sym, ap, subst, ◌∙◌, arith, size_of, product, place, accepted, if_there, Runs, extents_of, extents_from, index_of, AreRuns, nat_tests}
 use Rattle.vara_extents.proofs.PlaceLaws.{accepted_var, small_of}
 use Rattle.vara_extents.proofs.RowLaws.{single}
 use Rattle.vara_extents.proofs.WalkLaws.{all_left, no_runs, whole_runs}
@@ -9,17 +9,7 @@ use Rattle.vara_extents.proofs.walk.Runs.alone.Goals.{then-elements-eq0, else-el
 pub run_of-run-requires : goal.run_of-run-requires
 run_of-run-requires c =
     let known = c.requires.accepted.0 in
-    let way = c.requires.accepted.1 in
-    let passed = accepted_var c.args.header.now c.args.var c.variable_at-var.result.now c.args.region.now c.variable_at-var.ensures c.requires.accepted in
-    let shape = accepted c.args.header.now c.variable_at-var.result.now c.args.region.now known way passed in
-    record {
-      recsize = c.recsize-recsize.ensures.value;
-      some = omega (arith, ap product c.as_slice.ensures, c.element_count-elements.ensures);
-      small = (small_of c.args.header.now c.args.var c.variable_at-var.result.now c.args.region.now c.variable_at-var.ensures c.requires.accepted).elements;
-      starts = shape.starts;
-      counts = shape.counts;
-      strides = shape.strides;
-    }
+    grind (arith, nat_tests, accepted_var c.args.header.now c.args.var c.variable_at-var.result.now c.args.region.now, accepted c.args.header.now c.variable_at-var.result.now c.args.region.now known c.requires.accepted.1, small_of c.args.header.now c.args.var c.variable_at-var.result.now c.args.region.now c.variable_at-var.ensures, c.requires.accepted, c.recsize-recsize.ensures.value, c.as_slice.ensures, c.element_count-elements.ensures)
 
 pub returns-clause-ready : goal.returns-clause-ready
 returns-clause-ready c =

@@ -1,5 +1,5 @@
 -- A row's step is the difference of its first two places.
-use Rattle.vara_extents.proofs.Words.{◌≡◌, ◌-◌, ℕ, List, length, ap, sym, subst, arith, transport, product, run_place, coordinates_of, weighted, AreRuns, HaveRows}
+use Rattle.vara_extents.proofs.Words.{◌≡◌, ◌-◌, ℕ, List, length, ap, subst, arith, product, run_place, coordinates_of, weighted, HaveRows, nat_tests}
 use Rattle.vara_extents.proofs.RowLaws.{single}
 use Rattle.vara_extents.proofs.WalkLaws.{inside, GoUp, steps_up}
 use Rattle.vara_extents.proofs.walk.Runs.longest_row.Goals as goal
@@ -23,8 +23,7 @@ pub overflow_sub-result : goal.overflow_sub-result
 overflow_sub-result c = omega (arith, (steps c).up, c.place-first.ensures.place, c.place-second.ensures.place)
 
 pub returns-clause-rows : goal.returns-clause-rows
-returns-clause-rows c =
-    transport (λ i. AreRuns (run_place c.args.self.now) (sym c.place-second.ensures.place i - sym c.place-first.ensures.place i) c.row_of_runs-runs.result c.args.self.now.count) (steps c).rows
+returns-clause-rows c = grind (arith, nat_tests, steps, c.place-second.ensures.place, c.place-first.ensures.place)
 
 pub returns-then-self-lt2-clause-rows : goal.returns-then-self-lt2-clause-rows
 returns-then-self-lt2-clause-rows c = single (run_place c.args.self.now) 0 c.args.self.now.count
