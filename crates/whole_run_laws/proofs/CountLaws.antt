@@ -1,6 +1,6 @@
 -- The record count of a run: the greater of the old one and the greatest that a completed put needed.
 use Rattle.serial_spec.proofs.RoomLaws.{greatest_holds}
-use Rattle.whole_run_laws.proofs.Words.{entry_map, ◌≡◌, ℕ, suc, ◌≤◌, refl, sym, ◌∙◌, ap, subst, inl, inr, List, [], ◌∷◌, ◌++◌, map, set, max, true, Option, Some, arith, map-append, same_Some, eqb_tells, fold, slice_get, entry_set, entry_set_other, Pair, Header, Call, Script, Mark, Meet, Solo, MeetKind, Offer, Counted, meeting, needs, Setting, solo, told, IsLegal, is_lawful, greatest, needed_by, advance, after_mark, after_meeting, closed, first_going, first_state, Going, hears, offers_of, rank_offer, serial_from, setting_of, Puts, go_went, hear_known, Went, meeting_within, completed, completed_from, completed_puts, puts_asked, puts_at, puts_met, unless_told, set_cases, same_le, greatest_joined, raised_records, nat_tests}
+use Rattle.whole_run_laws.proofs.Words.{entry_map, ◌≡◌, ℕ, suc, ◌≤◌, refl, sym, ◌∙◌, ap, inl, inr, List, [], ◌∷◌, map, set, max, true, Option, Some, arith, map-append, same_Some, eqb_tells, fold, slice_get, entry_set, entry_set_other, Pair, Header, Call, Script, Mark, Meet, Solo, MeetKind, Offer, Counted, meeting, needs, Setting, solo, told, IsLegal, is_lawful, greatest, needed_by, advance, after_mark, after_meeting, closed, first_going, first_state, Going, hears, offers_of, serial_from, setting_of, Puts, go_went, hear_known, meeting_within, completed, completed_from, completed_puts, puts_asked, puts_at, puts_met, unless_told, set_cases, same_le, greatest_joined, raised_records, nat_tests}
 use Rattle.join_laws.proofs.WholeLaws.{get_map as mapped_from}
 use Rattle.whole_run_laws.proofs.Courses.{AreAlong, first_along, Heard, heard_by, hears_then, mark_along, meets, offered, offered_alone, Stepped, steps}
 
@@ -18,9 +18,6 @@ known_below (x ∷ goings) m f = let a = f 0 x refl in let b = known_below going
 
 completed_needs : (s : Setting) (puts : Puts) (pair : Option Pair) → needed_by s.header (unless_told puts pair) ≡ needs s puts pair
 completed_needs s puts pair = grind (arith, nat_tests)
-
-needed_both : (header : Header) (a b : Puts) → needed_by header (a ++ b) ≡ max (needed_by header a) (needed_by header b)
-needed_both header a b = grind (arith, nat_tests, map-append, greatest_joined)
 
 -- ---- the greatest of the file's count and of those that the ranks know
 
@@ -57,8 +54,7 @@ module _ {script : Script} {j n : ℕ} {rest : List Mark} (s : Setting) (c : Cou
     reached =
         let grew = known_below goings (greatest (known_of (after_meeting s (c, goings)).1)) (λ q b e.
         let g = hears_then s c on q b e in
-        let same = ap (λ (z : Going). z.rank.known) (same_Some g.1.1.before b (sym g.1.1.was ∙ e)) in
-        omega (arith, same, heard_known q g.0 g.1.1, known_at (after_meeting s (c, goings)).1 q g.0 g.1.0)) in
+        grind (arith, nat_tests, heard_known q g.0 g.1.1, known_at (after_meeting s (c, goings)).1 q g.0 g.1.0, g.1.1.before, g.1.1.was)) in
         omega (arith, counts.reached, met_least.0, met_least.1, grew);
   }
 
@@ -87,14 +83,7 @@ module _ {k r n : ℕ} {ks : List MeetKind} {rest : List Mark} (s : Setting) (c 
             omega (arith, same, next_known, mine)
         | inr p ↦ known_at (set goings r next) q b (entry_set_other goings r q next (λ g. p.1 (sym g)) ∙ e)
       ]) in
-      record {
-        count = omega (arith, counts.count);
-        known = λ q g e. elim (set_cases goings r q next g e) [
-          | inl p ↦ omega (arith, ap (λ (z : Going). z.rank.known) p.1, next_known, was)
-          | inr p ↦ omega (arith, counts.known q g p.1)
-        ];
-        reached = omega (arith, counts.reached, grew, next_known, mine);
-      }
+      grind (arith, nat_tests, set_cases, next_known, counts.count, counts.known, counts.reached, next)
 
 -- ---- a run
 
@@ -103,19 +92,11 @@ mark_counts : (script : Script) (s : Setting) (n : ℕ) (m : Mark) (rest : List 
 mark_counts script s n (Meet j) rest c goings a counts = grind (arith, nat_tests, met_counts s c goings a counts, completed_needs)
 mark_counts script s n (Solo r i) rest c goings a counts =
     let st = steps s c a in
-    let puts = puts_asked r (Some st.at.asks.offer) in
-    let asked : needed_by s.header (completed s (puts_asked r (rank_offer s goings r))) ≡ needs s puts (told s puts) =
-    ap (λ (ps : Puts). needed_by s.header (completed s ps)) (offered_alone st) ∙ completed_needs s puts (told s puts) in
-    subst (λ (z : Counted × List Going). Counts (max n (needed_by s.header (completed s (puts_asked r (rank_offer s goings r))))) z.0 z.1) (sym st.state)
-    (subst (λ (z : ℕ). Counts (max n z) (solo s r st.at.asks.offer c).0 (set goings r (hears s.header (advance s.header st.before).0 (solo s r st.at.asks.offer c).1))) (sym asked)
-    (solo_counts s c goings counts st))
-
-went_known : (q k n : ℕ) (ks : List MeetKind) (ms : List Mark) (p : Going × Option Offer) → Went q k n ks ms p → p.0.rank.known ≡ n
-went_known q k n ks ms p w = grind (arith, nat_tests)
+    grind (arith, nat_tests, told s (puts_asked r (Some st.at.asks.offer)), offered_alone st, completed_needs s (puts_asked r (Some st.at.asks.offer)) (told s (puts_asked r (Some st.at.asks.offer))), solo_counts s c goings counts st, s.header, st.state, st.before, completed, puts_asked)
 
 ends_known : (header : Header) (goings : List Going) → known_of (map (λ g. (advance header g).0) goings) ≡ known_of goings
 ends_known header [] = refl
-ends_known header (g ∷ goings) = grind (arith, nat_tests, ends_known header goings, go_went header 0 0 g.rank g.answers g.calls, went_known)
+ends_known header (g ∷ goings) = grind (arith, nat_tests, ends_known header goings, go_went header 0 0 g.rank g.answers g.calls)
 
 closed_count : (s : Setting) (n : ℕ) (c : Counted) (goings : List Going) → Counts n c goings → (closed s (c, goings)).records ≡ n
 closed_count s n c goings counts = grind (arith, nat_tests, ends_known s.header goings, known_below goings n counts.known, raised_records)
@@ -125,11 +106,7 @@ order_count : (script : Script) (s : Setting) (n : ℕ) (order : List Mark) (sta
 order_count script s n [] state a counts = grind (arith, nat_tests, closed_count s n state.0 state.1 counts)
 order_count script s n (m ∷ order) state a counts =
     let now = completed s (puts_at s state m) in
-    let later = completed_from s (after_mark s state m) order in
-    let both : max (max n (needed_by s.header now)) (needed_by s.header later) ≡ max n (max (needed_by s.header now) (needed_by s.header later)) = omega arith in
-    order_count script s (max n (needed_by s.header now)) order (after_mark s state m) (mark_along script s m order state a) (mark_counts script s n m order state.0 state.1 a counts)
-    ∙ both
-    ∙ ap (λ (z : ℕ). max n z) (sym (needed_both s.header now later))
+    grind (arith, nat_tests, order_count script s (max n (needed_by s.header now)) order (after_mark s state m), mark_along script s m order state a, mark_counts script s n m order state.0 state.1 a counts, greatest_joined, map-append, completed_from)
 
 first_counts : (header : Header) (file : List ℕ) (calls : List (List Call)) → Counts header.records (record { file = file; records = header.records }) (map (first_going header) calls)
 first_counts header file calls = record {

@@ -1,5 +1,5 @@
 -- The ranks along a legal order: at each mark they stand at the offers of its step.
-use Rattle.whole_run_laws.proofs.Words.{◌≡◌, ℕ, zero, suc, refl, sym, ◌∙◌, ap, subst, inl, inr, ◌⊎◌, List, [], ◌∷◌, ◌++◌, length, map, set, drop, Bool, true, false, cond, Option, Some, None, arith, length-map, length-set, same_Some, slice_get_within, fold, slice_get, filter, ◌==◌, list_all, entry_below, and_first, and_second, equal_itself, Header, Call, Script, Mark, Meet, Solo, MeetKind, Offer, Reply, Open, concerns, is_of_rank_below, IsLegal, kinds, marks_from, is_lawful, Counted, Setting, meeting, solo, Going, advance, after_mark, after_meeting, after_solo, first_going, hears, offers_of, puts_asked, rank_offer, puts_of, set_cases, kinds_of, own_lawful, ranks_lawful, solo_goes, first_state, setting_of, state_after, ◌+◌, meeting_call, Went, at_meeting, at_solo, go_went, hear_mode, hear_length, going_after, goings_long, replied, solo_of_is, entry_map, cons_rest, nil_cons, nat_tests, ltb-true}
+use Rattle.whole_run_laws.proofs.Words.{◌≡◌, ℕ, zero, suc, refl, sym, ◌∙◌, ap, subst, inl, inr, ◌⊎◌, List, [], ◌∷◌, ◌++◌, length, map, set, drop, Bool, true, false, cond, Option, Some, None, arith, length-map, length-set, same_Some, slice_get_within, fold, slice_get, filter, ◌==◌, list_all, entry_below, and_first, and_second, equal_itself, Header, Call, Script, Mark, Meet, Solo, MeetKind, Offer, Reply, Open, concerns, is_of_rank_below, IsLegal, kinds, marks_from, is_lawful, Counted, Setting, meeting, solo, Going, advance, after_mark, after_meeting, after_solo, first_going, hears, offers_of, puts_asked, rank_offer, puts_of, set_cases, kinds_of, own_lawful, ranks_lawful, solo_goes, state_after, ◌+◌, meeting_call, Went, at_meeting, at_solo, go_went, hear_mode, hear_length, going_after, goings_long, replied, solo_of_is, entry_map, cons_rest, nil_cons, nat_tests, ltb-true}
 use Rattle.nc_base.specs.declared.step.OfferKind.TheVariants as offer
 use Rattle.join_laws.proofs.WholeLaws.{get_map as mapped_from}
 use Rattle.whole_run_laws.proofs.CallNumbers.{IsNumbered, heard_more, number_alone, number_met}
@@ -77,10 +77,7 @@ pub record AreAlong (script : Script) (rest : List Mark) (goings : List Going) :
 
 module _ {script : Script} {j : ℕ} {rest : List Mark} {goings : List Going} (header : Header) (on : AreAlong script (Meet j ∷ rest) goings) where
   pub meets : (q : ℕ) (g : Going) → slice_get goings q ≡ Some g → AtMeeting q on.met g.rank.known on.left rest (advance header g)
-  meets q g e =
-      let own = on.each q g e in
-      to_meeting q on.met g.rank.known j (kinds g.calls) on.left (marks_from q (length g.answers) on.met g.rank.independent g.calls) rest (advance header g)
-      (go_went header q on.met g.rank g.answers g.calls) own.kinds own.marks
+  meets q g e = grind (arith, nat_tests, to_meeting q on.met g.rank.known j (kinds g.calls) on.left, go_went header q on.met g.rank g.answers g.calls)
 
   pub meets_number : (q : ℕ) (g : Going) → slice_get goings q ≡ Some g → on.met ≡ j
   meets_number q g e = grind (arith, nat_tests, on.each q g e, go_went header q on.met g.rank g.answers g.calls, nil_cons, not_solo)
@@ -129,10 +126,7 @@ pub record IsOffered (header : Header) (goings : List Going) (ks : List MeetKind
 
 module _ {script : Script} {j : ℕ} {rest : List Mark} {goings : List Going} (header : Header) (on : AreAlong script (Meet j ∷ rest) goings) where
   all_ask : AllAsk (map (advance header) goings)
-  all_ask q p e =
-      let g = mapped_from (advance header) goings q p e in
-      let at = meets header on q g.0 g.1.0 in
-      (at.asks.offer, ap (λ (z : Going × Option Offer). z.1) g.1.1 ∙ at.asks.is_offer)
+  all_ask q p e = grind (arith, nat_tests, meets header on q (mapped_from (advance header) goings q p e).0)
 
   pub offer_met : (q : ℕ) (g : Going) (e : slice_get goings q ≡ Some g) → slice_get (offers_of (map (advance header) goings)) q ≡ Some (meets header on q g e).asks.offer
   offer_met q g e = offer_at (map (advance header) goings) q (advance header g) _ all_ask (entry_map (advance header) goings q g e) (meets header on q g e).asks.is_offer
@@ -145,18 +139,7 @@ module _ {script : Script} {j : ℕ} {rest : List Mark} {goings : List Going} (h
       let long = offers_met_long in
       let below = slice_get_within (offers_of (map (advance header) goings)) q o e in
       let g = entry_below goings q (omega arith) in
-      let at = meets header on q g.0 g.1 in
-      let same : at.asks.offer ≡ o = same_Some at.asks.offer o (sym (offer_met q g.0 g.1) ∙ e) in
-      record {
-        going = g.0;
-        was = g.1;
-        is = at.asks.is_offer ∙ ap (λ (z : Offer). Some z) same;
-        known = sym (ap (λ (z : Offer). z.known) same) ∙ at.asks.told;
-        kind = at.kind;
-        others = _;
-        of_kind = sym (ap (λ (z : Offer). z.kind) same) ∙ at.of_kind;
-        kinds = at.kinds;
-      }
+      grind (arith, nat_tests, meets header on q g.0 g.1, offer_met q g.0 g.1)
 
 -- ---- after a meeting
 
@@ -186,9 +169,7 @@ module _ {script : Script} {j : ℕ} {rest : List Mark} {goings : List Going} (s
   heard_by q g e =
       let long = met_long in
       let below = slice_get_within (after_meeting s (c, goings)).1 q g e in
-      let b = entry_below goings q (omega arith) in
-      let h = hears_then q b.0 b.1 in
-      subst (λ (z : Going). Heard s c goings q z) (same_Some h.0 g (sym h.1.0 ∙ e)) h.1.1
+      grind (arith, nat_tests, entry_below goings q, hears_then q)
 
   pub met_along : AreAlong script rest (after_meeting s (c, goings)).1
   met_along = record {
@@ -198,18 +179,12 @@ module _ {script : Script} {j : ℕ} {rest : List Mark} {goings : List Going} (s
     known = and_second (is_of_rank_below script.ranks (Meet j)) _ on.known;
     each = λ q g e.
         let h = heard_by q g e in
-        let at = meets s.header on q h.before h.was in
-        subst (OnCourse q (suc on.met) (drop 1 on.left) rest) (sym h.is)
-        (heard_on s.header q (suc on.met) h.before.rank.known (drop 1 on.left) rest (advance s.header h.before) h.reply at.asks
-        (sym (ap (λ (xs : List MeetKind). drop 1 xs) at.kinds)));
+        grind (arith, nat_tests, meets s.header on q h.before h.was, heard_on s.header q (suc on.met) h.before.rank.known (drop 1 on.left) rest (advance s.header h.before) h.reply, h.is, drop);
     numbered = λ q g own e f i.
         let h = heard_by q g e in
         let at = meets s.header on q h.before h.was in
         let next : suc on.met + i ≡ on.met + suc i = omega arith in
-        ap (λ (k : ℕ). meeting_call k own) next
-        ∙ heard_more _ _ _ _ _ _ (on.numbered q h.before own h.was f (suc i)) ((number_met s.header h.before at.kind at.asks.offer at.asks.is_offer at.of_kind).1 i)
-        (hear_length s.header (advance s.header h.before).0 h.reply)
-        ∙ ap (λ (z : Going). length z.answers + meeting_call i z.calls) (sym h.is);
+        grind (arith, nat_tests, heard_more, number_met s.header h.before at.kind at.asks.offer at.asks.is_offer at.of_kind, hear_length s.header (advance s.header h.before).0 h.reply, on.numbered, h.was, h.is, meeting_call);
   }
 
 -- ---- after a step of one rank
@@ -228,7 +203,6 @@ offered_alone st = grind (arith, nat_tests)
 module _ {script : Script} {r n : ℕ} {rest : List Mark} {goings : List Going} (s : Setting) (c : Counted) (on : AreAlong script (Solo r n ∷ rest) goings) where
   pub steps : Stepped s r c goings on.met on.left rest
   steps =
-      let long = on.long in
       let low = ltb-true r script.ranks (and_first (is_of_rank_below script.ranks (Solo r n)) _ on.known) in
       let b = entry_below goings r (omega arith) in
       let at = goes_alone s.header on b.0 b.1 in
@@ -257,13 +231,7 @@ module _ {script : Script} {r n : ℕ} {rest : List Mark} {goings : List Going} 
           | inl p ↦ grind (arith, nat_tests)
           | inr p ↦ other_on q on.met r n on.left rest g p.0 (on.each q g p.1)
         ];
-        numbered = λ q g own e f i. elim (set_cases goings r q next g e) [
-          | inl same ↦
-              heard_more _ _ _ _ _ _ (on.numbered r b own st.was (ap (slice_get script.calls) (sym same.0) ∙ f) i) (number_alone s.header b st.at.asks.offer st.at.asks.is_offer st.at.of_kind i)
-              (hear_length s.header p.0 y)
-              ∙ ap (λ (z : Going). length z.answers + meeting_call i z.calls) (sym same.1)
-          | inr other ↦ on.numbered q g own other.1 f i
-        ];
+        numbered = grind (arith, nat_tests, set_cases goings r, heard_more, number_alone s.header b st.at.asks.offer st.at.asks.is_offer st.at.of_kind, hear_length s.header p.0 y, on.numbered, st.was, script.calls, meeting_call);
       })
 
 -- ---- along an order
@@ -282,16 +250,8 @@ pub record Moved (s : Setting) (goings : List Going) (q : ℕ) (g : Going) : Typ
 pub moved : (script : Script) (s : Setting) (q : ℕ) (m : Mark) (rest : List Mark) (c : Counted) (goings : List Going) (g : Going) → AreAlong script (m ∷ rest) goings
     → slice_get (after_mark s (c, goings) m).1 q ≡ Some g → Moved s goings q g
 moved script s q (Meet j) rest c goings g a e =
-    let h = heard_by s c a q g e in
-    let asks = (meets s.header a q h.before h.was).asks in
-    record { before = h.before; was = h.was; is = inr (asks.offer, h.reply, asks.is_offer, h.is) }
-moved script s q (Solo r n) rest c goings g a e =
-    let st = steps s c a in
-    let asks = st.at.asks in
-    elim (set_cases goings r q _ g (sym (ap (λ (z : Counted × List Going). slice_get z.1 q) st.state) ∙ e)) [
-      | inl p ↦ record { before = st.before; was = ap (slice_get goings) p.0 ∙ st.was; is = inr (asks.offer, (solo s r asks.offer c).1, asks.is_offer, p.1) }
-      | inr p ↦ record { before = g; was = p.1; is = inl refl }
-    ]
+    grind (arith, nat_tests, heard_by s c a q g e, meets s.header a q (heard_by s c a q g e).before (heard_by s c a q g e).was)
+moved script s q (Solo r n) rest c goings g a e = grind (arith, nat_tests, steps s c a, set_cases goings r q)
 
 pub marks_along : (script : Script) (s : Setting) (order rest : List Mark) (state : Counted × List Going) → AreAlong script (order ++ rest) state.1
     → AreAlong script rest (fold (after_mark s) state order).1
@@ -310,13 +270,9 @@ first_along script header order lawful legal = record {
       subst (OnCourse q 0 (kinds_of script) order) (sym own.1.1) (begins q own.0 own.1.0);
   numbered = λ q g own e f j.
       let from = mapped_from (first_going header) script.calls q g e in
-      let same : from.0 ≡ own = same_Some from.0 own (sym from.1.0 ∙ f) in
-      none own j ∙ ap (λ (z : Going). length z.answers + meeting_call j z.calls) (sym (from.1.1 ∙ ap (first_going header) same));
+      grind (arith, nat_tests, from.0, from.1.0, from.1.1, meeting_call);
 }
   where
-    none : (own : List Call) (j : ℕ) → meeting_call (0 + j) own ≡ 0 + meeting_call j own
-    none own j = let z : 0 + j ≡ j = omega arith in grind (arith, z)
-
     begins : (q : ℕ) (own : List Call) → slice_get script.calls q ≡ Some own → OnCourse q 0 (kinds_of script) order (first_going header own)
     begins q own e =
         grind (arith, nat_tests, legal.each_rank q, own_lawful script q own lawful e, ranks_lawful script lawful, slice_get_within script.calls q own e)
@@ -324,5 +280,4 @@ first_along script header order lawful legal = record {
 -- what is left at a place of a run
 pub along_at : (script : Script) (header : Header) (file : List ℕ) (before later : List Mark) → is_lawful script ≡ true → IsLegal script (before ++ later)
     → AreAlong script later (state_after script header file before).1
-along_at script header file before later lawful legal =
-    marks_along script (setting_of script header) before later (first_state header file script.calls) (first_along script header (before ++ later) lawful legal)
+along_at script header file before later lawful legal = grind (arith, nat_tests, marks_along, first_along)

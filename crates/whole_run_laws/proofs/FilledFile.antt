@@ -1,5 +1,5 @@
 -- A filled file reads its fill values: elements that were written, no two of which share a byte.
-use Rattle.whole_run_laws.proofs.Words.{◌-◌, AllByRecursion, said_of, same_index, read_same, ◌≡◌, ℕ, zero, suc, ◌+◌, ◌<◌, ◌≤◌, refl, sym, ◌∙◌, ap, subst, inl, inr, ◌⊎◌, List, [], ◌∷◌, length, map, get_or, true, false, not, Option, Some, arith, eqb_tells, fold-append, fold-map, same_Some, flat_map, fold, slice_get, flat_in, in_flat, at_in, in_at, in_filter, filter_in, each_in, in_map, map_in, Header, Var, Script, Mark, size_of, at, longer, read, end_for, fill_bytes, fill_var, filled, canon, header_len, is_sound, fixed_variables, inner_lengths, is_record, In, IsElement, IsIndex, place, row, fills, cells, coordinates, byte_or, Cell, said_at, said_by, write_cells, serial, setting_of, start, coordinates_all, elements_apart, elements_past_header, coordinates_at, cells_said, canon_len, completed_puts, IsBesideCount, is_held, found_long, resized, IsOrApart, nat_tests}
+use Rattle.whole_run_laws.proofs.Words.{◌-◌, AllByRecursion, said_of, same_index, read_same, ◌≡◌, ℕ, zero, suc, ◌+◌, ◌<◌, ◌≤◌, refl, sym, ◌∙◌, ap, inl, inr, ◌⊎◌, List, [], ◌∷◌, length, map, get_or, true, false, not, Option, Some, arith, fold-append, fold-map, flat_map, fold, slice_get, flat_in, in_flat, at_in, in_at, in_filter, filter_in, each_in, in_map, map_in, Header, Var, Script, Mark, size_of, at, longer, read, end_for, fill_bytes, fill_var, filled, canon, header_len, is_sound, fixed_variables, inner_lengths, is_record, In, IsElement, IsIndex, place, row, fills, cells, coordinates, byte_or, Cell, said_at, said_by, write_cells, serial, setting_of, start, coordinates_all, elements_apart, elements_past_header, coordinates_at, cells_said, canon_len, completed_puts, IsBesideCount, is_held, found_long, resized, IsOrApart, nat_tests}
 use Rattle.whole_run_laws.proofs.KeptLaws.{end_kept}
 
 -- ---- cells of which each is another one's or apart from it
@@ -10,9 +10,7 @@ all_of e (d ∷ cells) f = (f d (inl refl), all_of e cells (λ z h. f z (inr h))
 
 pub says_that : (e : Cell) (i : ℕ) → i < length e.1 → (cells : List Cell) → In cells e → ((d : Cell) → In cells d → IsOrApart e d)
     → said_at (said_by cells) (e.0 + i) ≡ Some (get_or e.1 i 0)
-says_that e i inside cells h f =
-    let same : e.0 + i - e.0 ≡ i = omega arith in
-    said_of e (e.0 + i) (omega arith) (omega arith) cells (all_of e cells f) h ∙ ap (λ (j : ℕ). Some (get_or e.1 j 0)) same
+says_that e i inside cells h f = grind (arith, nat_tests, said_of e (e.0 + i), all_of e cells f)
 
 -- ---- reading
 
@@ -31,8 +29,7 @@ fill_long v = found_long v.kind v.attrs
 
 pub cells_apart : (header : Header) (k m : ℕ) (v w : Var) (i j : List ℕ) → is_sound header ≡ true → slice_get header.vars k ≡ Some v → slice_get header.vars m ≡ Some w
     → IsElement header v i → IsElement header w j → ((m ≡ k) × (j ≡ i)) ⊎ (((k ≡ m) × (i ≡ j)) → ⊥) → IsOrApart (cell_of header v i) (cell_of header w j)
-cells_apart header k m v w i j sound e f p q (inl (a, b)) = grind (arith, nat_tests, same_Some)
-cells_apart header k m v w i j sound e f p q (inr n) = grind (arith, nat_tests, fill_long v, fill_long w, elements_apart header k m v w i j sound e f p q n, resized)
+cells_apart header k m v w i j sound e f p q xs = grind (arith, nat_tests, fill_long, elements_apart, resized)
 
 fixed_element : (header : Header) (v : Var) (index : List ℕ) → is_record header v ≡ false → IsIndex (inner_lengths header v) index → IsElement header v index
 fixed_element header v index e h = grind (arith, nat_tests)
@@ -48,10 +45,7 @@ in_index lengths index h = each_in (IsIndex lengths) (coordinates lengths) index
 
 -- two elements are one, or not
 pub same_or_not : (k m : ℕ) (i j : List ℕ) → ((m ≡ k) × (j ≡ i)) ⊎ (((k ≡ m) × (i ≡ j)) → ⊥)
-same_or_not k m i j = elim (eqb_tells m k) [
-  | inl a ↦ elim (same_index j i) [ inl b ↦ inl (a.1, b) | inr n ↦ inr (λ p. n (sym p.1)) ]
-  | inr a ↦ inr (λ p. a.1 (sym p.0))
-]
+same_or_not k m i j = grind (arith, nat_tests, same_index j i)
 
 -- ---- a filled file
 
@@ -74,10 +68,7 @@ filled_apart header k v index sound e fixed h d m =
     let j = map_in (cell_of header w.0) (coordinates (inner_lengths header w.0)) d w.2 in
     let other = in_index (inner_lengths header w.0) j.0 j.1 in
     let so : is_record header w.0 ≡ false = grind (arith, nat_tests, kept.1) in
-    subst (λ (z : Cell). IsOrApart (cell_of header v index) z) j.2
-    (cells_apart header k number.0 v w.0 index j.0 sound e number.1 (fixed_element header v index fixed h)
-    (fixed_element header w.0 j.0 so other)
-    (same_or_not k number.0 index j.0))
+    grind (arith, nat_tests, cells_apart header k number.0 v w.0 index j.0 sound e number.1 (fixed_element header v index fixed h), fixed_element header v index fixed h, fixed_element header w.0 j.0 so other, same_or_not k number.0 index j.0, j.2, cell_of)
 
 pub filled_reads : (header : Header) (file : List ℕ) (k : ℕ) (v : Var) (index : List ℕ) → is_sound header ≡ true → slice_get header.vars k ≡ Some v
     → is_record header v ≡ false → IsIndex (inner_lengths header v) index → read (filled header file) (place header v index) (size_of v.kind) ≡ fill_bytes v

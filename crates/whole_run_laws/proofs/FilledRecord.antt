@@ -20,14 +20,8 @@ module _ (lengths : List ℕ) (ranks : ℕ) (some : 0 < ranks) where
   shares_from a zero h = grind (arith, nat_tests, part_none, share_rises)
   shares_from a (suc n) h = grind (arith, nat_tests, shares_from (a + 1) n (omega arith), boxes_right, share_grows, share_within, part_joined, share_rises)
 
-  first_begins : begins 0 ≡ 0
-  first_begins = grind (arith, nat_tests, mul-div_cancel)
-
-  last_ends : begins (0 + ranks) ≡ product lengths
-  last_ends = grind (arith, nat_tests, mul-div_cancel)
-
 pub shares_all : (lengths : List ℕ) (ranks : ℕ) → 0 < ranks → flat_map (λ r. flat_map box_indices (share_boxes lengths r ranks)) (range_with_len 0 ranks) ≡ coordinates lengths
-shares_all lengths ranks some = grind (arith, nat_tests, length-coordinates, first_begins, last_ends, shares_from, take_all)
+shares_all lengths ranks some = grind (arith, nat_tests, length-coordinates, mul-div_cancel, shares_from, take_all)
 
 pub record_puts : (header : Header) (k number r ranks : ℕ) (v : Var) → code_of_look (look_record header k number r ranks v) ≡ code.Ok
     → posts_of (look_record header k number r ranks v) ≡ filling header k v number ranks r

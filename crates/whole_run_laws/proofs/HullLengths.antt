@@ -1,5 +1,5 @@
 -- No window's hull is longer than its buffer, and no call of a step transfers more.
-use Rattle.whole_run_laws.proofs.Words.{either, leb-true, and_first, and_second, is_within, lawful_parts, ◌≡◌, ℕ, suc, ◌+◌, ◌<◌, ◌≤◌, ap, subst, inl, inr, ◌⊎◌, List, [], ◌∷◌, ◌++◌, length, map, Bool, true, false, cond, not, max, ◌&&◌, arith, filter, flat_map, nat_le, nat_lt, is_none, enumerate_from, equal_itself, filter_in, filter_ascends, flat_in, in_either, in_order_ascends, last_below, map_in, Header, Post, Hints, Script, DiskCall, Mark, Meet, Solo, Offer, calls_from, collective_windows, get_bytes, gets_of, grow_to, hull_len, in_order, last_of, loads, mark_calls, meeting_calls, overlays, put_calls, run_calls, sieved, sieving_windows, solo_calls, store_records, Counted, Setting, meeting, puts_of, told, is_lawful, In, is_empty, Going, advance, after_mark, closed, first_state, offers_of, setting_of, Puts, bytes_of, covered, is_count_store, longest, transferred, le_two, window_short, nat_tests, ltb-true, ltb-false}
+use Rattle.whole_run_laws.proofs.Words.{and_first, and_second, lawful_parts, ◌≡◌, ℕ, suc, ◌+◌, ◌<◌, ◌≤◌, ap, subst, inl, inr, ◌⊎◌, List, [], ◌∷◌, ◌++◌, length, map, Bool, true, false, cond, not, max, arith, filter, flat_map, nat_le, nat_lt, is_none, enumerate_from, equal_itself, filter_in, filter_ascends, flat_in, in_either, in_order_ascends, last_below, map_in, Header, Post, Hints, Script, DiskCall, Mark, Offer, calls_from, collective_windows, get_bytes, gets_of, hull_len, in_order, last_of, loads, meeting_calls, put_calls, run_calls, sieved, sieving_windows, solo_calls, store_records, Counted, Setting, meeting, puts_of, told, is_lawful, In, Going, after_mark, closed, first_state, setting_of, Puts, bytes_of, covered, is_count_store, longest, transferred, le_two, window_short, nat_tests, ltb-true, ltb-false}
 
 -- ---- the buffers of a lawful script
 
@@ -8,11 +8,8 @@ record Buffers (hints : Hints) : Type 0 where
   rd : 1 ≤ hints.rd_buffer
   wr : 1 ≤ hints.wr_buffer
 
-at_least_one : (high n : ℕ) → is_within 1 high n ≡ true → 1 ≤ n
-at_least_one high n h = leb-true 1 n (and_first (nat_le 1 n) _ h)
-
 some_buffers : (script : Script) → is_lawful script ≡ true → Buffers script.hints
-some_buffers script h = grind (arith, nat_tests, lawful_parts script h, and_first, at_least_one, and_second)
+some_buffers script h = grind (arith, nat_tests, lawful_parts script h, and_first, and_second)
 
 -- ---- hulls
 
@@ -37,17 +34,9 @@ sieving_short buffer bytes w l h = sieved_short (length bytes) buffer bytes w l 
 call_short : (a call : DiskCall) (n : ℕ) → a ≡ call → transferred a ≤ n → transferred call ≤ n
 call_short a call n e h = subst (λ (c : DiskCall). transferred c ≤ n) e h
 
-grow_short : (size end n : ℕ) (call : DiskCall) → In (grow_to size end) call → transferred call ≤ n
-grow_short size end n call h = grind (arith, nat_tests, call_short)
-
-overlay_short : (w : List ℕ) (n : ℕ) (call : DiskCall) → hull_len w ≤ n → In (overlays w) call → transferred call ≤ n
-overlay_short w n call l h = grind (arith, nat_tests, call_short)
-
 put_short : (s : Setting) (cut : List ℕ → List (List ℕ)) (puts : Puts) (size n : ℕ) (call : DiskCall)
     → ((w : List ℕ) → In (cut (in_order (covered s.header puts))) w → hull_len w ≤ n) → In (put_calls s cut puts size) call → transferred call ≤ n
-put_short s cut puts size n call f h =
-    either (λ calls. In calls call → transferred call ≤ n) (is_none (told s puts) && not (is_empty (in_order (covered s.header puts)))) _ []
-    (λ e k. grind (arith, nat_tests, in_either, grow_short, flat_in, overlay_short)) (λ e k. absurd k) h
+put_short s cut puts size n call f h = grind (arith, nat_tests, told, in_order, in_either, call_short, flat_in, transferred, is_none)
 
 get_short : (ws : List (List ℕ)) (n : ℕ) (call : DiskCall) → ((w : List ℕ) → In ws w → hull_len w ≤ n) → In (flat_map loads ws) call → transferred call ≤ n
 get_short ws n call f h = grind (arith, nat_tests, flat_in, call_short)
@@ -108,15 +97,10 @@ solo_gets_short hints s r o c call l e h =
 
 -- ---- the calls of a run
 
-mark_short : (hints : Hints) (s : Setting) (state : Counted × List Going) (m : Mark) (call : DiskCall) → Buffers hints → In (mark_calls hints s state m) call
-    → ShortOrCount (longest hints) s.header call
-mark_short hints s (c, goings) (Meet k) call some h = grind (arith, nat_tests, meeting_short hints s (offers_of (map (advance s.header) goings)) c call some.cb h)
-mark_short hints s (c, goings) (Solo r n) call some h = grind (arith, nat_tests, le_two, solo_short, some.rd, some.wr)
-
 calls_short : (hints : Hints) (s : Setting) (state : Counted × List Going) (order : List Mark) (call : DiskCall) → Buffers hints → In (calls_from hints s state order) call
     → ShortOrCount (longest hints) s.header call
 calls_short hints s state [] call some h = inr (count_stored s (nat_lt state.0.records (closed s state).records) call h)
-calls_short hints s state (m ∷ order) call some h = grind (arith, nat_tests, calls_short hints s (after_mark s state m) order call some, in_either, mark_short)
+calls_short hints s state (m ∷ order) call some h = grind (arith, nat_tests, calls_short hints s (after_mark s state m) order call some, in_either, meeting_short, le_two, solo_short)
 
 pub run_short : (script : Script) (header : Header) (file : List ℕ) (order : List Mark) (call : DiskCall) → is_lawful script ≡ true
     → In (run_calls script header file order) call → (transferred call ≤ longest script.hints) ⊎ (is_count_store header call ≡ true)

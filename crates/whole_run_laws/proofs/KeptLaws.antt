@@ -1,5 +1,5 @@
 -- What a run leaves of each byte: what the last completed put that holds it says, else the old one.
-use Rattle.whole_run_laws.proofs.Words.{Var, written, fill_bytes, fill_var, filled, end_for, fixed_variables, inner_lengths, place, coordinates, state_after, longer_long, written_grows, end_grows, ◌≡◌, ℕ, ◌+◌, ◌<◌, ◌≤◌, refl, ◌∙◌, ◌⊎◌, List, [], ◌∷◌, length, map, set, false, max, Option, arith, flat_map-append, get_or_past, fold, Header, Pair, Script, Mark, Offer, at, count, greatest, said_at, byte_or, Puts, said_by_puts, Setting, Counted, after_puts, known_by, meeting, needs, told, Going, advance, after_mark, closed, first_state, serial, serial_from, start, setting_of, solo_of, count_long, puts_keep, raised_keeps, at-longer, byte_or_later, puts_said, said_append, completed, completed_from, completed_puts, IsBesideCount, is_held, puts_asked, puts_at, puts_met, unless_told, raised_grows, mark_grows, nat_tests}
+use Rattle.whole_run_laws.proofs.Words.{Var, written, fill_bytes, fill_var, filled, end_for, fixed_variables, inner_lengths, place, coordinates, state_after, longer_long, written_grows, end_grows, ◌≡◌, ℕ, ◌+◌, ◌<◌, ◌≤◌, refl, ◌∙◌, ◌⊎◌, List, [], ◌∷◌, length, set, false, Option, arith, flat_map-append, get_or_past, fold, Header, Pair, Script, Mark, Offer, at, count, said_at, byte_or, Puts, said_by_puts, Setting, Counted, after_puts, meeting, told, Going, after_mark, closed, first_state, serial, serial_from, start, setting_of, count_long, puts_keep, raised_keeps, at-longer, byte_or_later, puts_said, said_append, completed, completed_from, completed_puts, IsBesideCount, is_held, puts_at, puts_met, unless_told, raised_grows, mark_grows, nat_tests}
 
 -- ---- a step
 
@@ -10,25 +10,15 @@ after_said : (s : Setting) (puts : Puts) (pair : Option Pair) (file : List ℕ) 
     → at (after_puts s puts pair file) x ≡ byte_or (said_at (said_by_puts s.header (unless_told puts pair)) x) (at file x)
 after_said s puts pair file x = grind (arith, nat_tests, puts_said)
 
-nothing_said : (header : Header) (pair : Option Pair) (x b : ℕ) → b ≡ byte_or (said_at (said_by_puts header (unless_told [] pair)) x) b
-nothing_said header pair x b = grind (arith, nat_tests)
-
 pub meeting_said : (s : Setting) (offers : List Offer) (c : Counted) (x : ℕ) → IsBesideCount s.header x
     → at (meeting s offers c).0.file x ≡ byte_or (said_at (said_by_puts s.header (completed s (puts_met offers))) x) (at c.file x)
 meeting_said s offers c x h =
     let puts = puts_met offers in
-    let pair = told s puts in
-    let n = max (needs s puts pair) (greatest (map (λ o. known_by o.kind o.known) offers)) in
-    let written : Counted = record { file = after_puts s puts pair c.file; records = c.records } in
-    raised_keeps s written n x (beside s n x h) ∙ after_said s puts pair c.file x
-
-solo_said : (s : Setting) (r : ℕ) (c : Counted) (p : Going × Option Offer) (x : ℕ)
-    → at (solo_of s r c p).0.file x ≡ byte_or (said_at (said_by_puts s.header (completed s (puts_asked r p.1))) x) (at c.file x)
-solo_said s r c p x = grind (arith, nat_tests, nothing_said, after_said)
+    grind (arith, nat_tests, told s puts, raised_keeps s (record { file = after_puts s puts (told s puts) c.file; records = c.records }), beside s, after_said s puts (told s puts) c.file x)
 
 mark_said : (s : Setting) (state : Counted × List Going) (m : Mark) (x : ℕ) → IsBesideCount s.header x
     → at (after_mark s state m).0.file x ≡ byte_or (said_at (said_by_puts s.header (completed s (puts_at s state m))) x) (at state.0.file x)
-mark_said s state m x h = grind (arith, nat_tests, meeting_said, set, nothing_said, solo_said)
+mark_said s state m x h = grind (arith, nat_tests, meeting_said, set, after_said)
 
 -- ---- a run
 
@@ -77,8 +67,7 @@ end_long script header file order =
     let state = first_state header file script.calls in
     let last = fold (after_mark s) state order in
     let a = fold_grows (λ (z : Counted × List Going). length z.0.file) (after_mark s) (mark_grows s) state order in
-    let b = raised_grows s last.0 (greatest (map (λ g. g.rank.known) (map (λ g. (advance s.header g).0) last.1))) in
-    omega arith
+    grind (arith, nat_tests, raised_grows s last.0, s.header, last.1)
 
 -- the file of a run goes at least to the end for no records
 var_grows : (header : Header) (file : List ℕ) (v : Var) → length file ≤ length (fill_var header file v)

@@ -64,12 +64,10 @@ rank_meets script r h l =
 one_list_each : (script : Script) (r : ℕ) → is_lawful script ≡ true → r < script.ranks → (own : List Call) × (slice_get script.calls r ≡ Some own)
 one_list_each script r lawful l = let e = (ranks_lawful script lawful).one_each in entry_below script.calls r (omega arith)
 
-pub all_marks : (script : Script) (r : ℕ) → is_lawful script ≡ true → has_solo script ≡ false → r < script.ranks → marks script.calls r ≡ all_meetings script
+all_marks : (script : Script) (r : ℕ) → is_lawful script ≡ true → has_solo script ≡ false → r < script.ranks → marks script.calls r ≡ all_meetings script
 all_marks script r lawful h l =
     let own = one_list_each script r lawful l in
-    let is : marks script.calls r ≡ marks_from r 0 0 false own.0 = ap (λ (m : Option (List Call)). marks_of_own r m) own.1 in
-    is ∙ marks_meet_all r 0 0 false own.0 (same_alone _ _ is (rank_meets script r h l))
-    ∙ ap (λ (ks : List MeetKind). meets_from 0 (length ks)) (own_lawful script r own.0 lawful own.1).agreed
+    grind (arith, nat_tests, marks_meet_all r 0 0 false own.0, same_alone, rank_meets script r h l, own_lawful script r own.0 lawful own.1, marks_of_own, meets_from)
 
 -- ---- the order
 
@@ -91,8 +89,7 @@ meetings_legal script lawful h = record {
 all_concern : (ranks : ℕ) (order : List Mark) → list_all (is_of_rank_below ranks) order ≡ true
     → ((r : ℕ) → r < ranks → list_any is_solo (filter (concerns r) order) ≡ false) → filter (concerns 0) order ≡ order
 all_concern ranks [] known f = refl
-all_concern ranks (Meet k ∷ order) known f =
-    ap (λ (ms : List Mark). Meet k ∷ ms) (all_concern ranks order known (λ r l. f r l))
+all_concern ranks (Meet k ∷ order) known f = grind (arith, nat_tests, all_concern ranks order known)
 all_concern ranks (Solo q n ∷ order) known f = grind (arith, nat_tests, equal_itself q, ltb-true, and_first, no_false)
 
 meetings_not_alone : (k n : ℕ) → list_any is_solo (meets_from k n) ≡ false

@@ -1,5 +1,5 @@
 -- The posts of a call of form varn are those of calls on its parts, each with its share of the values.
-use Rattle.whole_run_laws.proofs.Words.{each_in, fails_each, in_range, ◌≡◌, ℕ, zero, suc, ◌+◌, ◌<◌, ◌≤◌, refl, ◌∙◌, ap, inl, inr, List, [], ◌∷◌, ◌++◌, length, map, take, drop, Bool, true, false, not, cond, ltb, Option, Some, None, option_map, arith, ℤ, filter, flat_map, slice_get, list_any, range_with_len, lt-ltb, ltb-false, sum_by-cons, any_map, entry_below, count_of, Code, Header, NcType, Var, Post, Direction, Get, Put, Varn, Given, Part, Region, Values, Numbers, Text, Bits, Class, class_of, product, In, data_code, find_var, kind_code, look, look_at, look_parts, look_region, part_posts, parts_code, some_fits, values_bytes, code_of_look, posts_of, check_parts, check_var, elements_of_all, has_element, is_ok_code, part_region, part_regions, ext_of, packed_bytes, value_at, parts_pass, outcome, on_part, own_values, values_from, nat_tests, common_steps, is_none}
+use Rattle.whole_run_laws.proofs.Words.{each_in, fails_each, in_range, ◌≡◌, ℕ, zero, suc, ◌+◌, ◌<◌, ◌≤◌, refl, ◌∙◌, ap, inl, inr, List, [], ◌∷◌, ◌++◌, length, map, take, drop, Bool, true, false, not, cond, ltb, Option, Some, None, option_map, arith, ℤ, filter, flat_map, slice_get, list_any, range_with_len, lt-ltb, ltb-false, sum_by-cons, any_map, entry_below, count_of, Code, Header, NcType, Var, Post, Direction, Get, Put, Varn, Given, Part, Region, Values, Numbers, Text, Bits, class_of, product, In, find_var, kind_code, look, look_at, look_parts, look_region, part_posts, parts_code, some_fits, values_bytes, code_of_look, posts_of, check_parts, check_var, elements_of_all, has_element, is_ok_code, part_region, part_regions, value_at, parts_pass, outcome, on_part, own_values, values_from, nat_tests, common_steps, is_none}
 use Rattle.nc_base.specs.declared.answer.Code.TheVariants as code
 use Rattle.nc_base.specs.declared.request.Value.TheVariants as value
 use Rattle.serial_spec.specs.Looks as looks
@@ -28,9 +28,6 @@ taken _ _ _ i l = absurd (omega arith)
 same_value : (values : Values) (k n i : ℕ) → i < n → value_at (values_from values k n) i ≡ value_at values (k + i)
 same_value values k n i l = grind (arith, nat_tests, option_map, taken)
 
-same_kind : (c : Class) (values : Values) (k n : ℕ) → kind_code c (values_from values k n) ≡ kind_code c values
-same_kind c values k n = grind (arith, nat_tests)
-
 -- over two ranges that say the same
 flat_shifted : {A : Type 0} (f h : ℕ → List A) (a b n : ℕ) → ((i : ℕ) → i < n → f (a + i) ≡ h (b + i)) → flat_map f (range_with_len a n) ≡ flat_map h (range_with_len b n)
 flat_shifted f h a b zero e = refl
@@ -40,13 +37,8 @@ flat_shifted f h a b (suc n) e =
     let first : f a ≡ h b = ap f one ∙ e 0 (omega arith) ∙ ap h two in
     let rest = flat_shifted f h (a + 1) (b + 1) n (λ i l.
     let three : a + 1 + i ≡ a + suc i = omega arith in
-    let four : b + suc i ≡ b + 1 + i = omega arith in
-    ap f three ∙ e (suc i) (omega arith) ∙ ap h four) in
+    grind (arith, nat_tests)) in
     λ t. first t ++ rest t
-
-own_bytes : (kind : NcType) (values : Values) (k n : ℕ)
-    → flat_map (λ m. ext_of kind (value_at (values_from values k n) m)) (range_with_len 0 n) ≡ values_bytes kind (Some values) k n
-own_bytes kind values k n = grind (arith, nat_tests, flat_shifted, same_value)
 
 -- ---- the values are enough, and fit
 
@@ -76,12 +68,6 @@ value_there (Numbers zs) i l = let found = entry_below zs i l in ap (λ (o : Opt
 value_there (Text cs) i l = let found = entry_below cs i l in ap (λ (o : Option ℕ). is_none (option_map (λ c. value.Char c) o)) found.1
 value_there (Bits ns) i l = let found = entry_below ns i l in ap (λ (o : Option ℕ). is_none (option_map (λ b. value.Bits b) o)) found.1
 
-own_right : (kind : NcType) (values : Values) (all k n : ℕ) → AreRight kind values all → k + n ≤ all
-    → of_values (kind_code (class_of kind) (values_from values k n))
-    (list_any (λ v. is_none v) (map (λ m. value_at (values_from values k n) m) (range_with_len 0 n)))
-    (list_any (λ v. not (some_fits kind v)) (map (λ m. value_at (values_from values k n) m) (range_with_len 0 n))) ≡ code.Ok
-own_right kind values all k n r room = grind (arith, nat_tests, same_kind, any_map, is_none, none_in_range, value_there, not, same_value)
-
 -- ---- one part
 
 module _ (header : Header) (known id k : ℕ) (var : Var) where
@@ -101,11 +87,7 @@ module _ (header : Header) (known id k : ℕ) (var : Var) where
       → (has_element (region p) ≡ true → AreRight var.kind values all × (n + product p.count ≤ all))
       → of_part p (Some (values_from values n (product p.count))) ≡ cond (has_element (region p)) (post (Some values) n (region p) ∷ []) []
   put_part p values n all ok right =
-      let own = values_from values n (product p.count) in
-      let given : List ℕ → Post = λ b. record { id = id; var = k; region = region p; bytes = b } in
-      asks (check_var header var (region p) known Put) (has_element (region p)) (given (packed_bytes var.kind (region p) own) ∷ []) (data_code var.kind (region p) (Some own)) ok
-      (λ t. let r = right t in own_right var.kind values all n (product p.count) r.0 r.1)
-      ∙ ap (λ (b : List ℕ). cond (has_element (region p)) (given b ∷ []) []) (own_bytes var.kind values n (product p.count))
+      grind (arith, nat_tests, asks (check_var header var (region p) known Put) (has_element (region p)), any_map, none_in_range, value_there, is_none, not, flat_shifted, same_value, region)
 
   get_part : (p : Part) (n : ℕ) → check_var header var (region p) known Get ≡ code.Ok
       → of_part p None ≡ cond (has_element (region p)) (post None n (region p) ∷ []) []
@@ -159,26 +141,13 @@ module _ (header : Header) (known id k : ℕ) (var : Var) where
       → posts_of (look_parts header known id k given (Some values) var) ≡ flat_map (λ part. of_part part.0 (Some part.1)) (own_values values 0 given.parts)
   parts_put given values h =
       let gs = asked given.parts in
-      let all = elements_of_all gs in
-      let checked = check_parts header var (part_regions var given) known Put in
-      let posts = part_posts id k var.kind (Some values) 0 gs in
-      let last = parts_code var.kind all (Some values) in
-      let both = passed checked (ltb 0 (length gs)) posts last h in
-      asks checked (ltb 0 (length gs)) posts last both.0 both.1
-      ∙ if_some (Some values) gs
-      ∙ puts_of_parts given.parts values 0 all (parts_pass header var (part_regions var given) known Put both.0).each
-      (λ l. right_values var.kind values all (both.1 (lt-ltb 0 (length gs) l))) (omega arith)
+      grind (arith, nat_tests, passed (check_parts header var (part_regions var given) known Put) (ltb 0 (length gs)), asks (check_parts header var (part_regions var given) known Put) (ltb 0 (length gs)), if_some (Some values) gs, puts_of_parts given.parts values 0 (elements_of_all gs), parts_pass header var (part_regions var given) known Put, right_values var.kind values (elements_of_all gs))
 
   parts_get : (given : Given) → code_of_look (look_parts header known id k given None var) ≡ code.Ok
       → posts_of (look_parts header known id k given None var) ≡ flat_map (λ part. of_part part None) given.parts
   parts_get given h =
       let gs = asked given.parts in
-      let checked = check_parts header var (part_regions var given) known Get in
-      let posts = part_posts id k var.kind None 0 gs in
-      let both = passed checked (ltb 0 (length gs)) posts code.Ok h in
-      asks checked (ltb 0 (length gs)) posts code.Ok both.0 both.1
-      ∙ if_some None gs
-      ∙ gets_of_parts given.parts 0 (parts_pass header var (part_regions var given) known Get both.0).each
+      grind (arith, nat_tests, passed (check_parts header var (part_regions var given) known Get) (ltb 0 (length gs)), asks (check_parts header var (part_regions var given) known Get) (ltb 0 (length gs)), if_some None gs, gets_of_parts given.parts 0, parts_pass header var (part_regions var given) known Get, var.kind, code.Ok)
 
 -- ---- by name
 
@@ -191,8 +160,7 @@ module _ (header : Header) (known id : ℕ) (given : Given) (many : given.form �
 
   puts_at : (values : Values) (o : Option ℕ) → code_of_look (at_name given (Some values) o) ≡ code.Ok
       → posts_of (at_name given (Some values) o) ≡ flat_map (λ part. posts_of (at_name (on_part part.0) (Some part.1) o)) (own_values values 0 given.parts)
-  puts_at values None h = absurd cc
-  puts_at values (Some k) h = grind (arith, nat_tests, as_parts, parts_put)
+  puts_at values o h = grind (arith, nat_tests, as_parts, parts_put)
 
 pub varn_puts : (header : Header) (known id : ℕ) (name : List ℕ) (given : Given) (values : Values) → given.form ≡ Varn
     → code_of_look (look header known id name given (Some values)) ≡ code.Ok

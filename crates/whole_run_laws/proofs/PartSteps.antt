@@ -1,5 +1,5 @@
 -- The puts of a step one after another, and an independent put of many regions region by region.
-use Rattle.whole_run_laws.proofs.Words.{◌≡◌, ℕ, zero, suc, ◌+◌, ◌≤◌, max, refl, sym, ◌∙◌, ap, inl, inr, List, [], ◌∷◌, ◌++◌, length, map, Bool, true, false, cond, ltb, Option, Some, None, arith, cases_lt, or_cases, nat_tests, fold-append, map-append, AllByRecursion, filter, flat_map, fold, slice_get, some_or_none, and_first, no_both, Code, Header, NcType, Var, Post, Call, Put, Varn, Given, Part, Region, Values, Offer, Want, at, longer, written, Counted, Setting, after_puts, end_for, put_post, put_some, told, product, find_var, is_varn, look, look_at, look_parts, look_region, part_posts, Rank, answer, answers, batch_of, code_of_look, offers_look, posts_of, needed, needed_by, bound, has_element, part_regions, widen, Cell, write_cells, Going, go, solo_of, Holding, Holds, Key, Puts, first_end, holdings, key_below, second_end, at-longer, longer-enough, longer_long, after_grows, key_equal, end_grows, cells_said, same_file, outcome, outcome_posts, makes, on_part, own_values, put_parts}
+use Rattle.whole_run_laws.proofs.Words.{◌≡◌, ℕ, zero, suc, ◌+◌, ◌≤◌, max, refl, sym, ◌∙◌, ap, inl, inr, List, [], ◌∷◌, ◌++◌, length, map, Bool, true, false, cond, ltb, Option, Some, None, arith, cases_lt, or_cases, nat_tests, fold-append, map-append, AllByRecursion, filter, flat_map, fold, slice_get, some_or_none, and_first, no_both, Code, Header, NcType, Var, Post, Call, Put, Varn, Given, Part, Region, Values, Offer, Want, at, longer, written, Counted, Setting, after_puts, end_for, put_some, told, product, find_var, is_varn, look, look_at, look_parts, look_region, part_posts, Rank, answer, answers, batch_of, code_of_look, offers_look, posts_of, needed, needed_by, bound, has_element, part_regions, widen, Cell, write_cells, Going, go, solo_of, Holding, Holds, Key, Puts, first_end, holdings, key_below, second_end, at-longer, longer-enough, longer_long, after_grows, key_equal, end_grows, cells_said, same_file, outcome, outcome_posts, makes, on_part, own_values, put_parts}
 use Rattle.nc_base.specs.declared.answer.Code.TheVariants as code
 use Rattle.nc_base.specs.declared.request.Call.TheVariants as call
 use Rattle.nc_base.specs.declared.step.OfferKind.TheVariants as offer
@@ -17,15 +17,8 @@ cells_longer f g n [] e = e
 cells_longer f g n (c ∷ cs) e =
     grind (arith, nat_tests, cells_longer (written f c.0 c.1) (written g c.0 c.1) n cs (omega (arith, e, (length-written f c.0 c.1), (length-written g c.0 c.1))), length-written)
 
-put_longer : (s : Setting) (v : Option Var) (post : Post) (f g : List ℕ) (n : ℕ) → length f ≡ max (length g) n
-    → length (put_some s v post f) ≡ max (length (put_some s v post g)) n
-put_longer s v post f g n e = grind (arith, nat_tests, cells_longer)
-
 put_same : (s : Setting) (v : Option Var) (post : Post) (f g : List ℕ) → ((x : ℕ) → at f x ≡ at g x) → (x : ℕ) → at (put_some s v post f) x ≡ at (put_some s v post g) x
 put_same s v post f g e x = grind (arith, nat_tests, cells_said)
-
-end_most : (s : Setting) (a b : ℕ) → end_for s (max a b) ≡ max (end_for s a) (end_for s b)
-end_most s a b = grind (arith, nat_tests, cases_lt, end_grows)
 
 -- ---- one put after another
 
@@ -38,11 +31,8 @@ first_then s p puts file =
     let all = longer file (end_for s (max (needed s.header p.1) (needed_by s.header puts))) in
     let own = longer file (end_for s (max (needed s.header p.1) 0)) in
     let rest = end_for s (needed_by s.header puts) in
-    let long : length all ≡ max (length own) rest = grind (arith, nat_tests, longer_long, end_most) in
-    ap (λ (f : List ℕ). fold (put_post s) f puts)
-    (same_file (put_some s v p.1 all) (longer (put_some s v p.1 own) rest)
-    (put_longer s v p.1 all own rest long ∙ sym (longer_long (put_some s v p.1 own) rest))
-    (λ x. put_same s v p.1 all own (λ y. at-longer file _ y ∙ sym (at-longer file _ y)) x ∙ sym (at-longer (put_some s v p.1 own) rest x)))
+    let long : length all ≡ max (length own) rest = grind (arith, nat_tests, longer_long, end_grows, cases_lt) in
+    grind (arith, nat_tests, same_file (put_some s v p.1 all) (longer (put_some s v p.1 own) rest), longer (put_some s v p.1 own) rest, cells_longer, longer_long (put_some s v p.1 own) rest, put_same s v p.1 all own, at-longer file, at-longer (put_some s v p.1 own) rest)
 
 pub in_turn : (s : Setting) (puts : Puts) (file : List ℕ) → end_for s 0 ≤ length file
     → after_puts s puts None file ≡ fold (λ left put. after_puts s (put ∷ []) None left) file puts
@@ -124,10 +114,6 @@ same_bounds a b [] = refl
 same_bounds a b (zero ∷ ns) = ap (λ (os : List (Option ℕ)). None ∷ os) (same_bounds a b ns)
 same_bounds a b (suc n ∷ ns) = ap (λ (os : List (Option ℕ)). Some (suc n) ∷ os) (same_bounds a b ns)
 
-known_free : (header : Header) (a b id : ℕ) (name : List ℕ) (p : Part) (values : Values)
-    → look header a id name (on_part p) (Some values) ≡ look header b id name (on_part p) (Some values)
-known_free header a b id name p values = grind (arith, nat_tests, outcome, same_bounds)
-
 -- ---- an independent put
 
 module _ (s : Setting) (number : ℕ) (name : List ℕ) where
@@ -175,8 +161,7 @@ module _ (s : Setting) (number : ℕ) (name : List ℕ) where
       let own = posts_of (put_look known (on_part q.0) q.1) in
       let later = flat_map (λ r. posts_of (put_look known (on_part r.0) r.1)) qs in
       let here : next.0.file ≡ after_puts s (numbered number own) None state.0.file =
-      put_file state (on_part q.0) q.1 e
-      ∙ ap (λ (l : looks.Look). after_puts s (numbered number (posts_of l)) None state.0.file) (known_free s.header state.1.rank.known known 0 name q.0 q.1) in
+      grind (arith, nat_tests, put_file, outcome, same_bounds, looks.Look, state.0.file, numbered) in
       let grown = after_grows s (numbered number own) None state.0.file in
       let long = ap (λ (f : List ℕ). length f) here in
       puts_left qs next known (put_mode state (on_part q.0) q.1 e) (omega (arith, long, grown, h))

@@ -1,5 +1,5 @@
 -- No completed put holds a byte of the header, so its bytes stay but for the record count.
-use Rattle.whole_run_laws.proofs.Words.{holds_or_not, some_or_none, ◌≡◌, ℕ, ◌<◌, ◌≤◌, sym, ◌∙◌, ap, subst, inl, inr, List, [], ◌∷◌, map, true, false, ◌||◌, Option, Some, arith, flat_map-append, slice_get, range_with_len, fails_each, or_first_false, any_in, flat_in, in_either, range_low, each_in, map_in, numbered_in, Header, Var, Post, Script, Mark, Meet, Solo, Offer, refused, wrong_length, size_of, at, Counted, puts_of, Setting, header_len, is_sound, IsLegal, is_lawful, In, IsElementBelow, place, records_of, check_some, elements, places, advance, after_mark, first_going, first_state, Going, offers_of, serial_from, setting_of, bytes_of, bytes_of_some, covered, Puts, accepted_elements, elements_past_header, Fit, good_first, heard_fits, most_posts_held, offer_fits, completed, completed_from, completed_puts, IsBesideCount, is_held, puts_at, puts_met, nat_tests}
+use Rattle.whole_run_laws.proofs.Words.{holds_or_not, some_or_none, ◌≡◌, ℕ, ◌<◌, ◌≤◌, sym, ◌∙◌, ap, subst, inl, inr, List, [], ◌∷◌, map, true, false, ◌||◌, Option, Some, arith, flat_map-append, slice_get, range_with_len, fails_each, or_first_false, any_in, flat_in, in_either, range_low, each_in, map_in, numbered_in, Header, Var, Post, Script, Mark, Meet, Solo, Offer, refused, wrong_length, at, Counted, Setting, header_len, is_sound, IsLegal, is_lawful, In, IsElementBelow, place, records_of, check_some, elements, advance, after_mark, first_going, first_state, Going, offers_of, serial_from, setting_of, bytes_of, bytes_of_some, covered, Puts, accepted_elements, elements_past_header, Fit, good_first, heard_fits, most_posts_held, offer_fits, completed, completed_from, completed_puts, IsBesideCount, is_held, puts_at, puts_met, nat_tests}
 use Rattle.nc_base.specs.declared.request.Direction.TheVariants as way
 use Rattle.join_laws.proofs.CountLaws.{passes_accepted as accepted}
 use Rattle.join_laws.proofs.WholeLaws.{get_map as mapped_from}
@@ -16,11 +16,7 @@ post_past header known p sound e x m = elim (some_or_none (slice_get header.vars
   | inl f ↦ absurd (subst (λ (o : Option Var). In (bytes_of_some header o p) x) f m)
   | inr (v, f) ↦
       let fine = sym (ap (λ (o : Option Var). check_some header o p.region known way.Put) f) ∙ accepted _ (or_first_false (refused header known way.Put p) _ e) in
-      let y = flat_in (λ (y : ℕ). range_with_len y (size_of v.kind)) (places header v p.region) x (subst (λ (o : Option Var). In (bytes_of_some header o p) x) f m) in
-      let i = map_in (λ (i : List ℕ). place header v i) (elements p.region) y.0 y.1 in
-      let is = each_in (IsElementBelow header v (records_of header v p.region)) (elements p.region) i.0 (accepted_elements header p.var v p.region known way.Put sound f fine) i.1 in
-      let low = elements_past_header header p.var v i.0 sound f is.0 in
-      omega (arith, low, i.2, range_low y.0 (size_of v.kind) x y.2)
+      grind (arith, nat_tests, flat_in, map_in, place header v, each_in (IsElementBelow header v (records_of header v p.region)) (elements p.region), accepted_elements header p.var v p.region known way.Put sound f fine, elements_past_header header p.var v, range_low, v.kind, range_with_len)
 ]
 
 -- ---- a rank whose puts are accepted
@@ -43,9 +39,6 @@ offer_past header ranks g o sound f e p m =
 abbrev pub AllPast : Header → Puts → Type 0
 AllPast header puts = (x : ℕ) → In (covered header puts) x → header_len header ≤ x
 
-own_past : (header : Header) (r : ℕ) (o : Offer) → ((p : Post) → In o.batch.puts p → Past header p) → AllPast header (puts_of (r, o))
-own_past header r o f x m = grind (arith, nat_tests, flat_in, map_in)
-
 met_past : (header : Header) (offers : List Offer) → ((q : ℕ) (o : Offer) → slice_get offers q ≡ Some o → (p : Post) → In o.batch.puts p → Past header p)
     → AllPast header (puts_met offers)
 met_past header offers f x m = grind (arith, nat_tests, flat_in, map_in, numbered_in)
@@ -67,8 +60,7 @@ mark_past script s (Meet j) rest c goings a =
     offer_past s.header script.ranks w.going o a.sound (a.fit q w.going w.was) w.is)
 mark_past script s (Solo r n) rest c goings a =
     let st = steps s c a.along in
-    subst (AllPast s.header) (sym (offered_alone st))
-    (own_past s.header r st.at.asks.offer (offer_past s.header script.ranks st.before st.at.asks.offer a.sound (a.fit r st.before st.was) st.at.asks.is_offer))
+    grind (arith, nat_tests, offered_alone st, flat_in, map_in, offer_past s.header script.ranks st.before st.at.asks.offer a.sound (a.fit r st.before st.was), st.at.asks.is_offer)
 
 pub mark_right : (script : Script) (s : Setting) (m : Mark) (rest : List Mark) (state : Counted × List Going) → AreRight script s.header (m ∷ rest) state.1
     → AreRight script s.header rest (after_mark s state m).1
@@ -81,8 +73,7 @@ mark_right script s m rest (c, goings) a = record {
         | inl f ↦ subst (IsFit s.header script.ranks) (sym f) (a.fit q w.before w.was)
         | inr h ↦
             let f = a.fit q w.before w.was in
-            let heard = heard_fits s.header a.sound script.ranks f.number most_posts_held f.low w.before h.0 h.1 f.fit h.2 in
-            subst (IsFit s.header script.ranks) (sym h.3) (record { number = f.number; low = f.low; fit = heard })
+            grind (arith, nat_tests, heard_fits s.header a.sound script.ranks f.number most_posts_held f.low w.before h.0 h.1 f.fit h.2, h.3)
       ];
 }
 
@@ -95,10 +86,7 @@ order_past script s (k ∷ order) state a x m =
     let now = completed s (puts_at s state k) in
     let later = completed_from s (after_mark s state k) order in
     let both = subst (λ (xs : List ℕ). In xs x) (flat_map-append (λ (p : ℕ × Post). bytes_of s.header p.1) now later) m in
-    elim (in_either (covered s.header now) (covered s.header later) x both) [
-      | inl h ↦ done_past s (puts_at s state k) (mark_past script s k order state.0 state.1 a) x h
-      | inr h ↦ order_past script s order (after_mark s state k) (mark_right script s k order state a) x h
-    ]
+    grind (arith, nat_tests, in_either (covered s.header now) (covered s.header later) x both, done_past s (puts_at s state k) (mark_past script s k order state.0 state.1 a) x, mark_past script s k order state.0 state.1 a, order_past script s order (after_mark s state k) (mark_right script s k order state a) x, mark_right script s k order state a)
 
 pub first_right : (script : Script) (header : Header) (order : List Mark) → is_sound header ≡ true → is_lawful script ≡ true → IsLegal script order
     → AreRight script header order (map (first_going header) script.calls)
@@ -107,8 +95,7 @@ first_right script header order sound lawful legal = record {
   along = first_along script header order lawful legal;
   fit = λ q g e.
       let own = mapped_from (first_going header) script.calls q g e in
-      let good = good_first script header q own.0 lawful own.1.0 in
-      subst (IsFit header script.ranks) (sym own.1.1) (record { number = good.number; low = good.low; fit = good.fit });
+      grind (arith, nat_tests, good_first script header q own.0 lawful own.1.0, script.ranks, own.1.1);
 }
 
 pub all_past : (script : Script) (header : Header) (file : List ℕ) (order : List Mark) (x : ℕ) → is_sound header ≡ true → is_lawful script ≡ true → IsLegal script order

@@ -21,8 +21,7 @@ module _ (old new : Header) (extras : List Extra) (a : IsRedefinition old extras
 
   still : (k : ℕ) (v w : Var) (index : List ℕ) → slice_get old.vars k ≡ Some v → slice_get new.vars k ≡ Some w → IsCounted old v index
       → IsElementBelow new w old.records index
-  still k v w index h g i =
-      index_is_element new k w old.records index a.new_sound g (subst (λ (ls : List ℕ). IsIndex (map (known_of old.records) ls) index) (sym (kept k v w h g).lens) i)
+  still k v w index h g i = grind (arith, nat_tests, index_is_element new k w old.records index a.new_sound g, kept k v w h g)
 
   pub counted_still : (k : ℕ) (v w : Var) (index : List ℕ) → slice_get old.vars k ≡ Some v → slice_get new.vars k ≡ Some w → IsCounted old v index → IsCounted new w index
   counted_still k v w index h g i = grind (arith, nat_tests, same_count, kept)

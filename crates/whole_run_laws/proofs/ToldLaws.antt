@@ -93,5 +93,4 @@ pub mark_nothing : (script : Script) (header : Header) (file : List ℕ) (before
     → (state_after script header file (before ++ m ∷ [])).0 ≡ (state_after script header file before).0
 mark_nothing script header file before later m p lawful legal e =
     let state = state_after script header file before in
-    ap (λ (z : Counted × List Going). z.0) (state_more script header file before m)
-    ∙ step_nothing script (setting_of script header) m later state.0 state.1 p (along_at script header file before (m ∷ later) lawful legal) e
+    grind (arith, nat_tests, state_more script header file before m, step_nothing script (setting_of script header) m later state.0 state.1 p, along_at script header file before (m ∷ later) lawful legal)
