@@ -1,5 +1,5 @@
 -- One window more is planned.
-use Rattle.window_plan.proofs.Words.{◌≡◌, ℕ, ◌+◌, inl, inr, refl, sym, ◌∙◌, ap, subst, List, [], ◌∷◌, ◌++◌, append_assoc, map, arith, append-nil, map-append, Owned, Window, WindowWalk, IsWalk, IsPast, told_window, AreLeft, IsNext, windows_from, next_told, no_window, windows_next, In, told_of, in_either, AreInFront, IsAt, Told, turns_ahead, at_next, owners_in, plan_of, told_plan, AreShared, WindowPlan}
+use Rattle.window_plan.proofs.Words.{◌≡◌, ℕ, ◌+◌, inl, refl, sym, ◌∙◌, ap, subst, List, [], ◌∷◌, ◌++◌, append_assoc, map, arith, append-nil, map-append, Owned, Window, WindowWalk, IsWalk, IsPast, told_window, AreLeft, IsNext, windows_from, next_told, no_window, windows_next, In, told_of, in_either, AreInFront, IsAt, Told, turns_ahead, at_next, owners_in, plan_of, told_plan, AreShared, WindowPlan, nat_tests}
 use Rattle.window_plan.proofs.OwnerLaws.{served_owners}
 
 -- ---- what is told
@@ -17,11 +17,7 @@ pub none_shared : (list : List Owned) → AreShared list []
 none_shared list w m = absurd m
 
 shared_more : (list : List Owned) (plans : List WindowPlan) (w : WindowPlan) → AreShared list plans → w.owners ≡ owners_in w.hull list → AreShared list (plans ++ w ∷ [])
-shared_more list plans w h e v m =
-    elim (in_either plans (w ∷ []) v m) [
-      | inl i ↦ h v i
-      | inr i ↦ elim i [ inl same ↦ subst (λ (u : WindowPlan). u.owners ≡ owners_in u.hull list) same e | inr n ↦ absurd n ]
-    ]
+shared_more list plans w h e v m = grind (arith, nat_tests, in_either, owners_in)
 
 plan_shared : (list served : List Owned) (w : Window) (plan : WindowPlan) → plan ≡ plan_of w served → owners_in w.hull list ≡ owners_in w.hull served
     → plan.owners ≡ owners_in plan.hull list
@@ -63,16 +59,10 @@ pub sieved_next : (list : List Owned) (size place stop : ℕ) (whole : List Told
     → plan ≡ plan_of w served → IsSieving list size stop whole later (plans ++ plan ∷ [])
 sieved_next list size place stop whole left later served plans w plan h ready next past is = record {
   past = past;
-  told = told_more plans plan (told_window w) (map told_of (windows_from size place list)) (map told_of (windows_from size stop list)) whole (ap told_plan is)
-      (ap (λ (ws : List (List ℕ)). map told_of ws) (windows_next list ready next h.past)
-      ∙ ap (λ (t : Told). t ∷ map told_of (windows_from size stop list)) (next_told ready next)) h.told;
-  shared = shared_more list plans plan h.shared
-      (plan_shared list served w plan is
-      (let low = next.from in let short = next.hull.short in let begin = next.hull.begin in
-      served_owners w.hull place stop list left served next.front.rest h.past next.front.joined next.front.later low (omega arith)));
+  told = grind (arith, nat_tests, told_more plans plan (told_window w) (map told_of (windows_from size place list)), windows_next list ready next h.past, next_told ready next, h.told, windows_from);
+  shared = grind (arith, nat_tests, shared_more list plans plan h.shared, plan_shared list served w plan is, served_owners w.hull place stop list left served next.front.rest h.past next.front.joined next.front.later, next.from, next.hull.short, next.hull.begin);
 }
 
 pub sieved_end : (list : List Owned) (size place : ℕ) (whole : List Told) (left : List Owned) (plans : List WindowPlan) → left ≡ []
     → IsSieving list size place whole left plans → map told_plan plans ≡ whole
-sieved_end list size place whole left plans none h =
-    all_told plans (map told_of (windows_from size place list)) whole (ap (λ (ws : List (List ℕ)). map told_of ws) (no_window size place list left none h.past)) h.told
+sieved_end list size place whole left plans none h = grind (arith, nat_tests, all_told, no_window, told_plan)

@@ -1,5 +1,5 @@
 -- Each window is planned by the entries that may have bytes in it.
-use Rattle.window_plan.proofs.Words.{◌+◌, ◌<◌, ◌^◌, ◌++◌, ◌∙◌, sym, ap, subst, List, map, min, arith, entries_left, told_window, all_left, walk_begin, sorted_right, AreInFront, turns_ahead, turns_of, domain_turns, at_begin, front_carried, left_ends, left_filled, left_sorted, served_now, turn_limit, told_plan, WindowPlan}
+use Rattle.window_plan.proofs.Words.{◌+◌, ◌<◌, ◌^◌, ◌++◌, sym, subst, List, min, arith, entries_left, told_window, all_left, walk_begin, sorted_right, AreInFront, turns_of, domain_turns, at_begin, front_carried, left_ends, left_filled, left_sorted, served_now, turn_limit, WindowPlan, nat_tests}
 use Rattle.exchange_crew.proofs.TurnLaws.{served_ends}
 use Rattle.window_plan.proofs.PlanLaws.{all_told, none_shared, planned_next, IsPlanning}
 use Rattle.window_plan.proofs.domain.domain_plans.Goals as goal
@@ -7,17 +7,7 @@ use Rattle.window_plan.proofs.domain.domain_plans.Goals as goal
 pub windows-init : goal.windows-init
 windows-init c =
     let list = c.args.list.now in
-    let plan = c.requires.plan in
-    let room = min c.args.size c.args.domain.len in
-    let left = entries_left c.new-entries.result in
-    let whole = all_left list c.new-entries.result.carried.items c.new-entries.result.ahead.now c.new-entries.ensures.carried c.new-entries.ensures.ahead in
-    record {
-      walk = c.domain_windows-windows.ensures.ready;
-      here = at_begin list left room 0 (turns_ahead c.domain_windows-windows.result) (walk_begin list left whole) (λ t m. omega arith)
-          (rw c.domain_windows-windows.ensures.windows (domain_turns c.args.size c.args.domain list c.args.cover.now plan.some plan.covers plan.cover_bytes));
-      told = ap (λ (ps : List WindowPlan). map told_plan ps ++ turns_ahead c.domain_windows-windows.result) c.new-plans.ensures.items ∙ c.domain_windows-windows.ensures.windows;
-      shared = rw c.new-plans.ensures.items (none_shared list);
-    }
+    grind (arith, nat_tests, all_left list c.new-entries.result.carried.items c.new-entries.result.ahead.now c.new-entries.ensures.carried, at_begin list (entries_left c.new-entries.result) (min c.args.size c.args.domain.len) 0, walk_begin list (entries_left c.new-entries.result), domain_turns c.args.size c.args.domain list c.args.cover.now c.requires.plan.some c.requires.plan.covers, none_shared list, c.requires.plan, c.new-entries.ensures.ahead, c.domain_windows-windows.ensures.ready, c.domain_windows-windows.ensures.windows, c.requires.plan.cover_bytes)
 
 pub overflow_add-stop : goal.overflow_add-stop
 overflow_add-stop c =
@@ -39,9 +29,7 @@ pub pass-requires-clause-filled : goal.pass-requires-clause-filled
 pass-requires-clause-filled c = left_filled _ _ _ _ _ _ c.requires.plan.filled c.windows.invariant.here c.in-Some.ensures.some
 
 pub returns-clause-told : goal.returns-clause-told
-returns-clause-told c =
-    ap (λ (ps : List WindowPlan). map told_plan ps) c.fitted.ensures
-    ∙ all_told c.windows.plans.items (turns_ahead c.windows.windows) (turns_of c.args.size c.args.domain c.args.cover.now) c.in_default.ensures.none c.windows.invariant.told
+returns-clause-told c = grind (arith, nat_tests, all_told, c.fitted.ensures, c.in_default.ensures.none, c.windows.invariant.told)
 
 pub returns-clause-shared : goal.returns-clause-shared
 returns-clause-shared c = rw c.fitted.ensures c.windows.invariant.shared

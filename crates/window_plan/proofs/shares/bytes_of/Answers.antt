@@ -1,5 +1,5 @@
 -- The bytes of one owner more.
-use Rattle.window_plan.proofs.Words.{Owner}
+use Rattle.window_plan.proofs.Words.{Owner, arith, nat_tests}
 use Rattle.window_plan.proofs.ShareLaws.{share_more}
 use Rattle.window_plan.proofs.shares.bytes_of.Goals as goal
 
@@ -7,6 +7,4 @@ abbrev none : Owner
 none = record { rank = 0; extent = record { at = 0; len = 0 } }
 
 pub loop-owner-preserved : goal.loop-owner-preserved
-loop-owner-preserved c =
-    share_more c.args.owners.now c.loop-owner.owner-index none c.args.rank c.loop-owner.bytes c.own_bytes.result c.saturating_add-bytes.result
-    c.loop-owner-test.true c.loop-owner.invariant c.own_bytes.ensures c.saturating_add-bytes.ensures
+loop-owner-preserved c = grind (arith, nat_tests, share_more, c.loop-owner-test.true, c.loop-owner.invariant, c.own_bytes.ensures, c.saturating_add-bytes.ensures)

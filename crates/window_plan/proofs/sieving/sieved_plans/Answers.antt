@@ -1,24 +1,12 @@
 -- Each window is planned by the entries that may have bytes in it.
-use Rattle.window_plan.proofs.Words.{◌++◌, ◌∷◌, [], ◌∙◌, refl, sym, ap, subst, List, ℕ, map, arith, entries_left, past_twice, all_left, walk_begin, entry_windows, entries_in, windows_from, IsNext, none_carried, walk_ready, hull_end, served_ends, all_windows, goes_on, told_of, told_plan, WindowPlan}
+use Rattle.window_plan.proofs.Words.{sym, subst, ℕ, map, arith, entries_left, past_twice, all_left, walk_begin, entry_windows, entries_in, IsNext, none_carried, walk_ready, hull_end, served_ends, all_windows, goes_on, told_of, nat_tests}
 use Rattle.window_plan.proofs.PlanLaws.{none_shared, sieved_end, sieved_next, IsSieving}
 use Rattle.window_plan.proofs.sieving.sieved_plans.Goals as goal
 
 pub windows-init : goal.windows-init
 windows-init c =
     let list = c.args.list.now in
-    let left = entries_left c.new.result in
-    let whole = all_left list c.new.result.carried.items c.new.result.ahead.now c.new.ensures.carried c.new.ensures.ahead in
-    record {
-      sieving = record {
-        past = walk_begin list left whole;
-        told = ap (λ (ps : List WindowPlan). map told_plan ps ++ map told_of (windows_from c.args.size 0 list)) c.in_ok-plans.ensures.items
-            ∙ ap (λ (ws : List (List ℕ)). map told_of ws) (sym (all_windows c.args.size list));
-        shared = rw c.in_ok-plans.ensures.items (none_shared list);
-      };
-      left = walk_ready list left c.args.size whole c.requires.sorted c.requires.ends c.requires.filled c.requires.some;
-      across = none_carried c.new.result.carried.items c.new.ensures.carried;
-      size = refl;
-    }
+    grind (arith, nat_tests, all_left, walk_begin, all_windows, none_shared, walk_ready, none_carried, c.requires.sorted, c.requires.ends, c.requires.filled, c.requires.some)
 
 pub plan_window-requires-clause-hull : goal.plan_window-requires-clause-hull
 plan_window-requires-clause-hull c = hull_end c.in-Some.ensures.next c.windows.invariant.left
@@ -39,20 +27,10 @@ windows-preserved c =
     let before = subst (λ (n : ℕ). IsSieving list n c.windows.walk.from whole left c.windows.plans.items) (sym h.size) h.sieving in
     let after = sieved_next list c.windows.walk.size c.windows.walk.from c.pass.new.self.from whole left later (entries_in c.in-Some.next) c.windows.plans.items c.in-Some.next.window
     c.in_ok-plan_window.field-0 before h.left next past c.in_ok-plan_window.ensures in
-    record {
-      sieving = subst (λ (ps : List WindowPlan). IsSieving list c.args.size c.pass.new.self.from whole later ps) (sym {A = List WindowPlan} c.in_ok-push.ensures.items)
-          (subst (λ (n : ℕ). IsSieving list n c.pass.new.self.from whole later (c.windows.plans.items ++ c.in_ok-plan_window.field-0 ∷ [])) h.size after);
-      left = c.pass.ensures.left;
-      across = c.pass.ensures.across;
-      size = c.pass.ensures.size ∙ h.size;
-    }
+    grind (arith, nat_tests, c.pass.ensures.left, c.pass.ensures.across, c.pass.ensures.size)
 
 pub returns-clause-told : goal.returns-clause-told
-returns-clause-told c =
-    let h = c.windows.invariant.sieving in
-    ap (λ (ps : List WindowPlan). map told_plan ps) c.fitted.ensures
-    ∙ sieved_end c.args.list.now c.args.size c.windows.walk.from (map told_of (entry_windows c.args.size c.args.list.now)) (entries_left c.windows.walk.entries) c.windows.plans.items
-    c.in_default.ensures.none h
+returns-clause-told c = grind (arith, nat_tests, sieved_end, c.windows.invariant.sieving, c.fitted.ensures, c.in_default.ensures.none)
 
 pub returns-clause-shared : goal.returns-clause-shared
 returns-clause-shared c = rw c.fitted.ensures c.windows.invariant.sieving.shared
