@@ -1,9 +1,9 @@
 -- The variables of a redefined header stand apart.
-use Rattle.redef_laws.proofs.Words.{◌≡◌, ℕ, ◌+◌, ◌<◌, ◌≤◌, List, length, Bool, true, false, Some, None, refl, sym, ap, ◌∙◌, inl, inr, arith, cases_lt, holds_or_not, subst, slice_get, nat_tests, slab_below, each_at, Header, Var, Extra, is_record, slab, recsize, share, sharing, header_len, is_sound, AreApart, added, fixed_order, begins_by_number, redefined_header, at_begin, shares_by, fixed_then_record, record_then_fixed, no_sharing_from}
+use Rattle.redef_laws.proofs.Words.{◌≡◌, ℕ, ◌+◌, ◌<◌, ◌≤◌, List, length, Bool, true, false, Some, None, refl, ap, ◌∙◌, inl, inr, arith, cases_lt, holds_or_not, slice_get, nat_tests, slab_below, each_at, Header, Var, Extra, is_record, slab, recsize, sharing, header_len, is_sound, AreApart, added, fixed_order, begins_by_number, redefined_header, at_begin, shares_by, fixed_then_record, record_then_fixed, no_sharing_from}
 use Rattle.redef_laws.proofs.GrownLaws.{IsFitVar, IsFit}
 use Rattle.redef_laws.proofs.RebegunLaws.{rebegun, rebegun_at, rebegun_recsize, rebegun_len}
-use Rattle.redef_laws.proofs.BeginLaws.{at_number, fixed_apart, found_is, front_grows, record_apart, vsizes}
-use Rattle.redef_laws.proofs.PlaceLaws.{new_records, first_place, old_place_of, old_records, new_numbers, fixed_numbers, first_up, in_fixed, in_new, in_old, IsFixedPlace, IsNewPlace, fixed_place, old_place, new_place, any_place, begin_is, old_first_low}
+use Rattle.redef_laws.proofs.BeginLaws.{at_number, fixed_apart, front_grows, record_apart, vsizes}
+use Rattle.redef_laws.proofs.PlaceLaws.{new_from, new_records, first_place, old_place_of, old_records, new_numbers, fixed_numbers, first_up, in_fixed, in_new, in_old, IsFixedPlace, IsNewPlace, fixed_place, old_place, new_place, any_place, begin_is, old_first_low}
 use Rattle.redef_laws.proofs.KeptLaws.{old_recsize}
 use Rattle.redef_laws.proofs.SharingLaws.{slab_some, AreOrdered, recsize_of_two, old_pair, old_room}
 
@@ -18,19 +18,19 @@ pub record IsFound (header : Header) (n k : ℕ) (v : Var) (t : Bool) (b : ℕ) 
 module _ (header : Header) (n : ℕ) where
   fixed_at : (k : ℕ) (v : Var) (b : ℕ) → IsFound header n k v false b → IsFixedPlace header n k v b
   fixed_at k v b p =
-      let f = fixed_place header n k v p.there p.kind in subst (IsFixedPlace header n k v) (found_is (begins_by_number header n) k f.0 b f.2 p.found) f.1
+      let f = fixed_place header n k v p.there p.kind in grind (arith, nat_tests, f.1, f.2, p.found)
 
   fixed_two : (i j : ℕ) (v w : Var) (b c : ℕ) → IsFound header n i v false b → IsFound header n j w false c → (i ≡ j → ⊥) → AreApart b (slab header v) c (slab header w)
   fixed_two i j v w b c p q other =
-      fixed_apart header header.vars (header_len header) (fixed_order header n) i j v w b c (fixed_numbers header n) p.there q.there
+      fixed_apart header header.vars (header_len header) (fixed_order header n) i j v w b c (fixed_numbers header n)
       (in_fixed header n i v p.there p.kind) (in_fixed header n j w q.there q.kind) other (fixed_at i v b p).at (fixed_at j w c q).at
 
   old_at : (k : ℕ) (v : Var) (b : ℕ) → IsFound header n k v true b → k < n → b ≡ old_place_of header n v
-  old_at k v b p l = found_is (begins_by_number header n) k b (old_place_of header n v) p.found (old_place header n k v p.there p.kind l)
+  old_at k v b p l = grind (arith, nat_tests, p.found, old_place header n k v p.there p.kind l)
 
   new_at : (k : ℕ) (v : Var) (b : ℕ) → IsFound header n k v true b → n ≤ k → IsNewPlace header n k v b
   new_at k v b p l =
-      let f = new_place header n k v p.there p.kind l in subst (IsNewPlace header n k v) (found_is (begins_by_number header n) k f.0 b f.2 p.found) f.1
+      let f = new_place header n k v p.there p.kind l in grind (arith, nat_tests, f.1, f.2, p.found)
 
   -- record variables begin past the fixed ones
   record_low : (k : ℕ) (v : Var) (b : ℕ) → IsFound header n k v true b → first_place header n ≤ b
@@ -64,21 +64,18 @@ module _ (old : Header) (extras : List Extra) (sound : is_sound old ≡ true) (i
 
   both_new : length old.vars ≤ i → Ordered (added old extras) v b w c
   both_new m =
-      grind (arith, nat_tests, added old extras, record_size, new_at (added old extras) (length old.vars) i v b p m, new_at (added old extras) (length old.vars) j w c q, slab_below (added old extras) v, slab_below (added old extras) w, record_apart, new_records, new_numbers, in_new, Ordered)
+      let header = added old extras in
+      grind (arith, nat_tests, record_size, new_at header (length old.vars) i v b p m, new_at header (length old.vars) j w c q, slab_below header v, slab_below header w, record_apart header header.vars (new_from header (length old.vars)) (new_records header (length old.vars)) i j v w b c (new_numbers header (length old.vars)), in_new header (length old.vars) i v p.there p.kind m, in_new header (length old.vars) j w q.there q.kind)
 
   records_two : Ordered (added old extras) v b w c
-  records_two = grind (arith, nat_tests, old_two, old_then_new, both_new, old.vars, Ordered)
+  records_two = grind (arith, nat_tests, old_two, old_then_new, both_new)
 
 -- ---- any two variables
-
-apart_fixed : (a n b m size : ℕ) → AreApart a n b m → shares_by false false a n b m size ≡ false
-apart_fixed a n b m size xs = grind (arith, nat_tests)
 
 two_apart : (old : Header) (extras : List Extra) (i j : ℕ) (v w : Var) (b c : ℕ) → is_sound old ≡ true → IsFit (added old extras) → i < j → (t u : Bool)
     → IsFoundIn old extras i v t b → IsFoundIn old extras j w u c → shares_by t u b (slab (added old extras) v) c (slab (added old extras) w) (recsize (added old extras)) ≡ false
 two_apart old extras i j v w b c sound fit l false false p q =
-    let header = added old extras in
-    apart_fixed b (slab header v) c (slab header w) (recsize header) (fixed_two header (length old.vars) i j v w b c p q (λ same. absurd (omega arith)))
+    grind (arith, nat_tests, added old extras, fixed_two (added old extras) (length old.vars) i j v w b c p q)
 two_apart old extras i j v w b c sound fit l false true p q =
     grind (arith, nat_tests, (fixed_at (added old extras) (length old.vars) i v b p).high, record_low (added old extras) (length old.vars) j w c q, fixed_then_record)
 two_apart old extras i j v w b c sound fit l true false p q =
@@ -101,11 +98,8 @@ placed header n k x h =
     grind (arith, nat_tests, rebegun_at found 0 header.vars k x h, any_place header n k (rebegun_at found 0 header.vars k x h).0 (rebegun_at found 0 header.vars k x h).1, begin_is found k, at_begin (rebegun_at found 0 header.vars k x h).0, x.begin)
 
 past_header : (header : Header) (n k : ℕ) (x v : Var) → IsPlaced header n k x v → header_len header ≤ x.begin
-past_header header n k x v p = elim (holds_or_not (is_record header v)) [
-  | inl e ↦
-      omega (arith, record_low header n k v x.begin (record { there = p.there; kind = e; found = p.found }), first_up header n, front_grows header (header_len header) (fixed_order header n))
-  | inr e ↦ (fixed_at header n k v x.begin (record { there = p.there; kind = e; found = p.found })).low
-]
+past_header header n k x v p =
+    grind (arith, nat_tests, holds_or_not (is_record header v), record_low header n k v x.begin, fixed_at header n k v x.begin, p.there, p.found, first_up header n, front_grows header (header_len header) (fixed_order header n))
 
 pub redefined_apart : (old : Header) (extras : List Extra) → is_sound old ≡ true → IsFit (added old extras)
     → sharing (redefined_header old extras) (header_len (redefined_header old extras)) ≡ None
@@ -116,16 +110,9 @@ redefined_apart old extras sound fit =
     let new = redefined_header old extras in
     ap (λ (first : ℕ). sharing new first) (rebegun_len header found)
     ∙ no_sharing_from new (header_len header) 0 new.vars (λ i x g. let p = placed header n i x g in past_header header n i x p.0 p.1)
-    (λ i j x y l g f. apart i j x y l (placed header n i x g) (placed header n j y f))
-  where
-    apart : (i j : ℕ) (x y : Var) → i < j → ((v : Var) × IsPlaced (added old extras) (length old.vars) i x v) → ((w : Var) × IsPlaced (added old extras) (length old.vars) j y w)
-        → share (redefined_header old extras) x y ≡ false
-    apart i j x y l (v, p) (w, q) =
-        let header = added old extras in
-        let new = redefined_header old extras in
-        sym (ap (λ (z : Var). share new z y) p.same)
-        ∙ sym (ap (λ (z : Var). share new (at_begin v x.begin) z) q.same)
-        ∙ ap (λ (size : ℕ). shares_by (is_record header v) (is_record header w) x.begin (slab header v) y.begin (slab header w) size)
-        (rebegun_recsize header (begins_by_number header (length old.vars)))
-        ∙ two_apart old extras i j v w x.begin y.begin sound fit l (is_record header v) (is_record header w)
-        (record { there = p.there; kind = refl; found = p.found }) (record { there = q.there; kind = refl; found = q.found })
+    (λ i j x y l g f.
+    let p = placed header n i x g in
+    let q = placed header n j y f in
+    let two = two_apart old extras i j p.0 q.0 x.begin y.begin sound fit l (is_record header p.0) (is_record header q.0)
+    (record { there = p.1.there; kind = refl; found = p.1.found }) (record { there = q.1.there; kind = refl; found = q.1.found }) in
+    grind (arith, nat_tests, two, p.1.same, q.1.same, rebegun_recsize header found, at_begin))

@@ -1,5 +1,5 @@
 -- A header that can be redefined has the facts that extras keep, and so has the new header.
-use Rattle.redef_laws.proofs.Words.{◌≡◌, ℕ, ◌+◌, ◌<◌, ◌≤◌, List, [], ◌∷◌, length, drop, Bool, true, false, cond, Some, None, refl, sym, ap, ◌∙◌, arith, nat_le, ◌==◌, count_by, position, list_all, position_from, AllByRecursion, position_from-zero, length-filter, or_parts, not-false, leb-true, ltb-false, leb-false, eqb-true, passes_each, fails_each, each_weaker, and_first, and_second, both_none, none_of_test, none_before_map, Header, Dim, Attr, Var, most_dims, most_dims_of_var, record_limit, sharing, is_version, header_len, all_ones, two_record_dims, record_later, is_record_id, bad_id, measure, is_sound, counts_are_small, fits_count, is_writable_dim, is_writable_attr, is_writable_list, is_redefinable, is_redefinable_var, no_fault, nat_tests}
+use Rattle.redef_laws.proofs.Words.{◌≡◌, ℕ, ◌<◌, List, [], ◌∷◌, length, drop, Bool, true, false, None, refl, arith, nat_le, ◌==◌, count_by, position, list_all, AllByRecursion, length-filter, or_parts, not-false, leb-true, ltb-false, leb-false, eqb-true, passes_each, fails_each, each_weaker, and_first, and_second, both_none, none_of_test, none_before_map, Header, Dim, Attr, Var, most_dims, most_dims_of_var, record_limit, sharing, is_version, header_len, all_ones, two_record_dims, record_later, is_record_id, bad_id, measure, is_sound, counts_are_small, fits_count, is_writable_dim, is_writable_attr, is_writable_list, is_redefinable, is_redefinable_var, no_fault, nat_tests}
 use Rattle.redef_laws.proofs.GrownLaws.{IsTyped, HasFitLength, IsFitVar, IsFit, is_record_dim}
 
 -- ---- the checks of a sound header
@@ -19,55 +19,31 @@ checked header h = grind (arith, nat_tests, none_of_test, and_second, both_none,
 
 -- ---- searches that find nothing
 
-none_from : {A : Type 0} (test : A → Bool) (n : ℕ) (xs : List A) → position_from test n xs ≡ None → AllByRecursion (λ x. test x ≡ false) xs
-none_from test n [] h = tt
-none_from test n (x ∷ xs) h = grind (arith, nat_tests, none_from test (n + 1) xs)
-
 pub none_found : {A : Type 0} (test : A → Bool) (xs : List A) → position test xs ≡ None → AllByRecursion (λ x. test x ≡ false) xs
-none_found test xs h = none_from test 0 xs (sym (position_from-zero test xs) ∙ h)
-
-from_none : {A : Type 0} (test : A → Bool) (n : ℕ) (xs : List A) → AllByRecursion (λ x. test x ≡ false) xs → position_from test n xs ≡ None
-from_none test n [] h = refl
-from_none test n (x ∷ xs) h = ap (λ (t : Bool). cond t (Some n) (position_from test (n + 1) xs)) h.0 ∙ from_none test (n + 1) xs h.1
+none_found test [] h = tt
+none_found test (x ∷ xs) h = grind (arith, nat_tests, none_found test xs)
 
 pub finds_none : {A : Type 0} (test : A → Bool) (xs : List A) → AllByRecursion (λ x. test x ≡ false) xs → position test xs ≡ None
-finds_none test xs h = position_from-zero test xs ∙ from_none test 0 xs h
+finds_none test [] h = refl
+finds_none test (x ∷ xs) h = grind (arith, nat_tests, finds_none test xs h.1, h.0)
 
 -- ---- the old header
 
 pub record IsOpened (old : Header) : Type 0 where
   pub sound : is_sound old ≡ true
-  pub version : is_version old.version ≡ true
-  pub records : fits_count old.version old.records ≡ true
   pub fit : IsFit old
-  pub dim_names : AllByRecursion (λ d. fits_count old.version (length d.name) ≡ true) old.dims
 
 fit_attrs : (version : ℕ) (attrs : List Attr) → is_writable_list version (is_writable_attr version) attrs ≡ true → AllByRecursion (IsTyped version) attrs
 fit_attrs version attrs h =
     grind (arith, nat_tests, each_weaker, and_first, eqb-true, passes_each (is_writable_attr version) attrs, and_second (fits_count version (length attrs)))
 
-fit_dim : (version : ℕ) (d : Dim) → is_writable_dim version d ≡ true → HasFitLength version d
-fit_dim version d h = grind (arith, nat_tests, and_second, and_first, leb-true)
-
 -- of a variable, what the tests of its number of ids, of the ids, of the record dimension and of its parts tell
-record IsToldVar (header : Header) (v : Var) : Type 0 where
-  few : nat_le (length v.dims) most_dims_of_var ≡ true
-  ids : bad_id header v ≡ false
-  later : record_later header v ≡ false
-  parts : is_redefinable_var header v ≡ true
-
-fit_var : (header : Header) (v : Var) → IsToldVar header v → IsFitVar header.version header.dims v
-fit_var header v t =
-    let h4 = and_first _ _ t.parts in
-    record {
-      few = leb-true (length v.dims) 32 t.few;
-      known =
-          each_weaker (λ id. nat_le (length header.dims) id ≡ false) (λ id. id < length header.dims) (λ id e. leb-false (length header.dims) id e) v.dims
-          (fails_each (λ id. nat_le (length header.dims) id) v.dims t.ids);
-      later = fails_each (λ id. is_record_id header id) (drop 1 v.dims) t.later;
-      known_type = and_second _ _ h4;
-      typed = fit_attrs header.version v.attrs (and_second _ _ (and_first _ _ h4));
-    }
+fit_var : (header : Header) (v : Var) → nat_le (length v.dims) most_dims_of_var ≡ true → bad_id header v ≡ false → record_later header v ≡ false → is_redefinable_var header v ≡ true
+    → IsFitVar header.version header.dims v
+fit_var header v few ids later parts =
+    let known = fails_each (λ id. nat_le (length header.dims) id) v.dims ids in
+    let below = each_weaker (λ id. nat_le (length header.dims) id ≡ false) (λ id. id < length header.dims) (λ id e. leb-false (length header.dims) id e) v.dims known in
+    grind (arith, nat_tests, below, fails_each (λ id. is_record_id header id) (drop 1 v.dims) later, and_first, and_second, fit_attrs)
 
 told_vars : (header : Header) (vs : List Var) → AllByRecursion (λ (v : Var). nat_le (length v.dims) most_dims_of_var ≡ true) vs → AllByRecursion (λ v. bad_id header v ≡ false) vs
     → AllByRecursion (λ v. record_later header v ≡ false) vs → AllByRecursion (λ v. is_redefinable_var header v ≡ true) vs
@@ -89,23 +65,15 @@ opened_old old h =
     let same = length-filter is_record_dim old.dims in
     record {
       sound = sound;
-      version = and_first (is_version old.version) _ (and_first _ _ (and_first _ _ sound));
-      records = and_second (is_sound old) _ h2;
       fit = record {
         few_dims = leb-true (length old.dims) 1024 (and_first (nat_le (length old.dims) most_dims) _ limits);
         few_vars = leb-true (length old.vars) 8192 (and_second (nat_le (length old.dims) most_dims) _ limits);
-        lengths = each_weaker (λ d. is_writable_dim old.version d ≡ true) (HasFitLength old.version) (fit_dim old.version) old.dims dims;
-        one_record = at_most_one _ _ one same;
+        lengths = each_weaker (λ d. is_writable_dim old.version d ≡ true) (HasFitLength old.version) (λ d e. grind (arith, nat_tests, and_second, and_first, leb-true)) old.dims dims;
+        one_record = omega (arith, one, same);
         attrs = fit_attrs old.version old.attrs (and_second _ _ h4);
         vars =
             told_vars old old.vars (passes_each (λ (v : Var). nat_le (length v.dims) most_dims_of_var) old.vars (and_second _ _ counts))
             (none_found (bad_id old) old.vars c.ids) (none_found (record_later old) old.vars c.first)
             (passes_each (is_redefinable_var old) old.vars (and_second (fits_count old.version (length old.vars)) _ (and_second _ _ h)));
       };
-      dim_names =
-          each_weaker (λ d. is_writable_dim old.version d ≡ true) (λ d. fits_count old.version (length d.name) ≡ true)
-          (λ d e. and_first (fits_count old.version (length d.name)) _ (and_first _ _ e)) old.dims dims;
     }
-  where
-    at_most_one : (n m : ℕ) → n ≤ 1 → m ≡ n → m ≤ 1
-    at_most_one n m l e = omega arith

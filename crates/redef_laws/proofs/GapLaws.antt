@@ -1,6 +1,5 @@
 -- The bytes between slabs.
-use Rattle.redef_laws.proofs.Words.{◌≡◌, ℕ, zero, suc, ◌+◌, ◌-◌, ◌<◌, ◌≤◌, refl, ◌∙◌, ap, inl, inr, List, [], ◌∷◌, ◌++◌, length, Bool, true, false, cond, ◌&&◌, ◌||◌, arith, append-nil, div_below, filter, flat_map, nat_le, nat_lt, ◌==◌, range_with_len, list_any, length-range_with_len, or_cases, lt-ltb, le-ltb, le-leb, lt-leb, and_right, equal_above, equal_true, range_append, DiskCall, Slab, run_before, runs, stores, first_of, In, HaveSame, range_low, range_high, in_either, filter_same, filter_none, filter_all, gaps, IsRisen, filter-append, any_member, nat_tests, either, not}
-use Rattle.redef_laws.proofs.ChainLaws.{risen_past}
+use Rattle.redef_laws.proofs.Words.{◌≡◌, ℕ, zero, suc, ◌+◌, ◌-◌, ◌<◌, ◌≤◌, refl, ◌∙◌, ap, inl, inr, List, [], ◌∷◌, ◌++◌, length, Bool, true, ◌&&◌, arith, append-nil, div_below, filter, flat_map, nat_le, nat_lt, ◌==◌, range_with_len, list_any, length-range_with_len, or_cases, equal_above, equal_true, range_append, DiskCall, Slab, run_before, runs, stores, first_of, In, HaveSame, range_low, range_high, in_either, filter_same, filter_none, filter_all, gaps, IsRisen, filter-append, any_member, nat_tests, either, not}
 
 -- x is one of the slab's bytes in the new file
 abbrev pub covers : ℕ → Slab → Bool
@@ -16,80 +15,37 @@ gap_bytes g = range_with_len g.0 g.1
 
 -- ---- the bare bytes are those of the gaps
 
-covered_inside : (x : ℕ) (s : Slab) → s.to ≤ x → x < s.to + s.len → covers x s ≡ true
-covered_inside x s h k = ap (λ b. b && nat_lt x (s.to + s.len)) (le-leb s.to x h) ∙ lt-ltb x (s.to + s.len) k
-
-uncovered_before : (x : ℕ) (s : Slab) → x < s.to → covers x s ≡ false
-uncovered_before x s h = ap (λ b. b && nat_lt x (s.to + s.len)) (lt-leb s.to x h)
-
-uncovered_past : (x : ℕ) (s : Slab) → s.to + s.len ≤ x → covers x s ≡ false
-uncovered_past x s h = and_right (nat_le s.to x) (nat_lt x (s.to + s.len)) (le-ltb x (s.to + s.len) h)
-
 bare_before : (a b x : ℕ) (ss : List Slab) → IsRisen a b ss → x < b → is_bare ss x ≡ true
-bare_before a b x ss h k = ap not (none_covers ss (λ s g. uncovered_before x s (let r = risen_past a b ss s h g in let l = r.1 in omega arith)))
-  where
-    none_covers : (ts : List Slab) → ((s : Slab) → In ts s → covers x s ≡ false) → list_any (λ s. covers x s) ts ≡ false
-    none_covers [] m = refl
-    none_covers (t ∷ ts) m = ap (λ c. c || list_any (λ s. covers x s) ts) (m t (inl refl)) ∙ none_covers ts (λ s g. m s (inr g))
-
-three_parts : (a m n k : ℕ) → range_with_len a (m + (n + k)) ≡ range_with_len a m ++ (range_with_len (a + m) n ++ range_with_len (a + m + n) k)
-three_parts a m n k = range_append a m (n + k) ∙ ap (λ r. range_with_len a m ++ r) (range_append (a + m) n k)
+bare_before a b x [] h k = refl
+bare_before a b x (s ∷ ss) h k = grind (arith, nat_tests, bare_before (s.from + s.len) (s.to + s.len) x ss h.4, h.2, is_bare, covers)
 
 -- all slabs end before `end`
 abbrev pub EndsBy : ℕ → List Slab → Type 0
 EndsBy end ss = (s : Slab) → In ss s → s.to + s.len ≤ end
 
-pub bare_gaps : (a b end : ℕ) (ss : List Slab) → IsRisen a b ss → b ≤ end → EndsBy end ss
+bare_gaps : (a b end : ℕ) (ss : List Slab) → IsRisen a b ss → b ≤ end → EndsBy end ss
     → filter (is_bare ss) (range_with_len b (end - b)) ≡ flat_map gap_bytes (gaps b end ss)
 bare_gaps a b end [] h k l = grind (arith, nat_tests, filter_all, append-nil)
 bare_gaps a b end (s ∷ ss) h k l =
-    ap (λ n. filter (is_bare (s ∷ ss)) (range_with_len b n)) parts
-    ∙ ap (filter (is_bare (s ∷ ss))) (three_parts b (s.to - b) s.len left)
-    ∙ filter-append (is_bare (s ∷ ss)) before (inside ++ past)
-    ∙ (λ i. none_before i ++ filter-append (is_bare (s ∷ ss)) inside past i)
-    ∙ (λ i. before ++ (all_inside i ++ filter (is_bare (s ∷ ss)) past))
-    ∙ ap (λ r. before ++ r)
-    (same_past ∙ bare_gaps (s.from + s.len) (s.to + s.len) end ss h.4 (l s (inl refl)) (λ t m. l t (inr m)))
-  where
-    left : ℕ
-    left = end - (s.to + s.len)
-
-    before : List ℕ
-    before = range_with_len b (s.to - b)
-
-    inside : List ℕ
-    inside = range_with_len (b + (s.to - b)) s.len
-
-    past : List ℕ
-    past = range_with_len (b + (s.to - b) + s.len) left
-
-    parts : end - b ≡ (s.to - b) + (s.len + left)
-    parts = let low = h.2 in let last = l s (inl refl) in omega arith
-
-    none_before : filter (is_bare (s ∷ ss)) before ≡ before
-    none_before = grind (arith, nat_tests, filter_all, bare_before, range_high, h.0, h.1, h.3, h.4, h.2)
-
-    all_inside : filter (is_bare (s ∷ ss)) inside ≡ []
-    all_inside = grind (arith, nat_tests, filter_none, range_low, range_high, covered_inside, h.2, covers)
-
-    same_past : filter (is_bare (s ∷ ss)) past ≡ filter (is_bare ss) (range_with_len (s.to + s.len) left)
-    same_past = grind (arith, nat_tests, filter_same, range_low, uncovered_past, h.2, not, list_any, covers, filter, is_bare)
+    let left = end - (s.to + s.len) in
+    let last = l s (inl refl) in
+    let parts : end - b ≡ (s.to - b) + (s.len + left) = omega (arith, h.2, last) in
+    let none_before : filter (is_bare (s ∷ ss)) (range_with_len b (s.to - b)) ≡ range_with_len b (s.to - b) = grind (arith, nat_tests, filter_all, bare_before, range_high, h.0, h.1, h.3, h.4, h.2) in
+    let all_inside : filter (is_bare (s ∷ ss)) (range_with_len s.to s.len) ≡ [] = grind (arith, nat_tests, filter_none, range_low, range_high, h.2, covers) in
+    let same_past : filter (is_bare (s ∷ ss)) (range_with_len (s.to + s.len) left) ≡ filter (is_bare ss) (range_with_len (s.to + s.len) left) = grind (arith, nat_tests, filter_same, range_low, h.2, not, list_any, covers, filter, is_bare) in
+    grind (arith, nat_tests, parts, h.2, range_append b (s.to - b) (s.len + left), range_append s.to s.len left, filter-append, none_before, all_inside, same_past, bare_gaps (s.from + s.len) (s.to + s.len) end ss h.4 last (λ t m. l t (inr m)))
 
 -- ---- runs of bytes
 
 run_starts : (x : ℕ) (others : List (List ℕ)) → (ys : List ℕ) × (rest : List (List ℕ)) × (run_before x others ≡ (x ∷ ys) ∷ rest)
-run_starts x [] = ([], [], refl)
-run_starts x ([] ∷ others) = ([], [] ∷ others, refl)
 run_starts x ((y ∷ ys) ∷ others) =
     either (λ (ls : List (List ℕ)). (zs : List ℕ) × (rest : List (List ℕ)) × (ls ≡ (x ∷ zs) ∷ rest)) (y == x + 1) _ _ (λ e. (y ∷ ys, others, refl)) (λ e. ([], (y ∷ ys) ∷ others, refl))
-
-run_apart : (x y : ℕ) (ys : List ℕ) (others : List (List ℕ)) → x + 1 < y → run_before x ((y ∷ ys) ∷ others) ≡ (x ∷ []) ∷ (y ∷ ys) ∷ others
-run_apart x y ys others h = ap (λ b. cond b ((x ∷ y ∷ ys) ∷ others) ((x ∷ []) ∷ (y ∷ ys) ∷ others)) (equal_above y (x + 1) h)
+run_starts x others = ([], others, refl)
 
 -- a number that none follows at once is a run
 run_alone : (x : ℕ) (rest : List ℕ) → ((y : ℕ) → In rest y → x + 1 < y) → run_before x (runs rest) ≡ (x ∷ []) ∷ runs rest
 run_alone x [] h = refl
-run_alone x (y ∷ ys) h = grind (arith, nat_tests, run_starts y (runs ys), run_apart x y (run_starts y (runs ys)).0 (run_starts y (runs ys)).1 (h y (inl refl)))
+run_alone x (y ∷ ys) h = let s = run_starts y (runs ys) in grind (arith, nat_tests, s.2, equal_above y (x + 1) (h y (inl refl)), run_before, runs)
 
 -- numbers one after another, and then a greater one, or none
 run_of_range : (a n : ℕ) (rest : List ℕ) → ((y : ℕ) → In rest y → a + suc n < y) → runs (range_with_len a (suc n) ++ rest) ≡ range_with_len a (suc n) ∷ runs rest
@@ -102,13 +58,9 @@ abbrev AreSeparate : ℕ → List (ℕ × ℕ) → Type 0
 AreSeparate at [] = Unit {0}
 AreSeparate at (g ∷ gs) = (at ≤ g.0) × AreSeparate (g.0 + g.1 + 1) gs
 
-separate_lower : (m n : ℕ) (gs : List (ℕ × ℕ)) → m ≤ n → AreSeparate n gs → AreSeparate m gs
-separate_lower m n [] h k = tt
-separate_lower m n (g ∷ gs) h k = let l = k.0 in (omega arith, k.1)
-
-gaps_separate : (a b end : ℕ) (ss : List Slab) → IsRisen a b ss → AreSeparate b (gaps b end ss)
-gaps_separate a b end [] h = (omega arith, tt)
-gaps_separate a b end (s ∷ ss) h = grind (arith, nat_tests, gaps_separate (s.from + s.len) (s.to + s.len) end ss h.4, separate_lower)
+gaps_separate : (at a b end : ℕ) (ss : List Slab) → at ≤ b → IsRisen a b ss → AreSeparate at (gaps b end ss)
+gaps_separate at a b end [] l h = (l, tt)
+gaps_separate at a b end (s ∷ ss) l h = (l, gaps_separate (b + (s.to - b) + 1) (s.from + s.len) (s.to + s.len) end ss (omega (arith, h.0, h.2)) h.4)
 
 gap_bytes_past : (at : ℕ) (gs : List (ℕ × ℕ)) (y : ℕ) → AreSeparate at gs → In (flat_map gap_bytes gs) y → at ≤ y
 gap_bytes_past at [] y h m = absurd m
@@ -148,4 +100,4 @@ zeros_between z old_first first end ss rs h k l m n =
     ap (λ b. flat_map (run_stores z) (runs b))
     (filter_same (is_bare ss) (is_bare rs) (range_with_len first (end - first)) (λ y g. ap not (any_same (covers y) ss rs n))
     ∙ bare_gaps old_first first end rs k l m)
-    ∙ stores_of_gaps z first (gaps first end rs) h (gaps_separate old_first first end rs k)
+    ∙ stores_of_gaps z first (gaps first end rs) h (gaps_separate first old_first first end rs (omega arith) k)

@@ -1,8 +1,8 @@
 -- What a header keeps while extras are added to it.
-use Rattle.redef_laws.proofs.Words.{◌≡◌, ℕ, suc, ◌*◌, ◌<◌, ◌≤◌, List, [], ◌∷◌, ◌++◌, length, drop, map, Bool, true, false, ◌&&◌, Option, Some, None, refl, arith, length-append, not, nat_lt, nat_le, ◌==◌, is_none, filter, slice_get, list_any, list_all, AllByRecursion, length-map, filter-append, le-leb, leb-true, ltb-true, ltb-false, leb-false, eqb-true, slice_get_within, fails_each, each_weaker, each_push, each_later, each_map, and_first, and_second, Header, Dim, Attr, Var, NcType, Extra, most_dims, most_vars, file_limit, record_limit, size_of, length_of, is_record_id, fits_count, is_type, find_dim, is_lawful_extra, is_whole_extra, with_var_attr, with_extra, added, dim_id, is_unknown, has_bad_shape, is_one_too_many, has_bad_kind, extra_fault, extras_from, get_left, nat_tests, told_else, some_or_none, no_both, entry_below, position_below, small_field}
+use Rattle.redef_laws.proofs.Words.{filter_none, any_member, ◌≡◌, ℕ, suc, ◌*◌, ◌<◌, ◌≤◌, List, [], ◌∷◌, ◌++◌, length, drop, map, Bool, true, false, ◌&&◌, Option, Some, None, refl, arith, length-append, not, nat_lt, nat_le, ◌==◌, is_none, filter, slice_get, list_any, list_all, AllByRecursion, length-map, filter-append, le-leb, leb-true, ltb-true, ltb-false, leb-false, slice_get_within, fails_each, each_weaker, each_push, each_later, each_map, and_first, and_second, Header, Dim, Attr, Var, NcType, Extra, most_vars, file_limit, record_limit, size_of, length_of, is_record_id, fits_count, is_type, find_dim, is_lawful_extra, is_whole_extra, with_var_attr, with_extra, added, dim_id, is_unknown, has_bad_shape, is_one_too_many, has_bad_kind, extra_fault, extras_from, get_left, nat_tests, told_else, some_or_none, no_both, entry_below, position_below, small_field}
 use Rattle.nc_base.specs.declared.script.Extra.TheVariants as extra
 use Rattle.nc_base.specs.declared.errors.RedefErr.TheVariants as redef
-use Rattle.redef_laws.proofs.FieldLaws.{not_both, each_both}
+use Rattle.redef_laws.proofs.FieldLaws.{each_both}
 
 -- ---- the facts
 
@@ -50,64 +50,39 @@ pub record HasNoFault (h : Header) (e : Extra) : Type 0 where
 
 -- ---- one more dimension
 
-fit_with_dim : (version : ℕ) (dims : List Dim) (d : Dim) (ids : List ℕ) (kind : NcType) (attrs : List Attr) → IsFitShape version dims ids kind attrs
-    → IsFitShape version (dims ++ d ∷ []) ids kind attrs
-fit_with_dim version dims d ids kind attrs fit = grind (arith, nat_tests, length-append, each_weaker, each_both, get_left, each_later)
-
-no_record : (dims : List Dim) → list_any (λ (e : Dim). e.len == 0) dims ≡ false → filter is_record_dim dims ≡ []
-no_record [] h = refl
-no_record (d ∷ dims) h = grind (arith, nat_tests, no_record dims)
-
 one_record_still : (dims : List Dim) (d : Dim) → length (filter is_record_dim dims) ≤ 1 → (d.len == 0 && list_any (λ (e : Dim). e.len == 0) dims) ≡ false
     → length (filter is_record_dim (dims ++ d ∷ [])) ≤ 1
-one_record_still dims d l h = grind (arith, nat_tests, filter-append, length-append, no_record, not_both)
+one_record_still dims d l h = grind (arith, nat_tests, filter-append, length-append, filter_none is_record_dim dims, any_member (λ (e : Dim). e.len == 0) dims)
 
 length_fits : (version : ℕ) (d : Dim) → nat_lt d.len (record_limit 5) ≡ true → (not (version == 5) && nat_le (record_limit version) d.len) ≡ false → HasFitLength version d
-length_fits version d lawful h = grind (arith, nat_tests, ltb-true, small_field, leb-false, not_both)
+length_fits version d lawful h = grind (arith, nat_tests, ltb-true, small_field, leb-false)
 
 with_dim : (h : Header) (d : Dim) → IsFit h → HasNoFault h (extra.Dim d) → is_lawful_extra (extra.Dim d) ≡ true → IsFit (with_extra h (extra.Dim d))
 with_dim h d fit none lawful =
-    let long = length-append h.dims (d ∷ []) in
-    let room = leb-false most_dims (length h.dims) none.room in
-    record {
-      few_dims = omega arith;
-      few_vars = fit.few_vars;
-      lengths = each_push (HasFitLength h.version) h.dims d fit.lengths (length_fits h.version d lawful none.kind);
-      one_record = one_record_still h.dims d fit.one_record none.shape;
-      attrs = fit.attrs;
-      vars =
-          each_weaker (IsFitVar h.version h.dims) (IsFitVar h.version (h.dims ++ d ∷ []))
-          (λ v f. fit_with_dim h.version h.dims d v.dims v.kind v.attrs f) h.vars fit.vars;
-    }
+    grind (
+      arith,
+      nat_tests,
+      each_push (HasFitLength h.version) h.dims d fit.lengths (length_fits h.version d lawful none.kind),
+      length_fits h.version d lawful none.kind,
+      one_record_still h.dims d fit.one_record none.shape,
+      each_weaker (IsFitVar h.version h.dims) (IsFitVar h.version (h.dims ++ d ∷ [])),
+      each_both,
+      get_left,
+      each_later,
+      length-append,
+    )
 
 -- ---- one more variable
-
-record IsKnownDim (dims : List Dim) (name : List ℕ) (id : ℕ) : Type 0 where
-  dim : Dim
-  there : slice_get dims id ≡ Some dim
 
 ids_known : (h : Header) (names : List (List ℕ)) → AllByRecursion (λ n. is_none (find_dim h n) ≡ false) names → AllByRecursion (λ n. dim_id h n < length h.dims) names
 ids_known h names all = grind (arith, nat_tests, each_weaker, some_or_none, no_both, entry_below, position_below, slice_get_within)
 
-later_mapped : {A B : Type 0} (P : B → Type 0) (f : A → B) (xs : List A) → AllByRecursion P (map f (drop 1 xs)) → AllByRecursion P (drop 1 (map f xs))
-later_mapped P f xs h = grind (arith, nat_tests)
-
 fit_new_var : (h : Header) (kind : NcType) (name : List ℕ) (names : List (List ℕ)) → HasNoFault h (extra.Var kind name names) → is_lawful_extra (extra.Var kind name names) ≡ true
     → IsFitShape h.version h.dims (map (dim_id h) names) kind []
 fit_new_var h kind name names none lawful =
-    let few : length names ≤ 32 = leb-true (length names) 32 lawful in
-    let long = length-map names (dim_id h) in
-    let there = fails_each (λ n. is_none (find_dim h n)) names none.known in
-    record {
-      few = omega arith;
-      known = each_map (λ id. id < length h.dims) (dim_id h) names (ids_known h names there);
-      later =
-          later_mapped (λ id. is_record_at h.dims id ≡ false) (dim_id h) names
-          (each_map (λ id. is_record_at h.dims id ≡ false) (dim_id h) (drop 1 names)
-          (fails_each (λ n. is_record_id h (dim_id h n)) (drop 1 names) none.shape));
-      known_type = le-leb _ _ (ltb-false _ _ none.kind);
-      typed = tt;
-    }
+    let known = each_map (λ id. id < length h.dims) (dim_id h) names (ids_known h names (fails_each (λ n. is_none (find_dim h n)) names none.known)) in
+    let later = each_map (λ id. is_record_at h.dims id ≡ false) (dim_id h) (drop 1 names) (fails_each (λ n. is_record_id h (dim_id h n)) (drop 1 names) none.shape) in
+    grind (arith, nat_tests, leb-true (length names) 32 lawful, length-map names (dim_id h), known, later, drop, map, le-leb, ltb-false, none.kind)
 
 with_var : (h : Header) (kind : NcType) (name : List ℕ) (names : List (List ℕ)) → IsFit h → HasNoFault h (extra.Var kind name names)
     → is_lawful_extra (extra.Var kind name names) ≡ true → IsFit (with_extra h (extra.Var kind name names))
@@ -117,7 +92,7 @@ with_var h kind name names fit none lawful =
 -- ---- one more attribute
 
 typed : (h : Header) (owner : Option (List ℕ)) (a : Attr) → HasNoFault h (extra.Att owner a) → is_whole_extra (extra.Att owner a) ≡ true → IsTyped h.version a
-typed h owner a none whole = record { kind = le-leb _ _ (ltb-false _ _ none.kind); whole = eqb-true (length a.bytes) (a.count * size_of a.kind) whole }
+typed h owner a none whole = grind (arith, nat_tests, none.kind)
 
 pub attr_pushed : (P : Var → Type 0) (name : List ℕ) (a : Attr) (vs : List Var) → ((v : Var) → P v → P (record v { attrs = v.attrs ++ a ∷ [] }))
     → AllByRecursion P vs → AllByRecursion P (with_var_attr name a vs)

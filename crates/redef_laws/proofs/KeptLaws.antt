@@ -1,5 +1,5 @@
 -- The old variables in the header with what is added: their begins, slabs and records.
-use Rattle.redef_laws.proofs.Words.{◌≡◌, ℕ, zero, suc, ◌+◌, ◌<◌, ◌≤◌, List, [], ◌∷◌, ◌++◌, length, Bool, true, false, cond, Some, None, refl, sym, ap, subst, ◌∙◌, arith, sum_by, slice_get, bytes_eq, enumerate_from, nat_tests, sum_by-cons, sum_by-filter_both, lt-ltb, entry_below, Header, Attr, Var, Extra, lengths, is_record, round_up, slab, vsize, recsize, record_share, record_variables, is_sound, Numbered, with_var_attr, with_extra, added, records_in, old_of, begins_by_number, redefined_keeps, in_front, recsize_below, either}
+use Rattle.redef_laws.proofs.Words.{filter_in, filter_none, nat_lt, numbered_from, ◌≡◌, ℕ, zero, suc, ◌+◌, ◌<◌, ◌≤◌, List, [], ◌∷◌, ◌++◌, length, true, Some, None, refl, ap, ◌∙◌, arith, sum_by, slice_get, bytes_eq, enumerate_from, nat_tests, sum_by-cons, sum_by-filter_both, entry_below, Header, Attr, Var, Extra, lengths, is_record, slab, vsize, recsize, record_share, record_variables, is_sound, Numbered, with_var_attr, with_extra, added, records_in, old_of, begins_by_number, redefined_keeps, in_front, recsize_below, either}
 use Rattle.nc_base.specs.declared.script.Extra.TheVariants as extra
 use Rattle.redef_laws.proofs.RebegunLaws.{rebegun_at}
 use Rattle.redef_laws.proofs.BeginLaws.{vsizes}
@@ -35,9 +35,6 @@ pub record IsKept (old header : Header) (v w : Var) : Type 0 where
   pub kind : is_record header w ≡ is_record old v
   pub slab : slab header w ≡ slab old v
 
-one_var : (header : Header) (k : ℕ) (x y : Var) → slice_get header.vars k ≡ Some x → slice_get header.vars k ≡ Some y → x ≡ y
-one_var header k x y e f = cc
-
 pub kept_var : (old : Header) (extras : List Extra) (k : ℕ) (v : Var) → is_sound old ≡ true → slice_get old.vars k ≡ Some v
     → (w : Var) × (slice_get (added old extras).vars k ≡ Some w) × IsKept old (added old extras) v w
 kept_var old extras k v sound g =
@@ -52,33 +49,23 @@ kept_var old extras k v sound g =
 pub old_var : (old : Header) (extras : List Extra) (k : ℕ) (w : Var) → is_sound old ≡ true → k < length old.vars → slice_get (added old extras).vars k ≡ Some w
     → (v : Var) × (slice_get old.vars k ≡ Some v) × IsKept old (added old extras) v w
 old_var old extras k w sound l g =
-    grind (arith, nat_tests, entry_below old.vars k l, kept_var old extras k (entry_below old.vars k l).0 sound (entry_below old.vars k l).1, one_var)
+    grind (arith, nat_tests, entry_below old.vars k l, kept_var old extras k (entry_below old.vars k l).0 sound (entry_below old.vars k l).1)
 
 -- ---- records
-
-none_old : (header : Header) (n a : ℕ) (vs : List Var) → n ≤ a → old_of n (records_in header (enumerate_from a vs)) ≡ []
-none_old header n a [] l = refl
-none_old header n a (v ∷ vs) l = grind (arith, nat_tests, none_old header n (a + 1) vs (omega arith))
 
 -- the old record variables have the sizes that they had
 old_sizes : (old header : Header) (n a : ℕ) (os vs : List Var) → n ≡ a + length os
     → ((k : ℕ) (v : Var) → slice_get os k ≡ Some v → (w : Var) × (slice_get vs k ≡ Some w) × IsKept old header v w)
     → vsizes header (old_of n (records_in header (enumerate_from a vs))) ≡ sum_by (λ v. record_share old v) os
-old_sizes old header n a [] vs e kept = ap (λ (ps : List Numbered). vsizes header ps) (none_old header n a vs (omega arith))
+old_sizes old header n a [] vs e kept =
+    let none = filter_none (λ (p : Numbered). nat_lt p.0 n) (records_in header (enumerate_from a vs)) (λ y m. grind (arith, nat_tests, filter_in, numbered_from a vs y)) in grind (arith, nat_tests, none)
 old_sizes old header n a (o ∷ os) [] e kept = let found = kept 0 o refl in absurd (let f : None ≡ Some found.0 = found.1 in cc)
 old_sizes old header n a (o ∷ os) (w ∷ vs) e kept =
     let rest = old_sizes old header n (a + 1) os vs (omega arith) (λ k v g. kept (suc k) v g) in
     let found = kept 0 o refl in
     let same : found.0 ≡ w = cc in
-    let own = subst (λ (y : Var). IsKept old header o y) same found.2 in
-    let later = records_in header (enumerate_from (a + 1) vs) in
-    let whole = sum_by-cons (λ v. record_share old v) o os in
-    either (λ (ps : List Numbered). vsizes header (old_of n ps) ≡ sum_by (λ v. record_share old v) (o ∷ os)) (is_record header w) ((a, w) ∷ later) later
-    (λ f.
-    let more = ap (λ (t : Bool). vsizes header (cond t ((a, w) ∷ old_of n later) (old_of n later))) (lt-ltb a n (omega arith)) in
-    let here = sum_by-cons (λ (p : Numbered). vsize header p.1) (a, w) (old_of n later) in
-    omega (arith, rest, whole, more, here, ap (λ (t : Bool). cond t (vsize old o) 0) (sym own.kind ∙ f), ap (λ (m : ℕ). round_up 4 m) own.slab))
-    (λ f. omega (arith, rest, whole, ap (λ (t : Bool). cond t (vsize old o) 0) (sym own.kind ∙ f)))
+    let later = old_of n (records_in header (enumerate_from (a + 1) vs)) in
+    grind (arith, nat_tests, rest, sum_by-cons (λ v. record_share old v) o os, sum_by-cons (λ (p : Numbered). vsize header p.1) (a, w) later, same, found.2.kind, found.2.slab, e)
 
 pub old_recsize : (old : Header) (extras : List Extra) → is_sound old ≡ true → recsize old ≤ vsizes (added old extras) (old_records (added old extras) (length old.vars))
 old_recsize old extras sound = grind (arith, nat_tests, old_sizes, kept_var, recsize_below)
@@ -86,15 +73,9 @@ old_recsize old extras sound = grind (arith, nat_tests, old_sizes, kept_var, rec
 -- all record variables are old or new
 records_whole : (header : Header) (a : ℕ) (vs : List Var) → vsizes header (records_in header (enumerate_from a vs)) ≡ sum_by (λ v. vsize header v) (record_variables header vs)
 records_whole header a [] = refl
-records_whole header a (v ∷ vs) = by_kind (is_record header v) (records_whole header (a + 1) vs)
-  where
-    by_kind : (t : Bool) → vsizes header (records_in header (enumerate_from (a + 1) vs)) ≡ sum_by (λ w. vsize header w) (record_variables header vs)
-        → vsizes header (cond t ((a, v) ∷ records_in header (enumerate_from (a + 1) vs)) (records_in header (enumerate_from (a + 1) vs)))
-        ≡ sum_by (λ w. vsize header w) (cond t (v ∷ record_variables header vs) (record_variables header vs))
-    by_kind true rest =
-        sum_by-cons (λ (p : Numbered). vsize header p.1) (a, v) (records_in header (enumerate_from (a + 1) vs)) ∙ ap (λ (m : ℕ). vsize header v + m) rest
-        ∙ sym (sum_by-cons (λ w. vsize header w) v (record_variables header vs))
-    by_kind false rest = rest
+records_whole header a (v ∷ vs) =
+    let here = sum_by-cons (λ (p : Numbered). vsize header p.1) (a, v) (records_in header (enumerate_from (a + 1) vs)) in
+    grind (arith, nat_tests, records_whole header (a + 1) vs, here, sum_by-cons (λ w. vsize header w) v (record_variables header vs))
 
 pub all_sizes : (header : Header) (n : ℕ) → vsizes header (old_records header n) + vsizes header (new_records header n) ≡ sum_by (λ v. vsize header v) (record_variables header header.vars)
 all_sizes header n = grind (arith, nat_tests, sum_by-filter_both, numbered, records_whole)

@@ -17,14 +17,10 @@ in_or_bare [] x = inr (λ s h. absurd h)
 in_or_bare (t ∷ ss) x = elim (in_or_bare ss x) [
   | inl i ↦ inl (i.0, inr i.1, i.2, i.3)
   | inr rest ↦ elim (cases_lt x t.to) [
-    | inl low ↦ inr (both (inl low) rest)
-    | inr low ↦ elim (cases_lt x (t.to + t.len)) [ inl high ↦ inl (t, inl refl, low, high) | inr high ↦ inr (both (inr high) rest) ]
+    | inl low ↦ inr (λ s h. grind (arith, nat_tests, h, low, rest s))
+    | inr low ↦ elim (cases_lt x (t.to + t.len)) [ inl high ↦ inl (t, inl refl, low, high) | inr high ↦ inr (λ s h. grind (arith, nat_tests, h, high, rest s)) ]
   ]
 ]
-  where
-    both : (x < t.to) ⊎ (t.to + t.len ≤ x) → IsBare ss x → IsBare (t ∷ ss) x
-    both h rest s (inl e) = subst (λ (u : Slab). (x < u.to) ⊎ (u.to + u.len ≤ x)) e h
-    both h rest s (inr i) = rest s i
 
 -- ---- there is one such file
 
@@ -43,36 +39,30 @@ same_byte old new file a b m n x = elim (cases_lt x (header_len new)) [
   ]
 ]
 
-pub moved_once : (old new : Header) (file a b : List ℕ) → IsMoved old new file a → IsMoved old new file b → a ≡ b
+moved_once : (old new : Header) (file a b : List ℕ) → IsMoved old new file a → IsMoved old new file b → a ≡ b
 moved_once old new file a b m n = same_number_lists a b (m.long ∙ sym n.long) (λ x l. same_byte old new file a b m n x)
 
 -- ---- the redefined file is one
 
 pub redefined_moved : (old new : Header) (file left : List ℕ) → is_sound old ≡ true → KeepsVars old new → IsRedefined old new file left → IsMoved old new file left
-redefined_moved old new file left sound keeps r = record { long = r.long; head = r.head; moved = moved; bare = bare; past = r.past }
-  where
-    moved : (s : Slab) → In (slabs old new) s → (d : ℕ) → d < s.len → at left (s.to + d) ≡ at file (s.from + d)
-    moved s h d l =
-        let e = slab_bytes old new keeps s h d l in
-        ap (λ (y : ℕ). at left y) (sym e.after)
-        ∙ sym (read_at left e.to e.size e.byte e.inside)
-        ∙ ap (λ (bytes : List ℕ). get_or bytes e.byte 0) (r.moved e.from e.to e.size e.moves)
-        ∙ read_at file e.from e.size e.byte e.inside
-        ∙ ap (λ (y : ℕ). at file y) e.before
-
-    bare : (x : ℕ) → header_len new ≤ x → x < new_end old new → IsBare (slabs old new) x → at left x ≡ 0
-    bare x low high f = r.bare x low high (λ from to size m.
-        let found = element_in_slab old new sound keeps from to size m in
-        let lies = found.2 in
-        elim (f found.0 found.1) [ inl h ↦ inr (omega arith) | inr h ↦ inl (omega arith) ])
+redefined_moved old new file left sound keeps r =
+    record {
+      long = r.long;
+      head = r.head;
+      moved = λ s h d l.
+          let e = slab_bytes old new keeps s h d l in
+          grind (arith, nat_tests, e.after, e.before, read_at left e.to e.size e.byte e.inside, read_at file e.from e.size e.byte e.inside, r.moved e.from e.to e.size e.moves);
+      bare = λ x low high f. r.bare x low high (λ from to size m.
+          let found = element_in_slab old new sound keeps from to size m in
+          grind (arith, nat_tests, f found.0 found.1, found.2.new, found.2.inside));
+      past = r.past;
+    }
 
 -- ---- the law
 
 pub moved_is_redefined : (old new : Header) (extras : List Extra) (file left : List ℕ) → is_sound new ≡ true → IsApplied old extras new → IsMoved old new file left
     → left ≡ redefined file old new
 moved_is_redefined old new extras file left sound a m =
+    let keeps : KeepsVars old new = subst (KeepsVars old) (sym a.made) (redefined_keeps old extras (sound_before old a.redefinable)) in
     moved_once old new file left (redefined file old new) m
     (redefined_moved old new file (redefined file old new) (sound_before old a.redefinable) keeps (redefined_is file old new sound keeps))
-  where
-    keeps : KeepsVars old new
-    keeps = subst (KeepsVars old) (sym a.made) (redefined_keeps old extras (sound_before old a.redefinable))

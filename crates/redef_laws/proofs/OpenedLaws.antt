@@ -92,13 +92,9 @@ number_passes v n asks rest later f G a wide read fine after =
 padded_long : (text bytes : List ℕ) → Padded text bytes → length bytes ≡ round_up 4 (length text)
 padded_long text bytes h = omega (arith, ap (λ (t : List ℕ). length t) h.split ∙ length-append h.front h.rest, ap (λ (t : List ℕ). length t) h.first, h.second)
 
-no_bytes : (text bytes : List ℕ) → Padded text bytes → length text ≡ 0 → length bytes ≡ 0
-no_bytes text bytes h e = let whole = padded_long text bytes h in omega arith
-
 block_passes : (v : ℕ) (text : List ℕ) (rest : List Ask) → Passes v (block (length text) ++ rest) rest (Padded text) (Unit {0})
 block_passes v [] rest = λ b x bytes more e p clean.
-    let none : length bytes ≡ 0 = no_bytes [] bytes p refl in
-    let same : x ≡ x + length bytes = omega arith in
+    let same : x ≡ x + length bytes = omega (arith, padded_long [] bytes p) in
     (tt, subst (λ (y : ℕ). Clean v b rest y) same clean)
 block_passes v (c ∷ text) rest =
     field_passes v (One (Block (length text)) ∷ rest) rest rest (Block (length text)) (Unit {0}) refl (λ bytes p. padded_long (c ∷ text) bytes p) (λ b x bytes p here right. (tt, refl))
@@ -114,18 +110,14 @@ name_passes v text asks rest a =
 abbrev IsWithinLimit : Dim → Type 0
 IsWithinLimit d = nat_le d.len file_limit ≡ true
 
-bounded : (v x n : ℕ) → wrong v DimLength x n ≡ None → nat_le n file_limit ≡ true
-bounded v x n w = le-leb n file_limit (ltb-false file_limit n (or_parts _ _ (no_fault _ (fault.BadNumber x) w)).1)
-
 dim_passes : (v : ℕ) (d : Dim) (asks rest : List Ask) → asked asks ≡ Some (NameLength, One DimLength ∷ rest) → Passes v asks rest (DimensionOf v d) ((Unit {0} × Unit {0}) × IsWithinLimit d)
 dim_passes v d asks rest a =
     passes_then v asks (One DimLength ∷ rest) rest (name_passes v d.name asks (One DimLength ∷ rest) a)
-    (number_passes v d.len (One DimLength ∷ rest) rest rest DimLength (IsWithinLimit d) refl refl (λ b x. refl) (λ x w. bounded v x d.len w) refl)
+    (number_passes v d.len (One DimLength ∷ rest) rest rest DimLength (IsWithinLimit d) refl refl (λ b x. refl) (λ x w. le-leb d.len file_limit (ltb-false file_limit d.len (or_parts _ _ (no_fault _ (fault.BadNumber x) w)).1)) refl)
 
 dims_pass : (v : ℕ) (dims : List Dim) (rest : List Ask) → Passes v (many Dimensions (length dims) ++ rest) rest (Each (DimensionOf v) dims) (AllByRecursion IsWithinLimit dims)
 dims_pass v [] rest b x text more e p clean =
-    let none : length text ≡ 0 = ap (λ (t : List ℕ). length t) p in
-    let same : x ≡ x + length text = omega arith in
+    let same : x ≡ x + length text = omega (arith, ap (λ (t : List ℕ). length t) p) in
     (tt, subst (λ (y : ℕ). Clean v b rest y) same clean)
 dims_pass v (d ∷ dims) rest b x text more e p clean =
     let both = passes_then v (Many Dimensions (length dims) ∷ rest) (many Dimensions (length dims) ++ rest) rest
@@ -153,14 +145,8 @@ list_passes v dims rest b x text more e (inr p) clean =
 magic_passes : (v : ℕ) (rest : List Ask) → Passes v (One Magic ∷ rest) rest (Exactly (magic v)) (Unit {0})
 magic_passes v rest = field_passes v (One Magic ∷ rest) rest rest Magic (Unit {0}) refl (λ text p. ap (λ (t : List ℕ). length t) p) (λ b x text p here right. (tt, refl))
 
-records_long : (v n : ℕ) (text : List ℕ) → RecordsOf v n text → length text ≡ byte_len (count_width v)
-records_long v n text xs = grind (arith, nat_tests)
-
 records_pass : (v n : ℕ) (rest : List Ask) → Passes v (One Records ∷ rest) rest (RecordsOf v n) (Unit {0})
-records_pass v n rest = field_passes v (One Records ∷ rest) rest rest Records (Unit {0}) refl (records_long v n) (λ b x text p here right. (tt, refl))
-
-version_there : (v : ℕ) (rest bytes : List ℕ) → bytes ≡ magic v ++ rest → version_of bytes ≡ v
-version_there v rest bytes e = let same : 0 + v ≡ v = omega arith in ap version_of e ∙ same
+records_pass v n rest = field_passes v (One Records ∷ rest) rest rest Records (Unit {0}) refl (λ text xs. grind (arith, nat_tests)) (λ b x text p here right. (tt, refl))
 
 none_wrong : (bytes : List ℕ) → field_fault bytes ≡ None → Clean (version_of bytes) bytes the_header 0
 none_wrong bytes h e t = let found = fault_only bytes e t in cc
@@ -185,7 +171,7 @@ dims_within header bytes len h =
     let head : bytes ≡ shaped.front ++ past_records =
     unjoined bytes described.front past_dims shaped (unjoined bytes whole.front past_attrs described all) in
     let first : bytes ≡ counted.front ++ (counted.rest ++ past_records) = unjoined bytes shaped.front past_records counted head in
-    let known : version_of bytes ≡ v = version_there v (counted.rest ++ past_records) bytes (first ∙ ap (λ (t : List ℕ). t ++ (counted.rest ++ past_records)) counted.first) in
+    let known : version_of bytes ≡ v = ap version_of (first ∙ ap (λ (t : List ℕ). t ++ (counted.rest ++ past_records)) counted.first) ∙ omega arith in
     let clean : Clean v bytes the_header 0 = subst (λ (n : ℕ). Clean n bytes the_header 0) known (none_wrong bytes h.1) in
     let passed = passes_then v the_header (One Records ∷ after_records) after_records (magic_passes v (One Records ∷ after_records)) (records_pass v header.records after_records)
     bytes 0 shaped.front past_records head counted clean in

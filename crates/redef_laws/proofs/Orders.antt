@@ -62,21 +62,17 @@ pairs_flat R f (x ∷ xs) own h = grind (arith, nat_tests, pairs_append, pairs_f
 -- ---- sorted lists
 
 module _ {X : Type 0} (before : X → X → Bool) where
-  pub put_in : (x : X) (xs : List X) (y : X) → In (inserted_by before x xs) y → In (x ∷ xs) y
-  put_in x [] y h = h
-  put_in x (z ∷ xs) y h = grind (arith, nat_tests, put_in x xs y)
-
-  in_put : (x : X) (xs : List X) (y : X) → In (x ∷ xs) y → In (inserted_by before x xs) y
-  in_put x [] y h = h
-  in_put x (z ∷ xs) y h = grind (arith, nat_tests, in_put x xs y)
+  put_in : (x : X) (xs : List X) (y : X) → (In (inserted_by before x xs) y → In (x ∷ xs) y) × (In (x ∷ xs) y → In (inserted_by before x xs) y)
+  put_in x [] y = ((λ h. h), (λ h. h))
+  put_in x (z ∷ xs) y = grind (arith, nat_tests, put_in x xs y)
 
   pub sorted_in : (xs : List X) (y : X) → In (sorted_by before xs) y → In xs y
   sorted_in [] y h = h
-  sorted_in (x ∷ xs) y h = grind (arith, nat_tests, put_in x (sorted_by before xs) y h, sorted_in xs y)
+  sorted_in (x ∷ xs) y h = grind (arith, nat_tests, (put_in x (sorted_by before xs) y).0 h, sorted_in xs y)
 
   pub in_sorted : (xs : List X) (y : X) → In xs y → In (sorted_by before xs) y
   in_sorted [] y h = h
-  in_sorted (x ∷ xs) y h = grind (arith, nat_tests, in_put x (sorted_by before xs) y, in_sorted xs y)
+  in_sorted (x ∷ xs) y h = grind (arith, nat_tests, put_in x (sorted_by before xs) y, in_sorted xs y)
 
   put_sum : (f : X → ℕ) (x : X) (xs : List X) → sum_by f (inserted_by before x xs) ≡ f x + sum_by f xs
   put_sum f x [] = sum_by-cons f x []
@@ -107,13 +103,7 @@ pub same_pairs : {X : Type 0} (R : X → X → Type 0) → ((x y : X) → R x y 
 same_pairs R turn [] [] h k m = refl
 same_pairs R turn [] (y ∷ ys) h k m = absurd (m.1 y (inl refl))
 same_pairs R turn (x ∷ xs) [] h k m = absurd (m.0 x (inl refl))
-same_pairs {X} R turn (x ∷ xs) (y ∷ ys) h k m = λ i. heads i ∷ same_pairs R turn xs ys h.1 k.1 (tail x y xs ys h.0 heads m.0, tail y x ys xs k.0 (sym heads) m.1) i
-  where
-    heads : x ≡ y
-    heads = elim (m.0 x (inl refl)) [
-      | inl e ↦ sym e
-      | inr n ↦ elim (m.1 y (inl refl)) [ inl e ↦ e | inr g ↦ absurd (turn x y (h.0 y g) (k.0 x n)) ]
-    ]
-
-    tail : (u v : X) (us vs : List X) → ((w : X) → In us w → R u w) → u ≡ v → ((w : X) → In (u ∷ us) w → In (v ∷ vs) w) → (w : X) → In us w → In vs w
-    tail u v us vs past e into w n = grind (arith, nat_tests)
+same_pairs R turn (x ∷ xs) (y ∷ ys) h k m =
+    let heads : x ≡ y = grind (arith, nat_tests, m.0 x (inl refl), m.1 y (inl refl), turn x y, h.0 y, k.0 x) in
+    let tail : HaveSame xs ys = ((λ w n. grind (arith, nat_tests, m.0 w (inr n), h.0 w n, turn x x)), (λ w n. grind (arith, nat_tests, m.1 w (inr n), k.0 w n, turn y y))) in
+    λ i. heads i ∷ same_pairs R turn xs ys h.1 k.1 tail i

@@ -1,5 +1,6 @@
 -- A header with other begins: what does not look at them stays.
-use Rattle.redef_laws.proofs.Words.{◌≡◌, ℕ, zero, suc, ◌+◌, List, [], ◌∷◌, length, map, Some, refl, sym, ap, ◌∙◌, arith, sum_by, slice_get, enumerate_from, AllByRecursion, sum_by-cons, Header, Var, slab, recsize, record_size, record_variables, header_len, variable, begin_of_number, with_begins, list_len, variable_len, canon_len, at_begin, nat_tests}
+use Rattle.std.proofs.lemmas.List.FromFn.{length-enumerate_from}
+use Rattle.redef_laws.proofs.Words.{common_steps, ◌≡◌, ℕ, zero, suc, ◌+◌, List, [], ◌∷◌, length, map, Some, refl, sym, ap, ◌∙◌, arith, sum_by, slice_get, enumerate_from, AllByRecursion, sum_by-cons, Header, Var, slab, recsize, record_size, record_variables, header_len, variable, begin_of_number, with_begins, list_len, variable_len, canon_len, at_begin, nat_tests}
 
 -- variables of which the first has number n, with the begins that are found
 abbrev pub rebegun : List (ℕ × ℕ) → ℕ → List Var → List Var
@@ -11,10 +12,9 @@ rebegun_each P keep found n [] all = tt
 rebegun_each P keep found n (v ∷ vs) all = (keep v (begin_of_number found n) all.0, rebegun_each P keep found (n + 1) vs all.1)
 
 pub rebegun_long : (found : List (ℕ × ℕ)) (n : ℕ) (vs : List Var) → length (rebegun found n vs) ≡ length vs
-rebegun_long found n [] = refl
-rebegun_long found n (v ∷ vs) = ap suc (rebegun_long found (n + 1) vs)
+rebegun_long found n vs = grind (arith, common_steps, length-enumerate_from)
 
-pub rebegun_sum : (f : Var → ℕ) → ((v : Var) (b : ℕ) → f (at_begin v b) ≡ f v) → (found : List (ℕ × ℕ)) (n : ℕ) (vs : List Var)
+rebegun_sum : (f : Var → ℕ) → ((v : Var) (b : ℕ) → f (at_begin v b) ≡ f v) → (found : List (ℕ × ℕ)) (n : ℕ) (vs : List Var)
     → sum_by f (rebegun found n vs) ≡ sum_by f vs
 rebegun_sum f same found n [] = refl
 rebegun_sum f same found n (v ∷ vs) = grind (arith, nat_tests, rebegun_sum f same found (n + 1) vs, sum_by-cons, at_begin)

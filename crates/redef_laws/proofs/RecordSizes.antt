@@ -1,11 +1,8 @@
 -- A record grows by the variables that are added to it.
-use Rattle.redef_laws.proofs.Words.{◌≡◌, ℕ, suc, ◌*◌, ◌≤◌, refl, ap, List, [], ◌∷◌, ◌++◌, map, Some, None, arith, sum_by-cons, slice_get, filter, sum_by, Header, Var, size_of, product, without_record, starts_with_zero, lengths, is_record, slab, recsize, record_size, round_up, KeepsVars, nat_tests}
+use Rattle.redef_laws.proofs.Words.{◌≡◌, ℕ, suc, ◌*◌, ◌≤◌, refl, List, [], ◌∷◌, ◌++◌, map, Some, None, arith, sum_by-cons, slice_get, filter, sum_by, Header, Var, size_of, product, without_record, lengths, is_record, slab, recsize, round_up, KeepsVars, nat_tests, common_steps}
 
 pub same_slab : (old new : Header) (v w : Var) → w.kind ≡ v.kind → lengths new w ≡ lengths old v → slab new w ≡ slab old v
 same_slab old new v w kind lens = λ t. product (without_record (lens t)) * size_of (kind t)
-
-pub same_record : (old new : Header) (v w : Var) → lengths new w ≡ lengths old v → is_record new w ≡ is_record old v
-same_record old new v w lens = ap starts_with_zero lens
 
 -- ---- the slabs of a record
 
@@ -22,7 +19,7 @@ sizes_more old new (v ∷ vs) [] h = absurd (let e : None ≡ Some (h 0 v refl).
 sizes_more old new (v ∷ vs) (y ∷ ws) h =
     let rest = sizes_more old new vs ws (λ k x e. h (suc k) x e) in
     let found = h 0 v refl in
-    grind (arith, nat_tests, same_record, same_slab, found.1, found.0, found.3, rest.0, found.2, rest.1, filter)
+    grind (arith, nat_tests, same_slab, found.1, found.0, found.3, rest.0, found.2, rest.1, filter)
 
 -- ---- their sum
 
@@ -30,11 +27,5 @@ sum_grows : (xs ys : List ℕ) → sum_by (λ n. round_up 4 n) xs ≤ sum_by (λ
 sum_grows [] ys = omega arith
 sum_grows (n ∷ xs) ys = omega (arith, sum_grows xs ys, sum_by-cons (λ n. round_up 4 n) n xs, sum_by-cons (λ n. round_up 4 n) n (xs ++ ys))
 
-size_grows : (xs ys : List ℕ) → record_size xs ≤ record_size (xs ++ ys)
-size_grows (n ∷ []) (m ∷ ys) =
-    omega (arith, sum_by-cons (λ n. round_up 4 n) n (m ∷ ys))
-size_grows (n ∷ m ∷ xs) ys = sum_grows (n ∷ m ∷ xs) ys
-size_grows k ys = omega arith
-
 pub record_grows : (old new : Header) → KeepsVars old new → recsize old ≤ recsize new
-record_grows old new keeps = grind (arith, nat_tests, sizes_more, size_grows)
+record_grows old new keeps = grind (arith, nat_tests, sizes_more, sum_grows, common_steps)

@@ -1,5 +1,5 @@
 -- The slabs of the old variables as they rise: they are all slabs, and each begins above those before it.
-use Rattle.redef_laws.proofs.Words.{◌≡◌, ℕ, ◌+◌, ◌<◌, ◌≤◌, refl, sym, ◌∙◌, ap, inl, inr, ◌↔◌, List, map, Bool, true, false, true≢false, holds_or_not, in_range, range_high, Some, reverse, arith, cases_eq, row_fits, filter, flat_map, zip, slice_get, not, range_with_len, Header, Var, Slab, highest_first, slabs, slabs_of, stands_above, stands_below, stores, zero_calls, header_len, is_sound, is_record, recsize, slab, slab_fits, In, filter_in, in_filter, in_left, in_right, in_either, in_flat, flat_in, first_slab, fixed_slabs, record_slabs, in_record, slabs_of_record, rising, changes, gaps, IsRisen, new_end, in_map, map_in, zip_in, nat_tests, Option}
+use Rattle.redef_laws.proofs.Words.{◌≡◌, ℕ, ◌+◌, ◌<◌, refl, sym, ◌∙◌, inl, inr, ◌↔◌, List, map, Bool, true, false, true≢false, holds_or_not, in_range, range_high, reverse, arith, cases_eq, row_fits, filter, flat_map, zip, not, range_with_len, Header, Var, Slab, highest_first, slabs, slabs_of, stands_above, stands_below, stores, zero_calls, header_len, is_sound, is_record, recsize, slab, slab_fits, In, filter_in, in_filter, in_left, in_right, in_either, in_flat, flat_in, first_slab, fixed_slabs, record_slabs, in_record, slabs_of_record, rising, changes, gaps, IsRisen, new_end, in_map, map_in, zip_in, nat_tests}
 use Rattle.serial_spec.specs.Lists.{sorted_by}
 use Rattle.redef_laws.proofs.Orders.{Orders, Pairwise, pairs_append, pairs_by_place, pairs_filter, pairs_flat, pairs_map, pairs_range, pairs_reverse, pairs_weaker, reverse_in, in_reverse, same_pairs, sorted_in, in_sorted, sorted_pairs}
 use Rattle.redef_laws.proofs.SoundVars.{slab_holds, vars_apart}
@@ -42,15 +42,15 @@ record_of old new r s m = grind (arith, nat_tests, map_in, sorted_in, filter_in,
 
 rising_in : (old new : Header) (s : Slab) → In (rising old new) s → In (slabs old new) s
 rising_in old new s h = elim (in_either (fixed_slabs old new) (flat_map (slabs_of_record old new) (records old)) s h) [
-  | inl m ↦ let f = fixed_of old new s m in of_var f.var f.there (record { row = 0; once = λ e. refl; below = λ e. absurd (true≢false (sym e ∙ f.kind)); is = f.is })
+  | inl m ↦
+      let f = fixed_of old new s m in
+      in_flat (slabs_of old new) (pairs old new) f.var s f.there (in_row_of old new f.var s (record { row = 0; once = λ e. refl; below = λ e. absurd (true≢false (sym e ∙ f.kind)); is = f.is }))
   | inr m ↦
       let r = flat_in (slabs_of_record old new) (records old) s m in
       let f = record_of old new r.0 s r.2 in
-      of_var f.var f.there (record { row = r.0; once = λ e. absurd (true≢false (sym f.kind ∙ e)); below = λ e. omega (arith, range_high 0 old.records r.0 r.1); is = f.is })
+      let row : IsInRow old new f.var s = record { row = r.0; once = λ e. absurd (true≢false (sym f.kind ∙ e)); below = λ e. omega (arith, range_high 0 old.records r.0 r.1); is = f.is } in
+      in_flat (slabs_of old new) (pairs old new) f.var s f.there (in_row_of old new f.var s row)
 ]
-  where
-    of_var : (p : Var × Var) → In (pairs old new) p → IsInRow old new p s → In (slabs old new) s
-    of_var p m r = in_flat (slabs_of old new) (pairs old new) p s m (in_row_of old new p s r)
 
 in_rising : (old new : Header) (s : Slab) → In (slabs old new) s → In (rising old new) s
 in_rising old new s h =
@@ -63,11 +63,8 @@ rising_all old new s = (rising_in old new s, in_rising old new s)
 
 -- ---- the slabs ascend
 
-different : (m n : ℕ) → m ≤ n → (m ≡ n → ⊥) → m < n
-different m n h k = grind (arith, nat_tests, cases_eq m n)
-
 below_orders : Orders stands_below Differ Below
-below_orders = grind (arith, nat_tests, different)
+below_orders = grind (arith, nat_tests, cases_eq)
 
 module _ (old new : Header) (sound : is_sound old ≡ true) where
   firsts_differ : Pairwise (λ p q. Differ (first_slab old p) (first_slab old q)) (pairs old new)
@@ -88,23 +85,14 @@ module _ (old new : Header) (sound : is_sound old ≡ true) where
       let b = zip_in old.vars new.vars q n in
       let some = slab_holds old b.0 q.0 sound b.1 in
       let fits = slab_fits old b.0 q.0 b.1 e in
-      elim (cases_eq a.0 b.0) [
-        | inl g ↦ omega (arith, some, fits, ap (λ (v : Var). v.begin) (one_var (slice_get old.vars a.0) p.0 q.0 a.1 (ap (λ (i : ℕ). slice_get old.vars i) g ∙ b.1)))
-        | inr g ↦ grind (arith, nat_tests, holds_or_not (is_record old p.0), vars_apart old a.0 b.0 p.0 q.0 sound a.1 b.1 g, slab_holds old a.0 p.0 sound a.1)
-      ]
-    where
-      one_var : (o : Option Var) (v w : Var) → o ≡ Some v → o ≡ Some w → v ≡ w
-      one_var o v w x y = cc
+      grind (arith, nat_tests, cases_eq a.0 b.0, some, fits, a.1, b.1, holds_or_not (is_record old p.0), vars_apart old a.0 b.0 p.0 q.0 sound a.1 b.1, slab_holds old a.0 p.0 sound a.1)
 
   fixed_low : (p q : Var × Var) → In (pairs old new) p → In (pairs old new) q → is_record old p.0 ≡ false → is_record old q.0 ≡ true → p.0.begin < q.0.begin
   fixed_low p q m n f e =
       let a = zip_in old.vars new.vars p m in
       let b = zip_in old.vars new.vars q n in
-      let last = (vars_apart old a.0 b.0 p.0 q.0 sound a.1 b.1 (λ g. other a.0 b.0 (ap (λ (i : ℕ). slice_get old.vars i) g) a.1 b.1)).record_last f e in
+      let last = (vars_apart old a.0 b.0 p.0 q.0 sound a.1 b.1 (λ g. grind (arith, nat_tests, g, a.1, b.1))).record_last f e in
       omega (arith, last, slab_holds old a.0 p.0 sound a.1)
-    where
-      other : (i j : ℕ) → slice_get old.vars i ≡ slice_get old.vars j → slice_get old.vars i ≡ Some p.0 → slice_get old.vars j ≡ Some q.0 → ⊥
-      other i j g x y = let var : p.0 ≡ q.0 = cc in absurd (true≢false (sym e ∙ ap (λ (v : Var). is_record old v) (sym var) ∙ f))
 
   rising_ascends : Pairwise Below (rising old new)
   rising_ascends =
@@ -124,7 +112,7 @@ module _ (old new : Header) (sound : is_sound old ≡ true) where
 -- ---- the laws
 
 above_orders : Orders stands_above Differ (λ s t. Below t s)
-above_orders = grind (arith, nat_tests, different)
+above_orders = grind (arith, nat_tests, cases_eq)
 
 module _ (old new : Header) (raised : IsRaised old new) where
   pub rising_risen : IsRisen (header_len old) (header_len new) (rising old new)
@@ -136,12 +124,8 @@ module _ (old new : Header) (raised : IsRaised old new) where
       same_pairs (λ s t. Below t s) (λ s t l m. absurd (omega (arith, l, m))) (highest_first (filter changes (slabs old new))) (filter changes (reverse (rising old new)))
       (sorted_pairs stands_above Differ (λ s t. Below t s) above_orders (filter changes (slabs old new)) (pairs_filter Differ changes (slabs old new) (slabs_differ old new raised)))
       (pairs_filter (λ s t. Below t s) changes (reverse (rising old new)) (pairs_reverse Below (rising old new) (rising_ascends old new raised.sound_old))) (
-        (λ s m.
-            let r = filter_in changes (slabs old new) s (sorted_in stands_above (filter changes (slabs old new)) s m) in
-            in_filter changes (reverse (rising old new)) s (in_reverse (rising old new) s (in_rising old new s r.0)) r.1),
-        (λ s m.
-            let r = filter_in changes (reverse (rising old new)) s m in
-            in_sorted stands_above (filter changes (slabs old new)) s (in_filter changes (slabs old new) s (rising_in old new s (reverse_in (rising old new) s r.0)) r.1)),
+        (λ s m. grind (arith, nat_tests, sorted_in stands_above (filter changes (slabs old new)) s m, filter_in changes, in_filter changes, in_reverse, in_rising old new s)),
+        (λ s m. grind (arith, nat_tests, filter_in changes, in_sorted stands_above (filter changes (slabs old new)) s, in_filter changes, reverse_in, rising_in old new s)),
       )
 
   pub rising_zeros : (z : ℕ) → 0 < z → zero_calls z old new ≡ flat_map (λ g. stores z g.0 g.1) (gaps (header_len new) (new_end old new) (rising old new))

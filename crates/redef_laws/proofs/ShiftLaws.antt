@@ -14,7 +14,7 @@ pub record IsOnWay (old : Header) (extras : List Extra) (k : ℕ) (v w : Var) : 
   pub kind : is_record (added old extras) var ≡ is_record old v
   pub now : w.begin ≡ begin_of_number (begins_by_number (added old extras) (length old.vars)) k
 
-pub on_way : (old : Header) (extras : List Extra) (k : ℕ) (v w : Var) → is_sound old ≡ true → slice_get old.vars k ≡ Some v
+on_way : (old : Header) (extras : List Extra) (k : ℕ) (v w : Var) → is_sound old ≡ true → slice_get old.vars k ≡ Some v
     → slice_get (redefined_header old extras).vars k ≡ Some w → IsOnWay old extras k v w
 on_way old extras k v w sound h g =
     grind (arith, nat_tests, added old extras, kept_var old extras k v sound h, entry_map, numbered_at)

@@ -1,36 +1,25 @@
 -- In a header that is short each name, list and attribute is short.
-use Rattle.redef_laws.proofs.Words.{◌≡◌, ℕ, ◌-◌, ◌^◌, ◌≤◌, List, [], ◌∷◌, ◌++◌, length, true, arith, length-append, sum_by, replicate, AllByRecursion, sum_by-cons, and_from, row_below_bytes, small_count, each_passes, equal_true, Header, Dim, Attr, Var, round_up, name, padded, count, tag, number_of, list_of, dimension, attribute, variable, header_len, is_writable_attr, is_writable_list, fits_count, list_len, variable_len, canon_len, nat_tests}
+use Rattle.redef_laws.proofs.Words.{◌≡◌, ℕ, ◌-◌, ◌^◌, ◌≤◌, List, [], ◌∷◌, ◌++◌, length, true, arith, length-append, sum_by, AllByRecursion, sum_by-cons, and_from, row_below_bytes, small_count, each_passes, equal_true, Header, Dim, Attr, Var, name, padded, count, tag, number_of, list_of, dimension, attribute, variable, header_len, is_writable_attr, is_writable_list, fits_count, list_len, variable_len, canon_len, nat_tests}
 use Rattle.redef_laws.proofs.FieldLaws.{each_both}
 use Rattle.redef_laws.proofs.GrownLaws.{IsTyped}
 
 -- ---- the parts of a list
 
-pub each_below : {A : Type 0} (f : A → ℕ) (m : ℕ) (xs : List A) → sum_by f xs ≤ m → AllByRecursion (λ x. f x ≤ m) xs
-each_below f m [] h = tt
-each_below f m (x ∷ xs) h = let e = sum_by-cons f x xs in (omega arith, each_below f m xs (omega arith))
+pub each_below : {A : Type 0} (f g : A → ℕ) → ((x : A) → f x ≤ g x) → (m : ℕ) (xs : List A) → sum_by g xs ≤ m → AllByRecursion (λ x. f x ≤ m) xs
+each_below f g below m [] h = tt
+each_below f g below m (x ∷ xs) h = let e = sum_by-cons g x xs in (omega (arith, e, below x, h), each_below f g below m xs (omega (arith, e, h)))
 
 -- a list is no longer than its entries together, where each has a byte
-pub few_below : {A : Type 0} (f : A → ℕ) → ((x : A) → 1 ≤ f x) → (xs : List A) → length xs ≤ sum_by f xs
+few_below : {A : Type 0} (f : A → ℕ) → ((x : A) → 1 ≤ f x) → (xs : List A) → length xs ≤ sum_by f xs
 few_below f some [] = omega arith
-few_below f some (x ∷ xs) = let e = sum_by-cons f x xs in let one = some x in let rest = few_below f some xs in omega arith
+few_below f some (x ∷ xs) = omega (arith, sum_by-cons f x xs, some x, few_below f some xs)
 
 -- ---- one entry
 
-padded_long : (text : List ℕ) → length text ≤ length (padded text)
-padded_long text = let whole = length-append text (replicate (round_up 4 (length text) - length text) 0) in omega arith
-
 name_long : (version : ℕ) (text : List ℕ) → length text ≤ length (name version text)
-name_long version text = grind (arith, nat_tests, length-append, padded_long)
+name_long version text = grind (arith, nat_tests, length-append)
 
-pub dim_long : (version : ℕ) (d : Dim) → length d.name ≤ length (dimension version d)
-dim_long version d = let whole = length-append (name version d.name) (count version d.len) in let own = name_long version d.name in omega arith
-
-record IsAttrLong (version : ℕ) (a : Attr) : Type 0 where
-  named : length a.name ≤ length (attribute version a)
-  valued : length a.bytes ≤ length (attribute version a)
-  some : 1 ≤ length (attribute version a)
-
-attr_long : (version : ℕ) (a : Attr) → IsAttrLong version a
+attr_long : (version : ℕ) (a : Attr) → (length a.name ≤ length (attribute version a)) × (length a.bytes ≤ length (attribute version a)) × (1 ≤ length (attribute version a))
 attr_long version a =
     grind (
       arith,
@@ -39,7 +28,7 @@ attr_long version a =
       length-append ((name version a.name) ++ tag (number_of a.kind)) (count version a.count),
       length-append (name version a.name) (tag (number_of a.kind)),
       name_long version a.name,
-      padded_long a.bytes,
+      length-append a.bytes,
     )
 
 attr_written : (version : ℕ) (a : Attr) → IsTyped version a → length (attribute version a) ≤ 2 ^ 20 → is_writable_attr version a ≡ true
@@ -52,11 +41,9 @@ pub attrs_written : (version : ℕ) (attrs : List Attr) → AllByRecursion (IsTy
 attrs_written version attrs all short =
     let whole = list_len version 12 (λ a. attribute version a) attrs in
     let sum : sum_by (λ a. length (attribute version a)) attrs ≤ 2 ^ 20 = omega (arith, whole, short) in
-    let few = few_below (λ a. length (attribute version a)) (λ a. (attr_long version a).some) attrs in
-    and_from (fits_count version (length attrs)) _ (small_count version (length attrs) (omega (arith, sum, few)))
-    (each_passes (is_writable_attr version) attrs
-    (each_both (IsTyped version) (λ a. length (attribute version a) ≤ 2 ^ 20) (λ a. is_writable_attr version a ≡ true) (attr_written version) attrs all
-    (each_below (λ a. length (attribute version a)) (2 ^ 20) attrs sum)))
+    let few = few_below (λ a. length (attribute version a)) (λ a. (attr_long version a).2) attrs in
+    let each = each_both _ _ (λ a. is_writable_attr version a ≡ true) (attr_written version) attrs all (each_below _ (λ a. length (attribute version a)) (λ a. omega arith) (2 ^ 20) attrs sum) in
+    and_from (fits_count version (length attrs)) _ (small_count version (length attrs) (omega (arith, sum, few))) (each_passes (is_writable_attr version) attrs each)
 
 -- ---- a header
 
@@ -73,20 +60,12 @@ is_short header h =
     let dims = list_len version 10 (λ d. dimension version d) header.dims in
     let vars = list_len version 11 (λ v. variable header v) header.vars in
     record {
-      dims =
-          each_below (λ (d : Dim). length d.name) (2 ^ 20) header.dims
-          (let l = names_below (λ (d : Dim). length d.name) (λ d. length (dimension version d)) (dim_long version) header.dims in omega (arith, whole, dims, h, l));
+      dims = each_below (λ (d : Dim). length d.name) (λ d. length (dimension version d)) (λ d. grind (arith, nat_tests, length-append (name version d.name) (count version d.len), name_long version d.name)) (2 ^ 20) header.dims (omega (arith, whole, dims, h));
       attrs = omega (arith, whole, h);
       names =
-          each_below (λ (v : Var). length v.name) (2 ^ 20) header.vars
-          (let l = names_below (λ (v : Var). length v.name) (λ v. length (variable header v))
-          (λ v. let long = variable_len header v in let own = name_long version v.name in omega (arith, long, own)) header.vars in omega (arith, whole, vars, h, l));
+          each_below (λ (v : Var). length v.name) (λ v. length (variable header v)) (λ v. omega (arith, variable_len header v, name_long version v.name)) (2 ^ 20) header.vars
+          (omega (arith, whole, vars, h));
       var_attrs =
-          each_below (λ (v : Var). length (list_of version 12 (λ a. attribute version a) v.attrs)) (2 ^ 20) header.vars
-          (let l = names_below (λ (v : Var). length (list_of version 12 (λ a. attribute version a) v.attrs)) (λ v. length (variable header v))
-          (λ v. let long = variable_len header v in omega (arith, long)) header.vars in omega (arith, whole, vars, h, l));
+          each_below (λ (v : Var). length (list_of version 12 (λ a. attribute version a) v.attrs)) (λ v. length (variable header v)) (λ v. omega (arith, variable_len header v))
+          (2 ^ 20) header.vars (omega (arith, whole, vars, h));
     }
-  where
-    names_below : {A : Type 0} (f g : A → ℕ) → ((x : A) → f x ≤ g x) → (xs : List A) → sum_by f xs ≤ sum_by g xs
-    names_below f g below [] = omega arith
-    names_below f g below (x ∷ xs) = omega (arith, sum_by-cons f x xs, sum_by-cons g x xs, below x, names_below f g below xs)

@@ -1,6 +1,6 @@
 -- The slabs of the old variables: what they are, and where each lies.
-use Rattle.redef_laws.proofs.Words.{subst, ◌≡◌, ℕ, ◌+◌, ◌*◌, ◌<◌, ◌≤◌, refl, sym, ◌∙◌, ap, inl, inr, List, [], ◌∷◌, map, true, false, Some, arith, mul-le, slice_get, zip, range_with_len, Header, Var, Slab, slabs, slabs_of, header_len, is_sound, is_record, slab, recsize, end_of_var, KeepsVars, end_holds, slab_below, slab_shared, some_record, In, flat_in, in_map, in_range, holds_or_not, range_high, IsShifted, new_end, map_in, zip_in, first_slab, in_record, nat_tests}
-use Rattle.redef_laws.proofs.RecordSizes.{same_slab, same_record, record_grows}
+use Rattle.redef_laws.proofs.Words.{◌≡◌, ℕ, ◌+◌, ◌*◌, ◌<◌, ◌≤◌, refl, sym, ◌∙◌, [], ◌∷◌, map, true, false, Some, arith, mul-le, slice_get, zip, range_with_len, Header, Var, Slab, slabs, slabs_of, header_len, is_sound, is_record, slab, recsize, end_of_var, KeepsVars, end_holds, slab_below, slab_shared, some_record, In, flat_in, in_map, in_range, holds_or_not, range_high, IsShifted, new_end, map_in, zip_in, first_slab, in_record, nat_tests}
+use Rattle.redef_laws.proofs.RecordSizes.{same_slab, record_grows}
 use Rattle.redef_laws.proofs.SoundVars.{slab_holds, past_front}
 
 -- what a redefinition makes of the old variables
@@ -21,23 +21,10 @@ pub record IsPair (old new : Header) (k : ℕ) (v w : Var) : Type 0 where
   pub size : slab new w ≡ slab old v
   pub kind : is_record new w ≡ is_record old v
 
--- a slab of an old variable, which stands in row 0 where the variable is fixed
-pub record IsSlab (old new : Header) (s : Slab) : Type 0 where
-  pub number : ℕ
-  pub was : Var
-  pub now : Var
-  pub pair : IsPair old new number was now
-  pub row : ℕ
-  pub once : is_record old was ≡ false → row ≡ 0
-  pub below : is_record old was ≡ true → row < old.records
-  pub from : s.from ≡ was.begin + row * recsize old
-  pub to : s.to ≡ now.begin + row * recsize new
-  pub len : s.len ≡ slab old was
-
 pub pair_at : (old new : Header) (k : ℕ) (v w : Var) → KeepsVars old new → slice_get old.vars k ≡ Some v → slice_get new.vars k ≡ Some w → IsPair old new k v w
 pair_at old new k v w keeps h g =
     let found = keeps k v h in
-    grind (arith, nat_tests, same_slab, same_record, new.vars, found.1)
+    grind (arith, nat_tests, same_slab, new.vars, found.1)
 
 pub slabs_fixed : (old new : Header) (p : Var × Var) → is_record old p.0 ≡ false → slabs_of old new p ≡ first_slab old p ∷ []
 slabs_fixed old new p e = rw (e, slabs_of) refl
@@ -56,6 +43,14 @@ pub record IsInRow (old new : Header) (p : Var × Var) (s : Slab) : Type 0 where
   pub below : is_record old p.0 ≡ true → row < old.records
   pub is : in_record (recsize old) (recsize new) row (first_slab old p) ≡ s
 
+-- a slab of an old variable
+pub record IsSlab (old new : Header) (s : Slab) : Type 0 where
+  pub number : ℕ
+  pub was : Var
+  pub now : Var
+  pub pair : IsPair old new number was now
+  pub at : IsInRow old new (was, now) s
+
 abbrev each_row : Header → Header → Var × Var → ℕ → Slab
 each_row old new p r = in_record (recsize old) (recsize new) r (first_slab old p)
 
@@ -64,33 +59,12 @@ module _ (old new : Header) (p : Var × Var) (s : Slab) where
   row_of h = grind (arith, nat_tests, holds_or_not, map_in, slabs_record, range_high, slabs_fixed, in_place, each_row, range_with_len, first_slab)
 
   pub in_row : IsInRow old new p s → In (slabs_of old new p) s
-  in_row r = elim (holds_or_not (is_record old p.0)) [
-    | inl e ↦
-        subst (λ (ss : List Slab). In ss s) (sym (slabs_record old new p e))
-        (subst (In (map (each_row old new p) (range_with_len 0 old.records))) r.is
-        (in_map (each_row old new p) (range_with_len 0 old.records) r.row (in_range 0 old.records r.row (omega arith) (omega (arith, r.below e)))))
-    | inr e ↦
-        subst (λ (ss : List Slab). In ss s) (sym (slabs_fixed old new p e))
-        (inl (sym (in_place (first_slab old p) (recsize old) (recsize new)) ∙ ap (each_row old new p) (sym (r.once e)) ∙ r.is))
-  ]
+  in_row r =
+      let row = in_map (each_row old new p) (range_with_len 0 old.records) r.row in
+      grind (arith, nat_tests, holds_or_not (is_record old p.0), slabs_record old new p, slabs_fixed old new p, r.is, row, in_range 0 old.records r.row, in_place (first_slab old p) (recsize old) (recsize new), r.once, r.below)
 
 pub slab_of_pair : (old new : Header) (k : ℕ) (v w : Var) (s : Slab) → IsPair old new k v w → In (slabs_of old new (v, w)) s → (p : IsSlab old new s) × (p.number ≡ k)
-slab_of_pair old new k v w s pair h =
-    let r = row_of old new (v, w) s h in (
-      record {
-        number = k;
-        was = v;
-        now = w;
-        pair = pair;
-        row = r.row;
-        once = r.once;
-        below = r.below;
-        from = ap (λ (x : Slab). x.from) (sym r.is);
-        to = ap (λ (x : Slab). x.to) (sym r.is);
-        len = ap (λ (x : Slab). x.len) (sym r.is);
-      },
-      refl,
-    )
+slab_of_pair old new k v w s pair h = (record { number = k; was = v; now = w; pair = pair; at = row_of old new (v, w) s h }, refl)
 
 pub slab_in : (old new : Header) (s : Slab) → KeepsVars old new → In (slabs old new) s → IsSlab old new s
 slab_in old new s keeps h =
@@ -109,5 +83,5 @@ slab_lies old new raised s h =
     let before = past_front old f.number f.was raised.sound_old f.pair.at_old in
     let after = past_front new f.number f.now raised.sound_new f.pair.at_new in
     let up = raised.up f.number f.was f.now f.pair.at_old f.pair.at_new in
-    let own = ends_in new old.records f.row f.now (λ e. f.once (sym f.pair.kind ∙ e)) (λ e. f.below (sym f.pair.kind ∙ e)) in
-    grind (arith, nat_tests, end_holds new (header_len new) old.records f.number f.now f.pair.at_new, record_grows old new raised.keeps, f.row, f.len, f.from, f.to, f.pair.size)
+    let own = ends_in new old.records f.at.row f.now (λ e. f.at.once (sym f.pair.kind ∙ e)) (λ e. f.at.below (sym f.pair.kind ∙ e)) in
+    grind (arith, nat_tests, end_holds new (header_len new) old.records f.number f.now f.pair.at_new, record_grows old new raised.keeps, mul-le, f.at.is, f.pair.size)

@@ -1,5 +1,5 @@
 -- No slab of an old variable passes another, and none begins where another one does.
-use Rattle.redef_laws.proofs.Words.{◌≡◌, ℕ, zero, suc, ◌+◌, ◌*◌, ◌<◌, ◌≤◌, sym, ◌∙◌, ap, inl, inr, ◌⊎◌, Bool, true, false, Some, subst, List, [], ◌∷◌, slice_get, zip, arith, cases_eq, row_fits, range_with_len, Header, Var, Slab, slabs, slabs_of, header_len, is_sound, is_record, slab, recsize, slab_fits, IsLower, AreShifted, new_end, In, zip_in, first_slab, in_record, nat_tests, holds_or_not}
+use Rattle.redef_laws.proofs.Words.{◌≡◌, ℕ, ◌+◌, ◌*◌, ◌<◌, ◌≤◌, sym, ◌∙◌, ap, inl, inr, ◌⊎◌, Bool, true, false, Some, subst, List, ◌∷◌, slice_get, zip, arith, cases_eq, row_fits, range_with_len, Header, Var, Slab, slabs, slabs_of, header_len, is_sound, is_record, slab, recsize, slab_fits, IsLower, AreShifted, new_end, In, zip_in, first_slab, in_record, nat_tests, holds_or_not}
 use Rattle.redef_laws.proofs.RecordSizes.{record_grows}
 use Rattle.redef_laws.proofs.SoundVars.{slab_holds, vars_apart, IsApart}
 use Rattle.redef_laws.proofs.SlabLaws.{IsRaised, IsPair, IsSlab, slabs_fixed, slabs_record, pair_at, slab_of_pair, slab_in, slab_lies}
@@ -40,27 +40,22 @@ one_same size size' a n x y x' y' t fits some one two rows h = grind (arith, nat
 -- ---- two slabs
 
 pub zip_at : {X Y : Type 0} (xs : List X) (ys : List Y) (k : ℕ) (p : X × Y) → slice_get (zip xs ys) k ≡ Some p → (slice_get xs k ≡ Some p.0) × (slice_get ys k ≡ Some p.1)
-zip_at [] ys k p h = absurd cc
-zip_at (x ∷ xs) [] k p h = absurd cc
-zip_at (x ∷ xs) (y ∷ ys) zero p h = grind (arith, nat_tests)
-zip_at (x ∷ xs) (y ∷ ys) (suc k) p h = zip_at xs ys k p h
+zip_at (x ∷ xs) (y ∷ ys) k p h = grind (arith, nat_tests, zip_at xs ys)
+zip_at xs ys k p h = grind (arith, nat_tests)
 
 apart_now : (old new : Header) (k m : ℕ) (v w x y : Var) → is_sound new ≡ true → IsPair old new k v w → IsPair old new m x y → (k ≡ m → ⊥)
     → IsApart (recsize new) w.begin (slab old v) y.begin (slab old x) (is_record old v) (is_record old x)
 apart_now old new k m v w x y sound p q differ = grind (arith, nat_tests, vars_apart)
 
-same_var : (old new : Header) (k m : ℕ) (v w x y : Var) → IsPair old new k v w → IsPair old new m x y → k ≡ m → (v ≡ x) × (w ≡ y)
-same_var old new k m v w x y p q e = grind (arith, nat_tests)
-
 same_slab : (s t : Slab) → s.from ≡ t.from → s.to ≡ t.to → s.len ≡ t.len → s ≡ t
 same_slab s t from to len = λ i. record { from = from i; to = to i; len = len i }
 
-once : (old new : Header) (s : Slab) (p : IsSlab old new s) → Once (is_record old p.was) (p.row * recsize old) (p.row * recsize new)
-once old new s p e = let row = p.once e in (ap (λ (r : ℕ). r * recsize old) row ∙ omega arith, ap (λ (r : ℕ). r * recsize new) row ∙ omega arith)
+once : (old new : Header) (s : Slab) (p : IsSlab old new s) → Once (is_record old p.was) (p.at.row * recsize old) (p.at.row * recsize new)
+once old new s p e = let row = p.at.once e in (ap (λ (r : ℕ). r * recsize old) row ∙ omega arith, ap (λ (r : ℕ). r * recsize new) row ∙ omega arith)
 
 module _ (old new : Header) (raised : IsRaised old new) (s t : Slab) (p : IsSlab old new s) (q : IsSlab old new t) where
-  rows : Rows (recsize old) (recsize new) (p.row * recsize old) (q.row * recsize old) (p.row * recsize new) (q.row * recsize new)
-  rows = rows_of (recsize old) (recsize new) p.row q.row
+  rows : Rows (recsize old) (recsize new) (p.at.row * recsize old) (q.at.row * recsize old) (p.at.row * recsize new) (q.at.row * recsize new)
+  rows = rows_of (recsize old) (recsize new) p.at.row q.at.row
 
   holds : (u : Slab) (r : IsSlab old new u) → 0 < slab old r.was
   holds u r = slab_holds old r.number r.was raised.sound_old r.pair.at_old
@@ -71,31 +66,29 @@ module _ (old new : Header) (raised : IsRaised old new) (s t : Slab) (p : IsSlab
   lower : s.from < t.from → IsLower s t
   lower h = elim (cases_eq p.number q.number) [
     | inl e ↦
-        let same = same_var old new p.number q.number p.was p.now q.was q.now p.pair q.pair e in
-        let begin = ap (λ (v : Var). v.begin) same.0 in
-        let moved = ap (λ (v : Var). v.begin) same.1 in
-        let two : Once (is_record old p.was) (q.row * recsize old) (q.row * recsize new) = λ f. once old new t q (ap (λ (v : Var). is_record old v) (sym same.0) ∙ f) in
-        let l = one_lower (recsize old) (recsize new) p.was.begin (slab old p.was) p.now.begin (p.row * recsize old) (q.row * recsize old) (p.row * recsize new) (q.row * recsize new) (is_record old p.was)
-        (slab_fits old p.number p.was p.pair.at_old) (record_grows old new raised.keeps) (once old new s p) two rows (omega (arith, h, p.from, q.from, begin)) in
-        record { before = omega (arith, l.0, p.from, p.len, q.from, begin); after = omega (arith, l.1, p.to, p.len, q.to, moved) }
+        let same : (p.was ≡ q.was) × (p.now ≡ q.now) = grind (arith, nat_tests, e, p.pair.at_old, p.pair.at_new, q.pair.at_old, q.pair.at_new) in
+        let two : Once (is_record old p.was) (q.at.row * recsize old) (q.at.row * recsize new) = λ f. once old new t q (ap (λ (v : Var). is_record old v) (sym same.0) ∙ f) in
+        let l = one_lower (recsize old) (recsize new) p.was.begin (slab old p.was) p.now.begin (p.at.row * recsize old) (q.at.row * recsize old) (p.at.row * recsize new) (q.at.row * recsize new) (is_record old p.was)
+        (slab_fits old p.number p.was p.pair.at_old) (record_grows old new raised.keeps) (once old new s p) two rows (grind (arith, nat_tests, h, p.at.is, q.at.is, same.0)) in
+        grind (arith, nat_tests, l.0, l.1, p.at.is, q.at.is, same.0, same.1)
     | inr differ ↦
-        let l = two_lower (recsize old) (recsize new) p.was.begin (slab old p.was) q.was.begin (slab old q.was) p.now.begin q.now.begin (p.row * recsize old) (q.row * recsize old) (p.row * recsize new) (q.row * recsize new) (is_record old p.was) (is_record old q.was)
+        let l = two_lower (recsize old) (recsize new) p.was.begin (slab old p.was) q.was.begin (slab old q.was) p.now.begin q.now.begin (p.at.row * recsize old) (q.at.row * recsize old) (p.at.row * recsize new) (q.at.row * recsize new) (is_record old p.was) (is_record old q.was)
         (apart_before differ) (apart_now old new p.number q.number p.was p.now q.was q.now raised.sound_new p.pair q.pair differ) (holds t q) (once old new s p) (once old new t q)
-        (raised.order p.number q.number p.was p.now q.was q.now p.pair.at_old p.pair.at_new q.pair.at_old q.pair.at_new) rows (omega (arith, h, p.from, q.from)) in
-        record { before = omega (arith, l.0, p.from, p.len, q.from); after = omega (arith, l.1, p.to, p.len, q.to) }
+        (raised.order p.number q.number p.was p.now q.was q.now p.pair.at_old p.pair.at_new q.pair.at_old q.pair.at_new) rows (grind (arith, nat_tests, h, p.at.is, q.at.is)) in
+        grind (arith, nat_tests, l.0, l.1, p.at.is, q.at.is)
   ]
 
-  pub differ_from : (p.number ≡ q.number → ⊥) → s.from ≡ t.from → ⊥
+  differ_from : (p.number ≡ q.number → ⊥) → s.from ≡ t.from → ⊥
   differ_from differ h =
-      begins_differ (recsize old) (recsize new) p.was.begin (slab old p.was) q.was.begin (slab old q.was) (p.row * recsize old) (q.row * recsize old) (p.row * recsize new) (q.row * recsize new) (is_record old p.was) (is_record old q.was)
-      (apart_before differ) (holds s p) (holds t q) (once old new s p) (once old new t q) rows (sym p.from ∙ h ∙ q.from)
+      begins_differ (recsize old) (recsize new) p.was.begin (slab old p.was) q.was.begin (slab old q.was) (p.at.row * recsize old) (q.at.row * recsize old) (p.at.row * recsize new) (q.at.row * recsize new) (is_record old p.was) (is_record old q.was)
+      (apart_before differ) (holds s p) (holds t q) (once old new s p) (once old new t q) rows (grind (arith, nat_tests, h, p.at.is, q.at.is))
 
   same : s.from ≡ t.from → s ≡ t
   same h = elim (cases_eq p.number q.number) [
     | inr differ ↦ absurd (differ_from differ h)
     | inl e ↦
-        let same = same_var old new p.number q.number p.was p.now q.was q.now p.pair q.pair e in
-        grind (arith, nat_tests, once old new t q, one_same (recsize old) (recsize new) p.was.begin (slab old p.was) (p.row * recsize old) (q.row * recsize old), slab_fits old p.number p.was p.pair.at_old, holds s p, once old new s p, rows, same_slab s t h, same.0, same.1, p.from, q.from, p.to, q.to, p.len, q.len)
+        let same : (p.was ≡ q.was) × (p.now ≡ q.now) = grind (arith, nat_tests, e, p.pair.at_old, p.pair.at_new, q.pair.at_old, q.pair.at_new) in
+        grind (arith, nat_tests, once old new t q, one_same (recsize old) (recsize new) p.was.begin (slab old p.was) (p.at.row * recsize old) (q.at.row * recsize old), slab_fits old p.number p.was p.pair.at_old, holds s p, once old new s p, rows, same_slab s t h, same.0, same.1, p.at.is, q.at.is)
   ]
 
 pub raised_shifts : (old new : Header) → IsRaised old new → AreShifted (header_len old) (header_len new) (new_end old new) (slabs old new)

@@ -37,11 +37,8 @@ pub record IsApart (size a n b m : ℕ) (s t : Bool) : Type 0 where
   pub record_first : s ≡ true → t ≡ false → b + m ≤ a
   pub both_records : s ≡ true → t ≡ true → InTurn size a n b m ⊎ InTurn size b m a n
 
-other : (t : Bool) {A : Type 0} → t ≡ false → t ≡ true → A
-other t p q = grind (arith, nat_tests)
-
 unshared : (size a n b m : ℕ) (s t : Bool) → 0 < n → 0 < m → share_by size a n b m s t ≡ false → IsApart size a n b m s t
-unshared size a n b m s t p q h = grind (arith, nat_tests, cases_lt, other, ltb-false)
+unshared size a n b m s t p q h = grind (arith, nat_tests, cases_lt, ltb-false)
 
 turned : (size a n b m : ℕ) (s t : Bool) → IsApart size a n b m s t → IsApart size b m a n t s
 turned size a n b m s t h = grind (arith, nat_tests)
@@ -49,13 +46,8 @@ turned size a n b m s t h = grind (arith, nat_tests)
 pub vars_apart : (header : Header) (k m : ℕ) (v w : Var) → is_sound header ≡ true → slice_get header.vars k ≡ Some v → slice_get header.vars m ≡ Some w
     → (k ≡ m → ⊥) → IsApart (recsize header) v.begin (slab header v) w.begin (slab header w) (is_record header v) (is_record header w)
 vars_apart header k m v w sound h g differ = elim (cases_lt k m) [
-  | inl l ↦ alone k m v w h g l
-  | inr l ↦ elim (cases_lt m k) [
-    | inl o ↦ turned (recsize header) w.begin (slab header w) v.begin (slab header v) (is_record header w) (is_record header v) (alone m k w v g h o)
-    | inr o ↦ absurd (differ (omega arith))
-  ]
+  | inl l ↦ grind (arith, nat_tests, unshared, slab_holds, none_from, none_shared)
+  | inr l ↦
+      let o : m < k = grind (arith, nat_tests, l, differ) in
+      turned (recsize header) w.begin (slab header w) v.begin (slab header v) (is_record header w) (is_record header v) (grind (arith, nat_tests, o, unshared, slab_holds, none_from, none_shared))
 ]
-  where
-    alone : (i j : ℕ) (x y : Var) → slice_get header.vars i ≡ Some x → slice_get header.vars j ≡ Some y → i < j
-        → IsApart (recsize header) x.begin (slab header x) y.begin (slab header y) (is_record header x) (is_record header y)
-    alone i j x y e f l = grind (arith, nat_tests, unshared, slab_holds, none_from, none_shared)
