@@ -1,5 +1,5 @@
 -- The ranks of a script agree on the kinds of their collective calls.
-use Rattle.script_laws.proofs.Words.{◌≡◌, ◌∙◌, ◌≤◌, ◌<◌, ℕ, zero, suc, ◌+◌, List, [], ◌∷◌, length, map, Bool, true, false, not, Some, None, Ok, refl, ap, arith, find, position, is_some, option_map, ◌==◌, nat_lt, bytes_eq, ltb-false, eq-or-lt_of_le, true≢false, AllByRecursion, list_all, range_with_len, position_or_len, prefix_len, bytes_eq-Decides, and_from, finished, each_weaker, found_passes, none_before_map, not_some, untold, Call, MeetKind, kinds, kind_number, kind_numbers, agree, Line, kind_at, differs_at, is_difference, first_difference, mismatch, finish, nat_tests}
+use Rattle.script_laws.proofs.Words.{◌≡◌, ◌≤◌, ◌<◌, ℕ, zero, suc, ◌+◌, List, [], ◌∷◌, length, map, Bool, true, false, not, Some, None, Ok, refl, arith, find, position, is_some, option_map, ◌==◌, nat_lt, bytes_eq, ltb-false, eq-or-lt_of_le, true≢false, AllByRecursion, list_all, range_with_len, position_or_len, prefix_len, bytes_eq-Decides, and_from, finished, each_weaker, found_passes, none_before_map, not_some, untold, Call, MeetKind, kinds, kind_number, kind_numbers, agree, Line, kind_at, differs_at, is_difference, first_difference, mismatch, finish, nat_tests}
 use Rattle.nc_base.specs.declared.errors.ScriptKind.TheVariants as kind
 
 -- ---- no difference
@@ -44,10 +44,9 @@ numbers own = map (λ k. kind_number (Some k)) own
 
 same_numbers : (own first : List MeetKind) → ((k : ℕ) → k ≤ length first → SameAt first k own) → numbers own ≡ numbers first
 same_numbers [] [] h = refl
-same_numbers [] (y ∷ ys) h = let e : 0 ≡ kind_number (Some y) = h 0 (omega arith) in absurd (omega (arith, some_number y))
-same_numbers (x ∷ xs) [] h = let e : kind_number (Some x) ≡ 0 = h 0 (omega arith) in absurd (omega (arith, some_number x))
-same_numbers (x ∷ xs) (y ∷ ys) h =
-    ap (λ (n : ℕ). n ∷ numbers xs) (h 0 (omega arith)) ∙ ap (λ (ns : List ℕ). kind_number (Some y) ∷ ns) (same_numbers xs ys (λ k l. h (suc k) (omega arith)))
+same_numbers [] (y ∷ ys) h = grind (arith, nat_tests, h 0, some_number y)
+same_numbers (x ∷ xs) [] h = grind (arith, nat_tests, h 0, some_number x)
+same_numbers (x ∷ xs) (y ∷ ys) h = grind (arith, nat_tests, h 0, same_numbers xs ys (λ k l. h (suc k) (omega arith)))
 
 mapped_pass : (test : List Call → Bool) (Q : List MeetKind → Type 0) → ((own : List Call) → Q (kinds own) → test own ≡ true) → (calls : List (List Call))
     → AllByRecursion Q (map (λ own. kinds own) calls) → list_all test calls ≡ true

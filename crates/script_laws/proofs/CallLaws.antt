@@ -1,5 +1,5 @@
 -- The calls of a script, each as it is read.
-use Rattle.script_laws.proofs.Words.{◌≡◌, ℕ, zero, suc, ◌+◌, ◌^◌, ◌<◌, ◌≤◌, List, [], ◌∷◌, ◌++◌, length, Bool, true, false, Option, Some, None, Result, IfOk, IfSome, refl, arith, ◌==◌, map, codes, option_and_then, length-append, lt-ltb, le-leb, ltb-false, AllByRecursion, each_passes, IfOk-weaker, and_from, each_push, if_some_at, Values, Numbers, Form, Part, PostKind, Iput, Iget, Bput, Call, count_of, most_values, most_parts, is_size, are_sizes, is_part, has_lists_of, is_given, is_post_of, is_lawful_call, values_in_call, Word, size_of_text, between_brackets, parts, all_some, list_of_text, ◌>>=◌, or_fault, size, list, name, ended, values, after_prefix, form_and_all, form_of_text, given_of, given_parts, part, part_list, many_regions, region, id_of_post, posted, put_call, get_call, post_values, is_posted, new_id, post_call, plain_call, post_of_text, call_of, size_read, faultless_some, found_row, made_no_values, made_no_post, nat_tests}
+use Rattle.script_laws.proofs.Words.{◌≡◌, ℕ, zero, suc, ◌+◌, ◌^◌, ◌<◌, ◌≤◌, List, [], ◌∷◌, ◌++◌, length, Bool, true, false, Some, None, Result, IfOk, IfSome, refl, arith, ◌==◌, codes, option_and_then, length-append, lt-ltb, le-leb, ltb-false, AllByRecursion, each_passes, and_from, each_push, if_some_at, Values, Numbers, Form, Part, PostKind, Iget, Call, count_of, most_values, most_parts, is_size, are_sizes, is_part, has_lists_of, is_given, is_post_of, is_lawful_call, values_in_call, Word, size_of_text, list_of_text, ◌>>=◌, or_fault, size, list, after_prefix, form_and_all, form_of_text, given_of, given_parts, part, part_list, many_regions, region, id_of_post, posted, put_call, get_call, post_values, is_posted, new_id, post_call, plain_call, post_of_text, call_of, size_read, faultless_some, found_row, made_no_values, made_no_post, nat_tests, common_steps}
 use Rattle.nc_base.specs.declared.errors.ScriptKind.{ScriptKind}
 use Rattle.nc_base.specs.declared.errors.ScriptKind.TheVariants as kind
 use Rattle.nc_base.specs.declared.request.Form.TheVariants as form
@@ -13,13 +13,7 @@ size_word : (ws : List Word) → IfOk (size ws) (λ r. r.0 < 2 ^ 63)
 size_word ws = read_as size_of_text kind.BadNumber ws (λ n. n < 2 ^ 63) size_read
 
 sizes_read : (w : List ℕ) (ns : List ℕ) → list_of_text w ≡ Some ns → are_sizes ns ≡ true
-sizes_read w ns h = by_inside (between_brackets w) h
-  where
-    by_inside : (o : Option (List ℕ)) → option_and_then (λ inside. all_some (map size_of_text (parts inside))) o ≡ Some ns → are_sizes ns ≡ true
-    by_inside None e = absurd (cc)
-    by_inside (Some inside) e =
-        all_pass is_size (λ n. n < 2 ^ 63) (λ n small. lt-ltb n (2 ^ 63) small) ns
-        (if_some_at (λ xs. AllByRecursion (λ n. n < 2 ^ 63) xs) (all_some (map size_of_text (parts inside))) ns e (found_all (λ n. n < 2 ^ 63) size_of_text size_read (parts inside)))
+sizes_read w ns h = grind (arith, nat_tests, option_and_then, if_some_at (λ xs. AllByRecursion (λ n. n < 2 ^ 63) xs), found_all (λ n. n < 2 ^ 63) size_of_text size_read, all_pass is_size (λ n. n < 2 ^ 63) (λ n small. lt-ltb n (2 ^ 63) small) ns)
 
 sizes_then : {B : Type 0} (ws : List Word) (g : List ℕ × List Word → Result B ScriptKind) (P : B → Type 0) → ((r : List ℕ × List Word) → are_sizes r.0 ≡ true → IfOk (g r) P) → IfOk (list ws >>= g) P
 sizes_then ws g P h = word_then list_of_text kind.BadNumber ws g P (λ ns. are_sizes ns ≡ true) sizes_read h
@@ -72,17 +66,10 @@ pub record FitsCall (ranks r before : ℕ) (own : List Call) (c : Call) : Type 0
   pub fresh : IfSome (id_of_post c) (λ id. is_posted id (posted own) ≡ false)
 
 put_read : (ranks r before : ℕ) (own : List Call) (all : Bool) (f : Form) (ws : List Word) → before ≤ most_values → IfOk (put_call all f before ws) (FitsCall ranks r before own)
-put_read ranks r before own all f ws h =
-    first_then (name ws) _ _ (λ v _.
-    then_with (region f v.1) _ _ (λ g. is_given g.0 ≡ true) (region_read f v.1) (λ g good.
-    then_with (values None before g.1) _ _ (FitsValues None before) (values_read None before g.1 h) (λ vs fits.
-    record { lawful = and_from _ _ good (fits.lawful refl); few = fits.few; fresh = tt })))
+put_read ranks r before own all f ws h = grind (arith, common_steps, first_then, then_with, region_read f, values_read None before, FitsValues)
 
 get_read : (ranks r before : ℕ) (own : List Call) (all : Bool) (f : Form) (ws : List Word) → before ≤ most_values → IfOk (get_call all f ws) (FitsCall ranks r before own)
-get_read ranks r before own all f ws h =
-    first_then (name ws) _ _ (λ v _.
-    then_with (region f v.1) _ _ (λ g. is_given g.0 ≡ true) (region_read f v.1) (λ g good.
-    first_then (ended g.1) _ _ (λ _ _. record { lawful = good; few = omega arith; fresh = tt })))
+get_read ranks r before own all f ws h = grind (arith, common_steps, first_then, then_with, region_read f)
 
 record FitsPost (k : PostKind) (before : ℕ) (vs : Values) : Type 0 where
   lawful : is_post_of k vs ≡ true
@@ -90,19 +77,13 @@ record FitsPost (k : PostKind) (before : ℕ) (vs : Values) : Type 0 where
 
 post_values_read : (k : PostKind) (before : ℕ) (ws : List Word) → before ≤ most_values → IfOk (post_values k before ws) (FitsPost k before)
 post_values_read Iget before ws h = whole_line (Numbers []) ws (FitsPost Iget before) (record { lawful = refl; few = omega arith })
-post_values_read Iput before ws h = IfOk-weaker (values None before ws) (FitsValues None before) (FitsPost Iput before) (λ vs f. record { lawful = f.lawful refl; few = f.few }) (values_read None before ws h)
-post_values_read Bput before ws h = IfOk-weaker (values None before ws) (FitsValues None before) (FitsPost Bput before) (λ vs f. record { lawful = f.lawful refl; few = f.few }) (values_read None before ws h)
+post_values_read k before ws h = grind (arith, nat_tests, values_read None before ws h)
 
 id_read : (ids : List ℕ) (ws : List Word) → IfOk (new_id ids ws) (λ r. is_posted r.0 ids ≡ false)
 id_read ids ws = grind (arith, nat_tests, first_then, then_with, unless_refused)
 
 post_read : (ranks r before : ℕ) (own : List Call) (k : PostKind) (f : Form) (ws : List Word) → before ≤ most_values → IfOk (post_call k (posted own) f before ws) (FitsCall ranks r before own)
-post_read ranks r before own k f ws h =
-    then_with (new_id (posted own) ws) _ _ (λ id. is_posted id.0 (posted own) ≡ false) (id_read (posted own) ws) (λ id new.
-    first_then (name id.1) _ _ (λ v _.
-    then_with (region f v.1) _ _ (λ g. is_given g.0 ≡ true) (region_read f v.1) (λ g good.
-    then_with (post_values k before g.1) _ _ (FitsPost k before) (post_values_read k before g.1 h) (λ vs fits.
-    record { lawful = and_from _ _ good fits.lawful; few = fits.few; fresh = new }))))
+post_read ranks r before own k f ws h = grind (arith, common_steps, first_then, then_with, id_read (posted own) ws, region_read f, post_values_read k before)
 
 plain_read : (ranks r before : ℕ) (own : List Call) (w : List ℕ) (ws : List Word) → before ≤ most_values → IfOk (plain_call ranks r w ws) (FitsCall ranks r before own)
 plain_read ranks r before own w ws h = grind (arith, nat_tests, first_then, found_row, faultless_some, then_with, size_word, whole_line, lt-ltb, made_no_values, made_no_post)

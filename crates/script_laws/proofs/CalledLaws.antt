@@ -1,5 +1,5 @@
 -- The calls of all ranks, line by line.
-use Rattle.script_laws.proofs.Words.{◌≡◌, ◌∙◌, ℕ, zero, suc, ◌+◌, ◌≤◌, List, [], ◌∷◌, ◌++◌, length, map, replicate, sum, Bool, true, false, Ok, IfOk, refl, sym, ap, subst, arith, ◌==◌, slice_set, bytes_eq, codes, length-set, length-append, append-nil, le_of_eq, AllByRecursion, list_any, list_all, enumerate_from, filter_map-append, list_any-append, length-replicate, and_from, one_posted, none_posted, each_push, and_first, and_second, or_first_false, or_second_false, Call, most_values, is_lawful_call, values_in_call, posted_ids, are_different, each_passes, Word, Line, ◌>>=◌, bare, next, id_of_post, posted, Called, calls_of, rank_of_text, with_call, call_of, call_line, called_after, at_line, call_step, data_part, nat_tests}
+use Rattle.script_laws.proofs.Words.{◌≡◌, ◌∙◌, ℕ, zero, suc, ◌+◌, ◌≤◌, List, [], ◌∷◌, ◌++◌, length, map, replicate, sum, Bool, true, false, IfOk, refl, sym, ap, subst, arith, ◌==◌, slice_set, length-set, length-append, append-nil, le_of_eq, AllByRecursion, list_any, list_all, enumerate_from, filter_map-append, and_from, one_posted, none_posted, each_push, and_first, and_second, or_first_false, or_second_false, Call, most_values, is_lawful_call, values_in_call, posted_ids, are_different, each_passes, Word, Line, next, id_of_post, posted, Called, calls_of, rank_of_text, with_call, call_of, call_line, called_after, at_line, call_step, data_part, nat_tests, common_steps}
 use Rattle.script_laws.proofs.ListLaws.{sum_cons, sum_more}
 use Rattle.script_laws.proofs.StepLaws.{first_then, then_with, ok_then, by_test, whole_line, at_line_kept}
 use Rattle.script_laws.proofs.CallLaws.{FitsCall, call_read}
@@ -7,11 +7,9 @@ use Rattle.script_laws.proofs.CallLaws.{FitsCall, call_read}
 -- ---- a call more of one rank
 
 rank_set : (F : ℕ → List Call → Type 0) (calls : List (List Call)) (r : ℕ) (new : List Call) → ((k : ℕ) → F k (calls_of k calls)) → F r new → (k : ℕ) → F k (calls_of k (slice_set calls r new))
-rank_set F [] r new h p k = h k
 rank_set F (own ∷ calls) zero new h p zero = p
-rank_set F (own ∷ calls) zero new h p (suc k) = h (suc k)
-rank_set F (own ∷ calls) (suc r) new h p zero = h zero
 rank_set F (own ∷ calls) (suc r) new h p (suc k) = rank_set (λ i. F (suc i)) calls r new (λ i. h (suc i)) p k
+rank_set F calls r new h p k = h k
 
 sum_grown : (f : List Call → ℕ) (calls : List (List Call)) (r n : ℕ) (c : Call) → ((own : List Call) → f (own ++ c ∷ []) ≤ f own + n)
     → sum (map f (slice_set calls r (calls_of r calls ++ c ∷ []))) ≤ sum (map f calls) + n
@@ -23,8 +21,7 @@ sum_grown f (own ∷ calls) (suc r) n c h = omega (arith, sum_cons f own (slice_
 
 different_more : (ids : List ℕ) (id : ℕ) → are_different ids ≡ true → list_any (λ other. id == other) ids ≡ false → are_different (ids ++ id ∷ []) ≡ true
 different_more [] id h new = refl
-different_more (n ∷ ns) id h new =
-    grind (arith, nat_tests, list_any-append (λ m. m == n) ns (id ∷ []), different_more ns id, and_first, and_second, or_first_false, or_second_false)
+different_more (n ∷ ns) id h new = grind (arith, common_steps, different_more ns id, and_first, and_second, or_first_false, or_second_false)
 
 posted_more : (own : List Call) (c : Call) (ids : List ℕ) → posted (c ∷ []) ≡ ids → posted (own ++ c ∷ []) ≡ posted own ++ ids
 posted_more own c ids h = filter_map-append id_of_post own (c ∷ []) ∙ ap (λ (more : List ℕ). posted own ++ more) h
@@ -52,13 +49,7 @@ later_calls size lines more base d h f = grind (arith, nat_tests)
 call_added : (size lines base : ℕ) (d : Called) (r : ℕ) (c : Call) → FitsCalled size lines base d → FitsCall size r d.values (calls_of r d.calls) c → FitsCalled size (suc lines) base (with_call r c d)
 call_added size lines base d r c f new =
     let own = calls_of r d.calls in
-    record {
-      ranks = length-set d.calls r (own ++ c ∷ []) ∙ f.ranks;
-      each = grind (arith, nat_tests, rank_set (OwnCalls size) d.calls r (own ++ c ∷ []) f.each, each_push, posted_more, none_posted, append-nil, one_posted, different_more, new.lawful, new.fresh);
-      few_calls = let few = f.few_calls in omega (arith, sum_grown (λ x. length x) d.calls r 1 c (λ x. le_of_eq (length-append x (c ∷ []))));
-      held = let held = f.held in omega (arith, sum_grown own_values d.calls r (values_in_call c) c (λ x. le_of_eq (sum_more values_in_call x c)));
-      few = new.few;
-    }
+    grind (arith, common_steps, length-set d.calls r (own ++ c ∷ []), rank_set (OwnCalls size) d.calls r (own ++ c ∷ []) f.each, each_push, posted_more, none_posted, append-nil, one_posted, different_more, sum_grown (λ x. length x) d.calls r 1 c (λ x. le_of_eq (length-append x (c ∷ []))), sum_grown own_values d.calls r (values_in_call c) c (λ x. le_of_eq (sum_more values_in_call x c)), sum_more values_in_call)
 
 -- ---- line by line
 
@@ -72,38 +63,27 @@ module _ (size base : ℕ) where
 
   step_read : (lines : ℕ) (d : Called) (w : Word) (ws : List Word) → FitsCalled size lines base d → IfOk (call_step d w ws) (λ s. FitsCalled size (suc lines) base s.1)
   step_read lines d w ws f =
-      first_then (bare w) _ _ (λ first _.
-      by_test (bytes_eq first (codes "end")) _ (called_after d first ws >>= λ more. Ok (false, more)) (λ s. FitsCalled size (suc lines) base s.1)
-      (λ _. whole_line {A = Bool × Called} (true, d) ws _ (later_calls size lines (suc lines) base d (omega arith) f))
-      (λ _. then_with (called_after d first ws) _ _ (FitsCalled size (suc lines) base) (line_read lines d first ws f) (λ m fits. fits)))
+      grind (arith, common_steps, first_then, by_test, whole_line {A = Bool × Called} (true, d) ws, later_calls size lines (suc lines) base d, then_with, line_read lines d)
 
   pub calls_read : (past lines most : ℕ) (d : Called) (ls : List Line) → lines + length ls ≤ most → FitsCalled size lines base d → IfOk (data_part past d ls) (λ r. FitsCalled size most base r.1.0)
   calls_read past lines most d [] h f = tt
   calls_read past lines most d (l ∷ ls) h f =
       ok_then (at_line l.number (call_step d l.first l.rest)) _ (λ r. FitsCalled size most base r.1.0) (λ s. FitsCalled size (suc lines) base s.1)
-      (at_line_kept l.number _ (λ s. FitsCalled size (suc lines) base s.1) (step_read lines d l.first l.rest f)) (λ s fits.
-      by_test s.0 (Ok (l.number, (s.1, ls))) (data_part past s.1 ls) _ (λ _. later_calls size (suc lines) most base s.1 (omega arith) fits) (λ _. calls_read past (suc lines) most s.1 ls (omega arith) fits))
+      (at_line_kept l.number _ (λ s. FitsCalled size (suc lines) base s.1) (step_read lines d l.first l.rest f))
+      (λ s fits. grind (arith, nat_tests, later_calls size (suc lines) most base s.1, calls_read past (suc lines) most s.1 ls))
 
 -- ---- before the first call
 
 none_of : (n k : ℕ) → calls_of k (replicate n []) ≡ []
-none_of zero k = refl
-none_of (suc n) zero = refl
 none_of (suc n) (suc k) = none_of n k
+none_of n k = refl
 
 none_sum : (f : List Call → ℕ) (n : ℕ) → f [] ≡ 0 → sum (map f (replicate n [])) ≡ 0
 none_sum f zero h = refl
 none_sum f (suc n) h = omega (arith, sum_cons f [] (replicate n []), none_sum f n h, h)
 
 pub no_calls_fit : (size values lines : ℕ) → values ≤ most_values → FitsCalled size lines values (record { calls = replicate size []; values = values })
-no_calls_fit size values lines h =
-    record {
-      ranks = length-replicate size [];
-      each = λ r. rw (none_of size r) (record { lawful = tt; different = refl });
-      few_calls = omega (arith, none_sum (λ own. length own) size refl);
-      held = omega (arith, none_sum own_values size refl);
-      few = h;
-    }
+no_calls_fit size values lines h = grind (arith, common_steps, none_of size, none_sum (λ own. length own) size, none_sum own_values size)
 
 -- ---- the same as tests
 

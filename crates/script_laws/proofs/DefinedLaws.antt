@@ -1,10 +1,10 @@
 -- What is defined after a line, and what is known then.
-use Rattle.script_laws.proofs.Words.{◌≡◌, ℕ, zero, suc, ◌+◌, ◌≤◌, sum, map, List, [], ◌∷◌, ◌++◌, length, replicate, true, false, Option, Some, None, Ok, Err, IfOk, IfSome, subst, arith, ◌==◌, count_by, slice_set, bytes_eq, codes, length-append, is_some, AllByRecursion, same_Some, each_push, each_weaker, Dim, Attr, Var, most_dims, most_vars, most_values, attr_values, extra_values, Word, ◌>>=◌, refuse_if, reads_as, ended, HintForm, Within, Either, hint_form, hint_in, hint_of_text, hint_value, hint_line, ranks_line, number_within, is_unlimited, dim_line, var_line, owner_of_text, owner_place, attribute, Defined, no_definition, with_dim, with_var, with_attr_of_owner, with_title, att_line, dim_definition, var_definition, fill_line, definition, nothing_added, Known, nothing_known, addition, known_after, nat_tests}
+use Rattle.script_laws.proofs.Words.{◌≡◌, ℕ, zero, suc, ◌+◌, ◌≤◌, sum, map, List, [], ◌∷◌, ◌++◌, length, replicate, true, false, Option, Some, None, Ok, IfOk, IfSome, subst, arith, ◌==◌, count_by, slice_set, bytes_eq, codes, length-append, is_some, AllByRecursion, same_Some, each_push, each_weaker, Dim, Attr, Var, most_dims, most_vars, most_values, attr_values, extra_values, Word, ◌>>=◌, reads_as, HintForm, Within, Either, hint_form, hint_in, hint_of_text, hint_value, hint_line, ranks_line, is_unlimited, dim_line, var_line, owner_of_text, owner_place, attribute, Defined, no_definition, with_dim, with_var, with_attr_of_owner, with_title, att_line, dim_definition, var_definition, definition, nothing_added, Known, nothing_known, addition, known_after, nat_tests, common_steps, nat_le, and_first, and_second, eqb-true, leb-true, cond_some}
 use Rattle.nc_base.specs.declared.errors.ScriptKind.TheVariants as kind
 use Rattle.script_laws.proofs.ListLaws.{sum_more}
-use Rattle.script_laws.proofs.StepLaws.{first_then, then_with, by_test, read_as}
-use Rattle.script_laws.proofs.WordLaws.{InRange, within_read}
-use Rattle.script_laws.proofs.AddedLaws.{FitsAdded, nothing_added_fits, FitsAddition, addition_read}
+use Rattle.script_laws.proofs.StepLaws.{first_then, then_with, by_test}
+use Rattle.script_laws.proofs.WordLaws.{InRange}
+use Rattle.script_laws.proofs.AddedLaws.{FitsAdded, FitsAddition, addition_read}
 use Rattle.script_laws.proofs.DimLaws.{values_placed, FitsDim, NewDim, dim_read, one_more, FitsAttr, NewAttr, attribute_read, FitsVar, wider, later, NewVar, var_read, attr_placed, length-placed}
 
 -- ---- the definitions of a new dataset, after so many lines
@@ -31,10 +31,8 @@ var_fits version lines d x f new = grind (arith, nat_tests, length-append d.vars
 
 attr_fits : (version lines : ℕ) (d : Defined) (k : Option ℕ) (a : Attr) (owner : List ℕ) → FitsDefined version lines d → FitsAttr version a
     → FitsDefined version (suc lines) (with_title owner a.name (with_attr_of_owner k a d))
-attr_fits version lines d None a owner f fits =
-    grind (arith, nat_tests, later_defined version lines (suc lines) (omega arith) d f, length-append d.attrs (a ∷ []), each_push (FitsAttr version) d.attrs a f.attrs fits)
-attr_fits version lines d (Some k) a owner f fits =
-    grind (arith, nat_tests, later_defined version lines (suc lines) (omega arith) d f, length-placed k a d.vars, attr_placed version lines d.dims k a d.vars fits f.vars)
+attr_fits version lines d k a owner f fits =
+    grind (arith, nat_tests, later_defined version lines (suc lines) (omega arith) d f, length-append d.attrs (a ∷ []), each_push (FitsAttr version) d.attrs a f.attrs fits, length-placed, attr_placed version lines d.dims)
 
 filled_fits : (version lines : ℕ) (d : Defined) → FitsDefined version lines d → FitsDefined version lines (record d { filled = true })
 filled_fits version lines d f = grind (arith, nat_tests)
@@ -59,26 +57,21 @@ pub record FitsLine (version lines before : ℕ) (old : Defined) (r : ℕ × Def
 defined_after : (version lines before : ℕ) (d : Defined) (first : List ℕ) (ws : List Word) → before ≤ most_values → FitsDefined version lines d
     → IfOk (definition version before d first ws) (FitsLine version lines before d)
 defined_after version lines before d first ws h f =
-    by_test (bytes_eq first (codes "dim")) (dim_definition version d ws) _ P (λ _.
+    by_test (bytes_eq first (codes "dim")) (dim_definition version d ws) _ (FitsLine version lines before d) (λ _.
     then_with (dim_line version d.dims ws) _ _ (NewDim version d.dims) (dim_read version d.dims ws)
-    (λ x new. record { fits = more (with_dim x d) (dim_fits version lines d x f new); few = omega arith; held = omega arith })) (λ _.
-    by_test (bytes_eq first (codes "var")) (var_definition version d ws) _ P (λ _.
-    then_with (var_line version d.dims d.vars ws) _ _ (NewVar version lines d.dims d.vars) (var_read version lines d.dims d.vars ws)
-    (λ x new. record { fits = more (with_var x d) (var_fits version lines d x f new); few = omega arith; held = let none = var_values d x new.none in omega arith })) (λ _.
-    by_test (bytes_eq first (codes "att")) (att_line version before d ws) _ P (λ _.
+    (λ x new. record { fits = later_defined version lines (suc lines) (omega arith) (with_dim x d) (dim_fits version lines d x f new); few = omega arith; held = omega arith })) (λ _.
+    by_test (bytes_eq first (codes "var")) (var_definition version d ws) _ (FitsLine version lines before d) (λ _.
+    then_with (var_line version d.dims d.vars ws) _ _ (NewVar version lines d.dims d.vars) (var_read version lines d.dims d.vars ws) (λ x new. record {
+      fits = later_defined version lines (suc lines) (omega arith) (with_var x d) (var_fits version lines d x f new);
+      few = omega arith;
+      held = let none = var_values d x new.none in omega arith;
+    })) (λ _.
+    by_test (bytes_eq first (codes "att")) (att_line version before d ws) _ (FitsLine version lines before d) (λ _.
     first_then (reads_as owner_of_text kind.BadName ws) _ _ (λ o _.
     first_then (owner_place d.vars o.0) _ _ (λ k _.
     then_with (attribute version d.titles before o.0 o.1) _ _ (NewAttr version before) (attribute_read version d.titles before o.0 o.1 h)
     (λ a new. record { fits = attr_fits version lines d k a o.0 f new.fits; few = new.few; held = more_values d k a o.0 })))) (λ _.
-    by_test (bytes_eq first (codes "fill")) (fill_line d ws) (Err kind.UnknownWord) P (λ _.
-    first_then (refuse_if d.filled kind.TwiceNamed) _ _ (λ _ _.
-    first_then (ended ws) _ _ (λ _ _. record { fits = more (record d { filled = true }) (filled_fits version lines d f); few = omega arith; held = omega arith }))) (λ _. tt))))
-  where
-    P : ℕ × Defined → Type 0
-    P = FitsLine version lines before d
-
-    more : (e : Defined) → FitsDefined version lines e → FitsDefined version (suc lines) e
-    more e g = later_defined version lines (suc lines) (omega arith) e g
+    grind (arith, nat_tests, by_test, first_then, filled_fits version lines d f, later_defined version lines (suc lines)))))
 
 -- ---- hints
 
@@ -93,28 +86,20 @@ value_read : (form : HintForm) (ws : List Word) → IfOk (hint_value form ws) (�
 value_read form ws = grind (arith, nat_tests)
 
 hint_read : (hints : List (Option ℕ)) (ws : List Word) → IfOk (hint_line hints ws) (λ r. FitsForm (hint_form r.0) r.1)
-hint_read hints ws =
-    first_then (reads_as hint_of_text kind.UnknownWord ws) _ _ (λ h _.
-    first_then (refuse_if (is_some (hint_in h.0 hints)) kind.TwiceNamed) _ _ (λ _ _.
-    then_with (hint_value (hint_form h.0) h.1) _ _ (λ r. FitsForm (hint_form h.0) r.0) (value_read (hint_form h.0) h.1) (λ v fits.
-    first_then (ended v.1) _ _ (λ _ _. fits))))
+hint_read hints ws = first_then (reads_as hint_of_text kind.UnknownWord ws) _ _ (λ h _. grind (arith, nat_tests, first_then, then_with, value_read (hint_form h.0) h.1))
 
 no_hint : (m h n : ℕ) → hint_in h (replicate m None) ≡ Some n → ⊥
-no_hint zero h n e = cc
-no_hint (suc m) zero n e = cc
 no_hint (suc m) (suc h) n e = no_hint m h n e
+no_hint m h n e = cc
 
 one_hint : (F : ℕ → ℕ → Type 0) (hints : List (Option ℕ)) (k v : ℕ) → ((h n : ℕ) → hint_in h hints ≡ Some n → F h n) → F k v
     → (h n : ℕ) → hint_in h (slice_set hints k (Some v)) ≡ Some n → F h n
-one_hint F [] k v f p h n e = f h n e
 one_hint F (o ∷ os) zero v f p zero n e = let same : v ≡ n = same_Some v n e in subst (F zero) same p
-one_hint F (o ∷ os) zero v f p (suc h) n e = f (suc h) n e
-one_hint F (o ∷ os) (suc k) v f p zero n e = f zero n e
 one_hint F (o ∷ os) (suc k) v f p (suc h) n e = one_hint (λ i m. F (suc i) m) os k v (λ i m q. f (suc i) m q) p h n e
+one_hint F hints k v f p h n e = f h n e
 
 ranks_read : (ranks : Option ℕ) (ws : List Word) → IfOk (ranks_line ranks ws) (InRange 1 64 1)
-ranks_read ranks ws =
-    grind (arith, nat_tests, is_some ranks, read_as (number_within 1 64 1) kind.BadNumber ws (InRange 1 64 1) (within_read 1 64 1), first_then, then_with, within_read)
+ranks_read ranks ws = grind (arith, nat_tests, is_some ranks, first_then, then_with, nat_le, and_first, and_second, eqb-true, leb-true, cond_some)
 
 -- ---- what is known after so many lines; version 0 is that of an existing dataset
 
@@ -129,7 +114,7 @@ pub record FitsKnown (version lines : ℕ) (known : Known) : Type 0 where
   pub held : defined_values known.defined + extra_values known.added.extras ≤ known.values
 
 pub nothing_known_fits : (version lines : ℕ) → FitsKnown version lines nothing_known
-nothing_known_fits version lines = grind (arith, nat_tests, no_hint, nothing_added_fits)
+nothing_known_fits version lines = grind (arith, nat_tests, no_hint)
 
 pub later_known : (version lines more : ℕ) → lines ≤ more → (known : Known) → FitsKnown version lines known → FitsKnown version more known
 later_known version lines more h known f = grind (arith, nat_tests, later_defined version lines more h known.defined)
@@ -143,11 +128,8 @@ known_more version lines known first ws f =
     (λ n fits. record { ranks = fits; hints = f.hints; few = f.few; fresh = same.fresh; old = f.old; none_added = f.none_added; added = f.added; held = f.held })) (λ _.
     by_test (bytes_eq first (codes "hint")) (hint_line known.hints ws >>= λ h. Ok (record known { hints = slice_set known.hints h.0 (Some h.1) })) _ _ (λ _.
     then_with (hint_line known.hints ws) _ _ (λ r. FitsForm (hint_form r.0) r.1) (hint_read known.hints ws) (λ h fits.
-    let hints = one_hint (λ k n. FitsForm (hint_form k) n) known.hints h.0 h.1 f.hints fits in
-    record { ranks = f.ranks; hints = hints; few = f.few; fresh = same.fresh; old = f.old; none_added = f.none_added; added = f.added; held = f.held })) (λ _.
+    grind (arith, common_steps, one_hint (λ k n. FitsForm (hint_form k) n) known.hints h.0 h.1 f.hints fits))) (λ _.
     by_test (version == 0) (addition known.values known.added first ws >>= λ x. Ok (record known { added = x.1; values = known.values + x.0 })) _ _ (λ e.
-    then_with (addition known.values known.added first ws) _ _ (FitsAddition known.values known.added) (addition_read known.values known.added first ws f.few f.added) (λ x new.
-    record { ranks = f.ranks; hints = f.hints; few = new.few; fresh = same.fresh; old = f.old; none_added = λ o. absurd (cc); added = new.fits; held = omega (arith, f.held, new.held) })) (λ e.
+    then_with (addition known.values known.added first ws) _ _ (FitsAddition known.values known.added) (addition_read known.values known.added first ws f.few f.added) (grind (arith, common_steps))) (λ e.
     then_with (definition version known.values known.defined first ws) _ _ (FitsLine version lines known.values known.defined)
-    (defined_after version lines known.values known.defined first ws f.few (f.fresh e)) (λ x new.
-    record { ranks = f.ranks; hints = f.hints; few = new.few; fresh = λ _. new.fits; old = λ o. absurd (cc); none_added = f.none_added; added = f.added; held = omega (arith, f.held, new.held) }))))
+    (defined_after version lines known.values known.defined first ws f.few (f.fresh e)) (grind (arith, common_steps)))))

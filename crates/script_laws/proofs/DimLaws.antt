@@ -1,10 +1,10 @@
 -- Dimensions, variables and attributes as they are defined, line by line.
-use Rattle.script_laws.proofs.Words.{◌≡◌, ◌∙◌, ℕ, suc, ◌+◌, ◌^◌, ◌<◌, ◌≤◌, List, [], ◌∷◌, ◌++◌, length, drop, Bool, true, false, ◌&&◌, Option, Some, None, IfOk, IfSome, refl, ap, arith, nat_lt, nat_le, ◌==◌, count_by, sum, map, slice_get, slice_set, position, bytes_eq, length-append, length-set, AllByRecursion, list_any, length-map, sum_by-cons, and_from, position_below, get_left, each_push, each_weaker, each_later, each_at, fails_each, and_second, ScriptKind, NcType, Dim, Attr, Var, Values, most_dims, most_dims_of_var, most_vars, record_limit, most_values, attr_values, is_whole_attr, count_of, fits_count, is_type, is_writable_dim, is_writable_attr, Word, is_name, or_fault, name_of_text, ended, values, type_of, is_among, length_of_text, is_unlimited, dim_names, dim_line, var_head, name_list, dim_ids, is_record_dim, var_names, shape, var_line, Title, attr_of, attribute_name, attribute, with_attr_at, nat_tests, ltb-false, leb-false, eq-eqb}
+use Rattle.script_laws.proofs.Words.{◌≡◌, ◌∙◌, ℕ, suc, ◌+◌, ◌^◌, ◌<◌, ◌≤◌, List, [], ◌∷◌, ◌++◌, length, drop, Bool, true, false, ◌&&◌, Option, Some, None, IfOk, IfSome, refl, ap, arith, nat_le, ◌==◌, count_by, sum, map, slice_get, slice_set, position, bytes_eq, length-append, length-set, AllByRecursion, list_any, length-map, sum_by-cons, and_from, position_below, get_left, each_push, each_weaker, each_later, each_at, fails_each, ScriptKind, NcType, Dim, Attr, Var, Values, most_dims, most_dims_of_var, most_vars, record_limit, most_values, attr_values, count_of, fits_count, is_type, is_writable_dim, is_writable_attr, Word, is_name, or_fault, name_of_text, ended, values, type_of, is_among, length_of_text, is_unlimited, dim_names, dim_line, var_head, name_list, dim_ids, is_record_dim, var_names, shape, var_line, Title, attr_of, attribute_name, attribute, with_attr_at, nat_tests, ltb-false, leb-false, eq-eqb, common_steps}
 use Rattle.nc_base.specs.declared.errors.ScriptKind.TheVariants as kind
 use Rattle.nc_base.specs.declared.errors.LimitName.TheVariants as limit
 use Rattle.script_laws.proofs.ListLaws.{all_both, all_set, count_more, sum_set, sum_more, found_all}
 use Rattle.script_laws.proofs.StepLaws.{first_then, then_with, word_then, unless}
-use Rattle.script_laws.proofs.WordLaws.{name_short, name_read, named, type_read, length_read, small_fits, length_fits}
+use Rattle.script_laws.proofs.WordLaws.{name_short, name_read, named, type_read, length_read, small_fits}
 use Rattle.script_laws.proofs.ValueLaws.{FitsValues, values_read, bytes_long}
 
 -- ---- a dimension
@@ -19,7 +19,7 @@ pub record NewDim (version : ℕ) (dims : List Dim) (d : Dim) : Type 0 where
   pub once : (is_unlimited d && list_any is_unlimited dims) ≡ false
 
 dim_fits : (version : ℕ) (n : List ℕ) (len : ℕ) → is_name n ≡ true → len < record_limit version → FitsDim version (record { name = n; len = len })
-dim_fits version n len good short = grind (arith, nat_tests, small_fits, name_short, length_fits)
+dim_fits version n len good short = grind (arith, nat_tests, small_fits, name_short)
 
 pub dim_read : (version : ℕ) (dims : List Dim) (ws : List Word) → IfOk (dim_line version dims ws) (NewDim version dims)
 dim_read version dims ws =
@@ -45,9 +45,6 @@ FitsAttr version a = is_writable_attr version a ≡ true
 
 attr_fits : (version : ℕ) (n : List ℕ) (t : NcType) (vs : Values) → is_name n ≡ true → is_type version t ≡ true → count_of vs ≤ 2 ^ 24 → FitsAttr version (attr_of n t vs)
 attr_fits version n t vs good typed few = grind (arith, nat_tests, small_fits, name_short, eq-eqb, bytes_long, and_from)
-
-pub attr_whole : (version : ℕ) (a : Attr) → FitsAttr version a → is_whole_attr a ≡ true
-attr_whole version a h = grind (arith, nat_tests, and_second)
 
 title_named : (titles : List Title) (owner : List ℕ) (ws : List Word) → IfOk (attribute_name titles owner ws) (λ r. is_name r.0 ≡ true)
 title_named titles owner ws = grind (arith, nat_tests, named ws, then_with, first_then)
@@ -81,9 +78,7 @@ still_inner dims d id h e = ap (λ (o : Option Dim). elim o as (λ _. Bool) [ No
 pub wider : (version lines : ℕ) (dims : List Dim) (d : Dim) (v : Var) → FitsVar version lines dims v → FitsVar version lines (dims ++ d ∷ []) v
 wider version lines dims d v f =
     let ids = each_weaker (λ id. id < length dims) (λ id. id < length (dims ++ d ∷ [])) (λ id h. omega (arith, length-append dims (d ∷ []))) v.dims f.ids in
-    let inner = each_weaker (λ id. (id < length dims) × (is_record_dim dims id ≡ false)) (λ id. is_record_dim (dims ++ d ∷ []) id ≡ false) (λ id h. still_inner dims d id h.0 h.1) (drop 1 v.dims)
-    (all_both (λ id. id < length dims) (λ id. is_record_dim dims id ≡ false) (drop 1 v.dims) (each_later (λ id. id < length dims) v.dims f.ids) f.inner) in
-    grind (arith, nat_tests, f, ids, inner)
+    grind (arith, common_steps, each_weaker (λ id. (id < length dims) × (is_record_dim dims id ≡ false)) (λ id. is_record_dim (dims ++ d ∷ []) id ≡ false) (λ id h. still_inner dims d id h.0 h.1) (drop 1 v.dims), still_inner dims d, all_both (λ id. id < length dims) (λ id. is_record_dim dims id ≡ false) (drop 1 v.dims) (each_later (λ id. id < length dims) v.dims f.ids) f.inner, each_later (λ id. id < length dims) v.dims f.ids)
 
 pub later : (version lines more : ℕ) (dims : List Dim) → lines ≤ more → (v : Var) → FitsVar version lines dims v → FitsVar version more dims v
 later version lines more dims h v f = grind (arith, nat_tests, named)
@@ -95,8 +90,7 @@ some_or_fault e o P h = grind (arith, nat_tests)
 
 ids_found : (dims : List Dim) (names : List (List ℕ)) → IfSome (dim_ids dims names) (λ ids. AllByRecursion (λ id. id < length dims) ids)
 ids_found dims names =
-    found_all (λ id. id < length dims) (λ n. position (bytes_eq n) (dim_names dims))
-    (λ n id e. let b = position_below (bytes_eq n) (dim_names dims) id e in omega (arith, length-map dims (λ (d : Dim). d.name))) names
+    found_all (λ id. id < length dims) (λ n. position (bytes_eq n) (dim_names dims)) (λ n id e. grind (arith, position_below (bytes_eq n) (dim_names dims) id e, length-map dims (λ (d : Dim). d.name))) names
 
 record FitsShape (dims : List Dim) (ids : List ℕ) : Type 0 where
   few : length ids ≤ most_dims_of_var
@@ -107,9 +101,8 @@ shaped : (dims : List Dim) (ws : List Word) → IfOk (shape dims ws) (λ r. Fits
 shaped dims ws =
     first_then (name_list ws) _ _ (λ names _.
     then_with (or_fault kind.UnknownName (dim_ids dims names.0)) _ _ (λ ids. AllByRecursion (λ id. id < length dims) ids)
-    (some_or_fault kind.UnknownName (dim_ids dims names.0) (λ ids. AllByRecursion (λ id. id < length dims) ids) (ids_found dims names.0)) (λ ids below.
-    unless (nat_lt most_dims_of_var (length ids)) (kind.Limit limit.VarDims) _ _ (λ few. unless (list_any (is_record_dim dims) (drop 1 ids)) kind.BadShape _ _ (λ records.
-    record { few = ltb-false most_dims_of_var (length ids) few; below = below; inner = fails_each (is_record_dim dims) (drop 1 ids) records }))))
+    (some_or_fault kind.UnknownName (dim_ids dims names.0) (λ ids. AllByRecursion (λ id. id < length dims) ids) (ids_found dims names.0))
+    (λ ids below. grind (arith, nat_tests, unless, ltb-false, fails_each (is_record_dim dims))))
 
 pub record NewHead (version : ℕ) (names : List (List ℕ)) (t : NcType) (n : List ℕ) : Type 0 where
   pub typed : is_type version t ≡ true
@@ -128,12 +121,7 @@ pub var_read : (version lines : ℕ) (dims : List Dim) (vars : List Var) (ws : L
 var_read version lines dims vars ws =
     then_with (var_head version (var_names vars) ws) _ _ (λ r. NewHead version (var_names vars) r.0.0 r.0.1) (head_read version (var_names vars) ws) (λ v head.
     then_with (shape dims v.1) _ _ (λ r. FitsShape dims r.0) (shaped dims v.1) (λ ids fits.
-    first_then (ended ids.1) _ _ (λ _ _.
-    record {
-      none = refl;
-      fits = grind (arith, nat_tests, named, small_fits, name_short, head.typed, fits.few, fits.below, fits.inner);
-      room = let room = head.room in omega (arith, length-map vars (λ (x : Var). x.name));
-    })))
+    first_then (ended ids.1) _ _ (grind (arith, common_steps, named, small_fits, name_short))))
 
 -- ---- an attribute more of one variable
 

@@ -1,5 +1,5 @@
 -- The header of a script for a new dataset.
-use Rattle.script_laws.proofs.Words.{◌≡◌, ℕ, List, true, arith, nat_le, ◌==◌, count_by, slice_get, each_passes, lt-leb, and_from, not-true, Script, is_version, counts_are_small, is_writable_attr, is_unplaced, has_writable_parts, is_unlimited, Defined, header_of, most_lines, Reads, nat_tests, le-leb}
+use Rattle.script_laws.proofs.Words.{◌≡◌, ℕ, List, true, arith, nat_le, ◌==◌, count_by, slice_get, each_passes, lt-leb, and_from, not-true, Script, is_version, is_writable_attr, is_unplaced, has_writable_parts, is_unlimited, Defined, header_of, most_lines, Reads, nat_tests, le-leb}
 use Rattle.script_laws.proofs.ListLaws.{all_pass, none_passes}
 use Rattle.script_laws.proofs.WordLaws.{small_fits}
 use Rattle.script_laws.proofs.DefinedLaws.{FitsDefined}
@@ -7,12 +7,9 @@ use Rattle.script_laws.proofs.ReadLaws.{read_script}
 
 -- ---- variables without places
 
-small_counts : (version lines : ℕ) (d : Defined) → FitsDefined version lines d → counts_are_small (header_of version d) ≡ true
-small_counts version lines d f = grind (arith, nat_tests, le-leb, all_pass, nat_le)
-
 unplaced_of : (version lines : ℕ) (d : Defined) → is_version version ≡ true → FitsDefined version lines d → is_unplaced (header_of version d) ≡ true
 unplaced_of version lines d good f =
-    grind (arith, nat_tests, count_by is_unlimited d.dims, slice_get, none_passes, nat_le, lt-leb, small_counts version lines d f)
+    grind (arith, nat_tests, count_by is_unlimited d.dims, slice_get, none_passes, nat_le, lt-leb, le-leb, all_pass)
 
 pub read_unplaced : (text : List ℕ) (s : Script) → Reads text s → s.fresh ≡ true → is_unplaced s.header ≡ true
 read_unplaced text s =

@@ -1,5 +1,5 @@
 -- Lists whose elements all are of one kind.
-use Rattle.script_laws.proofs.Words.{◌≡◌, ℕ, zero, suc, ◌+◌, ◌≤◌, cond, sum, count_by, arith, List, [], ◌∷◌, ◌++◌, map, Bool, true, false, Option, Some, IfSome, slice_get, slice_set, AllByRecursion, list_any, list_all, sum_by-cons, sum_by_push, same_Some, all_some, each_passes, each_fails, each_weaker, map_push, ◌∙◌, ap, nat_tests}
+use Rattle.script_laws.proofs.Words.{◌≡◌, ℕ, zero, suc, ◌+◌, ◌≤◌, cond, sum, count_by, arith, List, [], ◌∷◌, ◌++◌, map, Bool, true, false, Option, Some, IfSome, slice_get, slice_set, AllByRecursion, list_any, list_all, sum_by-cons, sum_by_push, same_Some, all_some, each_passes, each_fails, each_weaker, map_push, ◌∙◌, ap, nat_tests, common_steps}
 
 -- ---- all of them
 
@@ -9,8 +9,7 @@ all_both P Q (x ∷ xs) h k = ((h.0, k.0), all_both P Q xs h.1 k.1)
 
 pub all_set : {A : Type 0} (P : A → Type 0) (xs : List A) (k : ℕ) (x : A) → AllByRecursion P xs → P x → AllByRecursion P (slice_set xs k x)
 all_set P [] k x h p = tt
-all_set P (y ∷ ys) zero x h p = (p, h.1)
-all_set P (y ∷ ys) (suc k) x h p = (h.0, all_set P ys k x h.1 p)
+all_set P (y ∷ ys) k x h p = grind (arith, common_steps, all_set P ys k x h.1 p)
 
 -- ---- the same as tests
 
@@ -22,13 +21,9 @@ none_passes test P f xs h = each_fails test xs (each_weaker P (λ x. test x ≡ 
 
 -- ---- what is found of each
 
-found_first : {A : Type 0} (P : A → Type 0) (o : Option A) (os : List (Option A)) → ((x : A) → o ≡ Some x → P x) → IfSome (all_some os) (λ xs. AllByRecursion P xs)
-    → IfSome (all_some (o ∷ os)) (λ xs. AllByRecursion P xs)
-found_first P o os f h = grind (arith, nat_tests)
-
 pub found_all : {A B : Type 0} (P : A → Type 0) (f : B → Option A) → ((b : B) (x : A) → f b ≡ Some x → P x) → (bs : List B) → IfSome (all_some (map f bs)) (λ xs. AllByRecursion P xs)
 found_all P f h [] = tt
-found_all P f h (b ∷ bs) = found_first P (f b) (map f bs) (h b) (found_all P f h bs)
+found_all P f h (b ∷ bs) = grind (arith, nat_tests, found_all P f h bs)
 
 -- ---- sums
 

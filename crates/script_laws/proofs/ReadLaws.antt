@@ -1,5 +1,5 @@
 -- A whole script that is read.
-use Rattle.script_laws.proofs.Words.{◌≡◌, ℕ, suc, ◌+◌, ◌≤◌, List, [], ◌∷◌, length, take, true, false, not, Option, Some, None, Result, Ok, Err, IfOk, IfSome, arith, nat_lt, nat_le, ◌==◌, bytes_eq, codes, length-append, utf8_valid_len, enumerate_from, length-enumerate_from, cond_some, faultless_some, if_some_at, ScriptErr, Call, Script, is_version, agree, Word, Line, text_lines, significant, significant_of, line_of, words, ◌>>=◌, or_fault, bare, Known, nothing_known, known_after, at_line, head, data_line, definition_step, definitions, data_part, finish, script_of, no_calls, script_of_lines, most_bytes, most_lines, newlines, within_lines, script_of_utf8, script_of_text, Reads, nat_tests, ltb-false}
+use Rattle.script_laws.proofs.Words.{◌≡◌, ℕ, suc, ◌+◌, ◌≤◌, List, [], ◌∷◌, length, take, true, false, not, Option, Some, None, Ok, Err, IfOk, IfSome, arith, nat_lt, nat_le, ◌==◌, bytes_eq, codes, utf8_valid_len, enumerate_from, length-enumerate_from, cond_some, faultless_some, if_some_at, Call, Script, is_version, agree, Word, Line, text_lines, significant, significant_of, ◌>>=◌, bare, Known, nothing_known, known_after, at_line, head, data_line, definition_step, definitions, data_part, finish, script_of, no_calls, script_of_lines, most_bytes, most_lines, newlines, script_of_utf8, script_of_text, Reads, nat_tests, ltb-false, common_steps}
 use Rattle.nc_base.specs.declared.errors.ScriptKind.TheVariants as kind
 use Rattle.script_laws.proofs.StepLaws.{first_then, then_with, ok_then, by_test, by_some, if_read, read_as, whole_line, at_line_kept}
 use Rattle.script_laws.proofs.WordLaws.{InRange}
@@ -26,9 +26,7 @@ step_kept : (version lines : ℕ) (known : Known) (w : Word) (ws : List Word) �
 step_kept version lines known w ws f =
     first_then (bare w) _ _ (λ first _.
     by_test (bytes_eq first (codes "data")) (data_line known ws >>= λ ranks. Ok (Some ranks, known)) (known_after version known first ws >>= λ more. Ok (None, more)) (FitsStep version (suc lines))
-    (λ _. then_with (data_line known ws) _ _ (InRange 1 64 1)
-    (first_then (or_fault kind.MissingWord known.ranks) _ _ (λ ranks told. whole_line ranks ws (InRange 1 64 1) (if_some_at (InRange 1 64 1) known.ranks ranks (faultless_some _ _ ranks told) f.ranks)))
-    (λ ranks fits. record { known = later_known version lines (suc lines) (omega arith) known f; ranks = fits }))
+    (λ _. grind (arith, nat_tests, first_then, then_with, whole_line, if_some_at (InRange 1 64 1) known.ranks, faultless_some, f.ranks, later_known version lines (suc lines)))
     (λ _. then_with (known_after version known first ws) _ _ (FitsKnown version (suc lines)) (known_more version lines known first ws f) (λ more fits. record { known = fits; ranks = tt })))
 
 -- what the definitions give
@@ -43,9 +41,7 @@ definitions_kept past version lines most known [] h f = tt
 definitions_kept past version lines most known (l ∷ ls) h f =
     ok_then (at_line l.number (definition_step version known l.first l.rest)) _ (FitsDefinitions version most) (FitsStep version (suc lines))
     (at_line_kept l.number _ (FitsStep version (suc lines)) (step_kept version lines known l.first l.rest f))
-    (λ s fits. by_some s.0 (λ ranks. Ok (ranks, (s.1, ls))) (definitions past version s.1 ls) _
-    (λ ranks e. record { known = later_known version (suc lines) most (omega arith) s.1 fits.known; ranks = if_some_at (InRange 1 64 1) s.0 ranks e fits.ranks; rest = omega arith })
-    (definitions_kept past version (suc lines) most s.1 ls (omega arith) fits.known))
+    (λ s fits. grind (arith, common_steps, by_some s.0 (λ ranks. Ok (ranks, (s.1, ls))) (definitions past version s.1 ls), later_known version (suc lines) most, if_some_at (InRange 1 64 1) s.0, definitions_kept past version (suc lines) most s.1 ls))
 
 -- ---- the whole
 
@@ -80,19 +76,12 @@ lines_kept past most (l ∷ ls) P h f =
 
 -- ---- the lines of a text
 
-few_words : (n : ℕ) (ws : List Word) → length (line_of n ws) ≤ 1
-few_words n ws = grind (arith, nat_tests)
-
 few_significant : (numbered : List (ℕ × List ℕ)) → length (significant_of numbered) ≤ length numbered
 few_significant [] = omega arith
-few_significant (l ∷ ls) = omega (arith, few_words l.0 (words l.1), few_significant ls, length-append (line_of l.0 (words l.1)) (significant_of ls))
+few_significant (l ∷ ls) = grind (arith, nat_tests, few_significant ls)
 
 few_lines : (text : List ℕ) → length (significant text) ≤ length (text_lines text)
 few_lines text = omega (arith, few_significant (enumerate_from 1 (text_lines text)), length-enumerate_from 1 (text_lines text))
-
--- a text that is read has no more lines than the limit
-lines_within : (n : ℕ) (told : Result Script ScriptErr) (P : Script → Type 0) → (n ≤ most_lines → IfOk told P) → IfOk (within_lines n told) P
-lines_within n told P f = grind (arith, nat_tests, nat_lt most_lines n, ltb-false, nat_le, not)
 
 -- What holds of every script that is made of fitting parts holds of one that is read.
 pub read_script : (text : List ℕ) (s : Script) (P : Script → Type 0)
@@ -100,6 +89,4 @@ pub read_script : (text : List ℕ) (s : Script) (P : Script → Type 0)
     → Reads text s → P s
 read_script text s P f h =
     let past = length (text_lines text) + 1 in
-    if_read (script_of_text text) P s h (by_test (nat_lt most_bytes (length text)) _ _ P (λ _. tt) (λ _.
-    by_test (utf8_valid_len text == length text) (script_of_utf8 text) (Err (record { line = newlines (take (utf8_valid_len text) text) + 1; kind = kind.NotUtf8 })) P
-    (λ _. lines_within (length (text_lines text)) (script_of_lines past (significant text)) P (λ few. lines_kept past most_lines (significant text) P (omega (arith, few_lines text)) f)) (λ _. tt)))
+    if_read (script_of_text text) P s h (by_test (nat_lt most_bytes (length text)) _ _ P (λ _. tt) (grind (arith, common_steps, by_test (utf8_valid_len text == length text) (script_of_utf8 text) (Err (record { line = newlines (take (utf8_valid_len text) text) + 1; kind = kind.NotUtf8 })) P, lines_kept past most_lines (significant text) P, few_lines text, nat_lt, ltb-false, nat_le, not)))

@@ -1,5 +1,5 @@
 -- The hints and the calls of a script, and the header of one for an existing dataset.
-use Rattle.script_laws.proofs.Words.{◌≡◌, ◌∙◌, ℕ, ◌≤◌, List, length, false, Option, Some, refl, ap, arith, ◌==◌, unwrap_or, not-false, Script, hint_in, hint_or, Defined, no_definition, header_of, Reads, eqb-true, nat_tests}
+use Rattle.script_laws.proofs.Words.{◌≡◌, ℕ, ◌≤◌, List, length, false, Option, Some, refl, arith, ◌==◌, unwrap_or, not-false, Script, hint_in, hint_or, no_definition, header_of, Reads, eqb-true, nat_tests, common_steps}
 use Rattle.script_laws.proofs.WordLaws.{InRange}
 use Rattle.script_laws.proofs.ReadLaws.{read_script}
 
@@ -27,5 +27,4 @@ read_records text s = read_script text s (λ t. t.header.records ≡ 0) (λ vers
 pub read_opened : (text : List ℕ) (s : Script) → Reads text s → s.fresh ≡ false → s.header ≡ header_of 0 no_definition
 read_opened text s =
     read_script text s (λ t. t.fresh ≡ false → t.header ≡ header_of 0 no_definition) (λ version ranks known calls parts old.
-    let zero_version = not-false (version == 0) old in
-    ap (λ (n : ℕ). header_of n known.defined) (eqb-true version 0 zero_version) ∙ ap (λ (d : Defined). header_of 0 d) (parts.known.old zero_version))
+    grind (arith, common_steps, eqb-true version 0 (not-false (version == 0) old)))

@@ -1,5 +1,5 @@
 -- The values of a line: few, each a number of 20 digits at most, and so many bytes.
-use Rattle.script_laws.proofs.Words.{each_weaker, ◌≡◌, ◌∙◌, ℕ, ◌+◌, ◌*◌, ◌≤◌, List, [], ◌∷◌, ◌++◌, length, Bool, not, Option, IfOk, arith, nat_lt, is_some, flat_map, length-append, length-map-range_with_len, NcType, is_number, Values, Numbers, Text, Class, size_of, most_elements, most_values, count_of, Word, number_of_text, bits_of_text, refuse_if, reads_as, ended, within_limits, one_value, each_value, sequence_count, numbers_between, patterns_between, term, pattern_term, is_term, is_pattern_term, last_number, last_pattern, may_be, are_numbers, are_patterns, seq_values, seqx_values, pattern_values, number_for, pattern_for, listed_values, values, external_bytes, ext_long, nat_tests, ◌^◌, ◌<◌, true, Some, None, sym, subst, option_map, ℤ, pos, ◌+ℤ◌, ◌*ℤ◌, unsigned_abs, lt-ltb, le-leb, ltb-true, AllByRecursion, and_from, not-false, faultless_some, natural_small, each_push, and_first, are_values, sequence, ltb-false}
+use Rattle.script_laws.proofs.Words.{each_weaker, ◌≡◌, ◌∙◌, ℕ, ◌+◌, ◌*◌, ◌≤◌, List, [], ◌∷◌, ◌++◌, length, Bool, not, Option, IfOk, arith, nat_lt, is_some, flat_map, length-append, length-map-range_with_len, NcType, is_number, Values, Numbers, Text, Class, size_of, most_elements, most_values, count_of, Word, number_of_text, refuse_if, reads_as, ended, one_value, each_value, sequence_count, numbers_between, patterns_between, term, is_term, last_number, may_be, are_numbers, are_patterns, seq_values, seqx_values, pattern_values, number_for, pattern_for, listed_values, values, external_bytes, ext_long, nat_tests, ◌^◌, ◌<◌, true, Some, None, sym, subst, option_map, ℤ, pos, ◌+ℤ◌, ◌*ℤ◌, unsigned_abs, lt-ltb, le-leb, ltb-true, AllByRecursion, and_from, not-false, faultless_some, natural_small, each_push, and_first, are_values, sequence, ltb-false, common_steps}
 use Rattle.list_laws.proofs.Common.{passes_each}
 use Rattle.script_laws.proofs.Sequences.{is_fit_number, numbers_fit}
 use Rattle.nc_base.specs.declared.errors.ScriptKind.TheVariants as kind
@@ -33,23 +33,19 @@ record FewMore (t : Option NcType) (before n : ℕ) : Type 0 where
   most : t ≡ None → n ≤ most_elements
   all : before + n ≤ most_values
 
-few_more : (t : Option NcType) (before n : ℕ) → IfOk (within_limits t before n) (λ _. FewMore t before n)
-few_more t before n = grind (arith, nat_tests, then_with, is_some, nat_lt, unless_refused, ltb-false, is_some)
-
 record ListOf (A : Type 0) (P : A → Type 0) (t : Option NcType) (before : ℕ) (xs : List A) : Type 0 where
   good : AllByRecursion P xs
   few : FewMore t before (length xs)
 
 module _ {A : Type 0} (f : List ℕ → Option A) (P : A → Type 0) (t : Option NcType) (before : ℕ) (read : (v : List ℕ) (x : A) → f v ≡ Some x → P x) where
   one_read : (n : ℕ) (w : Word) → IfOk (one_value f t before n w) (λ x. P x × FewMore t before (n + 1))
-  one_read n w = grind (arith, nat_tests, first_then, then_with, few_more, faultless_some)
+  one_read n w = grind (arith, nat_tests, first_then, then_with, faultless_some, is_some, nat_lt, unless_refused, ltb-false)
 
   each_read : (found : List A) (ws : List Word) → ListOf A P t before found → IfOk (each_value f t before found ws) (ListOf A P t before)
   each_read found [] all = all
   each_read found (w ∷ ws) all =
       ok_then (one_value f t before (length found) w) (λ x. each_value f t before (found ++ x ∷ []) ws) _ (λ x. P x × FewMore t before (length found + 1)) (one_read (length found) w)
-      (λ x one. each_read (found ++ x ∷ []) ws
-      (record { good = each_push P found x all.good one.0; few = subst (FewMore t before) (sym (length-append found (x ∷ []))) one.1 }))
+      (λ x one. grind (arith, common_steps, each_read (found ++ x ∷ []) ws (record { good = each_push P found x all.good one.0; few = subst (FewMore t before) (sym (length-append found (x ∷ []))) one.1 }), each_push P found x all.good one.0))
 
   all_read : (ws : List Word) → before ≤ most_values → IfOk (each_value f t before [] ws) (ListOf A P t before)
   all_read ws h = each_read [] ws (record { good = tt; few = record { most = λ e. omega arith; all = omega arith } })
@@ -65,7 +61,7 @@ pub record FitsValues (t : Option NcType) (before : ℕ) (vs : Values) : Type 0 
 
 module _ (t : Option NcType) (before : ℕ) where
   count_read : (suits : Bool) (ws : List Word) → IfOk (sequence_count suits t before ws) (λ n. FewMore t before n.0)
-  count_read suits ws = grind (arith, nat_tests, first_then, nat_lt, then_with, few_more)
+  count_read suits ws = grind (arith, nat_tests, first_then, nat_lt, then_with, is_some, unless_refused, ltb-false)
 
   term_read : (n : ℕ) (ws : List Word) → IfOk (term t n ws) (λ a. is_term t n a.0 ≡ true)
   term_read n ws = grind (arith, nat_tests, first_then, then_with, unless_refused)
@@ -79,11 +75,7 @@ module _ (t : Option NcType) (before : ℕ) where
       first_then (ended b.1) _ _ (λ _ _. record { long = length-map-range_with_len (λ k. a.0 +ℤ (b.0 *ℤ pos k)) 0 n; small = sequence_small t a.0 b.0 n first last }))))
 
   patterns_long : (n : ℕ) (ws : List Word) → IfOk (patterns_between t n ws) (λ ns. length ns ≡ n)
-  patterns_long n ws =
-      first_then (pattern_term t n ws) _ _ (λ a _.
-      first_then (reads_as bits_of_text kind.BadNumber a.1) _ _ (λ b _.
-      first_then (refuse_if (not (is_pattern_term t n (last_pattern a.0 b.0 n))) kind.BadNumber) _ _ (λ _ _.
-      first_then (ended b.1) _ _ (λ _ _. length-map-range_with_len _ 0 n))))
+  patterns_long n ws = grind (arith, nat_tests, first_then, length-map-range_with_len)
 
   -- ---- the values
 
@@ -93,31 +85,26 @@ module _ (t : Option NcType) (before : ℕ) where
   patterns_fit : (ns : List ℕ) → FewMore t before (length ns) → FitsValues t before (pattern_values ns)
   patterns_fit ns few = grind (arith, nat_tests)
 
-  longer : (n m : ℕ) → n ≡ m → FewMore t before m → FewMore t before n
-  longer n m e few = subst (FewMore t before) (sym e) few
-
   seq_read : (ws : List Word) → IfOk (seq_values t before ws) (FitsValues t before)
   seq_read ws =
       then_with (sequence_count (may_be are_numbers t) t before ws) _ _ (λ n. FewMore t before n.0) (count_read (may_be are_numbers t) ws) (λ n few.
-      then_with (numbers_between t n.0 n.1) _ _ (IsSequence n.0) (numbers_read n.0 n.1) (λ zs all. all_numbers zs (record { good = all.small; few = longer (length zs) n.0 all.long few })))
+      then_with (numbers_between t n.0 n.1) _ _ (IsSequence n.0) (numbers_read n.0 n.1) (λ zs all. all_numbers zs (record { good = all.small; few = subst (FewMore t before) (sym all.long) few })))
 
   seqx_read : (ws : List Word) → IfOk (seqx_values t before ws) (FitsValues t before)
   seqx_read ws =
       then_with (sequence_count (may_be are_patterns t) t before ws) _ _ (λ n. FewMore t before n.0) (count_read (may_be are_patterns t) ws) (λ n few.
-      then_with (patterns_between t n.0 n.1) _ _ (λ ns. length ns ≡ n.0) (patterns_long n.0 n.1) (λ ns long. patterns_fit ns (longer (length ns) n.0 long few)))
+      then_with (patterns_between t n.0 n.1) _ _ (λ ns. length ns ≡ n.0) (patterns_long n.0 n.1) (λ ns long. patterns_fit ns (subst (FewMore t before) (sym long) few)))
 
   listed_read : (c : Class) (ws : List Word) → before ≤ most_values → IfOk (listed_values c t before ws) (FitsValues t before)
   listed_read class.Text ws h = tt
   listed_read class.Pattern ws h =
       then_with (each_value (pattern_for t) t before [] ws) _ _ (ListOf ℕ (λ _. Unit {0}) t before) (all_read (pattern_for t) (λ _. Unit {0}) t before (λ _ _ _. tt) ws h)
       (λ ns all. record { lawful = λ e. le-leb _ _ (all.few.most e); few = all.few.all })
-  listed_read class.Signed ws h =
-      then_with (each_value (number_for t) t before [] ws) _ _ (ListOf ℤ IsSmall t before) (all_read (number_for t) IsSmall t before (number_for_small t) ws h) all_numbers
-  listed_read class.Unsigned ws h =
+  listed_read c ws h =
       then_with (each_value (number_for t) t before [] ws) _ _ (ListOf ℤ IsSmall t before) (all_read (number_for t) IsSmall t before (number_for_small t) ws h) all_numbers
 
   pub values_read : (ws : List Word) → before ≤ most_values → IfOk (values t before ws) (FitsValues t before)
-  values_read ws h = grind (arith, nat_tests, first_then, then_with, few_more, ended, le-leb, by_test, seq_read, seqx_read, listed_read)
+  values_read ws h = grind (arith, nat_tests, first_then, then_with, ended, le-leb, by_test, seq_read, seqx_read, listed_read, is_some, nat_lt, unless_refused, ltb-false)
 
 -- ---- how many bytes
 

@@ -1,5 +1,5 @@
 -- What single words say.
-use Rattle.script_laws.proofs.Words.{◌≡◌, ℕ, ◌%◌, ◌^◌, ◌<◌, ◌≤◌, List, length, true, Some, IfOk, subst, arith, nat_le, ◌==◌, find, bytes_eq, codes, nat_tests, cond_some, and_first, and_second, NcType, file_limit, record_limit, number_of, fits_count, is_type, Word, is_name, name, name_of_text, types, number_within, type_of, length_of_text, below_read, leb-true, eqb-true}
+use Rattle.script_laws.proofs.Words.{◌≡◌, ℕ, ◌%◌, ◌^◌, ◌<◌, ◌≤◌, List, length, true, Some, IfOk, subst, arith, nat_le, ◌==◌, find, bytes_eq, codes, nat_tests, cond_some, NcType, record_limit, number_of, fits_count, is_type, Word, is_name, name, name_of_text, types, type_of, length_of_text, below_read}
 use Rattle.nc_base.specs.declared.errors.ScriptKind.TheVariants as kind
 use Rattle.script_laws.proofs.StepLaws.{read_as}
 
@@ -21,9 +21,6 @@ pub record InRange (low high unit n : ℕ) : Type 0 where
   pub at_most : n ≤ high
   pub multiple : n % unit ≡ 0
 
-pub within_read : (low high unit : ℕ) (w : List ℕ) (n : ℕ) → number_within low high unit w ≡ Some n → InRange low high unit n
-within_read low high unit w n h = grind (arith, nat_tests, nat_le, and_first, leb-true, and_second, eqb-true, cond_some)
-
 -- ---- types
 
 pub type_read : (version : ℕ) (w : List ℕ) (t : NcType) → type_of version w ≡ Some t → is_type version t ≡ true
@@ -38,6 +35,3 @@ length_read version w n h = grind (arith, nat_tests, codes "unlimited", bytes_eq
 
 pub small_fits : (version n : ℕ) → n ≤ 2 ^ 24 → fits_count version n ≡ true
 small_fits version n h = grind (arith, nat_tests, version == 5)
-
-pub length_fits : (version n : ℕ) → n < record_limit version → (fits_count version n ≡ true) × (nat_le n file_limit ≡ true)
-length_fits version n h = (grind (arith, nat_tests, version == 5), grind (arith, nat_tests, version == 5))

@@ -1,5 +1,5 @@
 -- The words of this crate's proofs, from where they stand.
-pub use Rattle.list_laws.proofs.Std.{AllByRecursion, Bool, Err, IfOk-weaker, List, None, Ok, Option, Result, Some, [], and_from, ap, arith, bytes_eq, bytes_eq-Decides, codes, cond, cond_some, drop, enumerate_from, eq-or-lt_of_le, false, filter_map-append, ints, le_of_eq, length, length-append, length-enumerate_from, length-map, length-map-range_with_len, length-replicate, list_all, list_any, list_any-append, lt-leb, map, map_push, min, nat_tests, neg_ℤ, negsuc, not, not-false, not-true, not_from_false, pos, position_or_len, prefix_len, range_with_len, refl, replicate, same_Some, slice_set, subst, suc, sum, sum_by-cons, sum_by_push, sym, take, true, true≢false, unsigned_abs, utf8_valid_len, zero, ℕ, ℤ, ◌%◌, ◌&&◌, ◌*ℤ◌, ◌*◌, ◌++◌, ◌+ℤ◌, ◌+◌, ◌<◌, ◌^◌, ◌∙◌, ◌∷◌, ◌≡◌, ◌≤◌, leb-false, le-ltb, leb-true}
+pub use Rattle.list_laws.proofs.Std.{AllByRecursion, Bool, Err, IfOk-weaker, List, None, Ok, Option, Result, Some, [], and_from, ap, arith, bytes_eq, bytes_eq-Decides, codes, cond, cond_some, drop, enumerate_from, eq-or-lt_of_le, false, filter_map-append, ints, le_of_eq, length, length-append, length-enumerate_from, length-map, length-map-range_with_len, length-replicate, list_all, list_any, list_any-append, lt-leb, map, map_push, min, nat_tests, neg_ℤ, negsuc, not, not-false, not-true, not_from_false, pos, position_or_len, prefix_len, range_with_len, refl, replicate, same_Some, slice_set, subst, suc, sum, sum_by-cons, sum_by_push, sym, take, true, true≢false, unsigned_abs, utf8_valid_len, zero, ℕ, ℤ, ◌%◌, ◌&&◌, ◌*ℤ◌, ◌*◌, ◌++◌, ◌+ℤ◌, ◌+◌, ◌<◌, ◌^◌, ◌∙◌, ◌∷◌, ◌≡◌, ◌≤◌, leb-false, le-ltb, leb-true, common_steps}
 pub use Rattle.std.proofs.Common.{IfOk, IfSome, append-nil, count_by, eq-eqb, eqb-true, find, flat_map, is_some, le-leb, length-set, lt-ltb, ltb-false, ltb-true, mul-le-mul_left, nat_le, nat_lt, option_and_then, option_map, position, slice_get, unwrap_or, ◌==◌}
 pub use Rattle.list_laws.proofs.Common.{and_first, and_second, each_at, each_fails, each_later, each_passes, each_push, each_weaker, fails_each, found_passes, get_left, if_some_at, none_before_map, not_some, or_first_false, or_second_false, position_below, untold}
 pub use Rattle.list_laws.proofs.Types.{Attr, Bits, Bput, Call, Dim, Form, Iget, Iput, MeetKind, NcType, Numbers, Part, PostKind, Script, ScriptErr, ScriptKind, Text, Values, Var, count_of}
