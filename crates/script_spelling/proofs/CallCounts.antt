@@ -1,5 +1,5 @@
 -- The calls of ranks: how many values they have, and ids that differ; a text by its lines.
-use Rattle.script_spelling.proofs.Words.{◌≡◌, ℕ, zero, suc, ◌+◌, ◌≤◌, ◌<◌, List, [], ◌∷◌, ◌++◌, map, length, replicate, Bool, true, false, nat_lt, slice_set, Result, Ok, Err, refl, arith, and_parts, ScriptKind, ScriptErr, Call, values_in_call, Line, Called, calls_of, at_line, data_part, nat_tests, sum, ◌==◌, None, or_parts, or_from, not-true, filter_map-append, list_any-append, are_different, posted_ids, posted, is_posted, Option, Some, utf8_valid_len, Script, text_lines, significant, script_of_lines, most_bytes, most_lines, Reads, le-ltb, ltb-false, sum_cons, sum_more}
+use Rattle.script_spelling.proofs.Words.{◌≡◌, ℕ, zero, suc, ◌+◌, ◌≤◌, ◌<◌, List, [], ◌∷◌, ◌++◌, map, length, replicate, true, false, nat_lt, slice_set, Result, Ok, Err, refl, arith, and_parts, ScriptKind, ScriptErr, Call, values_in_call, calls_of, at_line, nat_tests, sum, ◌==◌, None, or_parts, or_from, not-true, filter_map-append, list_any-append, are_different, posted_ids, posted, is_posted, Option, Some, utf8_valid_len, Script, text_lines, significant, script_of_lines, most_bytes, most_lines, Reads, le-ltb, ltb-false, sum_cons, sum_more}
 use Rattle.nc_base.specs.declared.request.Call.TheVariants as call
 
 pub sum_later : {A : Type 0} (f : A → ℕ) (xs more : List A) → sum (map f xs) ≤ sum (map f (xs ++ more))
@@ -20,9 +20,6 @@ count_set (own ∷ more) (suc r) c low =
 
 pub line_ok : {A : Type 0} (n : ℕ) (r : Result A ScriptKind) (x : A) → at_line n r ≡ Ok x → r ≡ Ok x
 line_ok n r x h = grind (arith, nat_tests)
-
-abbrev pub data_by : ℕ → Line → List Line → Result (Bool × Called) ScriptErr → Result (ℕ × (Called × List Line)) ScriptErr
-data_by past l lines r = elim r [ Err e ↦ Err e | Ok s ↦ elim s.0 [ true ↦ Ok (l.number, (s.1, lines)) | false ↦ data_part past s.1 lines ] ]
 
 -- the id of a post is none that its rank has posted
 abbrev pub NewId : List Call → Call → Type 0

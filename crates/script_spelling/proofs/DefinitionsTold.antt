@@ -48,18 +48,15 @@ pub record Led (opened : Bool) (version : ℕ) (k : Known) (words : List Word) (
 one_left : (o p : Option ℕ) (n : ℕ) (ns : List ℕ) → at_most_one o ≡ at_most_one p ++ n ∷ ns → p ≡ None
 one_left o p n ns h = grind (arith, nat_tests)
 
-ranks_behind : (opened : Bool) (k : Known) (n : ℕ) (ss : List Statement) (last : Known) → Part opened k (RanksAre n ∷ ss) last → Part opened (record k { ranks = Some n }) ss last
-ranks_behind opened k n ss last p = grind (arith, nat_tests)
-
 ranks_led : (opened : Bool) (version of_lines : ℕ) (k : Known) (words : List Word) (n : ℕ) (ss : List Statement) (last : Known) → Sound k → Says of_lines words (RanksAre n) → Grown opened k (RanksAre n ∷ ss) last → Led opened version k words ss last
-ranks_led opened version of_lines k words n ss last sound xs g = grind (arith, nat_tests, one_left, ranks_told, go_on, ranks_behind)
-
-hints_behind : (opened : Bool) (k : Known) (i v : ℕ) (hints : List (Option ℕ)) (ss : List Statement) (last : Known) → Part opened k (HintIs i v ∷ ss) last → Part opened (record k { hints = hints }) ss last
-hints_behind opened k i v hints ss last p = grind (arith, nat_tests)
+ranks_led opened version of_lines k words n ss last sound xs g =
+    let part : Part opened (record k { ranks = Some n }) ss last = grind (arith, nat_tests, g.part) in
+    grind (arith, nat_tests, one_left, ranks_told, go_on)
 
 hint_led : (opened : Bool) (version of_lines : ℕ) (k : Known) (words : List Word) (i v : ℕ) (ss : List Statement) (last : Known) → Sound k → Says of_lines words (HintIs i v) → Grown opened k (HintIs i v ∷ ss) last → Led opened version k words ss last
 hint_led opened version of_lines k words i v ss last sound (word, w, are, at, told) g =
-    grind (arith, nat_tests, one_left (hint_in i last.hints) (hint_in i k.hints) v (hint_values i ss), equal_itself i, position_below, hint_leads version k word w i v at, is_some, hint_told (hint_form i) w v told, length-set k.hints i (Some v), hint_here, hint_elsewhere, differ, slice_set, eqb-true, hints_behind opened k i v (slice_set k.hints i (Some v)) ss last g.part)
+    let part : Part opened (record k { hints = slice_set k.hints i (Some v) }) ss last = grind (arith, nat_tests, g.part) in
+    grind (arith, nat_tests, one_left (hint_in i last.hints) (hint_in i k.hints) v (hint_values i ss), equal_itself i, position_below, hint_leads version k word w i v at, is_some, hint_told (hint_form i) w v told, length-set k.hints i (Some v), hint_here, hint_elsewhere, differ, slice_set, eqb-true)
 
 module _ (version : ℕ) (k : Known) (words : List Word) (ss : List Statement) (last : Known) where
   -- ---- a new dataset
@@ -72,9 +69,8 @@ module _ (version : ℕ) (k : Known) (words : List Word) (ss : List Statement) (
   new_dim_led d new sound (w, are, named, told) g =
       let r : ℕ × Defined = (0, with_dim d k.defined) in
       let ws = Plain d.name ∷ Plain w ∷ [] in
-      defined_led (codes "dim") ws r new refl refl refl are
-      (go_on (dim_line version k.defined.dims ws) (λ x. Ok (0, with_dim x k.defined)) d r (dim_told version k.defined.dims d w named told g.part.4.0) refl)
-      (record { fine = record { long = sound.fine.long; apart = sound.fine.apart }; counted = omega (arith, sound.counted) }) (grown_with g.ranks g.hints g.filled (g.part.0, g.part.1 ∙ sym (append_assoc k.defined.dims (d ∷ []) (dims_in ss)), g.part.2, g.part.3, g.part.4.1))
+      let read = go_on (dim_line version k.defined.dims ws) (λ x. Ok (0, with_dim x k.defined)) d r (dim_told version k.defined.dims d w named told g.part.4.0) refl in
+      grind (arith, nat_tests, defined_led (codes "dim") ws r, read, sound.fine.long, sound.fine.apart, sound.counted, grown_with, g.part, append_assoc k.defined.dims (d ∷ []) (dims_in ss))
 
   new_var_led : (line : VarLine) → (version == 0) ≡ false → Sound k → Says version words (VarIs line) → Grown false k (VarIs line ∷ ss) last → Led false version k words ss last
   new_var_led line new sound (w, brackets, inside, are, kind_is, named, between, parts_are, dims_named) g =
@@ -89,10 +85,8 @@ module _ (version : ℕ) (k : Known) (words : List Word) (ss : List Statement) (
       let apart = subst (λ (ns : List (List ℕ)). are_apart ns ≡ true) (sym names) (apart_pushed (var_names d.vars) line.name sound.fine.apart stands.0) in
       let vars = g.part.3 ∙ sym (var_step d.dims (dims_in ss) last.defined.dims (λ n. attrs_of n ss) d.vars line (vars_in ss) v g.part.1 stands.3.1 refl) in
       let stand = subst (λ (ns : List (List ℕ)). Stand false d.dims ns d.titles ss) (sym names) g.part.4.1 in
-      defined_led (codes "var") ws r new refl refl refl are
-      (go_on (var_line version d.dims d.vars ws) (λ x. Ok (0, with_var x d)) v r (var_told version d.dims d.vars line said stands) refl)
-      (record { fine = record { long = sound.fine.long; apart = apart }; counted = omega (arith, sound.counted, sum_more (λ (x : Var). attr_values x.attrs) d.vars v) })
-      (grown_with g.ranks g.hints g.filled (g.part.0, g.part.1, g.part.2, vars, stand))
+      let read = go_on (var_line version d.dims d.vars ws) (λ x. Ok (0, with_var x d)) v r (var_told version d.dims d.vars line said stands) refl in
+      grind (arith, nat_tests, defined_led (codes "var") ws r, read, sound.fine.long, apart, sound.counted, sum_more (λ (x : Var). attr_values x.attrs) d.vars v, grown_with, g.part, vars, stand)
 
   -- the values of an attribute have room
   attr_room : (opened : Bool) (next : Known) (a : Attr) (vs : Values) → k.values ≡ total k → total next ≡ total k + a.count → Part opened next ss last → total last ≤ most_values → a.count ≡ count_of vs → HasRoom (Some a.kind) k.values (count_of vs)
@@ -152,9 +146,7 @@ module _ (version : ℕ) (k : Known) (words : List Word) (ss : List Statement) (
       let d = k.added in
       let r : ℕ × Added = (0, record d { dims = d.dims ++ x ∷ []; extras = d.extras ++ extra.Dim x ∷ [] }) in
       let ws = Plain x.name ∷ Plain w ∷ [] in
-      added_led (codes "dim") ws r old refl refl refl are (go_on (dim_line 5 d.dims ws) _ x r (dim_told 5 d.dims x w named told g.part.2.0) refl)
-      (record { fine = record { long = sound.fine.long; apart = sound.fine.apart }; counted = omega (arith, sound.counted, sum_more values_in_extra d.extras (extra.Dim x)) })
-      (record { ranks = g.ranks; hints = g.hints; filled = g.filled; part = (g.part.0, g.part.1 ∙ sym (append_assoc d.extras (extra.Dim x ∷ []) (extras_in ss)), g.part.2.1) })
+      grind (arith, nat_tests, added_led (codes "dim") ws r, dim_told 5 d.dims x w named told g.part.2.0, sound.fine.long, sound.fine.apart, sound.counted, sum_more values_in_extra d.extras (extra.Dim x), grown_with, g.part, append_assoc d.extras (extra.Dim x ∷ []) (extras_in ss))
 
   added_var_led : (line : VarLine) → (version == 0) ≡ true → Sound k → Says 5 words (VarIs line) → Grown true k (VarIs line ∷ ss) last → Led true version k words ss last
   added_var_led line old sound (w, brackets, inside, are, kind_is, named, between, parts_are, dims_named) g =
@@ -163,9 +155,7 @@ module _ (version : ℕ) (k : Known) (words : List Word) (ss : List Statement) (
       let one = extra.Var line.kind line.name line.dims in
       let r : ℕ × Added = (0, with_line line d) in
       let ws = Plain w ∷ Plain line.name ∷ Plain brackets ∷ [] in
-      added_led (codes "var") ws r old refl refl refl are (added_told d line said g.part.2.0)
-      (record { fine = record { long = sound.fine.long; apart = sound.fine.apart }; counted = omega (arith, sound.counted, sum_more values_in_extra d.extras one) })
-      (record { ranks = g.ranks; hints = g.hints; filled = g.filled; part = (g.part.0, g.part.1 ∙ sym (append_assoc d.extras (one ∷ []) (extras_in ss)), g.part.2.1) })
+      grind (arith, nat_tests, added_led (codes "var") ws r, added_told d line said g.part.2.0, sound.fine.long, sound.fine.apart, sound.counted, sum_more values_in_extra d.extras one, grown_with, g.part, append_assoc d.extras (one ∷ []) (extras_in ss))
 
   added_att_led : (owner : Option (List ℕ)) (a : Attr) → (version == 0) ≡ true → total last ≤ most_values → Sound k → Says 5 words (AttIs owner a) → Grown true k (AttIs owner a ∷ ss) last → Led true version k words ss last
   added_att_led owner a old few sound (w, given, vs, are, is, named, told, spells, same) g =

@@ -1,13 +1,9 @@
 -- The variables of a new dataset, and what later lines give them.
-use Rattle.script_spelling.proofs.Words.{◌≡◌, ◌∙◌, ℕ, zero, suc, List, [], ◌∷◌, ◌++◌, map, position, Bool, true, false, not, cond, ◌&&◌, Some, unwrap_or, refl, sym, ap, subst, ⊎_elim, append_assoc, append-nil, bytes_eq, AllZip, and_parts, and_from, or_parts, or_from, or_left, not-true, not_from_false, cond-true, cond-false, map-append, list_any-append, Dim, Attr, Var, dim_ids, is_among, var_names, Title, VarLine, Statement, RanksAre, HintIs, IsFilled, DimIs, VarIs, AttIs, Stand, dims_in, vars_in, IsVarOf, arith, nat_tests}
-use Rattle.script_spelling.proofs.Places.{bytes_same, Later, more_ids, place_cases}
-use Rattle.script_spelling.proofs.PushedAttrs.{with_own, push_attr}
+use Rattle.script_spelling.proofs.Words.{◌≡◌, ◌∙◌, ℕ, zero, suc, List, [], ◌∷◌, ◌++◌, map, position, Bool, true, false, not, cond, ◌&&◌, Some, unwrap_or, refl, sym, ap, subst, append_assoc, append-nil, bytes_eq, AllZip, and_parts, and_from, or_parts, or_from, or_left, not-true, not_from_false, map-append, list_any-append, Dim, Attr, Var, dim_ids, is_among, var_names, Title, VarLine, Statement, RanksAre, HintIs, IsFilled, DimIs, VarIs, AttIs, Stand, dims_in, vars_in, IsVarOf, arith, nat_tests}
+use Rattle.script_spelling.proofs.Places.{bytes_same, more_ids, place_cases}
+use Rattle.script_spelling.proofs.PushedAttrs.{push_attr}
 
 -- ---- names
-
--- a test that fails for a name fails for each that is the same
-not_same : (a b : List ℕ) (names : List (List ℕ)) → is_among a names ≡ true → is_among b names ≡ false → bytes_eq a b ≡ false
-not_same a b names there none = grind (arith, nat_tests, bytes_same a b)
 
 abbrev pub are_apart : List (List ℕ) → Bool
 are_apart [] = true
@@ -37,7 +33,7 @@ later_names opened dims names titles (HintIs h v ∷ ss) n stand there = later_n
 later_names opened dims names titles (IsFilled ∷ ss) n stand there = later_names opened dims names titles ss n stand.1 there
 later_names opened dims names titles (DimIs d ∷ ss) n stand there = later_names opened (dims ++ d ∷ []) names titles ss n stand.1 there
 later_names opened dims names titles (VarIs line ∷ ss) n stand there =
-    grind (arith, nat_tests, not_same n line.name names, later_names opened dims (names ++ line.name ∷ []) titles ss n stand.1, list_any-append, or_left, or_from)
+    grind (arith, nat_tests, bytes_same n line.name, later_names opened dims (names ++ line.name ∷ []) titles ss n stand.1, list_any-append, or_left, or_from)
 later_names opened dims names titles (AttIs owner a ∷ ss) n stand there = later_names opened dims names _ ss n stand.2 there
 
 -- ---- variables, and the lines of others behind them
@@ -75,32 +71,17 @@ var_step dims later all more vars line lines v e found same = grind (arith, nat_
 abbrev pub first_of : List ℕ → Attr → (List ℕ → List Attr) → List ℕ → List Attr
 first_of owner a more n = cond (bytes_eq owner n) (a ∷ more n) (more n)
 
--- what v grows to where its attributes begin with that one, or not
-grow_first : (owner : List ℕ) (a : Attr) (more : List ℕ → List Attr) (v : Var) → bytes_eq owner v.name ≡ true → grow (first_of owner a more) v ≡ grow more (with_own a v)
-grow_first owner a more v e = ap (λ (list : List Attr). record v { attrs = list }) (ap (λ (list : List Attr). v.attrs ++ list) (cond-true _ _ _ e) ∙ sym (append_assoc v.attrs (a ∷ []) (more v.name)))
-
-grow_same : (owner : List ℕ) (a : Attr) (more : List ℕ → List Attr) (v : Var) → bytes_eq owner v.name ≡ false → grow (first_of owner a more) v ≡ grow more v
-grow_same owner a more v e = ap (λ (list : List Attr). record v { attrs = v.attrs ++ list }) (cond-false _ _ _ e)
-
 all_same : (owner : List ℕ) (a : Attr) (more : List ℕ → List Attr) (vars : List Var) → is_among owner (var_names vars) ≡ false → map (grow (first_of owner a more)) vars ≡ map (grow more) vars
 all_same owner a more [] none = refl
-all_same owner a more (v ∷ vars) none = grind (arith, nat_tests, all_same owner a more vars, grow_same owner a more v, or_parts)
+all_same owner a more (v ∷ vars) none = grind (arith, nat_tests, all_same owner a more vars, or_parts)
 
 one_first : (owner : List ℕ) (a : Attr) (more : List ℕ → List Attr) (k : ℕ) (vars : List Var) → position (bytes_eq owner) (var_names vars) ≡ Some k → are_apart (var_names vars) ≡ true
     → map (grow (first_of owner a more)) vars ≡ map (grow more) (push_attr k a vars)
 one_first owner a more k [] at all = absurd (cc)
 one_first owner a more k (v ∷ vars) at all =
     let both = and_parts (not (is_among v.name (var_names vars))) (are_apart (var_names vars)) all in
-    let rest = λ (w : Var). w ∷ map (grow (first_of owner a more)) vars in
-    let pushed = λ (j : ℕ). map (grow more) (push_attr j a (v ∷ vars)) in
-    ⊎_elim
-    (λ (c : (bytes_eq owner v.name ≡ true) × (k ≡ 0)).
-    let none = subst (λ (n : List ℕ). is_among n (var_names vars) ≡ false) (sym (bytes_same owner v.name c.0)) (not-true _ both.0) in
-    ap rest (grow_first owner a more v c.0) ∙ (ap (λ (vs : List Var). grow more (with_own a v) ∷ vs) (all_same owner a more vars none) ∙ ap pushed (sym c.1)))
-    (λ (c : (bytes_eq owner v.name ≡ false) × Later (bytes_eq owner) (var_names vars) k).
-    let others = one_first owner a more c.1.before vars c.1.found both.1 in
-    ap rest (grow_same owner a more v c.0) ∙ (ap (λ (vs : List Var). grow more v ∷ vs) others ∙ ap pushed (sym c.1.next)))
-    (place_cases (bytes_eq owner) v.name (var_names vars) k at)
+    let others = λ (j : ℕ) (found : position (bytes_eq owner) (var_names vars) ≡ Some j). one_first owner a more j vars found both.1 in
+    grind (arith, nat_tests, place_cases (bytes_eq owner) v.name (var_names vars) k at, both, others, bytes_same owner v.name, not-true, append_assoc v.attrs (a ∷ []) (more v.name), all_same owner a more vars)
 
 names_of_lines : (dims : List Dim) (lines : List VarLine) → var_names (map (bare_var dims) lines) ≡ line_names lines
 names_of_lines dims [] = refl

@@ -50,9 +50,6 @@ same_part : (opened : Bool) (k : Known) → Part opened k [] k
 same_part true k = (refl, sym (append-nil k.added.extras), tt)
 same_part false k = (refl, sym (append-nil k.defined.dims), sym (append-nil k.defined.attrs), sym (none_grown k.defined.dims k.defined.vars), tt)
 
-none_said : (opened : Bool) (k : Known) → Grown opened k [] k
-none_said opened k = grind (arith, nat_tests, append-nil, same_part)
-
 -- a line is `data`, or says a statement
 abbrev StepTaken : Bool → ℕ → Known → List Word → Option ℕ × Known → Type 0
 StepTaken opened version k words (Some n, next) = (words ≡ Plain (codes "data") ∷ []) × (next ≡ k) × (k.ranks ≡ Some n)
@@ -94,4 +91,4 @@ definitions_read opened past version k (l ∷ lines) r e fine h =
     (λ n i g.
     let taken = said (Some n) i in
     subst (DefinitionsRead opened (lines_version opened version) k (l ∷ lines)) (ap (λ (x : Known). (n, (x, lines))) (sym taken.1) ∙ same_ok (n, (next, lines)) r g)
-    (record { own = []; are = ap (λ (xs : List Word). xs ∷ map words_of lines) taken.0; statements = []; say = tt; grown = none_said opened k; ranks = taken.2 }))
+    (record { own = []; are = ap (λ (xs : List Word). xs ∷ map words_of lines) taken.0; statements = []; say = tt; grown = grind (arith, nat_tests, append-nil, same_part); ranks = taken.2 }))

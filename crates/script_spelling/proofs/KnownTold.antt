@@ -1,8 +1,8 @@
 -- Lines that say statements are read up to `data`, and what is known then is what the statements say.
-use Rattle.script_spelling.proofs.Words.{◌≡◌, ◌∙◌, ℕ, suc, ◌+◌, ◌≤◌, List, [], ◌∷◌, ◌++◌, map, drop, Bool, true, false, ◌==◌, Option, Some, unwrap_or, Result, Ok, Err, refl, sym, ap, append-nil, arith, codes, AllZip, first_same, ScriptKind, Hints, most_values, Word, Plain, Line, HintRow, hint_table, hint_in, hint_or, no_hints, set_hints, hints_of, Known, definition_step, definitions, Statement, Says, at_most_one, nat_tests}
+use Rattle.script_spelling.proofs.Words.{◌≡◌, ℕ, suc, ◌+◌, ◌≤◌, List, [], ◌∷◌, ◌++◌, map, drop, Bool, true, false, ◌==◌, Option, Some, unwrap_or, Result, Ok, Err, refl, ap, append-nil, arith, codes, AllZip, first_same, ScriptKind, Hints, most_values, Word, Plain, Line, HintRow, hint_table, hint_in, hint_or, no_hints, set_hints, hints_of, Known, definition_step, definitions, Statement, Says, nat_tests}
 use Rattle.script_spelling.proofs.Leading.{step_again}
 use Rattle.script_spelling.proofs.CallLinesRead.{words_of}
-use Rattle.script_spelling.proofs.TakenLines.{flag, Grown}
+use Rattle.script_spelling.proofs.TakenLines.{Grown}
 use Rattle.script_spelling.proofs.KnownRead.{lines_version}
 use Rattle.script_spelling.proofs.GrownVars.{none_grown}
 use Rattle.script_spelling.proofs.DefinitionsTold.{total, Sound, led}
@@ -21,9 +21,6 @@ pub record DefinitionsTold (opened : Bool) (past version n : ℕ) (k : Known) (l
 
 abbrev step_by : ℕ → Known → List Word → Result (Option ℕ × Known) ScriptKind
 step_by version k ws = elim ws [ [] ↦ Err kind.MissingWord | w ∷ more ↦ definition_step version k w more ]
-
-same_one : (o p : Option ℕ) → at_most_one o ≡ at_most_one p ++ [] → p ≡ o
-same_one o p h = grind (arith, nat_tests)
 
 pub definitions_told : (opened : Bool) (past version n : ℕ) (own : List (List Word)) (ss : List Statement) (k : Known) (lines : List Line) (more : List (List Word)) (last : Known) → (version == 0) ≡ opened → total last ≤ most_values
     → last.ranks ≡ Some n → Sound k → map words_of lines ≡ own ++ (Plain (codes "data") ∷ []) ∷ more → AllZip (Says (lines_version opened version)) own ss → Grown opened k ss last
@@ -47,22 +44,13 @@ pub record SameParts (k last : Known) : Type 0 where
   pub filled : k.defined.filled ≡ last.defined.filled
   pub extras : k.added.extras ≡ last.added.extras
 
-same_flags : (now before : Bool) → flag now ≡ flag before + 0 → before ≡ now
-same_flags now before h = grind (arith, nat_tests)
-
 pub same_parts : (opened : Bool) (k last : Known) → Grown opened k [] last → SameParts k last
 same_parts true k last g = grind (arith, nat_tests, append-nil)
-same_parts false k last g = record {
-  dims = sym (g.part.1 ∙ append-nil k.defined.dims);
-  vars = sym (g.part.3 ∙ none_grown last.defined.dims k.defined.vars);
-  attrs = sym (g.part.2 ∙ append-nil k.defined.attrs);
-  filled = same_flags last.defined.filled k.defined.filled g.filled;
-  extras = sym g.part.0;
-}
+same_parts false k last g = grind (arith, nat_tests, g.part, append-nil, none_grown last.defined.dims k.defined.vars, g.filled)
 
 same_rows : (rows : List HintRow) (i ranks : ℕ) (a b : List (Option ℕ)) (h : Hints) → ((j : ℕ) → hint_in j a ≡ hint_in j b) → set_hints rows i ranks a h ≡ set_hints rows i ranks b h
 same_rows [] i ranks a b h same = refl
 same_rows (row ∷ rows) i ranks a b h same = grind (arith, nat_tests, same_rows rows (suc i) ranks a b (row.set (hint_or b i (row.default ranks)) h) same, unwrap_or)
 
 pub same_hints : (opened : Bool) (ranks : ℕ) (k last : Known) → Grown opened k [] last → hints_of ranks k.hints ≡ hints_of ranks last.hints
-same_hints opened ranks k last g = same_rows hint_table 0 ranks k.hints last.hints no_hints (λ j. same_one (hint_in j last.hints) (hint_in j k.hints) (g.hints j))
+same_hints opened ranks k last g = same_rows hint_table 0 ranks k.hints last.hints no_hints (λ j. grind (arith, nat_tests, g.hints j))

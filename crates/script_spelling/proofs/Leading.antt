@@ -1,5 +1,5 @@
 -- A line that leads from what is known to what is known then.
-use Rattle.script_spelling.proofs.Words.{◌≡◌, ◌∙◌, ℕ, ◌+◌, List, [], ◌∷◌, false, Option, Some, None, Result, Ok, Err, refl, arith, bytes_eq, codes, ScriptErr, Word, Plain, Quoted, Broken, Line, Known, known_after, definition_step, definitions, nat_tests, ◌==◌, Defined, definition, is_some, slice_set, hint_of_text, hint_form, hint_in, hint_value}
+use Rattle.script_spelling.proofs.Words.{◌≡◌, ◌∙◌, ℕ, ◌+◌, List, [], ◌∷◌, false, Some, None, Ok, refl, arith, bytes_eq, codes, Word, Plain, Quoted, Broken, Known, known_after, definition_step, nat_tests, ◌==◌, Defined, definition, is_some, slice_set, hint_of_text, hint_form, hint_in, hint_value}
 use Rattle.script_spelling.proofs.Steps.{go_on, by_false}
 
 -- the line leads from what is known to this
@@ -8,9 +8,6 @@ Leads version known [] after = ⊥
 Leads version known (Plain first ∷ ws) after = (bytes_eq first (codes "data") ≡ false) × (known_after version known first ws ≡ Ok after)
 Leads version known (Quoted text ∷ ws) after = ⊥
 Leads version known (Broken ∷ ws) after = ⊥
-
-abbrev pub defined_by : ℕ → ℕ → List Line → Result (Option ℕ × Known) ScriptErr → Result (ℕ × (Known × List Line)) ScriptErr
-defined_by past version lines r = elim r [ Err e ↦ Err e | Ok s ↦ elim s.0 [ Some ranks ↦ Ok (ranks, (s.1, lines)) | None ↦ definitions past version s.1 lines ] ]
 
 pub step_again : (version : ℕ) (k x : Known) (first : List ℕ) (ws : List Word) → bytes_eq first (codes "data") ≡ false → known_after version k first ws ≡ Ok x → definition_step version k (Plain first) ws ≡ Ok (None, x)
 step_again version k x first ws other h = by_false (bytes_eq first (codes "data")) _ _ other ∙ go_on (known_after version k first ws) (λ more. Ok (None, more)) x (None, x) h refl

@@ -1,5 +1,5 @@
 -- Places of names in a list.
-use Rattle.script_spelling.proofs.Words.{◌≡◌, ◌⊎◌, ◌∙◌, ℕ, suc, ◌<◌, List, [], ◌∷◌, ◌++◌, map, position, length, drop, Bool, true, false, cond, nat_lt, Option, Some, None, option_map, slice_get, refl, sym, ap, ⊎_elim, arith, bytes_eq, list_all, list_any, and_parts, and_from, or_parts, cond-true, cond-false, bytes_eq-Decides, position_below, get_left, Dim, all_some, is_among, dim_names, dim_ids, is_record_dim, nat_tests, subst, some_of_map, ltb-true, lt-ltb}
+use Rattle.script_spelling.proofs.Words.{◌≡◌, ◌⊎◌, ◌∙◌, ℕ, suc, ◌<◌, List, [], ◌∷◌, ◌++◌, map, position, length, drop, Bool, true, false, cond, nat_lt, Option, Some, None, option_map, slice_get, refl, ap, arith, bytes_eq, list_all, list_any, and_parts, and_from, or_parts, cond-true, cond-false, bytes_eq-Decides, position_below, get_left, Dim, all_some, is_among, dim_names, dim_ids, is_record_dim, nat_tests, subst, some_of_map, ltb-true, lt-ltb}
 
 abbrev place : ℕ → ℕ → Option ℕ
 place k n = cond (nat_lt k n) (Some k) None
@@ -46,10 +46,7 @@ name_at dims id = elim (slice_get dims id) [ None ↦ [] | Some d ↦ d.name ]
 
 name_of_place : (n : List ℕ) (dims : List Dim) (k : ℕ) → position (bytes_eq n) (dim_names dims) ≡ Some k → name_at dims k ≡ n
 name_of_place n [] k h = absurd (cc)
-name_of_place n (d ∷ dims) k h = ⊎_elim
-    (λ (a : (bytes_eq n d.name ≡ true) × (k ≡ 0)). ap (name_at (d ∷ dims)) a.1 ∙ sym (bytes_same n d.name a.0))
-    (λ (b : (bytes_eq n d.name ≡ false) × Later (bytes_eq n) (dim_names dims) k). ap (name_at (d ∷ dims)) b.1.next ∙ name_of_place n dims b.1.before b.1.found)
-    (place_cases (bytes_eq n) d.name (dim_names dims) k h)
+name_of_place n (d ∷ dims) k h = grind (arith, nat_tests, place_cases (bytes_eq n) d.name (dim_names dims) k h, bytes_same n d.name, name_of_place n dims)
 
 -- what holds of nothing, and on from what f gives, holds of all that f gives
 all_given : {A B : Type 0} (f : A → Option B) (P : List A → List B → Type 0) → P [] [] → ((x : A) (y : B) (xs : List A) (ys : List B) → f x ≡ Some y → P xs ys → P (x ∷ xs) (y ∷ ys))
@@ -99,8 +96,5 @@ same_records dims more [] h = refl
 same_records dims more (i ∷ ids) h =
     grind (arith, nat_tests, same_records dims more ids (and_parts (nat_lt i (length dims)) (are_within dims ids) h).1, and_parts, nat_lt, get_left, ltb-true)
 
-rest_within : (dims : List Dim) (ids : List ℕ) → are_within dims ids ≡ true → are_within dims (drop 1 ids) ≡ true
-rest_within dims ids h = grind (arith, nat_tests)
-
 pub more_records : (dims more : List Dim) (ns : List (List ℕ)) (ids : List ℕ) → dim_ids dims ns ≡ Some ids → list_any (is_record_dim dims) (drop 1 ids) ≡ false → list_any (is_record_dim (dims ++ more)) (drop 1 ids) ≡ false
-more_records dims more ns ids h none = same_records dims more (drop 1 ids) (rest_within dims ids (within_given dims ns ids h)) ∙ none
+more_records dims more ns ids h none = same_records dims more (drop 1 ids) (grind (arith, nat_tests, within_given dims ns ids h)) ∙ none

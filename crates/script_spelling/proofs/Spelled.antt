@@ -38,22 +38,16 @@ none_given zero h = refl
 none_given (suc n) zero = refl
 none_given (suc n) (suc h) = none_given n h
 
-vars_read : (ss : List Statement) (known : Known) → Part false nothing_known ss known
-    → AllZip (λ (line : VarLine) v. IsVarOf known.defined.dims (attrs_of line.name ss) line v) (vars_in ss) known.defined.vars
-vars_read ss known p =
-    subst (AllZip (λ (line : VarLine) v. IsVarOf known.defined.dims (attrs_of line.name ss) line v) (vars_in ss)) (sym p.3) (lines_of_vars known.defined.dims [] (λ n. attrs_of n ss) [] [] ss p.1 p.4)
-
 dataset_read : (opened : Bool) (version ranks : ℕ) (ss : List Statement) (known : Known) (calls : List (List Call)) → (version == 0) ≡ opened → Part opened nothing_known ss known → ToDataset (not opened) ss (script_of version ranks known calls)
 dataset_read true version ranks ss known calls e p = record { header = ap (header_of version) p.0 ∙ ap (λ (v : ℕ). header_of v no_definition) (eqb-true version 0 e); extra = p.1 }
-dataset_read false version ranks ss known calls e p = record { dims = p.1; vars = vars_read ss known p; attrs = p.2; records = refl; extra = p.0 }
+dataset_read false version ranks ss known calls e p =
+    let vars = lines_of_vars known.defined.dims [] (λ n. attrs_of n ss) [] [] ss p.1 p.4 in
+    record { dims = p.1; vars = subst (AllZip (λ (line : VarLine) v. IsVarOf known.defined.dims (attrs_of line.name ss) line v) (vars_in ss)) (sym p.3) vars; attrs = p.2; records = refl; extra = p.0 }
 
 describes_read : (version ranks : ℕ) (ss : List Statement) (known : Known) (called : List (ℕ × Call)) (calls : List (List Call))
     → Grown (version == 0) nothing_known ss known → known.ranks ≡ Some ranks → list_all (λ c. nat_lt c.0 ranks) called ≡ true → calls ≡ map (λ r. calls_in r called) (range_with_len 0 ranks)
     → Describes ss called (script_of version ranks known calls)
 describes_read version ranks ss known called calls grown told low same = grind (arith, nat_tests, none_given, dataset_read, at_most_one, hint_values)
-
-stand_read : (opened : Bool) (ss : List Statement) (known : Known) → Part opened nothing_known ss known → Stand opened [] [] [] ss
-stand_read opened ss known p = grind (arith, nat_tests)
 
 pub no_not : (b : Bool) → not (not b) ≡ b
 no_not b = grind (arith, nat_tests)
@@ -85,7 +79,7 @@ parts_spelled version l lines d c first defined calls last =
       head = first;
       statements = defined.statements;
       say = defined.say;
-      stand = subst (λ (b : Bool). Stand b [] [] [] defined.statements) (sym (no_not (version == 0))) (stand_read (version == 0) defined.statements d.1.0 defined.grown.part);
+      stand = subst (λ (b : Bool). Stand b [] [] [] defined.statements) (sym (no_not (version == 0))) (grind (arith, nat_tests, defined.grown.part));
       called = calls.called;
       call = calls.spells;
       describes = describes_read version d.0 defined.statements d.1.0 calls.called c.1.0.calls defined.grown defined.ranks

@@ -1,5 +1,5 @@
 -- What later statements add to what is known; a line of ranks or of a hint.
-use Rattle.script_spelling.proofs.Words.{◌≡◌, ◌∙◌, ℕ, ◌+◌, ◌<◌, List, ◌∷◌, ◌++◌, length, Bool, true, false, cond, ◌==◌, Option, Some, None, slice_set, Ok, sym, ap, subst, length-set, arith, bytes_eq, codes, eqb-true, equal_true, entry_below, entry_set, entry_set_other, position_below, Word, Plain, ◌>>=◌, hint_table, hint_in, hint_line, ranks_line, var_names, Known, Statement, RanksAre, HintIs, Says, Stand, ranks_in, hint_values, fills_in, dims_in, vars_in, own_attrs, attrs_of, extras_in, at_most_one, nat_tests}
+use Rattle.script_spelling.proofs.Words.{◌≡◌, ◌∙◌, ℕ, ◌+◌, ◌<◌, List, ◌∷◌, ◌++◌, length, Bool, true, false, cond, ◌==◌, Option, Some, None, slice_set, Ok, ap, subst, length-set, arith, bytes_eq, codes, eqb-true, equal_true, entry_below, entry_set, entry_set_other, position_below, Word, Plain, ◌>>=◌, hint_table, hint_in, hint_line, ranks_line, var_names, Known, Statement, RanksAre, HintIs, Says, Stand, ranks_in, hint_values, fills_in, dims_in, vars_in, own_attrs, attrs_of, extras_in, at_most_one, nat_tests}
 use Rattle.script_spelling.proofs.Steps.{went, same_ok}
 use Rattle.script_spelling.proofs.LinesRead.{ranks_said, hint_said}
 use Rattle.script_spelling.proofs.GrownVars.{are_apart, grown_vars}
@@ -43,9 +43,6 @@ pub record Taken (opened : Bool) (version : ℕ) (k : Known) (words : List Word)
 
 -- ---- ranks and hints
 
-ranks_part : (opened : Bool) (k : Known) (n : ℕ) (ss : List Statement) (last : Known) → Part opened (record k { ranks = Some n }) ss last → Part opened k (RanksAre n ∷ ss) last
-ranks_part opened k n ss last p = grind (arith, nat_tests)
-
 pub ranks_taken : (opened : Bool) (version : ℕ) (k : Known) (ws : List Word) (next : Known) → Fine k → (ranks_line k.ranks ws >>= λ n. Ok (record k { ranks = Some n })) ≡ Ok next → Taken opened version k (Plain (codes "ranks") ∷ ws) next
 ranks_taken opened version k ws next fine h =
     let a = went (ranks_line k.ranks ws) (λ n. Ok (record k { ranks = Some n })) next h in
@@ -55,12 +52,7 @@ ranks_taken opened version k ws next fine h =
       statement = RanksAre n;
       says = said.0;
       fine = record { long = fine.long; apart = fine.apart };
-      grown = λ ss last g. record {
-        ranks = g.ranks ∙ ap (λ (o : Option ℕ). at_most_one o ++ n ∷ ranks_in ss) (sym said.1);
-        hints = g.hints;
-        filled = g.filled;
-        part = ranks_part opened k n ss last g.part;
-      };
+      grown = λ ss last g. grind (arith, nat_tests, said.1, g.ranks, g.hints, g.filled, g.part, grown_with);
     })
 
 abbrev hint_by : Option (Option ℕ) → Option ℕ
@@ -72,15 +64,8 @@ hint_here hints i v low = let x = entry_below hints i low in ap hint_by (entry_s
 pub hint_elsewhere : (hints : List (Option ℕ)) (i j v : ℕ) → (j ≡ i → ⊥) → hint_in j (slice_set hints i (Some v)) ≡ hint_in j hints
 hint_elsewhere hints i j v other = ap hint_by (entry_set_other hints i j (Some v) other)
 
-hint_part : (opened : Bool) (k : Known) (i v : ℕ) (hints : List (Option ℕ)) (ss : List Statement) (last : Known) → Part opened (record k { hints = hints }) ss last → Part opened k (HintIs i v ∷ ss) last
-hint_part opened k i v hints ss last p = grind (arith, nat_tests)
-
 pub differ : (i j : ℕ) → (i == j) ≡ false → i ≡ j → ⊥
 differ i j e same = let equal = equal_true i j same in absurd (cc)
-
-hint_first : (hints : List (Option ℕ)) (i v j : ℕ) (later found : List ℕ) → hint_in i hints ≡ None → i < length hints → found ≡ at_most_one (hint_in j (slice_set hints i (Some v))) ++ later
-    → found ≡ at_most_one (hint_in j hints) ++ cond (i == j) (v ∷ later) later
-hint_first hints i v j later found free low h = grind (arith, nat_tests, eqb-true, slice_set, hint_here, hint_elsewhere, differ)
 
 pub hint_taken : (opened : Bool) (version : ℕ) (k : Known) (ws : List Word) (next : Known) → Fine k → (hint_line k.hints ws >>= λ h. Ok (record k { hints = slice_set k.hints h.0 (Some h.1) })) ≡ Ok next
     → Taken opened version k (Plain (codes "hint") ∷ ws) next
@@ -95,10 +80,8 @@ hint_taken opened version k ws next fine h =
       statement = HintIs i v;
       says = said.says;
       fine = record { long = length-set k.hints i (Some v) ∙ fine.long; apart = fine.apart };
-      grown = λ ss last g. record {
-        ranks = g.ranks;
-        hints = λ j. hint_first k.hints i v j (hint_values j ss) (at_most_one (hint_in j last.hints)) said.free low (g.hints j);
-        filled = g.filled;
-        part = hint_part opened k i v hints ss last g.part;
-      };
+      grown = λ ss last g.
+          let first : (j : ℕ) → at_most_one (hint_in j last.hints) ≡ at_most_one (hint_in j k.hints) ++ hint_values j (HintIs i v ∷ ss) =
+          λ j. grind (arith, nat_tests, eqb-true, slice_set, hint_here, hint_elsewhere, differ, g.hints j, said.free, low) in
+          grown_with g.ranks first g.filled (grind (arith, nat_tests, g.part));
     })

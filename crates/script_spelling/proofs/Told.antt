@@ -1,5 +1,5 @@
 -- A text that spells a script is read as this script.
-use Rattle.script_spelling.proofs.Words.{◌≡◌, ◌∙◌, ℕ, ◌+◌, ◌≤◌, List, [], ◌∷◌, ◌++◌, map, drop, length, Bool, true, false, not, cond, ◌==◌, Option, Some, None, Result, Ok, Err, refl, sym, ap, subst, append_assoc, arith, codes, AllZip, utf8_valid_len, eq-eqb, length-replicate, some_not_none, ScriptErr, ScriptKind, Dim, Header, Call, Script, most_values, values_in_script, lawful_parts, Word, Plain, Line, text_lines, significant, no_definition, Defined, Known, nothing_known, head, header_of, script_of, no_calls, script_of_lines, script_of_text, fault_of, script_fault, Reads, Statement, RanksAre, HintIs, IsFilled, DimIs, VarIs, AttIs, Says, Stand, attrs_of, vars_in, calls_in, fills_in, ToDataset, Describes, SpellsHead, Sections, lines_of, Spells, nat_tests}
+use Rattle.script_spelling.proofs.Words.{◌≡◌, ◌∙◌, ℕ, ◌+◌, ◌≤◌, List, [], ◌∷◌, ◌++◌, map, drop, length, Bool, true, false, not, cond, ◌==◌, Option, Some, None, Result, Ok, Err, refl, sym, ap, subst, append_assoc, arith, codes, AllZip, utf8_valid_len, eq-eqb, length-replicate, some_not_none, ScriptErr, ScriptKind, Dim, Call, Script, most_values, values_in_script, lawful_parts, Word, Plain, Line, text_lines, significant, Known, nothing_known, head, script_of, no_calls, script_of_lines, script_of_text, fault_of, script_fault, Reads, Statement, RanksAre, HintIs, IsFilled, DimIs, VarIs, AttIs, Says, Stand, attrs_of, vars_in, calls_in, fills_in, ToDataset, Describes, SpellsHead, Sections, lines_of, Spells, nat_tests}
 use Rattle.script_spelling.proofs.Steps.{go_on, same_ok, word_read}
 use Rattle.script_spelling.proofs.CallCounts.{count_all, count_empty, text_again}
 use Rattle.script_spelling.proofs.Agreement.{agreement}
@@ -50,21 +50,12 @@ no_fill (AttIs owner a ∷ ss) dims names titles h = no_fill ss dims names _ h.2
 pub not_filled : (filled : Bool) (n : ℕ) → n ≡ cond filled 1 0 → n ≡ 0 → filled ≡ false
 not_filled filled n h none = grind (arith, nat_tests)
 
-opened_defines : (header : Header) (filled : Bool) → header ≡ header_of 0 no_definition → filled ≡ false
-    → ◌≡◌ {A = Defined} (record { dims = header.dims; vars = header.vars; attrs = header.attrs; titles = []; filled = filled }) no_definition
-opened_defines header filled e none = grind (arith, nat_tests)
-
 part_told : (fresh : Bool) (s : Script) (hints : List (Option ℕ)) (ss : List Statement) → fills_in ss ≡ cond s.filled 1 0 → ToDataset fresh ss s → Stand (not fresh) [] [] [] ss → Part (not fresh) nothing_known ss (known_of s hints)
 part_told true s hints ss filled d stand = (d.extra, d.dims, d.attrs, vars_of_lines s.header.dims (λ n. attrs_of n ss) (vars_in ss) s.header.vars d.vars, stand)
-part_told false s hints ss filled d stand = (opened_defines s.header s.filled d.header (not_filled s.filled (fills_in ss) filled (no_fill ss [] [] [] stand)), d.extra, stand)
+part_told false s hints ss filled d stand = (grind (arith, nat_tests, d.header, not_filled s.filled (fills_in ss) filled (no_fill ss [] [] [] stand)), d.extra, stand)
 
 grown_told : (s : Script) (ss : List Statement) (called : List (ℕ × Call)) (d : Describes ss called s) → Stand (not s.fresh) [] [] [] ss → Grown (not s.fresh) nothing_known ss (known_of s d.hint_table)
 grown_told s ss called d stand = grind (arith, nat_tests, none_given, part_told)
-
--- ---- how many values it has
-
-values_told : (s : Script) (hints : List (Option ℕ)) → total (known_of s hints) + count_all s.calls ≡ values_in_script s
-values_told s hints = refl
 
 -- ---- the script by its parts
 
@@ -87,7 +78,7 @@ lines_told text s past (l ∷ lines) h are =
     let first = head_told h.sections.head s.fresh version h.head in
     let lawful = lawful_parts s h.lawful in
     let last = known_of s h.describes.hint_table in
-    let counted = values_told s h.describes.hint_table in
+    let counted : total last + count_all s.calls ≡ values_in_script s = refl in
     let few : total last ≤ most_values = omega (arith, counted, lawful.few_values) in
     let grown = grown_told s h.statements h.called h.describes h.stand in
     let begin : Sound nothing_known = record { fine = record { long = refl; apart = refl }; counted = refl } in
