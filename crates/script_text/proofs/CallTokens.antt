@@ -1,5 +1,5 @@
 -- The words of a call that is printed.
-use Rattle.script_text.proofs.Words.{◌≡◌, ◌∙◌, ℕ, List, [], ◌∷◌, ◌++◌, map, true, Option, Some, None, refl, ap, decimal, Values, Given, Call, call_word, call_words, region_words, shown_values, words_behind, Word, Plain, Family, Requests, Size, Name, Record, Nothing, Behind, CallRow, in_row, of_behind, HasNoRegion, IsRow, made_behind, arith, nat_tests}
+use Rattle.script_text.proofs.Words.{◌≡◌, ◌∙◌, ℕ, List, [], ◌∷◌, ◌++◌, map, true, Option, Some, None, refl, ap, decimal, Values, Given, Call, call_word, call_words, region_words, shown_values, words_behind, Word, Plain, Family, Requests, Size, Name, Record, Nothing, Behind, CallRow, in_row, of_behind, HasNoRegion, IsRow, made_behind, arith, nat_tests, common_steps}
 use Rattle.script_spec.specs.CallTable.{row_of}
 use Rattle.script_text.proofs.Lexing.{spelling, is_plain}
 use Rattle.script_text.proofs.PrintedValues.{value_tokens, values_spelled}
@@ -30,10 +30,7 @@ made_tokens row is ranks r b = apart_tokens (row.made ranks r b) (is.apart ranks
 
 behind_spelled : (f : Family) (b : Behind f) → map spelling (tokens_behind f b) ≡ words_behind f b
 behind_spelled Requests c = choice_spelled c
-behind_spelled Size n = refl
-behind_spelled Name n = refl
-behind_spelled Record v = refl
-behind_spelled Nothing _ = refl
+behind_spelled f b = grind (arith, nat_tests)
 
 plain_spelled : (c : Call) → map spelling (of_behind [] tokens_behind c) ≡ of_behind [] words_behind c
 plain_spelled c = by_row (row_of c)
@@ -51,19 +48,11 @@ plain_spelled c = by_row (row_of c)
     by_row (Some row) = by_seen row (row.seen c)
 
 both_spelled : (g : Given) (vs : Values) → map spelling (region_tokens g.form g ++ value_tokens vs) ≡ region_words g ++ shown_values vs
-both_spelled g vs =
-    joined_spelled (region_tokens g.form g) (value_tokens vs)
-    ∙ (ap (λ (ws : List (List ℕ)). ws ++ map spelling (value_tokens vs)) (region_spelled g.form g) ∙ ap (λ (ws : List (List ℕ)). region_words g ++ ws) (values_spelled vs))
-  where
-    joined_spelled : (xs ys : List Word) → map spelling (xs ++ ys) ≡ map spelling xs ++ map spelling ys
-    joined_spelled [] ys = refl
-    joined_spelled (x ∷ xs) ys = ap (λ (ws : List (List ℕ)). spelling x ∷ ws) (joined_spelled xs ys)
+both_spelled g vs = grind (arith, common_steps, region_spelled g.form g, values_spelled vs)
 
 pub call_spelled : (c : Call) → map spelling (call_tokens c) ≡ call_words c
 call_spelled (call.Put all n g vs) = ap (λ (ws : List (List ℕ)). n ∷ ws) (both_spelled g vs)
-call_spelled (call.Get all n g) = ap (λ (ws : List (List ℕ)). n ∷ ws) (region_spelled g.form g)
-call_spelled (call.Post id k n g vs) = ap (λ (ws : List (List ℕ)). decimal id ∷ n ∷ ws) (both_spelled g vs)
-call_spelled c = plain_spelled c
+call_spelled c = grind (arith, nat_tests, region_spelled, both_spelled, plain_spelled c)
 
 pub call_plain : (c : Call) → is_plain (call_word c) ≡ true
 call_plain c = grind (arith, nat_tests)

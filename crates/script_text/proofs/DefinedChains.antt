@@ -1,5 +1,5 @@
 -- The definitions of a new dataset in their canonical order: their lines are cut again and say them, they may stand behind one another, and they tell the dataset.
-use Rattle.script_text.proofs.Words.{◌≡◌, ◌∙◌, ℕ, List, [], ◌∷◌, ◌++◌, map, Bool, true, false, cond, Option, Some, None, refl, sym, ap, subst, append_assoc, append-nil, arith, nat_tests, bytes_eq, codes, list_any, and_from, and_left, and_right, or_from, or_left, or_right, or_parts, list_any-append, AllZip, Dim, Attr, Var, Header, Word, is_among, var_names, Title, same_title}
+use Rattle.script_text.proofs.Words.{◌≡◌, ◌∙◌, ℕ, List, [], ◌∷◌, ◌++◌, map, true, false, cond, Option, Some, None, refl, sym, ap, subst, append_assoc, append-nil, arith, nat_tests, bytes_eq, codes, list_any, and_from, and_left, and_right, or_from, or_left, or_right, or_parts, list_any-append, AllZip, Dim, Attr, Var, Header, Word, is_among, var_names, Title, same_title, common_steps}
 use Rattle.script_spelling.specs.Statements.{Statement, DimIs, VarIs, AttIs, VarLine, owner_word, IsOwner, DimStands, VarStands, OwnerStands, Stand}
 use Rattle.script_spelling.specs.Described.{IsVarOf, ranks_in, hint_values, fills_in, dims_in, vars_in, own_attrs, attrs_of}
 use Rattle.script_spelling.proofs.Places.{name_at, bytes_same, bytes_own}
@@ -81,12 +81,7 @@ own_shown version dims names (v ∷ vs) h own =
 pub defined_shown : (version : ℕ) (h : Header) → DefinedOk version h → Shows version (definition_lines h) (definition_statements h)
 defined_shown version h ok =
     let own_lines = map (line_of_att None) h.attrs in
-    let own = map (λ (a : Attr). AttIs None a) h.attrs in
-    let var_lines = map (λ v. line_of_var (line_for h.dims v)) h.vars in
-    let vars = map (λ (v : Var). VarIs (line_for h.dims v)) h.vars in
-    shows_joined version (map line_of_dim h.dims) (map (λ (d : Dim). DimIs d) h.dims) (var_lines ++ (own_lines ++ lines_of_own h.vars)) (vars ++ (own ++ own_statements h.vars)) (dims_shown version [] h.dims ok.dims)
-    (shows_joined version var_lines vars (own_lines ++ lines_of_own h.vars) (own ++ own_statements h.vars) (vars_shown version h.dims [] h.vars ok.vars)
-    (shows_joined version own_lines own (lines_of_own h.vars) (own_statements h.vars) (atts_shown version None [] h.attrs tt ok.attrs) (own_shown version h.dims [] h.vars ok.vars ok.own)))
+    grind (arith, common_steps, shows_joined version (map line_of_dim h.dims) (map (λ (d : Dim). DimIs d) h.dims) ((map (λ v. line_of_var (line_for h.dims v)) h.vars) ++ (own_lines ++ lines_of_own h.vars)), dims_shown version [] h.dims ok.dims, shows_joined version (map (λ v. line_of_var (line_for h.dims v)) h.vars) (map (λ (v : Var). VarIs (line_for h.dims v)) h.vars) (own_lines ++ lines_of_own h.vars), vars_shown version h.dims [] h.vars ok.vars, shows_joined version own_lines (map (λ (a : Attr). AttIs None a) h.attrs) (lines_of_own h.vars) (own_statements h.vars) (atts_shown version None [] h.attrs tt ok.attrs), atts_shown version None [] h.attrs tt ok.attrs, own_shown version h.dims [] h.vars ok.vars ok.own)
 
 -- ---- they may stand behind one another
 
@@ -116,12 +111,7 @@ atts_stand : (version : ℕ) (dims : List Dim) (all : List (List ℕ)) (o : Opti
     → AttrChain version names list → FreshOwner titles (owner_word o) names → Stand false dims all (titles ++ titles_of (owner_word o) list) more → Stand false dims all titles (map (λ (a : Attr). AttIs o a) list ++ more)
 atts_stand version dims all o [] names titles more there h fresh k = subst (λ (ts : List Title). Stand false dims all ts more) (append-nil titles) k
 atts_stand version dims all o (a ∷ list) names titles more there h fresh k =
-    let next = titles ++ (owner_word o, a.name) ∷ [] in (
-      there,
-      fresh a.name h.1,
-      atts_stand version dims all o list (names ++ a.name ∷ []) next more there h.2 (fresh_pushed titles (owner_word o) names a.name fresh)
-          (subst (λ (ts : List Title). Stand false dims all ts more) (sym (append_assoc titles ((owner_word o, a.name) ∷ []) (titles_of (owner_word o) list))) k),
-    )
+    let next = titles ++ (owner_word o, a.name) ∷ [] in grind (arith, common_steps, atts_stand version dims all o list (names ++ a.name ∷ []) next more there h.2 (fresh_pushed titles (owner_word o) names a.name fresh), fresh_pushed titles (owner_word o) names a.name fresh)
 
 -- the titles are of owners of these names, or of the dataset
 abbrev Apart : List Title → List (List ℕ) → Type 0
@@ -131,9 +121,6 @@ other_titles : (owner other n : List ℕ) (list : List Attr) → bytes_eq owner 
 other_titles owner other n [] h = refl
 other_titles owner other n (a ∷ list) h = or_from _ _ (and_left _ _ h) (other_titles owner other n list h)
 
-apart_pushed : (titles : List Title) (names : List (List ℕ)) (m : List ℕ) (list : List Attr) → Apart titles names → Apart (titles ++ titles_of m list) (names ++ m ∷ [])
-apart_pushed titles names m list h owner colon none n = grind (arith, nat_tests, or_parts, bytes_eq, list_any-append, or_from, other_titles)
-
 new_there : (names : List (List ℕ)) (n : List ℕ) (more : List (List ℕ)) → is_among n (names ++ n ∷ more) ≡ true
 new_there names n more = list_any-append (bytes_eq n) names (n ∷ more) ∙ or_right _ _ (or_left _ _ (bytes_own n))
 
@@ -142,15 +129,11 @@ own_stand : (version : ℕ) (dims : List Dim) (all names : List (List ℕ)) (vs 
 own_stand version dims all names [] titles e h own apart = tt
 own_stand version dims all names (v ∷ vs) titles e h own apart =
     let there : is_among v.name all ≡ true = ap (is_among v.name) e ∙ new_there names v.name (var_names vs) in
-    let fresh : FreshOwner titles v.name [] = λ n none. apart v.name (no_colon v.name h.0.shown.1.5) h.0.stands.0 n in
-    atts_stand version dims all (Some v.name) v.attrs [] titles (own_statements vs) there own.0 fresh
-    (own_stand version dims all (names ++ v.name ∷ []) vs (titles ++ titles_of v.name v.attrs) (e ∙ sym (append_assoc names (v.name ∷ []) (var_names vs))) h.1 own.1 (apart_pushed titles names v.name v.attrs apart))
+    grind (arith, common_steps, no_colon v.name h.0.shown.1.5, atts_stand version dims all (Some v.name) v.attrs [] titles (own_statements vs) there own.0, own_stand version dims all (names ++ v.name ∷ []) vs (titles ++ titles_of v.name v.attrs) (e ∙ sym (append_assoc names (v.name ∷ []) (var_names vs))) h.1 own.1, other_titles, or_parts, bytes_eq, list_any-append, or_from)
 
 pub defined_stand : (version : ℕ) (h : Header) → DefinedOk version h → Stand false [] [] [] (definition_statements h)
 defined_stand version h ok =
-    dims_stand version [] h.dims [] [] _ ok.dims (vars_stand version h.dims [] h.vars [] _ ok.vars
-    (atts_stand version h.dims (var_names h.vars) None h.attrs [] [] _ tt ok.attrs (λ n none. refl)
-    (own_stand version h.dims (var_names h.vars) [] h.vars (titles_of (codes ":") h.attrs) refl ok.vars ok.own (λ owner colon none n. other_titles owner (codes ":") n h.attrs colon))))
+    dims_stand version [] h.dims [] [] _ ok.dims (grind (arith, common_steps, vars_stand version h.dims [] h.vars [], atts_stand version h.dims (var_names h.vars) None h.attrs [] [], own_stand version h.dims (var_names h.vars) [] h.vars (titles_of (codes ":") h.attrs), other_titles))
 
 -- ---- what they tell
 
@@ -227,7 +210,5 @@ vars_told version dims f names (v ∷ vs) h each =
     let more = names ++ v.name ∷ [] in
     let own : f v.name ≡ v.attrs =
     grind (arith, nat_tests, bytes_own, none_of, new_there, append-nil, h.0.stands.0, own_of) in
-    let rest = vars_told version dims f more vs h.1 (λ n none.
-    let p = or_parts (is_among n names) _ (sym (list_any-append (bytes_eq n) names (v.name ∷ [])) ∙ none) in
-    each n p.0 ∙ ap (λ (b : Bool). cond b v.attrs [] ++ own_of n vs) (bytes_other n v.name (or_parts (bytes_eq n v.name) false p.1).0)) in
+    let rest = vars_told version dims f more vs h.1 (grind (arith, common_steps, bytes_other)) in
     (subst (λ (list : List Attr). IsVarOf dims list (line_for dims v) v) (sym own) h.0.told, rest)

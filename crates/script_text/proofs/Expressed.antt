@@ -1,13 +1,12 @@
 -- A lawful script that words can express is read from what is printed of it.
-use Rattle.script_text.proofs.Words.{◌≡◌, ℕ, ◌+◌, ◌≤◌, List, [], ◌∷◌, map, sum, length, length-append, codes, Bool, true, nat_le, ◌&&◌, refl, sym, subst, arith, list_all, and_parts, cond-true, eqb-true, leb-true, length-map, sum_by-cons, Header, Extra, Script, Call, most_dims, most_vars, is_version, is_lawful, is_lawful_dim, is_lawful_header, is_lawful_var, shown, Plain, Reads, most_bytes, most_lines, is_expressible, is_expressible_call, is_expressible_header, printed_lines, nat_tests}
+use Rattle.script_text.proofs.Words.{◌≡◌, ℕ, ◌+◌, ◌≤◌, List, [], ◌∷◌, map, sum, length, length-append, codes, Bool, true, nat_le, ◌&&◌, refl, sym, subst, arith, list_all, and_parts, cond-true, eqb-true, leb-true, length-map, Script, Call, most_dims, most_vars, is_version, is_lawful, is_lawful_dim, is_lawful_header, is_lawful_var, shown, Reads, most_bytes, most_lines, is_expressible, is_expressible_call, is_expressible_header, printed_lines, nat_tests, common_steps}
 use Rattle.serial_spec.proofs.Common.{lawful_parts}
 use Rattle.serial_spec.proofs.MemberLaws.{empty_list}
 use Rattle.script_spelling.proofs.Told.{spelled_read}
-use Rattle.script_text.proofs.CallLines.{call_tokens_of, own_lines, call_lines}
-use Rattle.script_text.proofs.DefinedChains.{lines_of_own, definition_lines}
-use Rattle.script_text.proofs.HintLines.{hint_tokens}
+use Rattle.script_text.proofs.CallLines.{call_lines}
+use Rattle.script_text.proofs.DefinedChains.{lines_of_own}
 use Rattle.script_text.proofs.ExpressedDefinitions.{header_told}
-use Rattle.script_text.proofs.ScriptLines.{all_lines, before_data, content_lines, fill_lines, from_data}
+use Rattle.script_text.proofs.ScriptLines.{all_lines}
 use Rattle.script_text.proofs.Whole.{HeadFits, Content, new_content, spells_shown}
 
 -- ---- a script for a new dataset, by its parts
@@ -29,16 +28,10 @@ new_header s fresh h = grind (arith, nat_tests, and_parts, cond-true, nat_le, eq
 
 calls_long : (r : ℕ) (calls : List (List Call)) → length (call_lines r calls) ≡ sum (map (λ own. length own) calls)
 calls_long r [] = refl
-calls_long r (own ∷ more) =
-    let first = sum_by-cons (λ n. n) (length own) (map (λ cs. length cs) more) in
-    omega (arith, first, length-append (own_lines r own) (call_lines (r + 1) more), length-map own (call_tokens_of r), calls_long (r + 1) more)
-
-definitions_long : (header : Header) → header.attrs ≡ [] → lines_of_own header.vars ≡ [] → length (definition_lines header) ≡ length header.dims + length header.vars
-definitions_long header plain own = grind (arith, nat_tests, codes, length-append, length-map)
+calls_long r (own ∷ more) = grind (arith, common_steps, calls_long (r + 1) more)
 
 all_long : (s : Script) → s.extra ≡ [] → s.header.attrs ≡ [] → lines_of_own s.header.vars ≡ [] → length (all_lines s) ≡ printed_lines s
-all_long s none plain own =
-    subst (λ (es : List Extra). length (all_lines (record s { extra = es })) ≡ printed_lines s) (sym none) (grind (arith, nat_tests, codes "end", length-append (before_data (record s { extra = [] })) (from_data s.calls), length-append (hint_tokens s.hints) (content_lines s.filled [] s.header), length-append (fill_lines s.filled) (definition_lines s.header), definitions_long s.header plain own, length-append (call_lines 0 s.calls) ((Plain (codes "end") ∷ []) ∷ []), calls_long 0 s.calls))
+all_long s none plain own = grind (arith, common_steps, all_lines, calls_long 0 s.calls, codes, length-append, length-map)
 
 -- ---- the whole
 

@@ -1,9 +1,10 @@
 -- Definitions that words can express say themselves, printed, and stand behind those before them.
-use Rattle.script_text.proofs.Words.{◌≡◌, ◌∙◌, ◌⊎◌, ℕ, zero, suc, ◌+◌, ◌^◌, ◌≤◌, ◌<◌, List, [], ◌∷◌, ◌++◌, map, position, drop, length, Bool, true, false, not, cond, nat_lt, nat_le, ◌==◌, ◌&&◌, Some, refl, sym, ap, inl, inr, append_assoc, length-append, arith, bytes_eq, list_all, list_any, and_parts, and_from, not-true, length-map, ne_eqb, ltb-true, leb-true, eqb-true, Dim, Var, Header, most_dims, most_vars, most_dims_of_var, record_limit, number_of, last_type, is_lawful_dim, is_lawful_var, is_name, is_among, dim_names, is_record_dim, is_unlimited, is_new_name, are_expressible_dims, is_expressible_var, are_expressible_vars, is_expressible_header, nat_tests}
+use Rattle.script_text.proofs.Words.{◌≡◌, ◌∙◌, ◌⊎◌, ℕ, zero, suc, ◌+◌, ◌^◌, ◌≤◌, ◌<◌, List, [], ◌∷◌, ◌++◌, map, position, drop, length, true, false, not, nat_lt, nat_le, ◌==◌, ◌&&◌, Some, refl, sym, ap, inl, append_assoc, length-append, arith, bytes_eq, list_all, list_any, and_parts, and_from, not-true, ltb-true, Dim, Var, Header, most_dims, most_vars, most_dims_of_var, record_limit, number_of, last_type, is_lawful_dim, is_lawful_var, is_name, is_among, dim_names, is_record_dim, is_unlimited, is_new_name, are_expressible_dims, is_expressible_var, are_expressible_vars, is_expressible_header, nat_tests, common_steps}
+use Rattle.script_text.proofs.Numerals.{name_plain}
 use Rattle.serial_spec.proofs.MemberLaws.{empty_list}
 use Rattle.script_text.proofs.PrintedAttributes.{type_told}
 use Rattle.script_text.proofs.PrintedDefinitions.{length_told}
-use Rattle.script_text.proofs.StatementLines.{dim_shown, var_shown}
+use Rattle.script_text.proofs.StatementLines.{var_shown}
 use Rattle.script_spelling.proofs.Places.{name_at, place_of_new, joined_names, length_names, ids_found}
 use Rattle.script_text.proofs.DefinedChains.{DimChain, line_for, VarOk, VarChain, OwnChains, DefinedOk, lines_of_own}
 
@@ -13,13 +14,9 @@ new_name names n h = grind (arith, nat_tests, and_parts, not, not-true)
 
 -- ---- dimensions
 
-length_low : (b : Bool) (n : ℕ) → n < cond b (2 ^ 62) (2 ^ 31) → n < 2 ^ 63
-length_low true n h = omega arith
-length_low false n h = omega arith
-
 length_cases : (version n : ℕ) → n < record_limit version → (n ≡ 0) ⊎ (((n == 0) ≡ false) × (n < record_limit version) × (n < 2 ^ 63))
 length_cases version zero h = inl refl
-length_cases version (suc n) h = inr (ne_eqb (suc n) 0 (omega arith), h, length_low (version == 5) (suc n) h)
+length_cases version (suc n) h = grind (arith, nat_tests)
 
 record DimParts (before : List Dim) (d : Dim) (ds : List Dim) : Type 0 where
   named : is_name d.name ≡ true
@@ -34,9 +31,7 @@ dims_chained : (version : ℕ) (before ds : List Dim) → are_expressible_dims b
 dims_chained version before [] h lawful few = tt
 dims_chained version before (d ∷ ds) h lawful few =
     let parts = dim_parts before d ds h in
-    let lens = and_parts (is_lawful_dim version d) (list_all (is_lawful_dim version) ds) lawful in
-    let len = length_told version d.len (length_cases version d.len (ltb-true d.len (record_limit version) lens.0)) in
-    let long = length-append before (d ∷ []) in grind (arith, nat_tests, dim_shown, dims_chained version (before ++ d ∷ []) ds parts.rest lens.1, parts.fresh, parts.one)
+    grind (arith, common_steps, length_told version d.len (length_cases version d.len (ltb-true d.len (record_limit version) (and_parts (is_lawful_dim version d) (list_all (is_lawful_dim version) ds) lawful).0)), length_cases version d.len (ltb-true d.len (record_limit version) (and_parts (is_lawful_dim version d) (list_all (is_lawful_dim version) ds) lawful).0), dims_chained version (before ++ d ∷ []) ds parts.rest (and_parts (is_lawful_dim version d) (list_all (is_lawful_dim version) ds) lawful).1, name_plain)
 
 -- ---- their places
 
@@ -46,8 +41,7 @@ dim_found before (d ∷ ds) zero h low = grind (arith, nat_tests, length_names, 
 dim_found before (d ∷ ds) (suc k) h low =
     let names : dim_names before ++ d.name ∷ dim_names ds ≡ dim_names (before ++ d ∷ []) ++ dim_names ds =
     sym (ap (λ (ns : List (List ℕ)). ns ++ dim_names ds) (joined_names before (d ∷ [])) ∙ append_assoc (dim_names before) (d.name ∷ []) (dim_names ds)) in
-    let same : length (before ++ d ∷ []) + k ≡ length before + suc k = omega (arith, length-append before (d ∷ [])) in
-    ap (position (bytes_eq (name_at ds k))) names ∙ (dim_found (before ++ d ∷ []) ds k (dim_parts before d ds h).rest (omega arith) ∙ ap (λ (n : ℕ). Some n) same)
+    grind (arith, common_steps, position (bytes_eq (name_at ds k)), dim_found (before ++ d ∷ []) ds k (dim_parts before d ds h).rest, dim_parts before d ds h)
 
 dim_named : (before ds : List Dim) (k : ℕ) → are_expressible_dims before ds ≡ true → k < length ds → is_name (name_at ds k) ≡ true
 dim_named before [] k h low = absurd (omega arith)
@@ -77,12 +71,7 @@ var_chained version dims names v all lawful fresh h room =
     let limits = and_parts (nat_le (length v.dims) most_dims_of_var) (v.begin == 0) lawful in
     let named = dims_named dims v.dims all parts.there in
     let found = ids_found dims v.dims (λ k low. let same : 0 + k ≡ k = omega arith in dim_found [] dims k all low ∙ ap (λ (i : ℕ). Some i) same) parts.there in
-    let few = leb-true (length v.dims) most_dims_of_var limits.0 in
-    record {
-      shown = var_shown version (line_for dims v) (type_told version v.kind parts.known) n.0 named;
-      stands = (n.1, room, omega (arith, few, length-map v.dims (name_at dims)), (v.dims, found, parts.records));
-      told = (found, ap (λ (b : ℕ). record v { begin = b }) (eqb-true v.begin 0 limits.1));
-    }
+    grind (arith, common_steps, var_shown version (line_for dims v) (type_told version v.kind parts.known) n.0 named, type_told version v.kind parts.known)
 
 vars_chained : (version : ℕ) (dims : List Dim) (names : List (List ℕ)) (vs : List Var) → are_expressible_dims [] dims ≡ true → list_all is_lawful_var vs ≡ true → are_expressible_vars version dims names vs ≡ true
     → length names + length vs ≤ most_vars → VarChain version dims names vs × OwnChains version vs × (lines_of_own vs ≡ [])

@@ -1,5 +1,5 @@
 -- The hints, as they are printed, and as they are said again.
-use Rattle.script_text.proofs.Words.{◌%◌, eq-eqb, ne_eqb, cond-false, cond-true, ◌+◌, le-leb, eqb-true, is_within, is_alignment, are_lawful_hints, ◌≡◌, ◌∙◌, ℕ, ◌^◌, ◌≤◌, ◌<◌, List, [], ◌∷◌, ◌++◌, map, Bool, true, false, ◌==◌, Option, Some, refl, ap, arith, codes, and_parts, and_from, Hints, OverlapRule, Refuse, Serial, shown_hint, shown_hints, Word, Plain, Within, HintForm, HintRow, flag, rule_number, rule_of, off_or_on, refuse_or_serial, hint_table, hint_of_text, hint_form, shown_value, hint_in, hints_of, nat_tests, suc, zero, drop}
+use Rattle.script_text.proofs.Words.{eq-eqb, ne_eqb, cond-false, cond-true, ◌+◌, eqb-true, is_within, is_alignment, are_lawful_hints, ◌≡◌, ◌∙◌, ℕ, ◌^◌, ◌≤◌, ◌<◌, List, [], ◌∷◌, ◌++◌, map, Bool, true, false, Option, Some, refl, ap, arith, codes, and_parts, and_from, Hints, OverlapRule, Refuse, Serial, shown_hint, shown_hints, Word, Plain, Within, HintForm, HintRow, flag, rule_number, rule_of, off_or_on, refuse_or_serial, hint_table, hint_of_text, hint_form, shown_value, hint_in, hints_of, nat_tests, suc, zero, drop}
 use Rattle.std.proofs.Common.{flat_map}
 use Rattle.script_spelling.specs.Statements.{Statement, HintIs, hint_value_of}
 use Rattle.script_spelling.specs.Described.{at_most_one, hint_values}
@@ -32,16 +32,12 @@ hint_numbers h =
 abbrev pub all_given : Hints → List (Option ℕ)
 all_given h = map (λ v. Some v) (hint_numbers h)
 
-flag_again : (b : Bool) → (flag b == 1) ≡ b
-flag_again true = refl
-flag_again false = refl
-
 rule_again : (o : OverlapRule) → rule_of (rule_number o) ≡ o
 rule_again Refuse = refl
 rule_again Serial = refl
 
 pub hints_again : (ranks : ℕ) (h : Hints) → hints_of ranks (all_given h) ≡ h
-hints_again ranks h = ap (λ (b : Bool). record h { threads = b; overlap = rule_of (rule_number h.overlap) }) (flag_again h.threads) ∙ ap (λ (o : OverlapRule). record h { overlap = o }) (rule_again h.overlap)
+hints_again ranks h = grind (arith, nat_tests, rule_again h.overlap)
 
 -- those that are numbers are within their ranges
 pub record HintsFit (h : Hints) : Type 0 where
@@ -54,18 +50,15 @@ pub record HintsFit (h : Hints) : Type 0 where
   pub var_align : is_value_of (Within 4 1048576 4) h.var_align ≡ true
   pub striping_unit : is_value_of (Within 1 33554432 1) h.striping_unit ≡ true
 
-any_unit : (low high n : ℕ) → is_within low high n ≡ true → is_value_of (Within low high 1) n ≡ true
-any_unit low high n h = let unit : n % 1 ≡ 0 = omega arith in and_from _ _ h (eq-eqb (n % 1) 0 unit)
-
 pub ranks_told : (n : ℕ) → 1 ≤ n → n ≤ 64 → is_value_of (Within 1 64 1) n ≡ true
-ranks_told n low high = any_unit 1 64 n (and_from _ _ (le-leb 1 n low) (le-leb n 64 high))
+ranks_told n low high = grind (arith, nat_tests)
 
 pub hints_told : (h : Hints) → are_lawful_hints h ≡ true → HintsFit h
 hints_told h lawful =
     let p7 = and_parts _ (is_within 1 (2 ^ 25) h.striping_unit) lawful in
     let p6 = and_parts _ (is_alignment h.var_align) p7.0 in
     let p5 = and_parts _ (is_alignment h.header_align) p6.0 in
-    grind (arith, nat_tests, any_unit, and_parts, eqb-true, and_from, eq-eqb, p5.0)
+    grind (arith, nat_tests, and_parts, eqb-true, and_from, eq-eqb, p5.0)
 
 -- ---- the lines of the hints
 
@@ -73,9 +66,6 @@ hints_told h lawful =
 record HintAgain (f : HintForm) (n : ℕ) : Type 0 where
   plain : is_plain (shown_value f n) ≡ true
   again : hint_value_of f (shown_value f n) ≡ Some n
-
-number_told : (low high unit n : ℕ) → is_value_of (Within low high unit) n ≡ true → high < 2 ^ 63 → HintAgain (Within low high unit) n
-number_told low high unit n h top = record { plain = within_plain low high unit n h top; again = within_again low high unit n h top }
 
 flag_told : (b : Bool) → HintAgain off_or_on (flag b)
 flag_told true = record { plain = refl; again = refl }
@@ -100,7 +90,7 @@ hint_on version word i v wss ss plain at told more = grind (arith, nat_tests)
 pub hints_shown : (version : ℕ) (h : Hints) → HintsFit h → Shows version (hint_tokens h) (hint_statements h)
 hints_shown version h fit =
     let next = λ (n : ℕ). drop n (hint_tokens h) in
-    grind (arith, nat_tests, hint_on version (codes "cb_nodes") 0 h.cb_nodes (next 1), number_told 1 64 1 h.cb_nodes fit.cb_nodes, hint_on version (codes "cb_buffer_size") 1 h.cb_buffer (next 2), number_told 1 33554432 1 h.cb_buffer fit.cb_buffer, hint_on version (codes "ind_rd_buffer_size") 2 h.rd_buffer (next 3), number_told 1 33554432 1 h.rd_buffer fit.rd_buffer, hint_on version (codes "ind_wr_buffer_size") 3 h.wr_buffer (next 4), number_told 1 33554432 1 h.wr_buffer fit.wr_buffer, hint_on version (codes "line_room") 4 h.line_room (next 5), number_told 1 64 1 h.line_room fit.line_room, hint_on version (codes "threads") 5 (flag h.threads) (next 6), flag_told h.threads, hint_on version (codes "overlap") 6 (rule_number h.overlap) (next 7), rule_told h.overlap, hint_on version (codes "nc_header_align_size") 7 h.header_align (next 8), number_told 4 1048576 4 h.header_align fit.header_align, hint_on version (codes "nc_var_align_size") 8 h.var_align (next 9), number_told 4 1048576 4 h.var_align fit.var_align, hint_on version (codes "striping_unit") 9 h.striping_unit [] [], number_told 1 33554432 1 h.striping_unit fit.striping_unit, drop, hint_statements)
+    grind (arith, nat_tests, hint_on version (codes "cb_nodes") 0 h.cb_nodes (next 1), hint_on version (codes "cb_buffer_size") 1 h.cb_buffer (next 2), hint_on version (codes "ind_rd_buffer_size") 2 h.rd_buffer (next 3), hint_on version (codes "ind_wr_buffer_size") 3 h.wr_buffer (next 4), hint_on version (codes "line_room") 4 h.line_room (next 5), hint_on version (codes "threads") 5 (flag h.threads) (next 6), flag_told h.threads, hint_on version (codes "overlap") 6 (rule_number h.overlap) (next 7), rule_told h.overlap, hint_on version (codes "nc_header_align_size") 7 h.header_align (next 8), hint_on version (codes "nc_var_align_size") 8 h.var_align (next 9), hint_on version (codes "striping_unit") 9 h.striping_unit [] [], drop, hint_statements, within_plain, within_again)
 
 none_before : (n k : ℕ) (vs : List ℕ) (more : List Statement) → n < k → hint_values n (hints_from k vs ++ more) ≡ hint_values n more
 none_before n k [] more low = refl

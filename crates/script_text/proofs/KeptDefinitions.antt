@@ -1,9 +1,8 @@
 -- The definitions of a script that is read, in their canonical order: each is said again, and may stand behind those before it.
-use Rattle.script_text.proofs.Words.{◌≡◌, ◌∙◌, ℕ, List, [], ◌∷◌, ◌++◌, map, true, false, Some, None, refl, sym, ap, subst, append_assoc, bytes_eq, codes, list_any, and_from, or_parts, or_from, list_any-append, AllZip, Attr, Dim, Var, Script, Extra, is_among, Title, same_title, arith, nat_tests}
+use Rattle.script_text.proofs.Words.{◌≡◌, ◌∙◌, ℕ, List, [], ◌∷◌, ◌++◌, map, true, false, Some, None, refl, sym, ap, append_assoc, codes, list_any, and_from, or_parts, or_from, list_any-append, AllZip, Attr, Dim, Var, Script, Extra, is_among, Title, same_title, arith, nat_tests, common_steps}
 use Rattle.script_spelling.specs.Statements.{Statement, RanksAre, HintIs, IsFilled, DimIs, VarIs, AttIs, VarLine, VarStands, Stand}
 use Rattle.script_spelling.specs.Described.{Defines, IsVarOf, dims_in, vars_in, own_attrs, attrs_of, extras_in}
 use Rattle.script_spelling.proofs.Places.{names_shown, more_ids, more_records, bytes_same, bytes_own}
-use Rattle.list_laws.proofs.Truth.{either}
 use Rattle.script_text.proofs.StatementLines.{line_of_var, extra_line, of_extra, Shown, Shows, AllAgain, att_shown}
 use Rattle.script_text.proofs.DefinedChains.{DimChain, VarOk, VarChain, AttrChain, OwnChains, DefinedOk}
 
@@ -16,8 +15,7 @@ var_kept version all dims later names l v attrs e shown stands told =
 
 vars_kept : (version : ℕ) (all dims : List Dim) (names : List (List ℕ)) (titles : List Title) (f : List ℕ → List Attr) (ss : List Statement) (vs : List Var) → all ≡ dims ++ dims_in ss → AllAgain version ss → Stand false dims names titles ss
     → AllZip (λ (l : VarLine) v. IsVarOf all (f l.name) l v) (vars_in ss) vs → VarChain version all names vs
-vars_kept version all dims names titles f [] [] e again stand told = tt
-vars_kept version all dims names titles f [] (v ∷ vs) e again stand told = absurd told
+vars_kept version all dims names titles f [] vs e again stand told = grind (arith, nat_tests)
 vars_kept version all dims names titles f (RanksAre n ∷ ss) vs e again stand told = vars_kept version all dims names titles f ss vs e again.1 stand told
 vars_kept version all dims names titles f (HintIs i x ∷ ss) vs e again stand told = vars_kept version all dims names titles f ss vs e again.1 stand told
 vars_kept version all dims names titles f (IsFilled ∷ ss) vs e again stand told = vars_kept version all dims names titles f ss vs e again.1 stand.1 told
@@ -57,19 +55,10 @@ all_kept version front names titles (AttIs None a ∷ ss) again stand =
     let more = all_kept version front names (titles ++ (codes ":", a.name) ∷ []) ss again.1 stand.2 in
     (more.0, λ done h. (again.0.1, h a.name stand.1, more.1 (done ++ a.name ∷ []) (titled_pushed titles (codes ":") done a.name h)), λ n done h. more.2 n done (titled_more titles (codes ":", a.name) n done h))
 all_kept version front names titles (AttIs (Some m) a ∷ ss) again stand =
-    let more = all_kept version front names (titles ++ (m, a.name) ∷ []) ss again.1 stand.2 in (
-      more.0,
-      λ done h. more.1 done (titled_more titles (m, a.name) (codes ":") done h),
-      λ n done h. either (AttrChain version done) (bytes_eq m n) (a ∷ attrs_of n ss) (attrs_of n ss)
-          (λ e.
-          let same = bytes_same m n e in
-          grind (arith, nat_tests, titled_pushed, again.0.1, stand.1, more.2, Titled, list_any))
-          (λ e. more.2 n done (titled_more titles (m, a.name) n done h)),
-    )
+    let more = all_kept version front names (titles ++ (m, a.name) ∷ []) ss again.1 stand.2 in grind (arith, common_steps, titled_more titles (m, a.name) (codes ":"), bytes_same m, titled_pushed, more.0, more.1, again.0.1, stand.1, more.2, attrs_of)
 
 all_attrs_kept : (version : ℕ) (all : List Dim) (f : List ℕ → List Attr) (ls : List VarLine) (vs : List Var) → AllZip (λ (l : VarLine) v. IsVarOf all (f l.name) l v) ls vs → ((n : List ℕ) → AttrChain version [] (f n)) → OwnChains version vs
-all_attrs_kept version all f [] [] told each = tt
-all_attrs_kept version all f [] (v ∷ vs) told each = absurd told
+all_attrs_kept version all f [] vs told each = grind (arith, nat_tests)
 all_attrs_kept version all f (l ∷ ls) [] told each = absurd told
 all_attrs_kept version all f (l ∷ ls) (v ∷ vs) told each = grind (arith, nat_tests, all_attrs_kept version all f ls vs told.1 each)
 
@@ -78,12 +67,7 @@ all_attrs_kept version all f (l ∷ ls) (v ∷ vs) told each = grind (arith, nat
 pub defined_kept : (version : ℕ) (ss : List Statement) (s : Script) → Defines ss s → AllAgain version ss → Stand false [] [] [] ss → DefinedOk version s.header
 defined_kept version ss s d again stand =
     let kept = all_kept version [] [] [] ss again stand in
-    record {
-      dims = subst (DimChain version []) (sym d.dims) kept.0;
-      vars = vars_kept version s.header.dims [] [] [] (λ n. attrs_of n ss) ss s.header.vars d.dims again stand d.vars;
-      attrs = subst (AttrChain version []) (sym d.attrs) (kept.1 [] (λ n none. refl));
-      own = all_attrs_kept version s.header.dims (λ n. attrs_of n ss) (vars_in ss) s.header.vars d.vars (λ n. kept.2 n [] (λ m none. refl));
-    }
+    grind (arith, common_steps, vars_kept version s.header.dims [] [] [] (λ n. attrs_of n ss) ss s.header.vars d.dims again stand d.vars, all_attrs_kept version s.header.dims (λ n. attrs_of n ss) (vars_in ss) s.header.vars d.vars)
 
 -- ---- what is added to a dataset that is opened
 

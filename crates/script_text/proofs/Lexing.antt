@@ -1,5 +1,5 @@
 -- Words that are printed are cut again from their line.
-use Rattle.script_text.proofs.Words.{◌≡◌, ◌∙◌, ℕ, zero, suc, ◌+◌, ◌%◌, ◌≤◌, ◌<◌, List, [], ◌∷◌, ◌++◌, map, length, drop, Bool, true, false, not, cond, nat_lt, nat_le, ◌==◌, ◌&&◌, Option, Some, None, refl, sym, ap, append-nil, length-append, arith, and_parts, or_from, ne_eqb, eqb-true, cases_Bool, cond-true, cond-false, agree_below_at, not-true, common_steps, take_at, drop_at, position_or_len, list_all, text_char, quoted, hex_digit, joined, Word, Plain, Quoted, Broken, is_blank, begins_blank, after_blanks, first_word, quoted_word, text_from, Between, words, words_within, hex_value, more_words, nat_tests}
+use Rattle.script_text.proofs.Words.{◌≡◌, ◌∙◌, ℕ, zero, suc, ◌+◌, ◌%◌, ◌≤◌, ◌<◌, List, [], ◌∷◌, ◌++◌, map, length, drop, Bool, true, false, not, cond, nat_lt, nat_le, ◌==◌, ◌&&◌, Some, refl, sym, ap, append-nil, arith, and_parts, or_from, ne_eqb, eqb-true, cases_Bool, cond-true, cond-false, not-true, common_steps, take_at, drop_at, position_or_len, list_all, text_char, quoted, hex_digit, joined, Word, Plain, Quoted, Broken, is_blank, begins_blank, after_blanks, first_word, quoted_word, text_from, Between, words, words_within, hex_value, nat_tests}
 use Rattle.std.proofs.Common.{flat_map}
 
 -- ---- words as they are printed
@@ -26,23 +26,13 @@ is_good (Plain w) = is_plain w
 is_good (Quoted text) = list_all is_byte text
 is_good Broken = false
 
-pub graphic_bounds : (c : ℕ) → is_graphic c ≡ true → (33 ≤ c) × (c ≤ 126)
-graphic_bounds c h = grind (arith, common_steps)
-
-pub not_blank : (c : ℕ) → 33 ≤ c → is_blank c ≡ false
+not_blank : (c : ℕ) → 33 ≤ c → is_blank c ≡ false
 not_blank c h = or_from _ _ (or_from _ _ (ne_eqb c 32 (omega arith)) (ne_eqb c 9 (omega arith))) (ne_eqb c 13 (omega arith))
 
 -- ---- a text, character by character
 
-abbrev is_hex_again : ℕ → Bool
-is_hex_again d = elim (hex_value (hex_digit d)) [ None ↦ false | Some x ↦ x == d ]
-
-hex_again_by : (o : Option ℕ) (d : ℕ) → elim o as (λ x. Bool) [ None ↦ false | Some x ↦ x == d ] ≡ true → o ≡ Some d
-hex_again_by None d h = absurd (cc)
-hex_again_by (Some x) d h = ap (λ (y : ℕ). Some y) (eqb-true x d h)
-
 pub hex_again : (d : ℕ) → d < 16 → hex_value (hex_digit d) ≡ Some d
-hex_again d h = hex_again_by (hex_value (hex_digit d)) d (agree_below_at is_hex_again (λ x. true) 16 d refl h)
+hex_again d h = grind (arith, nat_tests)
 
 abbrev IsAgain : List ℕ → List ℕ → List ℕ → ℕ → Type 0
 IsAgain rest text tail c = text_from Between (text_char c ++ rest) ≡ Some (c ∷ text, tail)
@@ -75,14 +65,13 @@ quoted_again : (text tail : List ℕ) → list_all is_byte text ≡ true → beg
 quoted_again text tail h blank = ap quoted_word (text_again text tail h) ∙ cond-true _ _ _ blank
 
 up_to_blank : (cs tail : List ℕ) → list_all is_graphic cs ≡ true → begins_blank tail ≡ true → position_or_len is_blank (cs ++ tail) ≡ length cs
-up_to_blank [] [] h blank = refl
-up_to_blank [] (c ∷ tail) h blank = ap (λ (b : Bool). cond (not b) (1 + position_or_len is_blank tail) 0) blank
+up_to_blank [] tail h blank = grind (arith, nat_tests)
 up_to_blank (c ∷ cs) tail h blank =
-    grind (arith, nat_tests, not_blank, graphic_bounds, up_to_blank cs tail (and_parts (is_graphic c) (list_all is_graphic cs) h).1 blank)
+    grind (arith, nat_tests, not_blank, up_to_blank cs tail (and_parts (is_graphic c) (list_all is_graphic cs) h).1 blank, common_steps)
 
 pub cut : (w : Word) → is_good w ≡ true → IsCut w
 cut (Plain []) h = absurd (cc)
-cut (Plain (c ∷ cs)) h = grind (arith, nat_tests, and_parts, not_blank, graphic_bounds, up_to_blank, drop_at, take_at, not-true)
+cut (Plain (c ∷ cs)) h = grind (arith, nat_tests, and_parts, not_blank, up_to_blank, drop_at, take_at, not-true, common_steps)
 cut (Quoted text) h =
     record { head = 34; behind = flat_map text_char text ++ 34 ∷ []; spelled = refl; seen = refl; cut = λ tail blank. quoted_again text tail h blank }
 cut Broken h = absurd (cc)
@@ -108,25 +97,15 @@ skip_none c cs e = ap (λ (b : Bool). drop (cond (not (not b)) (1 + position_or_
 skip_one : (c : ℕ) (cs : List ℕ) → is_blank c ≡ false → after_blanks (32 ∷ c ∷ cs) ≡ c ∷ cs
 skip_one c cs e = ap (λ (b : Bool). drop (1 + cond (not (not b)) (1 + position_or_len (λ x. not (is_blank x)) cs) 0) (32 ∷ c ∷ cs)) e
 
-next_word : (n : ℕ) (line cs tail : List ℕ) (c : ℕ) (w : Word) → after_blanks line ≡ c ∷ cs → first_word c cs ≡ (w, tail) → words_within (suc n) line ≡ w ∷ words_within n tail
-next_word n line cs tail c w a b = ap (more_words (words_within n)) a ∙ ap (λ (x : Word × List ℕ). x.0 ∷ words_within n x.1) b
-
 words_tail : (ws : List Word) (n : ℕ) → list_all is_good ws ≡ true → length (tail_of ws) ≤ n → words_within n (tail_of ws) ≡ ws
 words_tail [] zero h fits = refl
 words_tail [] (suc n) h fits = refl
 words_tail (w ∷ ws) zero h fits = absurd (omega arith)
 words_tail (w ∷ ws) (suc n) h fits =
     let both = and_parts _ _ h in
-    let k = cut w both.0 in
-    let line : 32 ∷ (spelling w ++ tail_of ws) ≡ 32 ∷ k.head ∷ (k.behind ++ tail_of ws) = ap (λ (cs : List ℕ). 32 ∷ (cs ++ tail_of ws)) k.spelled in
-    let first = next_word n (32 ∷ k.head ∷ (k.behind ++ tail_of ws)) (k.behind ++ tail_of ws) (tail_of ws) k.head w (skip_one k.head (k.behind ++ tail_of ws) k.seen) (k.cut (tail_of ws) (tail_blank ws)) in
-    ap (words_within (suc n)) line ∙ (first ∙ ap (λ (rest : List Word). w ∷ rest) (words_tail ws n both.1 (omega (arith, length-append (spelling w) (tail_of ws)))))
+    grind (arith, common_steps, cut w both.0, skip_one (cut w both.0).head ((cut w both.0).behind ++ tail_of ws) (cut w both.0).seen, tail_blank ws, words_tail ws n both.1)
 
 pub words_again : (w : Word) (ws : List Word) → list_all is_good (w ∷ ws) ≡ true → words (joined 32 (map spelling (w ∷ ws))) ≡ w ∷ ws
 words_again w ws h =
     let both = and_parts _ _ h in
-    let k = cut w both.0 in
-    let line : joined 32 (map spelling (w ∷ ws)) ≡ k.head ∷ (k.behind ++ tail_of ws) = joined_words w ws ∙ ap (λ (cs : List ℕ). cs ++ tail_of ws) k.spelled in
-    let n = length (k.behind ++ tail_of ws) in
-    let first = next_word n (k.head ∷ (k.behind ++ tail_of ws)) (k.behind ++ tail_of ws) (tail_of ws) k.head w (skip_none k.head (k.behind ++ tail_of ws) k.seen) (k.cut (tail_of ws) (tail_blank ws)) in
-    ap words line ∙ (first ∙ ap (λ (rest : List Word). w ∷ rest) (words_tail ws n both.1 (omega (arith, length-append k.behind (tail_of ws)))))
+    grind (arith, common_steps, cut w both.0, joined_words w ws, skip_none (cut w both.0).head ((cut w both.0).behind ++ tail_of ws) (cut w both.0).seen, tail_blank ws, words_tail ws (length ((cut w both.0).behind ++ tail_of ws)) both.1)

@@ -1,5 +1,5 @@
 -- Lines that are printed are the significant lines of their text, which is ASCII.
-use Rattle.script_text.proofs.Words.{◌≡◌, ◌∙◌, ℕ, zero, suc, ◌+◌, ◌/◌, ◌≤◌, ◌<◌, List, [], ◌∷◌, map, length, take, get_or, Bool, true, false, not, nat_lt, nat_le, ◌==◌, ◌&&◌, refl, ap, ⊎_elim, append_assoc, take_all, arith, IsUtf8, IsAscii, and_parts, and_from, eq-eqb, eqb-true, cases_Bool, cond-false, agree_below_at, lt-ltb, not-true, common_steps, slice_split_at, length-slice_split, AllPass-from_list_all, IsUtf8-from_ascii, IsUtf8-from_is_utf8, utf8_valid_len-IsUtf8, IsAscii-from_all, All, list_all, enumerate_from, is_utf8, valid_len_up_to, utf8_valid_len, first_line_kept, text_char, hex_digit, joined, line, Word, Line, words, is_comment, is_newline, significant, significant_of, text_lines, all_joined, nat_tests, ltb-true}
+use Rattle.script_text.proofs.Words.{◌≡◌, ◌∙◌, ℕ, zero, suc, ◌+◌, ◌/◌, ◌<◌, List, [], ◌∷◌, map, length, take, get_or, Bool, true, false, not, nat_lt, nat_le, ◌==◌, ◌&&◌, refl, ap, ⊎_elim, append_assoc, take_all, arith, IsUtf8, IsAscii, and_parts, and_from, eq-eqb, eqb-true, cases_Bool, cond-false, not-true, common_steps, slice_split_at, length-slice_split, AllPass-from_list_all, IsUtf8-from_ascii, IsUtf8-from_is_utf8, utf8_valid_len-IsUtf8, IsAscii-from_all, All, list_all, enumerate_from, is_utf8, valid_len_up_to, utf8_valid_len, first_line_kept, text_char, joined, line, Word, Line, words, is_comment, is_newline, significant, significant_of, text_lines, all_joined, nat_tests, ltb-true}
 use Rattle.std.proofs.Common.{flat_map}
 use lib.Utf8.{scalar, scalars, encode, encodes, scalar_cases, next}
 use Rattle.script_text.proofs.Lexing.{spelling, is_byte, is_good, byte_bound, tail_of, joined_words, words_again, below_16}
@@ -11,15 +11,9 @@ use Rattle.list_laws.proofs.Truth.{either}
 abbrev pub is_printable : ℕ → Bool
 is_printable c = nat_le 32 c && nat_le c 126
 
-printable_bounds : (c : ℕ) → is_printable c ≡ true → (32 ≤ c) × (c ≤ 126)
-printable_bounds c h = grind (arith, common_steps)
-
-printable_hex : (d : ℕ) → d < 16 → is_printable (hex_digit d) ≡ true
-printable_hex d h = agree_below_at (λ x. is_printable (hex_digit x)) (λ x. true) 16 d refl h
-
 printed_text : (text : List ℕ) → list_all is_byte text ≡ true → list_all is_printable (flat_map text_char text) ≡ true
 printed_text [] h = refl
-printed_text (c ∷ text) h = grind (arith, nat_tests, flat_map, and_parts, all_joined, printable_hex, below_16, nat_le, and_from, cases_Bool, eqb-true, cond-false, byte_bound c, printed_text text)
+printed_text (c ∷ text) h = grind (arith, nat_tests, flat_map, and_parts, all_joined, below_16, nat_le, and_from, cases_Bool, eqb-true, cond-false, byte_bound c, printed_text text)
 
 printed_word : (w : Word) → is_good w ≡ true → list_all is_printable (spelling w) ≡ true
 printed_word w h = grind (arith, nat_tests, all_more, and_parts, all_joined, flat_map, printed_text)
@@ -41,15 +35,12 @@ body ws = joined 32 (map spelling ws)
 abbrev pub spelled : List Word → List ℕ
 spelled ws = line (map spelling ws)
 
-printed_body : (ws : List Word) → is_line ws ≡ true → list_all is_printable (body ws) ≡ true
-printed_body ws h = grind (arith, nat_tests, and_parts, joined_words, all_joined, printed_word, printed_tail)
-
 no_newline : (cs : List ℕ) → list_all is_printable cs ≡ true → All (λ c. is_newline c ≡ false) cs
-no_newline cs h k d low = grind (arith, nat_tests, printable_bounds (get_or cs k d) (AllPass-from_list_all is_printable cs h k d low))
+no_newline cs h k d low = grind (arith, nat_tests, common_steps)
 
 pub lines_again : (wss : List (List Word)) → list_all is_line wss ≡ true → text_lines (flat_map spelled wss) ≡ map body wss
 lines_again [] h = refl
-lines_again (ws ∷ wss) h = grind (arith, nat_tests, no_newline, first_line_kept, append_assoc, slice_split_at, length-slice_split, flat_map, printed_body, lines_again wss, flat_map, spelled, body)
+lines_again (ws ∷ wss) h = grind (arith, nat_tests, no_newline, first_line_kept, append_assoc, slice_split_at, length-slice_split, flat_map, lines_again wss, flat_map, spelled, body, joined_words, all_joined, printed_word, printed_tail, and_parts)
 
 -- ---- the significant lines
 
@@ -59,7 +50,7 @@ numbered n [] = []
 numbered n ([] ∷ wss) = numbered (n + 1) wss
 numbered n ((w ∷ ws) ∷ wss) = record { number = n; first = w; rest = ws } ∷ numbered (n + 1) wss
 
-pub significant_again : (n : ℕ) (wss : List (List Word)) → list_all is_line wss ≡ true → significant_of (enumerate_from n (map body wss)) ≡ numbered n wss
+significant_again : (n : ℕ) (wss : List (List Word)) → list_all is_line wss ≡ true → significant_of (enumerate_from n (map body wss)) ≡ numbered n wss
 significant_again n [] h = refl
 significant_again n ([] ∷ wss) h = absurd (cc)
 significant_again n ((w ∷ ws) ∷ wss) h =
@@ -77,12 +68,12 @@ ascii_bound : (c : ℕ) → is_ascii c ≡ true → c < 128
 ascii_bound c h = grind (arith, common_steps)
 
 printable_ascii : (c : ℕ) → is_printable c ≡ true → is_ascii c ≡ true
-printable_ascii c h = let b = printable_bounds c h in lt-ltb c 128 (omega arith)
+printable_ascii c h = grind (arith, nat_tests, common_steps)
 
 ascii_lines : (wss : List (List Word)) → list_all is_line wss ≡ true → list_all is_ascii (flat_map spelled wss) ≡ true
 ascii_lines [] h = refl
 ascii_lines (ws ∷ wss) h =
-    grind (arith, nat_tests, flat_map, and_parts, all_joined, all_more is_printable is_ascii printable_ascii (body ws), printed_body ws, ascii_lines wss)
+    grind (arith, nat_tests, flat_map, and_parts, all_joined, all_more is_printable is_ascii printable_ascii (body ws), ascii_lines wss, joined_words, printed_word, printed_tail)
 
 pub valid_lines : (wss : List (List Word)) → list_all is_line wss ≡ true → (utf8_valid_len (flat_map spelled wss) == length (flat_map spelled wss)) ≡ true
 valid_lines wss h =
@@ -100,21 +91,18 @@ whole_front : (bs : List ℕ) → (utf8_valid_len bs == length bs) ≡ true → 
 unfolding utf8_valid_len
 whole_front bs h = grind (arith, nat_tests, take_all (length bs) bs (omega arith), longest_front bs (length bs), eqb-true)
 
-byte : (c : ℕ) → c < 256 → is_byte c ≡ true
-byte c h = lt-ltb c 256 h
-
 next_byte : (c : ℕ) → is_byte (next c) ≡ true
-next_byte c = byte (next c) (omega arith)
+next_byte c = grind (arith, nat_tests)
 
 two : (a b : ℕ) → a < 256 → list_all is_byte (a ∷ next b ∷ []) ≡ true
-two a b h = and_from (is_byte a) (is_byte (next b) && true) (byte a h) (and_from (is_byte (next b)) true (next_byte b) refl)
+two a b h = grind (arith, nat_tests, is_byte, next_byte, list_all)
 
 last_byte : (c : ℕ) → scalar c ≡ true → 240 + c / 262144 < 256
 last_byte c h = ⊎_elim (λ a. omega arith) (λ a. let high = a.1 in omega arith) (scalar_cases c h)
 
 encode_bytes : (c : ℕ) → scalar c ≡ true → list_all is_byte (encode c) ≡ true
 unfolding encode
-encode_bytes c h = grind (arith, nat_tests, is_byte, either, nat_lt, ltb-true, and_from, byte, two, last_byte)
+encode_bytes c h = grind (arith, nat_tests, is_byte, either, nat_lt, ltb-true, and_from, two, last_byte)
 
 encodes_bytes : (cs : List ℕ) → scalars cs ≡ true → list_all is_byte (encodes cs) ≡ true
 encodes_bytes [] h = refl

@@ -1,7 +1,7 @@
 -- How long the text of a made script is, and that words can express it.
-use Rattle.script_text.proofs.Words.{◌≡◌, ◌∙◌, ℕ, zero, suc, ◌+◌, ◌-◌, ◌*◌, ◌^◌, ◌≤◌, ◌<◌, List, [], ◌∷◌, ◌++◌, map, length, Bool, true, not, nat_lt, refl, subst, arith, codes, decimal, neg_ℤ, ◌<ℤ◌, signed_decimal, enumerate_from, flat_map, list_all, range_with_len, and_from, lt-ltb, length-decimal-le_wide, ints, flat_map-append, list_all-append, pieces_long, Call, Every, Given, Bput, Bits, Numbers, is_empty, first_row, precip_at, temp_at, call_word, hex, line, call_words, region_words, shown_call, shown_values, is_expressible_call, calls_of_rank, calls_of_record, columns_of, precip_band, region_of_band, temp_band, rank_is, record_is, pieces_pass, range_passes, nat_tests}
+use Rattle.script_text.proofs.Words.{◌≡◌, ℕ, zero, suc, ◌+◌, ◌-◌, ◌*◌, ◌^◌, ◌≤◌, ◌<◌, List, [], ◌∷◌, ◌++◌, map, length, Bool, true, not, nat_lt, refl, subst, arith, codes, decimal, signed_decimal, enumerate_from, flat_map, list_all, range_with_len, lt-ltb, length-decimal-le_wide, flat_map-append, pieces_long, Call, Every, Given, Bput, Bits, Numbers, is_empty, first_row, precip_at, temp_at, call_word, hex, line, call_words, region_words, shown_call, shown_values, is_expressible_call, calls_of_rank, calls_of_record, columns_of, precip_band, region_of_band, temp_band, rank_is, record_is, pieces_pass, range_passes, nat_tests, common_steps}
 use Rattle.script_text.proofs.Numerals.{length-hex}
-use Rattle.std.specs.Prelude.{ℤ, pos, negsuc, unsigned_abs}
+use Rattle.std.specs.Prelude.{ℤ, unsigned_abs}
 use Rattle.script_text.proofs.LineLengths.{Between, both_long, line_long, number_long, sizes_long, small_long, words_between, words_joined, words_size}
 use Rattle.nc_base.specs.declared.request.Call.TheVariants as call
 
@@ -31,12 +31,8 @@ temps_fit seed r t =
 abbrev is_depth : ℤ → Bool
 is_depth z = nat_lt (unsigned_abs z) (10 ^ 5)
 
-near_zero : (z : ℤ) → neg_ℤ (pos 10001) <ℤ z → z <ℤ pos 10001 → unsigned_abs z < 10 ^ 5
-near_zero (pos n) low high = let below : n < 10001 = omega (arith, ints) in omega arith
-near_zero (negsuc n) low high = let below : suc n < 10001 = omega (arith, ints) in omega arith
-
 one_depth : (seed t y x : ℕ) → is_depth (precip_at seed t y x) ≡ true
-one_depth seed t y x = lt-ltb _ (10 ^ 5) (near_zero (precip_at seed t y x) (omega (arith, ints)) (omega (arith, ints)))
+one_depth seed t y x = grind (arith, nat_tests)
 
 depths_fit : (seed r t : ℕ) → list_all is_depth (precip_band seed r t) ≡ true
 unfolding precip_band
@@ -56,10 +52,6 @@ temp_post seed r t = call.Post (2 * t) Bput (codes "temp") (region_of_band r t) 
 abbrev precip_post : ℕ → ℕ → ℕ → Call
 precip_post seed r t = call.Post (2 * t + 1) Bput (codes "precip") (region_of_band r t) (Numbers (precip_band seed r t))
 
-record_expressible : (seed r t : ℕ) → r < 8 → t < 64 → list_all is_expressible_call (calls_of_record seed r t) ≡ true
-record_expressible seed r t h l =
-    grind (arith, nat_tests, temps_long, some_values, temps_fit, record_is, list_all, is_expressible_call, calls_of_record, temp_post, precip_post)
-
 abbrev column_get : List ℕ → ℕ → ℕ → Call
 column_get name size r = call.Get true name (columns_of size r)
 
@@ -69,9 +61,7 @@ records_of seed r t n = flat_map (λ k. calls_of_record seed r k) (range_with_le
 pub rank_expressible : (seed size r : ℕ) → size ≤ 64 → r < 8 → list_all is_expressible_call (calls_of_rank seed size r) ≡ true
 rank_expressible seed size r s h =
     let reads = column_get (codes "temp") size r ∷ column_get (codes "precip") size r ∷ call.Detach ∷ [] in
-    subst (λ (cs : List Call). list_all is_expressible_call cs ≡ true) (rank_is seed size r (column_get (codes "temp") size r) (column_get (codes "precip") size r) refl refl)
-    (list_all-append is_expressible_call (call.Attach 65536 ∷ records_of seed r 0 size) reads
-    ∙ and_from _ _ (pieces_pass is_expressible_call (λ k. calls_of_record seed r k) 0 size (λ k b. record_expressible seed r k h (omega arith))) refl)
+    grind (arith, common_steps, rank_is seed size r (column_get (codes "temp") size r) (column_get (codes "precip") size r), pieces_pass is_expressible_call (λ k. calls_of_record seed r k) 0 size, temps_long, some_values, temps_fit, record_is, list_all, is_expressible_call, calls_of_record, temp_post, precip_post)
 
 -- ---- how long their lines are
 
@@ -84,10 +74,7 @@ band_region r t h l = grind (arith, nat_tests, sizes_long, region_size, region_o
 
 temp_words : (seed r t : ℕ) → r < 8 → Between 142560 149040 (words_size (shown_values (Bits (temp_band seed r t))))
 temp_words seed r t h =
-    let long = temps_long seed r t h in
-    let each : (n : ℕ) → nat_lt n (2 ^ 64) ≡ true → Between 17 17 (length (120 ∷ hex 16 n)) = λ n k. record { least = omega (arith, length-hex 16 n); most = omega (arith, length-hex 16 n) } in
-    let all = words_between (λ n. 120 ∷ hex 16 n) (λ n. nat_lt n (2 ^ 64)) 17 17 each (temp_band seed r t) (temps_fit seed r t) in
-    record { least = omega (arith, long.0); most = omega (arith, long.1) }
+    grind (arith, common_steps, temps_long seed r t h, nat_lt, length-hex 16, words_between (λ n. 120 ∷ hex 16 n) (λ n. nat_lt n (2 ^ 64)) 17 17, temps_fit seed r t)
 
 precip_words : (seed r t : ℕ) → r < 8 → Between 15840 57960 (words_size (shown_values (Numbers (precip_band seed r t))))
 precip_words seed r t h = grind (arith, nat_tests, precips_long seed r t h, words_between signed_decimal is_depth 1 6, number_long, depths_fit seed r t)
@@ -154,7 +141,7 @@ attach_line r h =
 detach_line : (r : ℕ) → r < 8 → Between 0 64 (length (shown_call r call.Detach))
 detach_line r h = let word : length (call_word call.Detach) ≡ 13 = refl in few_words r call.Detach h (omega (arith, word))
 
-pub rank_text : (seed size r : ℕ) → size ≤ 64 → r < 8 → Between (size * 158400) (size * 207200 + 256) (length (shown_calls r (calls_of_rank seed size r)))
+rank_text : (seed size r : ℕ) → size ≤ 64 → r < 8 → Between (size * 158400) (size * 207200 + 256) (length (shown_calls r (calls_of_rank seed size r)))
 rank_text seed size r s h =
     let temps = column_get (codes "temp") size r in
     let precips = column_get (codes "precip") size r in
@@ -165,8 +152,7 @@ rank_text seed size r s h =
     let two = both_long 0 128 _ _ _ _ (shown_call r precips) (shown_calls r (call.Detach ∷ [])) (get (codes "precip") (omega arith)) last (omega arith) (omega arith) in
     let three = both_long 0 192 _ _ _ _ (shown_call r temps) (shown_calls r (precips ∷ call.Detach ∷ [])) (get (codes "temp") (omega arith)) two (omega arith) (omega arith) in
     let rest = calls_joined r (size * 158400) (size * 207200 + 192) _ _ _ _ (records_of seed r 0 size) reads (records_long seed r 0 size h (omega arith)) three (omega arith) (omega arith) in
-    subst (λ (cs : List Call). Between (size * 158400) (size * 207200 + 256) (length (shown_calls r cs))) (rank_is seed size r temps precips refl refl)
-    (both_long _ _ _ _ _ _ (shown_call r (call.Attach 65536)) (shown_calls r (records_of seed r 0 size ++ reads)) (attach_line r h) rest (omega arith) (omega arith))
+    grind (arith, common_steps, rank_is seed size r temps precips, both_long, attach_line r h)
 
 -- ---- the calls of all ranks
 
@@ -175,6 +161,4 @@ ranks_text ranks = flat_map (λ p. flat_map (shown_call p.0) p.1) ranks
 
 pub ranks_long : (seed size a n : ℕ) → size ≤ 64 → a + n ≤ 8 → Between (n * (size * 158400)) (n * (size * 207200 + 256)) (length (ranks_text (enumerate_from a (map (λ r. calls_of_rank seed size r) (range_with_len a n)))))
 ranks_long seed size a zero s h = record { least = omega arith; most = omega arith }
-ranks_long seed size a (suc n) s h =
-    both_long _ _ _ _ _ _ (shown_calls a (calls_of_rank seed size a)) (ranks_text (enumerate_from (a + 1) (map (λ r. calls_of_rank seed size r) (range_with_len (a + 1) n))))
-    (rank_text seed size a s (omega arith)) (ranks_long seed size (a + 1) n s (omega arith)) (omega arith) (omega arith)
+ranks_long seed size a (suc n) s h = grind (arith, common_steps, both_long, rank_text seed size a s, ranks_long seed size (a + 1) n s)

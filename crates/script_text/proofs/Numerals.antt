@@ -1,19 +1,13 @@
 -- Numbers, bits, lists and names that are printed are read as themselves, and what is read of them is within its range.
-use Rattle.script_text.proofs.Words.{◌≡◌, ◌∙◌, ℕ, zero, suc, ◌+◌, ◌-◌, ◌*◌, ◌/◌, ◌%◌, ◌^◌, ◌≤◌, ◌<◌, List, [], ◌∷◌, ◌++◌, map, length, get_or, fold, Bool, true, false, not, nat_lt, nat_le, ◌==◌, ◌&&◌, ◌||◌, Option, Some, None, option_map, option_and_then, ℤ, pos, neg_ℤ, unsigned_abs, refl, ap, length-append, arith, decimal, signed_decimal, list_all, slice_split, All, and_parts, and_from, ne_eqb, eq-eqb, cond-true, cond-false, le-leb, lt-ltb, not-true, decimal_by_steps_wide, length-decimal-le_wide, common_steps, take_at, get_or_at, fold_push, AllPass-from_list_all, slice_split_at, slice_split_none, digit_bounds, no_sum, sixteens-le, sixteens, hex, hex_digit, joined, bracketed, size_list, is_digit, digits_value, natural_of, below, size_of_text, number_of_text, hex_sum, hex_value, bits_of_text, starts_name, in_name, is_name, between_brackets, is_comma, parts, all_some, list_of_text, all_joined, nat_tests}
+use Rattle.script_text.proofs.Words.{◌≡◌, ℕ, zero, suc, ◌+◌, ◌-◌, ◌*◌, ◌/◌, ◌%◌, ◌^◌, ◌≤◌, ◌<◌, List, [], ◌∷◌, ◌++◌, map, length, get_or, fold, Bool, true, false, not, nat_lt, nat_le, ◌==◌, ◌&&◌, ◌||◌, Option, Some, None, option_map, option_and_then, ℤ, pos, neg_ℤ, unsigned_abs, refl, ap, length-append, arith, decimal, signed_decimal, list_all, slice_split, All, and_parts, and_from, ne_eqb, eq-eqb, cond-true, cond-false, le-leb, lt-ltb, not-true, decimal_by_steps_wide, length-decimal-le_wide, common_steps, take_at, get_or_at, fold_push, AllPass-from_list_all, slice_split_at, slice_split_none, digit_bounds, no_sum, sixteens-le, sixteens, hex, hex_digit, joined, bracketed, size_list, is_digit, digits_value, natural_of, below, size_of_text, number_of_text, hex_sum, hex_value, bits_of_text, starts_name, in_name, is_name, is_comma, parts, all_some, list_of_text, all_joined, nat_tests}
 use native.Mathlib.Nat.{mul-le-mul_right}
 use Rattle.script_text.proofs.Lexing.{is_graphic, is_plain, hex_again}
 use Rattle.script_spelling.proofs.Steps.{all_more, decided}
 
 -- ---- digits
 
-pub graphic : (c : ℕ) → 33 ≤ c → c ≤ 126 → is_graphic c ≡ true
+graphic : (c : ℕ) → 33 ≤ c → c ≤ 126 → is_graphic c ≡ true
 graphic c low high = and_from _ _ (le-leb 33 c low) (le-leb c 126 high)
-
-digit : (d : ℕ) → 48 ≤ d → d ≤ 57 → is_digit d ≡ true
-digit d low high = and_from _ _ (le-leb 48 d low) (le-leb d 57 high)
-
-digit_graphic : (d : ℕ) → is_digit d ≡ true → is_graphic d ≡ true
-digit_graphic d h = let b = digit_bounds d h in graphic d (omega arith) (omega arith)
 
 pub record IsNumeral (n : ℕ) (ds : List ℕ) : Type 0 where
   pub some : 0 < length ds
@@ -21,36 +15,30 @@ pub record IsNumeral (n : ℕ) (ds : List ℕ) : Type 0 where
   pub value : digits_value ds ≡ n
 
 one_digit : (n : ℕ) → n < 10 → IsNumeral n ((48 + n) ∷ [])
-one_digit n h = record { some = omega arith; digits = and_from _ _ (digit (48 + n) (omega arith) (omega arith)) refl; value = omega arith }
+one_digit n h = grind (arith, nat_tests)
 
 digit_more : (n : ℕ) (ds : List ℕ) → 10 ≤ n → IsNumeral (n / 10) ds → IsNumeral n (ds ++ (48 + n % 10) ∷ [])
-digit_more n ds h d = grind (arith, nat_tests, digit, length-append, all_joined, and_from, fold_push)
+digit_more n ds h d = grind (arith, nat_tests, length-append, all_joined, and_from, fold_push)
 
 pub decimal_numeral : (n : ℕ) → n < 10 ^ 64 → IsNumeral n (decimal n)
 decimal_numeral n h = decimal_by_steps_wide IsNumeral one_digit digit_more n h
 
-pub natural_again : (n : ℕ) → n < 10 ^ 20 → natural_of (decimal n) ≡ Some n
+natural_again : (n : ℕ) → n < 10 ^ 20 → natural_of (decimal n) ≡ Some n
 natural_again n h =
     let d = decimal_numeral n (omega arith) in
     let short : length (decimal n) ≤ 20 = length-decimal-le_wide 20 n (omega arith) h (omega arith) in
     grind (arith, nat_tests, d.some, d.digits, d.value, short)
 
 digits_plain : (ds : List ℕ) → 0 < length ds → list_all is_digit ds ≡ true → is_plain ds ≡ true
-digits_plain ds some h = grind (arith, nat_tests, digit_bounds, and_parts, and_from, not, ne_eqb, all_more, digit_graphic)
+digits_plain ds some h = grind (arith, nat_tests, digit_bounds, and_parts, and_from, not, ne_eqb, all_more, graphic)
 
 pub decimal_plain : (n : ℕ) → n < 10 ^ 64 → is_plain (decimal n) ≡ true
 decimal_plain n h = let d = decimal_numeral n h in digits_plain (decimal n) d.some d.digits
 
 -- ---- sizes
 
-pub below_bound : (limit : ℕ) (o : Option ℕ) (n : ℕ) → below limit o ≡ Some n → (o ≡ Some n) × (n < limit)
-below_bound limit o n h = grind (arith, nat_tests, nat_lt, common_steps)
-
-pub below_again : (limit : ℕ) (o : Option ℕ) (n : ℕ) → o ≡ Some n → n < limit → below limit o ≡ Some n
-below_again limit o n e h = ap (below limit) e ∙ cond-true _ _ _ (lt-ltb n limit h)
-
 pub size_again : (n : ℕ) → n < 2 ^ 63 → size_of_text (decimal n) ≡ Some n
-size_again n h = below_again (2 ^ 63) (natural_of (decimal n)) n (natural_again n (omega arith)) h
+size_again n h = grind (arith, nat_tests, natural_again, below)
 
 pub size_plain : (n : ℕ) → n < 2 ^ 63 → is_plain (decimal n) ≡ true
 size_plain n h = decimal_plain n (omega arith)
@@ -76,7 +64,7 @@ digits_word [] some h = absurd (omega arith)
 digits_word (d ∷ ds) some h = record { head = d; behind = ds; spelled = refl; low = (digit_bounds d (and_parts _ _ h).0).1; plain = digits_plain (d ∷ ds) some h }
 
 pub number_word : (z : ℤ) → unsigned_abs z < 10 ^ 20 → IsNumberWord (signed_decimal z)
-number_word z h = grind (arith, nat_tests, decimal_numeral, digits_word, decimal, all_more, digit_graphic)
+number_word z h = grind (arith, nat_tests, decimal_numeral, digits_word, decimal, all_more, digit_bounds, graphic)
 
 -- ---- bits
 
@@ -107,16 +95,12 @@ pub bits_bound : (w : List ℕ) (n : ℕ) → bits_of_text w ≡ Some n → n < 
 bits_bound [] n h = absurd (cc)
 bits_bound (c ∷ hs) n h =
     decided (c == 120 && nat_lt 0 (length hs) && nat_le (length hs) 16) _ _ _ h
-    (λ e k.
-    grind (arith, nat_tests, sixteens-le (length hs) (16 - length hs) 16, hex_sum_bound hs 0 n (2 ^ 64) k))
+    (grind (arith, common_steps, sixteens-le (length hs) (16 - length hs) 16, hex_sum_bound hs 0 n (2 ^ 64)))
     (λ e k. absurd (cc))
-
-graphic_hex : (d : ℕ) → d < 16 → is_graphic (hex_digit d) ≡ true
-graphic_hex d h = grind (arith, common_steps)
 
 pub hex_graphic : (k n : ℕ) → list_all is_graphic (hex k n) ≡ true
 hex_graphic zero n = refl
-hex_graphic (suc k) n = all_joined is_graphic (hex k (n / 16)) (hex_digit (n % 16) ∷ []) (hex_graphic k (n / 16)) (and_from _ _ (graphic_hex (n % 16) (omega arith)) refl)
+hex_graphic (suc k) n = grind (arith, nat_tests, all_joined, hex_graphic k (n / 16), list_all, common_steps)
 
 -- ---- lists in brackets
 
@@ -127,9 +111,6 @@ is_item_byte c = is_graphic c && not (is_comma c)
 abbrev pub is_item : List ℕ → Bool
 is_item [] = false
 is_item (c ∷ cs) = list_all is_item_byte (c ∷ cs)
-
-pub brackets_again : (inside : List ℕ) → between_brackets (91 ∷ (inside ++ 93 ∷ [])) ≡ Some inside
-brackets_again inside = grind (arith, nat_tests, length-append, eq-eqb, get_or_at, nat_lt, and_from, lt-ltb, cond-true, take_at)
 
 item_bytes : (w : List ℕ) → is_item w ≡ true → list_all is_item_byte w ≡ true
 item_bytes [] h = refl
@@ -146,16 +127,12 @@ cut_parts w [] h = slice_split_none is_comma w (no_comma w (item_bytes w (and_pa
 cut_parts w (x ∷ ws) h =
     grind (arith, nat_tests, cut_parts x ws (and_parts (is_item w) (list_all is_item (x ∷ ws)) h).1, and_parts, slice_split_at, no_comma, item_bytes)
 
-some_parts : (cs : List ℕ) → 0 < length cs → parts cs ≡ slice_split is_comma cs
-some_parts [] h = absurd (omega arith)
-some_parts (c ∷ cs) h = refl
-
 some_joined : (w : List ℕ) (ws : List (List ℕ)) → is_item w ≡ true → 0 < length (joined 44 (w ∷ ws))
 some_joined w ws h = grind (arith, nat_tests, length-append)
 
 pub parts_again : (ws : List (List ℕ)) → list_all is_item ws ≡ true → parts (joined 44 ws) ≡ ws
 parts_again [] h = refl
-parts_again (w ∷ ws) h = some_parts (joined 44 (w ∷ ws)) (some_joined w ws (and_parts _ _ h).0) ∙ cut_parts w ws h
+parts_again (w ∷ ws) h = grind (arith, nat_tests, joined 44 (w ∷ ws), some_joined w ws, cut_parts w ws h)
 
 joined_bytes : (ws : List (List ℕ)) → list_all is_item ws ≡ true → list_all is_graphic (joined 44 ws) ≡ true
 joined_bytes [] h = refl
@@ -171,22 +148,19 @@ bracketed_plain ws h = all_joined is_graphic (joined 44 ws) (93 ∷ []) (joined_
 abbrev pub is_size : ℕ → Bool
 is_size n = nat_lt n (2 ^ 63)
 
-size_low : (n : ℕ) → is_size n ≡ true → n < 2 ^ 63
-size_low n h = grind (arith, common_steps)
-
 digit_item : (d : ℕ) → is_digit d ≡ true → is_item_byte d ≡ true
-digit_item d h = let b = digit_bounds d h in and_from _ _ (digit_graphic d h) (ap not (ne_eqb d 44 (omega arith)))
+digit_item d h = grind (arith, nat_tests, digit_bounds d h, graphic)
 
 sizes_items : (ns : List ℕ) → list_all is_size ns ≡ true → list_all is_item (map decimal ns) ≡ true
 sizes_items [] h = refl
-sizes_items (n ∷ ns) h = grind (arith, nat_tests, sizes_items ns, and_parts, size_low n, decimal_numeral n, all_more, digit_item, and_from)
+sizes_items (n ∷ ns) h = grind (arith, nat_tests, sizes_items ns, and_parts, decimal_numeral n, all_more, digit_item, and_from, common_steps)
 
 sizes_again : (ns : List ℕ) → list_all is_size ns ≡ true → all_some (map size_of_text (map decimal ns)) ≡ Some ns
 sizes_again [] h = refl
-sizes_again (n ∷ ns) h = grind (arith, nat_tests, sizes_again ns, and_parts, size_low n, size_again n, option_map)
+sizes_again (n ∷ ns) h = grind (arith, nat_tests, sizes_again ns, and_parts, size_again n, option_map, common_steps)
 
 pub list_again : (ns : List ℕ) → list_all is_size ns ≡ true → list_of_text (size_list ns) ≡ Some ns
-list_again ns h = grind (arith, nat_tests, option_and_then, brackets_again, decimal, parts_again, sizes_items, sizes_again)
+list_again ns h = grind (arith, nat_tests, option_and_then, decimal, parts_again, sizes_items, sizes_again, nat_lt, length-append, eq-eqb, get_or_at, and_from, lt-ltb, cond-true, take_at)
 
 pub list_plain : (ns : List ℕ) → list_all is_size ns ≡ true → is_plain (size_list ns) ≡ true
 list_plain ns h = bracketed_plain (map decimal ns) (sizes_items ns h)

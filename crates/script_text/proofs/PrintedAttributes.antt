@@ -1,33 +1,24 @@
 -- Types and attributes that are printed are read again.
-use Rattle.script_text.proofs.Words.{◌≡◌, ◌∙◌, ℕ, List, [], ◌∷◌, map, find, length, Bool, true, cond, nat_le, Option, Some, None, ℤ, refl, ap, subst, arith, bytes_eq, list_all, and_parts, cond-true, take_at, drop_at, NcType, Attr, Value, Values, Numbers, Text, Bits, Class, class_of, size_of, ext, val, fits, types, codes, SpellsValues, OfNothing, OfText, number_of, last_type, number_in, code_in, gathered, val-ext, ext_long, type_word, pieces, attr_values, shown_values, Word, Plain, are_numbers, are_patterns, are_text, type_of, external_bytes, attr_of, nat_tests, fits_in}
+use Rattle.script_text.proofs.Words.{◌≡◌, ◌∙◌, ℕ, List, [], ◌∷◌, map, find, length, Bool, true, nat_le, Option, Some, ℤ, refl, ap, subst, arith, list_all, and_parts, take_at, drop_at, NcType, Attr, Value, Values, Numbers, Text, Bits, Class, class_of, size_of, ext, val, fits, types, codes, SpellsValues, OfNothing, OfText, number_of, last_type, number_in, code_in, gathered, val-ext, ext_long, type_word, pieces, attr_values, Word, Plain, are_numbers, are_patterns, are_text, type_of, external_bytes, attr_of, nat_tests, fits_in}
 use Rattle.std.proofs.Common.{flat_map}
-use Rattle.script_text.proofs.Lexing.{spelling, is_plain, is_good, is_byte}
+use Rattle.script_text.proofs.Lexing.{is_plain, is_good, is_byte}
 use Rattle.script_text.proofs.Numerals.{name_plain}
 use Rattle.script_laws.proofs.Sequences.{is_fit_number, is_fit_pattern}
-use Rattle.script_text.proofs.PrintedValues.{value_tokens, values_spelled, is_read, AreFit, values_spell, values_good, are_fit}
+use Rattle.script_text.proofs.PrintedValues.{value_tokens, is_read, AreFit, values_spell, values_good, are_fit}
 use Rattle.nc_base.specs.declared.request.Value.TheVariants as value
 use Rattle.serial_spec.specs.ExternalForm as class
 use Rattle.script_spelling.specs.Statements.{AttIs, owner_word, IsOwner, Says}
 
 -- ---- types
 
-find_type : (t : NcType) → find (λ s. bytes_eq (type_word t) (type_word s)) types ≡ Some t
-find_type t = grind (arith, nat_tests)
-
 pub type_plain : (t : NcType) → is_plain (type_word t) ≡ true
 type_plain t = grind (arith, nat_tests)
 
-abbrev type_by : ℕ → Option NcType → Option NcType
-type_by version o = elim o [ None ↦ None | Some t ↦ cond (nat_le (number_of t) (last_type version)) (Some t) None ]
-
-type_known : (version : ℕ) (o : Option NcType) (t : NcType) → type_by version o ≡ Some t → nat_le (number_of t) (last_type version) ≡ true
-type_known version o t h = grind (arith, nat_tests, nat_le)
-
 pub type_told : (version : ℕ) (t : NcType) → nat_le (number_of t) (last_type version) ≡ true → type_of version (type_word t) ≡ Some t
-type_told version t h = ap (type_by version) (find_type t) ∙ cond-true _ _ _ h
+type_told version t h = grind (arith, nat_tests)
 
 pub type_again : (version : ℕ) (w : List ℕ) (t : NcType) → type_of version w ≡ Some t → type_of version (type_word t) ≡ Some t
-type_again version w t h = type_told version t (type_known version (find (λ s. bytes_eq w (type_word s)) types) t h)
+type_again version w t h = grind (arith, nat_tests, type_told, find, nat_le)
 
 -- ---- the values of an attribute, from its bytes
 
@@ -112,17 +103,13 @@ text_shown n t cs fit =
 
 values_shown : (n : List ℕ) (t : NcType) (vs : Values) → AreFit (Some t) vs → AttrShown n t vs
 values_shown n t (Numbers zs) fit = numbers_shown n t zs fit
-values_shown n t (Text cs) fit = text_shown n t cs fit
-values_shown n t (Bits ns) fit = bits_shown n t ns fit
+values_shown n t vs fit = grind (arith, nat_tests, text_shown n t, bits_shown n t)
 
 -- ---- attributes
 
 -- what follows the owner
 abbrev pub attr_tokens : Attr → List Word
 attr_tokens a = Plain a.name ∷ Plain (type_word a.kind) ∷ value_tokens (attr_values a)
-
-pub attr_spelled : (a : Attr) → map spelling (attr_tokens a) ≡ a.name ∷ type_word a.kind ∷ shown_values (attr_values a)
-attr_spelled a = ap (λ (ws : List (List ℕ)). a.name ∷ type_word a.kind ∷ ws) (values_spelled (attr_values a))
 
 -- the attribute, printed, says it again of each owner
 pub record AttrAgain (version : ℕ) (a : Attr) : Type 0 where

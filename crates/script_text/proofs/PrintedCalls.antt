@@ -1,12 +1,12 @@
 -- A call that is printed is read as the same call.
-use Rattle.script_text.proofs.Words.{ℤ, ◌∙◌, nat_lt, and_parts, Text, Bits, are_expressible_values, is_expressible_call, HasNoRegion, of_behind, made_behind, ◌≡◌, ℕ, ◌^◌, List, [], ◌∷◌, ◌++◌, Bool, true, None, refl, sym, subst, arith, decimal, list_all, and_from, ltb-true, Values, Numbers, PostKind, Iput, Iget, Bput, Call, Word, Plain, is_name, Family, Requests, Size, Name, Record, Nothing, Behind, CallRow, is_sized, is_expressible_behind, all_joined, Option, Some, SpellsBehind, SpellsCall, SpellsInRow, SpellsPlain, SpellsPosted, ap, are_values, in_row, is_given, is_id, is_lawful_call, is_nothing, is_post_of, length, list_all-append, most_elements, nat_le, of_row, ◌&&◌, nat_tests}
+use Rattle.script_text.proofs.Words.{◌∙◌, nat_lt, and_parts, are_expressible_values, is_expressible_call, HasNoRegion, of_behind, made_behind, ◌≡◌, ℕ, ◌^◌, List, [], ◌∷◌, ◌++◌, Bool, true, None, refl, sym, subst, arith, decimal, list_all, and_from, ltb-true, Values, Numbers, PostKind, Iput, Iget, Bput, Call, Word, Plain, is_name, Family, Requests, Size, Name, Record, Nothing, Behind, CallRow, is_sized, is_expressible_behind, all_joined, Option, Some, SpellsBehind, SpellsCall, SpellsInRow, SpellsPlain, SpellsPosted, ap, are_values, in_row, is_given, is_id, is_lawful_call, is_post_of, length, list_all-append, most_elements, nat_le, of_row, ◌&&◌, nat_tests}
 use Rattle.script_spelling.proofs.Steps.{all_more}
 use Rattle.serial_spec.proofs.MemberLaws.{empty_list}
-use Rattle.script_laws.proofs.Sequences.{is_fit_pattern, is_fit_number}
+use Rattle.script_laws.proofs.Sequences.{is_fit_number}
 use Rattle.script_text.proofs.Lexing.{is_good}
 use Rattle.script_text.proofs.Numerals.{name_plain, size_plain, size_again}
-use Rattle.script_text.proofs.PrintedValues.{value_tokens, is_read, AreFit, values_good, are_fit, values_spell}
-use Rattle.script_text.proofs.PrintedRegions.{region_tokens, id_again, id_plain, choice_good, choice_named, choice_spells, has_sizes, id_named, region_good, region_spells}
+use Rattle.script_text.proofs.PrintedValues.{value_tokens, is_read, AreFit, values_good, are_fit, values_spell, each_passed}
+use Rattle.script_text.proofs.PrintedRegions.{region_tokens, id_again, id_plain, choice_good, choice_spells, has_sizes, id_named, region_good, region_spells}
 use Rattle.script_text.proofs.CallTokens.{tokens_behind, call_tokens, made_tokens}
 use Rattle.nc_base.specs.declared.request.Call.TheVariants as call
 use Rattle.script_spelling.proofs.CallsRead.{apart_spelled, made_spelled}
@@ -17,30 +17,20 @@ use Rattle.script_spec.specs.CallTable.{row_of}
 
 values_are : (vs : Values) → are_values vs ≡ true → are_expressible_values vs ≡ true → AreFit None vs
 values_are (Numbers zs) lawful h = all_more is_number (is_fit_number None) (λ z e. and_from _ _ e refl) zs (and_parts (nat_le (length zs) most_elements) (list_all is_number zs) lawful).1
-values_are (Text text) lawful h = (h, refl)
-values_are (Bits []) lawful h = absurd (cc)
-values_are (Bits (n ∷ ns)) lawful h = (all_more (λ m. nat_lt m (2 ^ 64)) (is_fit_pattern None) (λ m e. and_from _ _ e refl) (n ∷ ns) h, omega arith)
+values_are vs lawful h = grind (arith, nat_tests, all_more, nat_lt)
 
 values_named : (vs : Values) → AreFit None vs → are_expressible_values vs ≡ true
 values_named (Numbers zs) h = refl
-values_named (Text text) h = h.0
-values_named (Bits []) h = absurd (omega (arith, h.1))
-values_named (Bits (n ∷ ns)) h = all_more (is_fit_pattern None) (λ m. nat_lt m (2 ^ 64)) (λ m b. (and_parts _ _ b).0) (n ∷ ns) h.0
-
-no_values : (vs : Values) → is_nothing vs ≡ true → vs ≡ Numbers []
-no_values (Numbers zs) h = ap (λ (xs : List ℤ). Numbers xs) (empty_list zs h)
-no_values (Text text) h = absurd (cc)
-no_values (Bits ns) h = absurd (cc)
+values_named vs h = grind (arith, nat_tests, all_more, nat_lt)
 
 posted_shown : (k : PostKind) (vs : Values) → is_post_of k vs ≡ true → are_expressible_values vs ≡ true → (list_all is_good (value_tokens vs) ≡ true) × SpellsPosted k (value_tokens vs) vs
-posted_shown Iget vs lawful h = subst (λ (x : Values). (list_all is_good (value_tokens x) ≡ true) × SpellsPosted Iget (value_tokens x) x) (sym (no_values vs lawful)) (refl, (refl, refl))
+posted_shown Iget vs lawful h = grind (arith, nat_tests, is_good, empty_list)
 posted_shown Iput vs lawful h = let are = values_are vs lawful h in (values_good None vs are, values_spell None vs are)
 posted_shown Bput vs lawful h = let are = values_are vs lawful h in (values_good None vs are, values_spell None vs are)
 
 posted_named : (k : PostKind) (vs : Values) (ws : List Word) → SpellsPosted k ws vs → list_all is_read ws ≡ true → are_expressible_values vs ≡ true
 posted_named Iget vs ws h read = ap are_expressible_values h.1
-posted_named Iput vs ws h read = values_named vs (are_fit None ws vs h read)
-posted_named Bput vs ws h read = values_named vs (are_fit None ws vs h read)
+posted_named k vs ws h read = grind (arith, nat_tests, values_named vs (are_fit None ws vs h read), are_fit None ws vs h read)
 
 -- ---- a call that is printed
 
@@ -58,17 +48,11 @@ behind_good Nothing u h sized = refl
 
 behind_spells : (f : Family) (b : Behind f) → is_expressible_behind f b ≡ true → is_sized f b ≡ true → SpellsBehind (tokens_behind f b) f b
 behind_spells Requests c h sized = choice_spells c h
-behind_spells Size n h sized = (decimal n, refl, size_again n (ltb-true n (2 ^ 63) sized))
-behind_spells Name n h sized = (refl, h)
-behind_spells Record (n, k) h sized = (decimal k, refl, h, size_again k (ltb-true k (2 ^ 63) sized))
-behind_spells Nothing u h sized = refl
+behind_spells f b h sized = grind (arith, nat_tests, size_again, is_expressible_behind)
 
 behind_named : (f : Family) (b : Behind f) (ws : List Word) → SpellsBehind ws f b → is_expressible_behind f b ≡ true
-behind_named Requests c ws h = choice_named c ws h
-behind_named Size n ws h = refl
-behind_named Name n ws h = h.1
-behind_named Record (n, k) ws (w, are, named, told) = named
-behind_named Nothing u ws h = refl
+behind_named Requests b ws h = grind (arith, nat_tests, each_passed, id_named)
+behind_named f b ws h = grind (arith, nat_tests)
 
 plain_shown : (ranks r : ℕ) (c : Call) → HasNoRegion c → is_lawful_call ranks r c ≡ true → of_behind true is_expressible_behind c ≡ true → CallShown c
 plain_shown ranks r c apart lawful h =

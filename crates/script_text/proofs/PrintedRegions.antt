@@ -1,10 +1,10 @@
 -- Names, regions, ids and choices that are printed are read again.
-use Rattle.script_text.proofs.Words.{◌≡◌, ℕ, ◌^◌, ◌≤◌, ◌<◌, List, [], ◌∷◌, map, length, Bool, true, nat_le, ◌&&◌, Option, Some, Ok, refl, ap, arith, codes, decimal, list_all, and_parts, and_from, ScriptKind, Form, Given, Part, Choice, Every, Listed, most_parts, is_given, size_list, part_words, form_words, choice_words, Word, Plain, size_of_text, list_of_text, reads_as, id_of_text, is_id, is_expressible_choice, nat_tests, Each, SpellsChoice, SpellsForm, SpellsOne, ltb-true, lt-ltb}
+use Rattle.script_text.proofs.Words.{◌≡◌, ℕ, ◌^◌, ◌≤◌, ◌<◌, List, [], ◌∷◌, map, length, Bool, true, nat_le, ◌&&◌, Option, Some, Ok, refl, ap, arith, codes, decimal, list_all, and_parts, and_from, ScriptKind, Form, Given, Part, Choice, Every, Listed, most_parts, is_given, size_list, part_words, form_words, choice_words, Word, Plain, list_of_text, reads_as, id_of_text, is_id, is_expressible_choice, nat_tests, Each, SpellsChoice, SpellsForm, SpellsOne, ltb-true, lt-ltb, below, nat_lt, common_steps}
 use Rattle.std.proofs.Common.{flat_map}
 use Rattle.script_spelling.proofs.Steps.{word_before}
 use Rattle.script_text.proofs.Lexing.{spelling, is_plain, is_good}
-use Rattle.script_text.proofs.Numerals.{below_bound, below_again, size_again, size_plain, is_size, list_again, list_plain}
-use Rattle.script_text.proofs.PrintedValues.{is_read, plain_spelled, each_passed, each_spells}
+use Rattle.script_text.proofs.Numerals.{size_again, size_plain, is_size, list_again, list_plain}
+use Rattle.script_text.proofs.PrintedValues.{is_read, plain_spelled, each_spells}
 use Rattle.nc_base.specs.declared.request.Form.TheVariants as form
 
 -- what was read of the words was read of those that are left
@@ -72,19 +72,15 @@ region_good form.Varn g s = and_from _ _ (size_plain (length g.parts) (let few =
 
 pub region_spells : (f : Form) (g : Given) → HasSizes g → SpellsForm f (region_tokens f g) g
 region_spells form.Var g s = tt
-region_spells form.Var1 g s = (list_spells g.start s.start, tt)
-region_spells form.Vara g s = (list_spells g.start s.start, (list_spells g.count s.count, tt))
-region_spells form.Vars g s = (list_spells g.start s.start, (list_spells g.count s.count, (list_spells g.stride s.stride, tt)))
-region_spells form.Varm g s = (list_spells g.start s.start, (list_spells g.count s.count, (list_spells g.stride s.stride, (list_spells g.imap s.imap, tt))))
-region_spells form.Varn g s = (decimal (length g.parts), flat_map part_tokens g.parts, refl, size_again (length g.parts) (let few = s.few in omega arith), parts_spell g.parts s.parts)
+region_spells f g s = grind (arith, nat_tests, list_spells, flat_map, size_again, parts_spell, region_tokens)
 
 -- ---- ids
 
-pub id_bound : (w : List ℕ) (n : ℕ) → id_of_text w ≡ Some n → n < 2 ^ 32
-id_bound w n h = (below_bound (2 ^ 32) (size_of_text w) n h).1
+id_bound : (w : List ℕ) (n : ℕ) → id_of_text w ≡ Some n → n < 2 ^ 32
+id_bound w n h = grind (arith, nat_tests, nat_lt, common_steps)
 
 pub id_again : (n : ℕ) → n < 2 ^ 32 → id_of_text (decimal n) ≡ Some n
-id_again n h = below_again (2 ^ 32) (size_of_text (decimal n)) n (size_again n (omega arith)) h
+id_again n h = grind (arith, nat_tests, size_again, below)
 
 pub id_plain : (n : ℕ) → n < 2 ^ 32 → is_plain (decimal n) ≡ true
 id_plain n h = size_plain n (omega arith)
@@ -116,7 +112,3 @@ choice_good (Listed ns) h = ids_good ns h
 pub choice_spells : (c : Choice) → is_expressible_choice c ≡ true → SpellsChoice (choice_tokens c) c
 choice_spells Every h = refl
 choice_spells (Listed ns) h = ids_spell ns h
-
-pub choice_named : (c : Choice) (ws : List Word) → SpellsChoice ws c → is_expressible_choice c ≡ true
-choice_named Every ws h = refl
-choice_named (Listed ns) ws h = each_passed id_of_text is_id id_named ws ns h

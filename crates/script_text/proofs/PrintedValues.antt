@@ -1,5 +1,5 @@
 -- Values that are printed are read as the same values.
-use Rattle.script_text.proofs.Words.{◌≡◌, ℕ, ◌^◌, ◌<◌, List, [], ◌∷◌, map, length, Bool, true, nat_lt, Option, Some, ℤ, unsigned_abs, refl, sym, ap, subst, arith, signed_decimal, list_all, and_parts, and_from, cond-true, sixteens, NcType, Values, Numbers, Text, Bits, hex, shown_values, Word, Plain, Quoted, number_of_text, bits_of_text, are_text, may_be, may_have, number_for, pattern_for, pattern_sequence, pattern_values, nat_tests, Each, OfBitSequence, OfBits, OfNothing, OfNumbers, OfSequence, OfText, SpellsValues, ltb-true, lt-ltb}
+use Rattle.script_text.proofs.Words.{◌≡◌, ℕ, ◌^◌, ◌<◌, List, [], ◌∷◌, map, length, Bool, true, nat_lt, Option, Some, ℤ, unsigned_abs, refl, sym, ap, subst, arith, signed_decimal, list_all, and_parts, and_from, cond-true, sixteens, NcType, Values, Numbers, Text, Bits, hex, shown_values, Word, Plain, Quoted, number_of_text, bits_of_text, are_text, may_be, may_have, number_for, pattern_for, nat_tests, Each, OfBits, OfNothing, OfNumbers, OfText, SpellsValues, ltb-true, lt-ltb}
 use Rattle.script_text.proofs.Lexing.{spelling, is_byte, is_good}
 use Rattle.script_text.proofs.Numerals.{number_word, number_again, bits_again, bits_bound, hex_graphic}
 use Rattle.script_laws.proofs.ValueLaws.{number_small}
@@ -37,8 +37,7 @@ AreFit t (Bits ns) = (list_all (is_fit_pattern t) ns ≡ true) × (0 < length ns
 
 -- what words that are read spell holds of each that passes it
 pub each_passed : {A : Type 0} (f : List ℕ → Option A) (test : A → Bool) → ((w : List ℕ) (x : A) → f w ≡ Some x → test x ≡ true) → (ws : List Word) (xs : List A) → Each f ws xs → list_all test xs ≡ true
-each_passed f test passes [] [] h = refl
-each_passed f test passes [] (x ∷ xs) h = absurd h
+each_passed f test passes [] xs h = grind (arith, nat_tests)
 each_passed f test passes (w ∷ ws) [] h = absurd h
 each_passed f test passes (w ∷ ws) (x ∷ xs) h = and_from _ _ (passes h.0.0 x h.0.2) (each_passed f test passes ws xs h.1)
 
@@ -48,18 +47,9 @@ number_fit t w z h = fit_from (number_of_text w) (λ y. may_have t (value.Number
 pattern_fit : (t : Option NcType) (w : List ℕ) (n : ℕ) → pattern_for t w ≡ Some n → is_fit_pattern t n ≡ true
 pattern_fit t w n h = fit_from (bits_of_text w) (λ y. may_have t (value.Bits y)) (λ y. nat_lt y (2 ^ 64)) n (λ y e. lt-ltb y (2 ^ 64) (bits_bound w y e)) h
 
-patterns_are : (t : Option NcType) (ns : List ℕ) → list_all (is_fit_pattern t) ns ≡ true → AreFit t (pattern_values ns)
-patterns_are t [] all = refl
-patterns_are t (n ∷ ns) all = (all, omega arith)
-
 pub are_fit : (t : Option NcType) (ws : List Word) (vs : Values) → SpellsValues t ws vs → list_all is_read ws ≡ true → AreFit t vs
 are_fit t ws vs (OfNothing none same) read = subst (AreFit t) (sym same) refl
-are_fit t ws vs (OfText text are may same) read = grind (arith, nat_tests)
-are_fit t ws vs (OfNumbers zs each same) read = subst (AreFit t) (sym same) (each_passed (number_for t) (is_fit_number t) (number_fit t) ws zs each)
-are_fit t ws vs (OfBits ns some each same) read = subst (AreFit t) (sym same) (each_passed (pattern_for t) (is_fit_pattern t) (pattern_fit t) ws ns each, some)
-are_fit t ws vs (OfSequence (count, first, step, n, a, b, are, told, low, by, suits, least, most, same)) read = subst (AreFit t) (sym same) (numbers_fit t a b n least most)
-are_fit t ws vs (OfBitSequence (count, first, step, n, a, b, are, told, low, by, suits, least, most, same)) read =
-    subst (AreFit t) (sym same) (patterns_are t (pattern_sequence a b n) (patterns_fit t a b n most))
+are_fit t ws vs xs read = grind (arith, nat_tests, each_passed, number_fit t, pattern_fit t, numbers_fit t, patterns_fit)
 
 -- ---- printed values again
 
@@ -93,5 +83,4 @@ bits_good (n ∷ ns) = and_from _ _ (hex_graphic 16 n) (bits_good ns)
 
 pub values_good : (t : Option NcType) (vs : Values) → AreFit t vs → list_all is_good (value_tokens vs) ≡ true
 values_good t (Numbers zs) h = numbers_good t zs h
-values_good t (Text text) h = and_from _ _ h.0 refl
-values_good t (Bits ns) h = bits_good ns
+values_good t vs h = grind (arith, nat_tests, bits_good)

@@ -1,5 +1,5 @@
 -- What is pushed of a script.
-use Rattle.script_text.proofs.Words.{◌≡◌, ◌<◌, ◌+◌, ◌*◌, ℕ, zero, suc, List, [], ◌∷◌, ◌++◌, map, length, take, drop, get_or, Bool, true, Some, ℤ, pos, refl, sym, ap, ◌∙◌, arith, enumerate_from, flat_map, list_all, signed_decimal, w8, w16, w32, w64, from_be_bytes, cast_signed, eqb-true, flat_map-append, list_all_at, length-enumerate_from, get_or-enumerate_from, Attr, NcType, Byte, Char, Short, Int, Float, Double, UByte, UShort, UInt, Int64, UInt64, Values, class_of, size_of, val, is_whole_attr, code_in, gathered, number_in, attr_values, pieces, shown_values, hex, joined, quoted, spaced, all_pushed, next_pushed, spaced_one, value_word, nat_tests, subst}
+use Rattle.script_text.proofs.Words.{◌≡◌, ◌<◌, ◌+◌, ◌*◌, ℕ, zero, suc, List, [], ◌∷◌, ◌++◌, map, length, take, drop, get_or, Bool, true, Some, ℤ, pos, refl, sym, ap, ◌∙◌, arith, enumerate_from, flat_map, list_all, signed_decimal, w8, w16, w32, w64, from_be_bytes, cast_signed, eqb-true, flat_map-append, list_all_at, length-enumerate_from, get_or-enumerate_from, Attr, NcType, Byte, Char, Short, Int, Float, Double, UByte, UShort, UInt, Int64, UInt64, Values, class_of, size_of, val, is_whole_attr, code_in, gathered, number_in, attr_values, pieces, shown_values, hex, joined, quoted, spaced, all_pushed, next_pushed, spaced_one, value_word, nat_tests, subst, common_steps}
 use Rattle.std.proofs.lemmas.List.{append-nil, append_assoc}
 use Rattle.nc_base.specs.declared.request.Value.TheVariants as value
 
@@ -56,11 +56,9 @@ values_pushed Int64 bs h = numbers_pushed (λ b. cast_signed w64 (from_be_bytes 
 values_pushed UInt64 bs h = numbers_pushed (λ b. pos (from_be_bytes w64 b)) bs
 
 -- the bytes of a text are its values
-pub chars_back : (n : ℕ) (bytes : List ℕ) → length bytes ≡ n → map code_in (map (λ b. Some (val Char b)) (pieces n 1 bytes)) ≡ bytes
-chars_back zero [] h = refl
-chars_back zero (c ∷ cs) h = absurd (omega arith)
-chars_back (suc n) [] h = absurd (omega arith)
-chars_back (suc n) (c ∷ cs) h = grind (arith, nat_tests, chars_back n cs)
+chars_back : (n : ℕ) (bytes : List ℕ) → length bytes ≡ n → map code_in (map (λ b. Some (val Char b)) (pieces n 1 bytes)) ≡ bytes
+chars_back zero bytes h = grind (arith, common_steps)
+chars_back (suc n) bytes h = grind (arith, nat_tests, chars_back n)
 
 -- a text is one word
 chars_of : (n : ℕ) (bytes : List ℕ) → length bytes ≡ n * size_of Char → spaced (shown_values (as_values Char (pieces n (size_of Char) bytes))) ≡ 32 ∷ quoted bytes

@@ -1,5 +1,5 @@
 -- The texts on the lines of bytes have bytes.
-use Rattle.script_text.proofs.Words.{◌≡◌, ℕ, zero, suc, ◌+◌, ◌<◌, List, [], ◌∷◌, drop, Bool, true, not, Option, Some, None, option_map, refl, arith, list_all, slice_split, enumerate_from, position_or_len, and_parts, and_from, Word, is_blank, is_newline, after_blanks, first_word, text_from, TextState, Between, AfterBackslash, FirstHex, SecondHex, words_within, hex_value, without_empty_end, text_lines, significant, significant_of, all_joined, nat_tests, lt-ltb}
+use Rattle.script_text.proofs.Words.{◌≡◌, ℕ, zero, suc, ◌+◌, ◌<◌, List, [], ◌∷◌, drop, Bool, true, not, Option, Some, None, option_map, refl, arith, list_all, slice_split, enumerate_from, position_or_len, and_parts, and_from, Word, is_blank, is_newline, first_word, text_from, TextState, Between, AfterBackslash, FirstHex, SecondHex, words_within, hex_value, without_empty_end, text_lines, significant, significant_of, all_joined, nat_tests, lt-ltb, common_steps}
 use Rattle.script_text.proofs.Lexing.{is_byte}
 use Rattle.script_text.proofs.Numerals.{hex_value_bound}
 use Rattle.script_text.proofs.PrintedValues.{is_read}
@@ -21,29 +21,16 @@ StateOk AfterBackslash = Unit {0}
 StateOk FirstHex = Unit {0}
 StateOk (SecondHex g) = g < 16
 
-with_byte : (x : ℕ) (o : Option (List ℕ × List ℕ)) → is_byte x ≡ true → BytesOf o → BytesOf (option_map (λ r. (x ∷ r.0, r.1)) o)
-with_byte x None b h = tt
-with_byte x (Some t) b h = (and_from _ _ b h.0, h.1)
-
 text_bytes : (state : TextState) (cs : List ℕ) → StateOk state → are_bytes cs ≡ true → BytesOf (text_from state cs)
 text_bytes state [] ok h = tt
 text_bytes Between (c ∷ cs) ok h =
-    grind (
-      arith,
-      nat_tests,
-      text_bytes AfterBackslash cs tt (and_parts (is_byte c) (are_bytes cs) h).1,
-      text_bytes Between cs tt (and_parts (is_byte c) (are_bytes cs) h).1,
-      and_parts,
-      is_byte,
-      option_map,
-      with_byte,
-    )
+    grind (arith, nat_tests, text_bytes AfterBackslash cs tt (and_parts (is_byte c) (are_bytes cs) h).1, text_bytes Between cs tt (and_parts (is_byte c) (are_bytes cs) h).1, and_parts, is_byte, option_map)
 text_bytes AfterBackslash (c ∷ cs) ok h =
     let both = and_parts (is_byte c) (are_bytes cs) h in
-    grind (arith, nat_tests, text_bytes Between cs tt both.1, text_bytes FirstHex cs tt both.1, maybe, with_byte, is_byte, both.0)
+    grind (arith, nat_tests, text_bytes Between cs tt both.1, text_bytes FirstHex cs tt both.1, maybe, is_byte, both.0)
 text_bytes FirstHex (c ∷ cs) ok h = maybe BytesOf (hex_value c) None _ tt (λ g e. text_bytes (SecondHex g) cs (hex_value_bound c g e) (and_parts (is_byte c) (are_bytes cs) h).1)
 text_bytes (SecondHex g) (c ∷ cs) ok h =
-    grind (arith, nat_tests, text_bytes Between cs tt (and_parts (is_byte c) (are_bytes cs) h).1, and_parts, is_byte, option_map, hex_value_bound, with_byte, lt-ltb)
+    grind (arith, nat_tests, text_bytes Between cs tt (and_parts (is_byte c) (are_bytes cs) h).1, and_parts, is_byte, option_map, hex_value_bound, lt-ltb)
 
 -- ---- a word
 
@@ -60,12 +47,7 @@ first_ok c cs h = grind (arith, nat_tests, text_bytes, all_dropped)
 
 words_read : (n : ℕ) (line : List ℕ) → are_bytes line ≡ true → list_all is_read (words_within n line) ≡ true
 words_read zero line h = refl
-words_read (suc n) line h = by (after_blanks line) (all_dropped (position_or_len (λ c. not (is_blank c)) line) line h) (λ rest. words_read n rest)
-  where
-    by : (rest : List ℕ) → are_bytes rest ≡ true → ((tail : List ℕ) → are_bytes tail ≡ true → list_all is_read (words_within n tail) ≡ true)
-        → list_all is_read (elim rest as (λ z. List Word) [ [] ↦ [] | c ∷ cs ↦ (first_word c cs).0 ∷ words_within n (first_word c cs).1 ]) ≡ true
-    by [] b more = refl
-    by (c ∷ cs) b more = grind (arith, nat_tests, first_ok, is_byte)
+words_read (suc n) line h = grind (arith, common_steps, all_dropped (position_or_len (λ c. not (is_blank c)) line) line h, words_read n, first_ok, is_byte)
 
 -- ---- lines
 

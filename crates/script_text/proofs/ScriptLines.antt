@@ -1,5 +1,5 @@
 -- A script as its lines, which spell what is shown of it.
-use Rattle.script_text.proofs.Words.{◌≡◌, ◌∙◌, ℕ, List, [], ◌∷◌, ◌++◌, map, Bool, true, false, cond, Some, None, refl, ap, append_assoc, append-nil, codes, decimal, enumerate_from, Header, Var, Extra, Script, Call, line, shown, shown_hints, shown_extra, shown_dim, shown_var, shown_attr, shown_call, Word, Plain, flat_map-append}
+use Rattle.script_text.proofs.Words.{◌≡◌, ◌∙◌, ℕ, List, [], ◌∷◌, ◌++◌, map, Bool, true, false, cond, Some, None, refl, ap, append_assoc, append-nil, codes, decimal, enumerate_from, Header, Var, Extra, Script, Call, line, shown, shown_hints, shown_extra, shown_dim, shown_var, shown_attr, shown_call, Word, Plain, flat_map-append, arith, common_steps}
 use Rattle.std.proofs.Common.{flat_map}
 use Rattle.script_text.proofs.Lines.{spelled}
 use Rattle.script_text.proofs.CallLines.{call_lines, calls_spelled}
@@ -51,15 +51,10 @@ definitions_text header =
 definitions_spelled : (h : Header) → flat_map spelled (definition_lines h) ≡ definitions_text h
 definitions_spelled h =
     flat_then (map line_of_dim h.dims) _ _ _ (mapped_spelled shown_dim line_of_dim (λ x. refl) h.dims)
-    (flat_then (map (λ v. line_of_var (line_for h.dims v)) h.vars) _ _ _ (mapped_spelled (shown_var h) (λ v. line_of_var (line_for h.dims v)) (λ x. refl) h.vars)
-    (flat_then (map (line_of_att None) h.attrs) (lines_of_own h.vars) _ _ (mapped_spelled (shown_attr (codes ":")) (line_of_att None) (att_spelled None) h.attrs) (own_spelled h.vars)))
+    (grind (arith, common_steps, flat_then (map (λ v. line_of_var (line_for h.dims v)) h.vars), mapped_spelled (shown_var h) (λ v. line_of_var (line_for h.dims v)), flat_then (map (line_of_att None) h.attrs) (lines_of_own h.vars), mapped_spelled (shown_attr (codes ":")) (line_of_att None) (att_spelled None) h.attrs, att_spelled None, own_spelled h.vars))
 
 abbrev fill_text : Bool → List ℕ
 fill_text filled = cond filled (line (codes "fill" ∷ [])) []
-
-fill_spelled : (filled : Bool) → flat_map spelled (fill_lines filled) ≡ fill_text filled
-fill_spelled true = refl
-fill_spelled false = refl
 
 abbrev head_text : Bool → ℕ → List ℕ
 head_text fresh version = cond fresh (line (codes "create" ∷ decimal version ∷ [])) (line (codes "open" ∷ []))
@@ -83,8 +78,7 @@ all_spelled s =
     let before : flat_map spelled (before_data s) ≡ ranks ++ (shown_hints s.hints ++ (fill_text s.filled ++ (extras ++ definitions_text header))) =
     ap (λ (text : List ℕ). ranks ++ text)
     (flat_then (hint_tokens s.hints) _ (shown_hints s.hints) _ (hints_spelled s.hints)
-    (flat_then (fill_lines s.filled) _ (fill_text s.filled) _ (fill_spelled s.filled)
-    (flat_then (map extra_line s.extra) (definition_lines header) extras _ (extras_spelled s.extra) (definitions_spelled header)))) in
+    (grind (arith, common_steps, flat_then (fill_lines s.filled), flat_then (map extra_line s.extra) (definition_lines header) extras, extras_spelled s.extra, definitions_spelled header))) in
     let rest : flat_map spelled (from_data s.calls) ≡ data_text ++ (calls_text ++ end_text) =
     ap (λ (text : List ℕ). data_text ++ text) (flat_then (call_lines 0 s.calls) ((Plain (codes "end") ∷ []) ∷ []) calls_text end_text (calls_spelled 0 s.calls) (append-nil end_text)) in
     ap (λ (text : List ℕ). text ++ flat_map spelled (before_data s ++ from_data s.calls)) (head_spelled s.fresh header.version)

@@ -1,14 +1,13 @@
 -- Statements that are printed: their words are cut again, and say what they said.
-use Rattle.script_text.proofs.Words.{◌≡◌, ◌∙◌, ℕ, List, [], ◌∷◌, ◌++◌, map, true, Option, Some, None, refl, ap, codes, list_all, and_parts, and_from, AllZip, all_joined, Attr, Dim, Extra, type_word, line, bracketed, joined, shown_extra, shown_attr, Word, Plain, is_name, type_of, arith, nat_tests}
+use Rattle.script_text.proofs.Words.{◌≡◌, ◌∙◌, ℕ, List, [], ◌∷◌, ◌++◌, map, true, Option, Some, refl, ap, codes, list_all, and_parts, and_from, AllZip, all_joined, Attr, Dim, Extra, type_word, line, bracketed, joined, shown_extra, shown_attr, Word, Plain, is_name, type_of, arith, nat_tests, nat_lt, length-append, eq-eqb, get_or_at, lt-ltb, cond-true, take_at}
 use Rattle.std.proofs.Common.{flat_map}
 use Rattle.script_spelling.specs.Statements.{Statement, RanksAre, HintIs, IsFilled, DimIs, VarIs, AttIs, VarLine, owner_word, IsOwner, Says}
 use Rattle.script_spelling.proofs.Steps.{all_more}
-use Rattle.script_text.proofs.Lexing.{is_plain}
 use Rattle.script_text.proofs.Lines.{is_line, spelled}
-use Rattle.script_text.proofs.Numerals.{name_plain, name_item, brackets_again, parts_again, bracketed_plain}
-use Rattle.script_text.proofs.PrintedValues.{is_read}
-use Rattle.script_text.proofs.PrintedAttributes.{type_plain, type_again, attr_tokens, attr_spelled, AttrAgain, attr_again}
-use Rattle.script_text.proofs.PrintedDefinitions.{length_word, LengthAgain, length_again}
+use Rattle.script_text.proofs.Numerals.{name_plain, name_item, parts_again, bracketed_plain}
+use Rattle.script_text.proofs.PrintedValues.{is_read, values_spelled}
+use Rattle.script_text.proofs.PrintedAttributes.{type_plain, type_again, attr_tokens, AttrAgain, attr_again}
+use Rattle.script_text.proofs.PrintedDefinitions.{length_word, length_again}
 use Rattle.script_text.proofs.CallLines.{zip_joined}
 use Rattle.nc_base.specs.declared.script.Extra.TheVariants as extra
 
@@ -35,13 +34,11 @@ extra_line (extra.Var t n dims) = line_of_var (record { kind = t; name = n; dims
 extra_line (extra.Att o a) = line_of_att o a
 
 pub att_spelled : (o : Option (List ℕ)) (a : Attr) → spelled (line_of_att o a) ≡ shown_attr (owner_word o) a
-att_spelled o a = ap (λ (ws : List (List ℕ)). line (codes "att" ∷ owner_word o ∷ ws)) (attr_spelled a)
+att_spelled o a = grind (arith, nat_tests, values_spelled)
 
 extra_spelled : (e : Extra) → spelled (extra_line e) ≡ shown_extra e
 extra_spelled (extra.Dim d) = refl
-extra_spelled (extra.Var t n dims) = refl
-extra_spelled (extra.Att None a) = att_spelled None a
-extra_spelled (extra.Att (Some owner) a) = att_spelled (Some owner) a
+extra_spelled e = grind (arith, nat_tests, att_spelled)
 
 pub mapped_spelled : {A : Type 0} (f : A → List ℕ) (g : A → List Word) → ((x : A) → spelled (g x) ≡ f x) → (xs : List A) → flat_map spelled (map g xs) ≡ flat_map f xs
 mapped_spelled f g same [] = refl
@@ -61,19 +58,12 @@ Shows version wss ss = (list_all is_line wss ≡ true) × AllZip (Says version) 
 pub shows_joined : (version : ℕ) (wss : List (List Word)) (ss : List Statement) (more : List (List Word)) (last : List Statement) → Shows version wss ss → Shows version more last → Shows version (wss ++ more) (ss ++ last)
 shows_joined version wss ss more last h k = (all_joined is_line wss more h.0 k.0, zip_joined (Says version) wss ss more last h.1 k.1)
 
-pub dim_shown : (version : ℕ) (d : Dim) → is_name d.name ≡ true → LengthAgain version d.len → Shown version (line_of_dim d) (DimIs d)
-dim_shown version d named len = (and_from _ _ (name_plain d.name named) (and_from _ _ len.plain refl), (length_word d.len, refl, named, len.again))
-
 pub var_shown : (version : ℕ) (l : VarLine) → type_of version (type_word l.kind) ≡ Some l.kind → is_name l.name ≡ true → list_all is_name l.dims ≡ true → Shown version (line_of_var l) (VarIs l)
 var_shown version l kind named dims =
-    let items = all_more is_name _ name_item l.dims dims in grind (arith, nat_tests, type_plain l.kind, name_plain l.name named, bracketed_plain l.dims items, joined 44 l.dims, brackets_again (joined 44 l.dims), parts_again l.dims items)
-
-owner_plain : (o : Option (List ℕ)) → IsOwner o → is_plain (owner_word o) ≡ true
-owner_plain None is = refl
-owner_plain (Some n) is = name_plain n is
+    let items = all_more is_name _ name_item l.dims dims in grind (arith, nat_tests, type_plain l.kind, name_plain l.name named, bracketed_plain l.dims items, joined 44 l.dims, parts_again l.dims items, nat_lt, length-append, eq-eqb, get_or_at, and_from, lt-ltb, cond-true, take_at)
 
 pub att_shown : (version : ℕ) (o : Option (List ℕ)) (a : Attr) → IsOwner o → AttrAgain version a → Shown version (line_of_att o a) (AttIs o a)
-att_shown version o a is again = (and_from _ _ (owner_plain o is) again.good, again.says o is)
+att_shown version o a is again = grind (arith, nat_tests, name_plain)
 
 -- ---- what a line that is read says can be said again
 
@@ -91,12 +81,11 @@ one_again : (version : ℕ) (ws : List Word) (s : Statement) → Says version ws
 one_again version ws (RanksAre n) says read = tt
 one_again version ws (HintIs i v) says read = tt
 one_again version ws IsFilled says read = tt
-one_again version ws (DimIs d) (w, are, named, told) read = dim_shown version d named (length_again version w d.len told)
+one_again version ws (DimIs d) (w, are, named, told) read = grind (arith, nat_tests, length_again version w d.len told, name_plain)
 one_again version ws (VarIs l) (w, shape, inside, are, kind, named, between, parts_are, dims) read = var_shown version l (type_again version w l.kind kind) named dims
 one_again version ws (AttIs o a) says read = (says.4, attr_again version ws o a says read)
 
 pub all_again : (version : ℕ) (wss : List (List Word)) (ss : List Statement) → AllZip (Says version) wss ss → list_all (list_all is_read) wss ≡ true → AllAgain version ss
-all_again version [] [] say read = tt
-all_again version [] (s ∷ ss) say read = absurd say
+all_again version [] ss say read = grind (arith, nat_tests)
 all_again version (ws ∷ wss) [] say read = absurd say
 all_again version (ws ∷ wss) (s ∷ ss) say read = let both = and_parts (list_all is_read ws) _ read in (one_again version ws s say.0 both.0, all_again version wss ss say.1 both.1)
