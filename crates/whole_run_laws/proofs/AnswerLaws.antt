@@ -1,5 +1,5 @@
 -- What a rank was told in the step of a call stands in its answer to that call, at the number of the call.
-use Rattle.whole_run_laws.proofs.Words.{◌≡◌, ℕ, zero, suc, ◌+◌, List, [], ◌∷◌, ◌++◌, length, map, Option, Some, arith, true, option_map, entry_set, fold, slice_get, get_right, Answer, Pair, Header, Call, Script, Mark, Meet, Solo, Open, Reply, Counted, Setting, solo, IsLegal, is_lawful, Rank, advance, after_mark, after_meeting, after_solo, go, Going, hear_open, hears, offers_of, serial_from, setting_of, state_after, states_more, IsToldAt, meeting_call, told_at, nat_tests, puts_asked, puts_met, rank_offer, told}
+use Rattle.whole_run_laws.proofs.Words.{◌≡◌, ℕ, ◌+◌, List, [], ◌∷◌, ◌++◌, length, map, Option, Some, arith, true, option_map, entry_set, fold, slice_get, get_right, Answer, Pair, Header, Call, Script, Mark, Meet, Solo, Open, Reply, Counted, Setting, solo, IsLegal, is_lawful, Rank, advance, after_mark, after_meeting, after_solo, go, Going, hear_open, hears, offers_of, serial_from, setting_of, state_after, states_more, IsToldAt, meeting_call, told_at, nat_tests, puts_asked, puts_met, rank_offer, told}
 use Rattle.join_laws.proofs.WholeLaws.{get_map as mapped_from}
 use Rattle.whole_run_laws.proofs.CallNumbers.{number_met}
 use Rattle.whole_run_laws.proofs.Courses.{AreAlong, along_at, goes_number, heard_by, mark_along, meets, meets_number, moved, offered_alone, steps}
@@ -12,8 +12,7 @@ IsTold answers n pair = option_map (λ a. a.pair) (slice_get answers n) ≡ Some
 
 told_more : (answers : List Answer) (a : Answer) (n : ℕ) (pair : Option Pair) → IsTold answers n pair → IsTold (answers ++ a ∷ []) n pair
 told_more [] a n pair t = cc
-told_more (x ∷ answers) a zero pair t = t
-told_more (x ∷ answers) a (suc n) pair t = told_more answers a n pair t
+told_more (x ∷ answers) a n pair t = grind (arith, nat_tests, told_more answers a)
 
 go_told : (header : Header) (n : ℕ) (pair : Option Pair) (calls : List Call) (r : Rank) (answers : List Answer) → IsTold answers n pair
     → IsTold (go header r answers calls).0.answers n pair

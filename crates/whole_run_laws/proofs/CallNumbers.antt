@@ -1,7 +1,6 @@
 -- The numbers of the calls that make a rank's meetings, as it goes on.
-use Rattle.whole_run_laws.proofs.Words.{◌≡◌, ℕ, zero, suc, ◌+◌, ap, List, [], ◌∷◌, ◌++◌, length, Bool, true, false, Option, Some, None, arith, length-append, same_Some, Answer, Header, Call, MeetKind, Offer, OfferKind, is_collective, kind_of_meeting, Rank, step, go, advance, Going, step_says, meeting_call, nat_tests}
+use Rattle.whole_run_laws.proofs.Words.{◌≡◌, ℕ, zero, suc, ◌+◌, ap, List, [], ◌∷◌, length, Bool, true, false, Option, Some, None, arith, length-append, same_Some, Answer, Header, Call, MeetKind, Offer, is_collective, kind_of_meeting, Rank, step, go, advance, Going, step_says, meeting_call, nat_tests}
 use Rattle.nc_base.specs.declared.step.OfferKind.TheVariants as offer
-use Rattle.nc_base.specs.declared.step.Want.TheVariants as want
 
 -- of a rank that met k times, made n of its own calls, and has these calls left
 abbrev pub IsNumbered : ℕ → List Call → ℕ → List Call → Type 0
@@ -20,27 +19,14 @@ abbrev Places : ℕ → List Call → Going × Option Offer → Type 0
 Places n calls (g, None) = Unit {0}
 Places n calls (g, Some o) = PlacesBy n calls g (kind_of_meeting o.kind)
 
-places_on : (n m : ℕ) (c : Call) (calls : List Call) (p : Going × Option Offer) → m ≡ n + 1 → is_collective c ≡ false → Places m calls p → Places n (c ∷ calls) p
-places_on n m c calls p e f w = grind (arith, nat_tests, call_alone)
-
-longer : (answers : List Answer) (a : Answer) → length (answers ++ a ∷ []) ≡ length answers + 1
-longer answers a = length-append answers (a ∷ [])
-
 go_places : (header : Header) (calls : List Call) (r : Rank) (answers : List Answer) → Places (length answers) calls (go header r answers calls)
 go_places header [] r answers = tt
 go_places header (c ∷ calls) r answers =
-    grind (arith, nat_tests, step, step_says, go_places header calls, call_alone, places_on, longer, Places, PlacesBy)
-
--- where the rank stands at its offer
-places_at : (n : ℕ) (calls : List Call) (p : Going × Option Offer) (o : Offer) (k : OfferKind) → Places n calls p → p.1 ≡ Some o → o.kind ≡ k → PlacesBy n calls p.0 (kind_of_meeting k)
-places_at n calls p o k w e f = grind (arith, nat_tests, same_Some)
+    grind (arith, nat_tests, step, step_says, go_places header calls, call_alone, length-append answers, Places, PlacesBy)
 
 module _ (header : Header) (g : Going) where
   pub number_met : (kind : MeetKind) (o : Offer) → (advance header g).1 ≡ Some o → o.kind ≡ offer.Meet kind → PlacesBy (length g.answers) g.calls (advance header g).0 (Some kind)
-  number_met kind o e f = places_at (length g.answers) g.calls (advance header g) o (offer.Meet kind) (go_places header g.calls g.rank g.answers) e f
+  number_met kind o e f = grind (arith, nat_tests, go_places header g.calls g.rank g.answers, same_Some)
 
   pub number_alone : (o : Offer) → (advance header g).1 ≡ Some o → o.kind ≡ offer.Solo → PlacesBy (length g.answers) g.calls (advance header g).0 None
-  number_alone o e f = places_at (length g.answers) g.calls (advance header g) o offer.Solo (go_places header g.calls g.rank g.answers) e f
-
-pub heard_more : (a b d x y n : ℕ) → x ≡ a + b → a + b ≡ suc d + y → n ≡ suc d → x ≡ n + y
-heard_more a b d x y n e f g = omega arith
+  number_alone o e f = grind (arith, nat_tests, go_places header g.calls g.rank g.answers, same_Some)

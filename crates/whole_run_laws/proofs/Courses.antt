@@ -1,8 +1,8 @@
 -- The ranks along a legal order: at each mark they stand at the offers of its step.
-use Rattle.whole_run_laws.proofs.Words.{◌≡◌, ℕ, zero, suc, refl, sym, ◌∙◌, ap, subst, inl, inr, ◌⊎◌, List, [], ◌∷◌, ◌++◌, length, map, set, drop, Bool, true, false, cond, Option, Some, None, arith, length-map, length-set, same_Some, slice_get_within, fold, slice_get, filter, ◌==◌, list_all, entry_below, and_first, and_second, equal_itself, Header, Call, Script, Mark, Meet, Solo, MeetKind, Offer, Reply, Open, concerns, is_of_rank_below, IsLegal, kinds, marks_from, is_lawful, Counted, Setting, meeting, solo, Going, advance, after_mark, after_meeting, after_solo, first_going, hears, offers_of, puts_asked, rank_offer, puts_of, set_cases, kinds_of, own_lawful, ranks_lawful, solo_goes, state_after, ◌+◌, meeting_call, Went, at_meeting, at_solo, go_went, hear_mode, hear_length, going_after, goings_long, replied, solo_of_is, entry_map, cons_rest, nil_cons, nat_tests, ltb-true}
+use Rattle.whole_run_laws.proofs.Words.{◌≡◌, ℕ, zero, suc, refl, sym, ◌∙◌, ap, subst, ◌⊎◌, List, [], ◌∷◌, ◌++◌, length, map, set, drop, true, Option, Some, None, arith, length-map, length-set, same_Some, slice_get_within, fold, slice_get, filter, list_all, entry_below, and_first, and_second, equal_itself, Header, Call, Script, Mark, Meet, Solo, MeetKind, Offer, Reply, Open, concerns, is_of_rank_below, IsLegal, kinds, marks_from, is_lawful, Counted, Setting, meeting, solo, Going, advance, after_mark, after_meeting, after_solo, first_going, hears, offers_of, puts_asked, rank_offer, puts_of, set_cases, kinds_of, own_lawful, ranks_lawful, solo_goes, state_after, meeting_call, Went, at_meeting, at_solo, go_went, hear_mode, hear_length, going_after, goings_long, replied, solo_of_is, entry_map, cons_rest, nil_cons, nat_tests, ltb-true}
 use Rattle.nc_base.specs.declared.step.OfferKind.TheVariants as offer
 use Rattle.join_laws.proofs.WholeLaws.{get_map as mapped_from}
-use Rattle.whole_run_laws.proofs.CallNumbers.{IsNumbered, heard_more, number_alone, number_met}
+use Rattle.whole_run_laws.proofs.CallNumbers.{IsNumbered, number_alone, number_met}
 
 -- ---- one rank
 
@@ -61,9 +61,6 @@ heard_on : (header : Header) (q k n : ℕ) (ks : List MeetKind) (rest : List Mar
     → kinds p.0.calls ≡ ks → OnCourse q k ks rest (hears header p.0 y)
 heard_on header q k n ks rest p y a e = grind (arith, nat_tests, hear_length, hear_mode)
 
-other_on : (q k r c : ℕ) (ks : List MeetKind) (rest : List Mark) (g : Going) → (r == q) ≡ false → OnCourse q k ks (Solo r c ∷ rest) g → OnCourse q k ks rest g
-other_on q k r c ks rest g e on = grind (arith, nat_tests)
-
 -- ---- all ranks
 
 -- these marks are left to them, after some meetings
@@ -87,8 +84,7 @@ module _ {script : Script} {r c : ℕ} {rest : List Mark} {goings : List Going} 
   goes_alone g e =
       let own = on.each r g e in
       to_solo r on.met g.rank.known c (kinds g.calls) on.left (marks_from r (length g.answers) on.met g.rank.independent g.calls) rest (advance header g)
-      (go_went header r on.met g.rank g.answers g.calls) own.kinds
-      (own.marks ∙ ap (λ (b : Bool). cond b (Solo r c ∷ filter (concerns r) rest) (filter (concerns r) rest)) (equal_itself r))
+      (go_went header r on.met g.rank g.answers g.calls) own.kinds (grind (arith, nat_tests, own.marks, equal_itself r))
 
   pub goes_number : (g : Going) → slice_get goings r ≡ Some g → length (advance header g).0.answers ≡ c
   goes_number g e = grind (arith, nat_tests, on.each r g e, go_went header r on.met g.rank g.answers g.calls, equal_itself r, nil_cons, not_solo)
@@ -98,20 +94,15 @@ module _ {script : Script} {r c : ℕ} {rest : List Mark} {goings : List Going} 
 abbrev pub AllAsk : List (Going × Option Offer) → Type 0
 AllAsk ps = (q : ℕ) (p : Going × Option Offer) → slice_get ps q ≡ Some p → (o : Offer) × (p.1 ≡ Some o)
 
-no_offer : {A : Type 0} → ((o : Offer) × (None ≡ Some o)) → A
-no_offer (o, e) = absurd cc
-
 offers_long : (ps : List (Going × Option Offer)) → AllAsk ps → length (offers_of ps) ≡ length ps
 offers_long [] f = refl
-offers_long ((g, None) ∷ ps) f = no_offer (f 0 (g, None) refl)
-offers_long ((g, Some o) ∷ ps) f = let h = offers_long ps (λ q p e. f (suc q) p e) in omega arith
+offers_long (p ∷ ps) f = grind (arith, nat_tests, f 0 p refl, offers_long ps (λ q p e. f (suc q) p e))
 
 offer_at : (ps : List (Going × Option Offer)) (q : ℕ) (p : Going × Option Offer) (o : Offer) → AllAsk ps → slice_get ps q ≡ Some p → p.1 ≡ Some o
     → slice_get (offers_of ps) q ≡ Some o
 offer_at [] q p o f e h = cc
-offer_at ((g, None) ∷ ps) q p o f e h = no_offer (f 0 (g, None) refl)
-offer_at ((g, Some o') ∷ ps) zero p o f e h = grind (arith, nat_tests, same_Some)
-offer_at ((g, Some o') ∷ ps) (suc q) p o f e h = offer_at ps q p o (λ r z d. f (suc r) z d) e h
+offer_at (x ∷ ps) zero p o f e h = grind (arith, nat_tests, same_Some x p e)
+offer_at (x ∷ ps) (suc q) p o f e h = grind (arith, nat_tests, f 0 x refl, offer_at ps q p o (λ r z d. f (suc r) z d) e h)
 
 -- an offer of a meeting is a rank's
 pub record IsOffered (header : Header) (goings : List Going) (ks : List MeetKind) (q : ℕ) (o : Offer) : Type 0 where
@@ -183,8 +174,7 @@ module _ {script : Script} {j : ℕ} {rest : List Mark} {goings : List Going} (s
     numbered = λ q g own e f i.
         let h = heard_by q g e in
         let at = meets s.header on q h.before h.was in
-        let next : suc on.met + i ≡ on.met + suc i = omega arith in
-        grind (arith, nat_tests, heard_more, number_met s.header h.before at.kind at.asks.offer at.asks.is_offer at.of_kind, hear_length s.header (advance s.header h.before).0 h.reply, on.numbered, h.was, h.is, meeting_call);
+        grind (arith, nat_tests, number_met s.header h.before at.kind at.asks.offer at.asks.is_offer at.of_kind, hear_length s.header (advance s.header h.before).0 h.reply, on.numbered q h.before own h.was f (suc i), h.is, meeting_call);
   }
 
 -- ---- after a step of one rank
@@ -227,11 +217,8 @@ module _ {script : Script} {r n : ℕ} {rest : List Mark} {goings : List Going} 
         left = on.left;
         long = length-set goings r next ∙ on.long;
         known = and_second (is_of_rank_below script.ranks (Solo r n)) _ on.known;
-        each = λ q g e. elim (set_cases goings r q next g e) [
-          | inl p ↦ grind (arith, nat_tests)
-          | inr p ↦ other_on q on.met r n on.left rest g p.0 (on.each q g p.1)
-        ];
-        numbered = grind (arith, nat_tests, set_cases goings r, heard_more, number_alone s.header b st.at.asks.offer st.at.asks.is_offer st.at.of_kind, hear_length s.header p.0 y, on.numbered, st.was, script.calls, meeting_call);
+        each = λ q g e. grind (arith, nat_tests, set_cases goings r q next g e, own, on.each q g);
+        numbered = grind (arith, nat_tests, set_cases goings r, number_alone s.header b st.at.asks.offer st.at.asks.is_offer st.at.of_kind, hear_length s.header p.0 y, on.numbered, st.was, script.calls, meeting_call);
       })
 
 -- ---- along an order
@@ -267,15 +254,11 @@ first_along script header order lawful legal = record {
   known = legal.known_ranks;
   each = λ q g e.
       let own = mapped_from (first_going header) script.calls q g e in
-      subst (OnCourse q 0 (kinds_of script) order) (sym own.1.1) (begins q own.0 own.1.0);
+      grind (arith, nat_tests, own.1.1, legal.each_rank q, own_lawful script q own.0 lawful own.1.0, ranks_lawful script lawful, slice_get_within script.calls q own.0 own.1.0);
   numbered = λ q g own e f j.
       let from = mapped_from (first_going header) script.calls q g e in
       grind (arith, nat_tests, from.0, from.1.0, from.1.1, meeting_call);
 }
-  where
-    begins : (q : ℕ) (own : List Call) → slice_get script.calls q ≡ Some own → OnCourse q 0 (kinds_of script) order (first_going header own)
-    begins q own e =
-        grind (arith, nat_tests, legal.each_rank q, own_lawful script q own lawful e, ranks_lawful script lawful, slice_get_within script.calls q own e)
 
 -- what is left at a place of a run
 pub along_at : (script : Script) (header : Header) (file : List ℕ) (before later : List Mark) → is_lawful script ≡ true → IsLegal script (before ++ later)

@@ -1,5 +1,5 @@
 -- The header's field has the record count wherever that grew, and is as it was where it didn't.
-use Rattle.whole_run_laws.proofs.Words.{holds_or_not, inl, inr, read_same, ◌≡◌, ℕ, ◌+◌, ◌<◌, ◌≤◌, List, [], ◌∷◌, length, map, true, Option, arith, fold, byte_len, any_in, Pair, Header, Script, Mark, Meet, Solo, read, written, after_puts, Counted, puts_of, raised, Setting, told, count, count_width, is_sound, IsLegal, is_lawful, advance, after_mark, first_state, Going, offers_of, serial_from, setting_of, covered, Puts, after_keeps, count_long, at-written_inside, canon_len, is_held, puts_met, nat_tests}
+use Rattle.whole_run_laws.proofs.Words.{holds_or_not, read_same, ◌≡◌, ℕ, ◌+◌, ◌<◌, ◌≤◌, List, [], ◌∷◌, length, map, true, Option, arith, fold, byte_len, any_in, Pair, Header, Script, Mark, Meet, Solo, read, written, after_puts, Counted, puts_of, raised, Setting, told, count, count_width, is_sound, IsLegal, is_lawful, advance, after_mark, first_state, Going, offers_of, serial_from, setting_of, covered, Puts, after_keeps, count_long, at-written_inside, canon_len, is_held, puts_met, nat_tests}
 use Rattle.whole_run_laws.proofs.Courses.{offered_alone, steps}
 use Rattle.whole_run_laws.proofs.FilledFile.{read_all}
 use Rattle.whole_run_laws.proofs.PastLaws.{AllPast, AreRight, first_right, mark_past, mark_right}
@@ -16,10 +16,8 @@ read_written file b x n e = grind (arith, nat_tests, read_all, at-written_inside
 puts_beside : (s : Setting) (puts : Puts) (pair : Option Pair) (file : List ℕ) → AllPast s.header puts
     → read (after_puts s puts pair file) 4 (byte_len (count_width s.header.version)) ≡ read file 4 (byte_len (count_width s.header.version))
 puts_beside s puts pair file past =
-    read_same (after_puts s puts pair file) file 4 4 (byte_len (count_width s.header.version)) (λ i l. elim (holds_or_not (is_held s.header puts (4 + i))) [
-      | inl e ↦ grind (arith, nat_tests, any_in (covered s.header puts) (4 + i) e, canon_len s.header)
-      | inr e ↦ after_keeps s puts pair file (4 + i) e
-    ])
+    read_same (after_puts s puts pair file) file 4 4 (byte_len (count_width s.header.version)) (λ i l.
+    grind (arith, nat_tests, holds_or_not (is_held s.header puts (4 + i)), any_in (covered s.header puts) (4 + i), canon_len s.header, past (4 + i), after_keeps s puts pair file (4 + i)))
 
 with_puts : (s : Setting) (puts : Puts) (pair : Option Pair) (file : List ℕ) (c : Counted) → AllPast s.header puts → FieldIs s.header file c
     → FieldIs s.header file (record { file = after_puts s puts pair c.file; records = c.records })

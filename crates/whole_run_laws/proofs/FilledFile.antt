@@ -1,5 +1,5 @@
 -- A filled file reads its fill values: elements that were written, no two of which share a byte.
-use Rattle.whole_run_laws.proofs.Words.{◌-◌, AllByRecursion, said_of, same_index, read_same, ◌≡◌, ℕ, zero, suc, ◌+◌, ◌<◌, ◌≤◌, refl, sym, ◌∙◌, ap, inl, inr, ◌⊎◌, List, [], ◌∷◌, length, map, get_or, true, false, not, Option, Some, arith, fold-append, fold-map, flat_map, fold, slice_get, flat_in, in_flat, at_in, in_at, in_filter, filter_in, each_in, in_map, map_in, Header, Var, Script, Mark, size_of, at, longer, read, end_for, fill_bytes, fill_var, filled, canon, header_len, is_sound, fixed_variables, inner_lengths, is_record, In, IsElement, IsIndex, place, row, fills, cells, coordinates, byte_or, Cell, said_at, said_by, write_cells, serial, setting_of, start, coordinates_all, elements_apart, elements_past_header, coordinates_at, cells_said, canon_len, completed_puts, IsBesideCount, is_held, found_long, resized, IsOrApart, nat_tests}
+use Rattle.whole_run_laws.proofs.Words.{AllByRecursion, said_of, same_index, read_same, ◌≡◌, ℕ, zero, suc, ◌+◌, ◌<◌, ◌≤◌, refl, sym, ap, inl, inr, ◌⊎◌, List, [], ◌∷◌, length, map, get_or, true, false, not, Some, arith, fold-append, fold-map, flat_map, fold, slice_get, flat_in, in_flat, at_in, in_at, in_filter, filter_in, each_in, in_map, map_in, Header, Var, Script, Mark, size_of, at, longer, read, end_for, fill_bytes, fill_var, filled, canon, header_len, is_sound, fixed_variables, inner_lengths, is_record, In, IsElement, IsIndex, place, row, fills, cells, coordinates, Cell, said_at, said_by, write_cells, serial, setting_of, start, coordinates_all, elements_apart, elements_past_header, coordinates_at, cells_said, canon_len, completed_puts, IsBesideCount, is_held, found_long, resized, IsOrApart, nat_tests}
 use Rattle.whole_run_laws.proofs.KeptLaws.{end_kept}
 
 -- ---- cells of which each is another one's or apart from it
@@ -79,17 +79,10 @@ filled_reads header file k v index sound e fixed h =
     let mine = in_flat (cells_of_var header) (fixed_variables header header.vars) v (cell_of header v index) there
     (in_map (cell_of header v) (coordinates (inner_lengths header v)) index (index_in (inner_lengths header v) index h)) in
     read_all (filled header file) (fill_bytes v) (place header v index) (size_of v.kind) (sym (fill_long v)) (λ i l.
-    ap (λ (f : List ℕ). at f (place header v index + i)) (vars_cells header (fixed_variables header header.vars) file)
-    ∙ cells_said all file (place header v index + i)
-    ∙ ap (λ (o : Option ℕ). byte_or o (at file (place header v index + i)))
-    (says_that (cell_of header v index) i l all mine (filled_apart header k v index sound e fixed h)))
+    grind (arith, nat_tests, vars_cells header (fixed_variables header header.vars) file, cells_said all file, says_that (cell_of header v index) i l all mine (filled_apart header k v index sound e fixed h)))
 
 pub past_count : (header : Header) (x : ℕ) → header_len header ≤ x → IsBesideCount header x
 past_count header x h = let whole = canon_len header in inr (omega arith)
-
-starts_filled : (script : Script) (header : Header) (file : List ℕ) → script.fresh ≡ true → script.filled ≡ true
-    → start script header file ≡ filled header (longer (canon header) (end_for (setting_of script header) 0))
-starts_filled script header file e f = grind (arith, nat_tests)
 
 pub filled_stays : (script : Script) (header : Header) (file : List ℕ) (order : List Mark) (k : ℕ) (v : Var) (index : List ℕ)
     → script.fresh ≡ true → script.filled ≡ true → is_sound header ≡ true → slice_get header.vars k ≡ Some v
@@ -99,7 +92,6 @@ pub filled_stays : (script : Script) (header : Header) (file : List ℕ) (order 
 filled_stays script header file order k v index fresh fills sound e fixed h untouched =
     let first = start script header file in
     let past = elements_past_header header k v index sound e (fixed_element header v index fixed h) in
-    read_same (serial script header file order).bytes first (place header v index) (place header v index) (size_of v.kind)
-    (λ i l. end_kept script header first order (place header v index + i) (past_count header (place header v index + i) (omega arith)) (untouched i l))
-    ∙ ap (λ (f : List ℕ). read f (place header v index) (size_of v.kind)) (starts_filled script header file fresh fills)
-    ∙ filled_reads header (longer (canon header) (end_for (setting_of script header) 0)) k v index sound e fixed h
+    let same = read_same (serial script header file order).bytes first (place header v index) (place header v index) (size_of v.kind)
+    (λ i l. end_kept script header first order (place header v index + i) (past_count header (place header v index + i) (omega arith)) (untouched i l)) in
+    grind (arith, nat_tests, same, filled_reads header (longer (canon header) (end_for (setting_of script header) 0)) k v index sound e fixed h)

@@ -1,5 +1,5 @@
 -- A record that all ranks filled reads its fill values.
-use Rattle.whole_run_laws.proofs.Words.{◌≡◌, ℕ, zero, suc, ◌+◌, ◌*◌, ◌<◌, ◌≤◌, refl, sym, ◌∙◌, ap, subst, List, [], ◌∷◌, ◌++◌, length, map, replicate, true, Option, Some, None, add-one, arith, mul-div_cancel, mul-le-mul_left, drop-append-add, take_all, flat_map-append, append-nil, length-map, map-append, take_at, flat_map, slice_get, zip, AllByRecursion, enumerate_from, range_with_len, each_weaker, map_map, div_grows, in_map, map_in, Header, Var, Post, Part, Offer, Pair, size_of, at, read, Counted, meeting, puts_of, Setting, told, box_indices, fill_bytes, share_begin, shifted, is_sound, inner_lengths, is_record, product, In, IsIndex, place, box_post, box_region, look_record, code_of_look, posts_of, cells, coordinates, elements, index_at, byte_or, Cell, said_at, said_by, bytes_of, bytes_of_some, said_by_puts, coordinates_all, elements_past_header, boxes_right, length-coordinates, post_says, same_len, share_grows, share_within, shifted_is, completed, puts_met, unless_told, AllFill, filling, share_boxes, posts_filled, IsOrApart, part, part_joined, part_none, nat_tests, common_steps}
+use Rattle.whole_run_laws.proofs.Words.{◌≡◌, ℕ, zero, suc, ◌+◌, ◌*◌, ◌<◌, ◌≤◌, refl, sym, ◌∙◌, ap, subst, List, [], ◌∷◌, length, map, replicate, true, Option, Some, None, add-one, arith, mul-div_cancel, mul-le-mul_left, drop-append-add, take_all, flat_map-append, append-nil, length-map, map-append, take_at, flat_map, slice_get, zip, AllByRecursion, enumerate_from, range_with_len, each_weaker, map_map, div_grows, in_map, map_in, Header, Var, Post, Part, Offer, size_of, at, read, Counted, meeting, puts_of, Setting, told, box_indices, fill_bytes, share_begin, shifted, is_sound, inner_lengths, is_record, product, In, IsIndex, place, box_post, box_region, look_record, code_of_look, posts_of, cells, coordinates, elements, index_at, Cell, said_by, bytes_of, bytes_of_some, said_by_puts, coordinates_all, elements_past_header, boxes_right, length-coordinates, post_says, same_len, share_grows, share_within, shifted_is, completed, puts_met, AllFill, filling, share_boxes, posts_filled, IsOrApart, part, part_joined, part_none, nat_tests, common_steps}
 use Rattle.nc_base.specs.declared.answer.Code.TheVariants as code
 use Rattle.whole_run_laws.proofs.KeptLaws.{meeting_said}
 use Rattle.whole_run_laws.proofs.FilledFile.{read_all, cell_of, fill_long, cells_apart, record_element, index_in, in_index, same_or_not, past_count, says_that}
@@ -41,11 +41,9 @@ one_index number p c h = grind (arith, nat_tests, same_len, add-one, shifted_is)
 
 box_elements : (number : ℕ) (p : Part) → elements (box_region number p) ≡ map (λ c. number ∷ c) (box_indices p)
 box_elements number p =
-    ap (λ cs. map (at_box number p) cs) (append-nil (map (λ (c : List ℕ). 0 ∷ c) (coordinates p.count)))
-    ∙ map_map (at_box number p) (λ (c : List ℕ). 0 ∷ c) (coordinates p.count)
-    ∙ map_each (λ (c : List ℕ). at_box number p (0 ∷ c)) (λ (c : List ℕ). number ∷ shifted p.start c) (coordinates p.count)
-    (each_weaker (IsIndex p.count) (λ c. at_box number p (0 ∷ c) ≡ number ∷ shifted p.start c) (one_index number p) (coordinates p.count) (coordinates_all p.count))
-    ∙ sym (map_map (λ (c : List ℕ). number ∷ c) (shifted p.start) (coordinates p.count))
+    let each = each_weaker (IsIndex p.count) (λ c. at_box number p (0 ∷ c) ≡ number ∷ shifted p.start c) (one_index number p) (coordinates p.count) (coordinates_all p.count) in
+    let same = map_each (λ (c : List ℕ). at_box number p (0 ∷ c)) (λ (c : List ℕ). number ∷ shifted p.start c) (coordinates p.count) each in
+    grind (arith, nat_tests, append-nil, map_map, same)
 
 cells_repeat : (size : ℕ) (value xs : List ℕ) (a n : ℕ) → length value ≡ size → n ≡ length xs
     → cells size xs (flat_map (λ m. value) (range_with_len a n)) ≡ map (λ x. let cell : Cell = (x, value) in cell) xs
@@ -65,9 +63,7 @@ module _ (header : Header) (k number : ℕ) (v : Var) (there : slice_get header.
       let paired = λ (x : ℕ). let cell : Cell = (x, fill_bytes v) in cell in
       let one : product (1 ∷ p.count) ≡ product p.count = omega arith in
       let long : product p.count ≡ length (map at (elements (box_region number p))) =
-      sym (length-map (elements (box_region number p)) at
-      ∙ length-map (coordinates (1 ∷ p.count)) (λ (c : List ℕ). index_at (number ∷ p.start) (replicate (length p.count + 1) 1) c)
-      ∙ length-coordinates (1 ∷ p.count) ∙ one) in
+      grind (arith, nat_tests, length-map, length-coordinates (1 ∷ p.count), one) in
       ap (λ (o : Option Var). zip (bytes_of_some header o post) post.bytes) there
       ∙ sym (post_says header (Some v) post)
       ∙ ap (λ (cs : List Cell). said_by cs)
@@ -76,12 +72,9 @@ module _ (header : Header) (k number : ℕ) (v : Var) (there : slice_get header.
       ∙ ap (λ (es : List (List ℕ)). map (λ (i : List ℕ). paired (at i)) es) (box_elements number p)
       ∙ map_map (λ (i : List ℕ). paired (at i)) (λ (c : List ℕ). number ∷ c) (box_indices p))
 
-  said_joined : (a b : List (List ℕ)) → said_by (map cell_at a) ++ said_by (map cell_at b) ≡ said_by (map cell_at (a ++ b))
-  said_joined a b = grind (arith, nat_tests, flat_map-append, map-append)
-
   boxes_said : (r : ℕ) (parts : List Part) → said_by_puts header (map (λ (post : Post). (r, post)) (map (box_post k v number) parts)) ≡ said_by (map cell_at (flat_map box_indices parts))
   boxes_said r [] = refl
-  boxes_said r (p ∷ parts) = grind (arith, nat_tests, boxes_said r parts, box_said, said_joined)
+  boxes_said r (p ∷ parts) = grind (arith, nat_tests, boxes_said r parts, box_said, flat_map-append, map-append)
 
   all_said : (offers : List Offer) (a ranks : ℕ) → ((r : ℕ) (o : Offer) → slice_get offers r ≡ Some o → o.batch.puts ≡ filling header k v number ranks (a + r))
       → said_by_puts header (flat_map puts_of (enumerate_from a offers))
@@ -90,16 +83,9 @@ module _ (header : Header) (k number : ℕ) (v : Var) (there : slice_get header.
   all_said (o ∷ offers) a ranks f =
       let lengths = inner_lengths header v in
       let share = λ (r : ℕ). flat_map box_indices (share_boxes lengths r ranks) in
-      let here : a + 0 ≡ a = omega arith in
-      let long : suc (length offers) ≡ length (o ∷ offers) = omega arith in
       let own : said_by_puts header (puts_of (a, o)) ≡ said_by (map cell_at (share a)) =
-      ap (λ (ps : List Post). said_by_puts header (map (λ (post : Post). (a, post)) ps)) (f 0 o refl ∙ ap (λ (r : ℕ). filling header k v number ranks r) here)
-      ∙ boxes_said a (share_boxes lengths a ranks) in
-      let later = all_said offers (a + 1) ranks (λ r p e. let next : a + suc r ≡ a + 1 + r = omega arith in f (suc r) p e ∙ ap (λ (z : ℕ). filling header k v number ranks z) next) in
-      flat_map-append (λ (p : ℕ × Post). zip (bytes_of header p.1) p.1.bytes) (puts_of (a, o)) (flat_map puts_of (enumerate_from (a + 1) offers))
-      ∙ (λ t. own t ++ later t)
-      ∙ said_joined (share a) (flat_map share (range_with_len (a + 1) (length offers)))
-      ∙ ap (λ (n : ℕ). said_by (map cell_at (flat_map share (range_with_len a n)))) long
+      grind (arith, nat_tests, f 0 o refl, boxes_said a (share_boxes lengths a ranks)) in
+      grind (arith, nat_tests, flat_map-append, own, all_said offers (a + 1) ranks (λ r p e. grind (arith, nat_tests, f (suc r) p e)), map-append)
 
 -- ---- a filled record
 
@@ -115,21 +101,12 @@ record_reads s offers c k number v index sound there of_records fill some none h
     let mine = in_map cell (coordinates lengths) index (index_in lengths index h) in
     let past = elements_past_header header k v (number ∷ index) sound there (record_element header v number index of_records h) in
     let says : said_by_puts header (completed s puts) ≡ said_by (map cell (coordinates lengths)) =
-    ap (λ (pair : Option Pair). said_by_puts header (unless_told puts pair)) none
-    ∙ all_said header k number v there offers 0 (length offers) (λ r o e. let here : r ≡ 0 + r = omega arith in fill r o e ∙ ap (λ (z : ℕ). filling header k v number (length offers) z) here)
-    ∙ ap (λ (es : List (List ℕ)). said_by (map cell es)) (shares_all lengths (length offers) some) in
+    grind (arith, nat_tests, none, all_said header k number v there offers 0 (length offers) (λ r o e. grind (arith, nat_tests, fill r o e)), shares_all lengths (length offers) some) in
+    let apart : (d : Cell) → In (map cell (coordinates lengths)) d → IsOrApart (cell index) d = λ d m.
+    let j = map_in cell (coordinates lengths) d m in
+    let mine = record_element header v number index of_records h in
+    let other = record_element header v number j.0 of_records (in_index lengths j.0 j.1) in
+    subst (IsOrApart (cell index)) j.2 (cells_apart header k k v v (number ∷ index) (number ∷ j.0) sound there there mine other (same_or_not k k (number ∷ index) (number ∷ j.0))) in
     read_all (meeting s offers c).0.file (fill_bytes v) (place header v (number ∷ index)) (size_of v.kind) (sym (fill_long v)) (λ i l.
-    meeting_said s offers c (place header v (number ∷ index) + i) (past_count header (place header v (number ∷ index) + i) (omega arith))
-    ∙ ap (λ (ps : List (ℕ × ℕ)). byte_or (said_at ps (place header v (number ∷ index) + i)) (at c.file (place header v (number ∷ index) + i))) says
-    ∙ ap (λ (o : Option ℕ). byte_or o (at c.file (place header v (number ∷ index) + i)))
-    (says_that (cell index) i l (map cell (coordinates lengths)) mine apart))
-  where
-    apart : (d : Cell) → In (map (λ (i : List ℕ). cell_of s.header v (number ∷ i)) (coordinates (inner_lengths s.header v))) d → IsOrApart (cell_of s.header v (number ∷ index)) d
-    apart d m =
-        let lengths = inner_lengths s.header v in
-        let j = map_in (λ (i : List ℕ). cell_of s.header v (number ∷ i)) (coordinates lengths) d m in
-        let other = in_index lengths j.0 j.1 in
-        subst (λ (z : Cell). IsOrApart (cell_of s.header v (number ∷ index)) z) j.2
-        (cells_apart s.header k k v v (number ∷ index) (number ∷ j.0) sound there there (record_element s.header v number index of_records h)
-        (record_element s.header v number j.0 of_records other)
-        (same_or_not k k (number ∷ index) (number ∷ j.0)))
+    let said = meeting_said s offers c (place header v (number ∷ index) + i) (past_count header (place header v (number ∷ index) + i) (omega arith)) in
+    grind (arith, nat_tests, said, says, says_that (cell index) i l (map cell (coordinates lengths)) mine apart))

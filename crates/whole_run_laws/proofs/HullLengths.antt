@@ -1,5 +1,5 @@
 -- No window's hull is longer than its buffer, and no call of a step transfers more.
-use Rattle.whole_run_laws.proofs.Words.{and_first, and_second, lawful_parts, ◌≡◌, ℕ, suc, ◌+◌, ◌<◌, ◌≤◌, ap, subst, inl, inr, ◌⊎◌, List, [], ◌∷◌, ◌++◌, length, map, Bool, true, false, cond, not, max, arith, filter, flat_map, nat_le, nat_lt, is_none, enumerate_from, equal_itself, filter_in, filter_ascends, flat_in, in_either, in_order_ascends, last_below, map_in, Header, Post, Hints, Script, DiskCall, Mark, Offer, calls_from, collective_windows, get_bytes, gets_of, hull_len, in_order, last_of, loads, meeting_calls, put_calls, run_calls, sieved, sieving_windows, solo_calls, store_records, Counted, Setting, meeting, puts_of, told, is_lawful, In, Going, after_mark, closed, first_state, setting_of, Puts, bytes_of, covered, is_count_store, longest, transferred, le_two, window_short, nat_tests, ltb-true, ltb-false}
+use Rattle.whole_run_laws.proofs.Words.{and_first, and_second, lawful_parts, ◌≡◌, ℕ, suc, ◌+◌, ◌<◌, ◌≤◌, inl, inr, ◌⊎◌, List, [], ◌∷◌, length, Bool, true, false, cond, not, max, arith, filter, flat_map, nat_le, nat_lt, is_none, enumerate_from, equal_itself, filter_in, filter_ascends, flat_in, in_either, in_order_ascends, last_below, map_in, Header, Hints, Script, DiskCall, Mark, Offer, calls_from, collective_windows, get_bytes, gets_of, hull_len, in_order, last_of, loads, meeting_calls, put_calls, run_calls, sieved, sieving_windows, solo_calls, store_records, Counted, Setting, puts_of, told, is_lawful, In, Going, after_mark, closed, first_state, setting_of, Puts, bytes_of, covered, is_count_store, longest, transferred, le_two, window_short, nat_tests, ltb-true, ltb-false}
 
 -- ---- the buffers of a lawful script
 
@@ -31,49 +31,31 @@ sieving_short buffer bytes w l h = sieved_short (length bytes) buffer bytes w l 
 
 -- ---- the calls of a step
 
-call_short : (a call : DiskCall) (n : ℕ) → a ≡ call → transferred a ≤ n → transferred call ≤ n
-call_short a call n e h = subst (λ (c : DiskCall). transferred c ≤ n) e h
-
 put_short : (s : Setting) (cut : List ℕ → List (List ℕ)) (puts : Puts) (size n : ℕ) (call : DiskCall)
     → ((w : List ℕ) → In (cut (in_order (covered s.header puts))) w → hull_len w ≤ n) → In (put_calls s cut puts size) call → transferred call ≤ n
-put_short s cut puts size n call f h = grind (arith, nat_tests, told, in_order, in_either, call_short, flat_in, transferred, is_none)
+put_short s cut puts size n call f h = grind (arith, nat_tests, told, in_order, in_either, flat_in, transferred, is_none)
 
 get_short : (ws : List (List ℕ)) (n : ℕ) (call : DiskCall) → ((w : List ℕ) → In ws w → hull_len w ≤ n) → In (flat_map loads ws) call → transferred call ≤ n
-get_short ws n call f h = grind (arith, nat_tests, flat_in, call_short)
+get_short ws n call f h = grind (arith, nat_tests, flat_in)
 
 count_stored : (s : Setting) (grew : Bool) (call : DiskCall) → In (store_records s grew) call → is_count_store s.header call ≡ true
 count_stored s grew call k = grind (arith, nat_tests, equal_itself)
-
-abbrev ShortOrCount : ℕ → Header → DiskCall → Type 0
-ShortOrCount n header call = (transferred call ≤ n) ⊎ (is_count_store header call ≡ true)
-
--- puts, the record count, gets
-three_short : (n : ℕ) (header : Header) (a b d : List DiskCall) (call : DiskCall) → (In a call → transferred call ≤ n) → (In b call → is_count_store header call ≡ true)
-    → (In d call → transferred call ≤ n) → In ((a ++ b) ++ d) call → ShortOrCount n header call
-three_short n header a b d call f g h k = grind (arith, nat_tests, in_either)
 
 pub meeting_short : (hints : Hints) (s : Setting) (offers : List Offer) (c : Counted) (call : DiskCall) → 1 ≤ hints.cb_buffer
     → In (meeting_calls hints s offers c) call → (transferred call ≤ hints.cb_buffer) ⊎ (is_count_store s.header call ≡ true)
 meeting_short hints s offers c call l h =
     let puts = flat_map puts_of (enumerate_from 0 offers) in
     let asked = flat_map gets_of offers in
-    three_short hints.cb_buffer s.header (put_calls s (collective_windows hints) puts (length c.file))
-    (store_records s (nat_lt c.records (meeting s offers c).0.records)) (flat_map loads (collective_windows hints (get_bytes s asked))) call
-    (λ k. put_short s (collective_windows hints) puts (length c.file) hints.cb_buffer call (λ w g. collective_short hints (covered s.header puts) w l g) k)
-    (λ k. count_stored s (nat_lt c.records (meeting s offers c).0.records) call k)
-    (λ k. get_short (collective_windows hints (get_bytes s asked)) hints.cb_buffer call
-    (λ w g. collective_short hints (flat_map (λ p. bytes_of s.header p) asked) w l g) k)
-    h
+    let put = put_short s (collective_windows hints) puts (length c.file) hints.cb_buffer call (λ w g. collective_short hints (covered s.header puts) w l g) in
+    let get = get_short (collective_windows hints (get_bytes s asked)) hints.cb_buffer call (λ w g. collective_short hints (flat_map (λ p. bytes_of s.header p) asked) w l g) in
+    grind (arith, nat_tests, in_either, put, get, count_stored s)
 
 -- where no window of its puts is longer than that, and none of its gets
 solo_parts : (hints : Hints) (s : Setting) (r : ℕ) (o : Offer) (c : Counted) (n : ℕ) (call : DiskCall)
     → ((w : List ℕ) → In (sieving_windows hints.wr_buffer (in_order (covered s.header (puts_of (r, o))))) w → hull_len w ≤ n)
     → ((w : List ℕ) → In (sieving_windows hints.rd_buffer (get_bytes s (gets_of o))) w → hull_len w ≤ n) → In (solo_calls hints s r o c) call → transferred call ≤ n
 solo_parts hints s r o c n call puts gets h =
-    elim (in_either (put_calls s (sieving_windows hints.wr_buffer) (puts_of (r, o)) (length c.file)) (flat_map loads (sieving_windows hints.rd_buffer (get_bytes s (gets_of o)))) call h) [
-      | inl k ↦ put_short s (sieving_windows hints.wr_buffer) (puts_of (r, o)) (length c.file) n call puts k
-      | inr k ↦ get_short (sieving_windows hints.rd_buffer (get_bytes s (gets_of o))) n call gets k
-    ]
+    grind (arith, nat_tests, in_either, put_short s (sieving_windows hints.wr_buffer) (puts_of (r, o)) (length c.file) n call puts, get_short (sieving_windows hints.rd_buffer (get_bytes s (gets_of o))) n call gets)
 
 pub solo_short : (hints : Hints) (s : Setting) (r : ℕ) (o : Offer) (c : Counted) (call : DiskCall) → 1 ≤ hints.wr_buffer → 1 ≤ hints.rd_buffer
     → In (solo_calls hints s r o c) call → transferred call ≤ max hints.wr_buffer hints.rd_buffer
@@ -85,20 +67,17 @@ solo_short hints s r o c call l m h =
 pub solo_puts_short : (hints : Hints) (s : Setting) (r : ℕ) (o : Offer) (c : Counted) (call : DiskCall) → 1 ≤ hints.wr_buffer → o.batch.gets ≡ []
     → In (solo_calls hints s r o c) call → transferred call ≤ hints.wr_buffer
 solo_puts_short hints s r o c call l e h =
-    let none : sieving_windows hints.rd_buffer (get_bytes s (gets_of o)) ≡ [] = ap (λ (gets : List Post). sieving_windows hints.rd_buffer (get_bytes s gets)) e in
-    solo_parts hints s r o c hints.wr_buffer call (λ w g. sieving_short hints.wr_buffer (in_order (covered s.header (puts_of (r, o)))) w l g) (λ w g. absurd (subst (λ (ws : List (List ℕ)). In ws w) none g)) h
+    solo_parts hints s r o c hints.wr_buffer call (λ w g. sieving_short hints.wr_buffer (in_order (covered s.header (puts_of (r, o)))) w l g) (λ w g. grind (arith, nat_tests)) h
 
 pub solo_gets_short : (hints : Hints) (s : Setting) (r : ℕ) (o : Offer) (c : Counted) (call : DiskCall) → 1 ≤ hints.rd_buffer → o.batch.puts ≡ []
     → In (solo_calls hints s r o c) call → transferred call ≤ hints.rd_buffer
 solo_gets_short hints s r o c call l e h =
-    let none : sieving_windows hints.wr_buffer (in_order (covered s.header (puts_of (r, o)))) ≡ [] =
-    ap (λ (puts : List Post). sieving_windows hints.wr_buffer (in_order (covered s.header (map (λ (post : Post). let z : ℕ × Post = (r, post) in z) puts)))) e in
-    solo_parts hints s r o c hints.rd_buffer call (λ w g. absurd (subst (λ (ws : List (List ℕ)). In ws w) none g)) (λ w g. sieving_short hints.rd_buffer (get_bytes s (gets_of o)) w l g) h
+    solo_parts hints s r o c hints.rd_buffer call (λ w g. grind (arith, nat_tests)) (λ w g. sieving_short hints.rd_buffer (get_bytes s (gets_of o)) w l g) h
 
 -- ---- the calls of a run
 
 calls_short : (hints : Hints) (s : Setting) (state : Counted × List Going) (order : List Mark) (call : DiskCall) → Buffers hints → In (calls_from hints s state order) call
-    → ShortOrCount (longest hints) s.header call
+    → (transferred call ≤ longest hints) ⊎ (is_count_store s.header call ≡ true)
 calls_short hints s state [] call some h = inr (count_stored s (nat_lt state.0.records (closed s state).records) call h)
 calls_short hints s state (m ∷ order) call some h = grind (arith, nat_tests, calls_short hints s (after_mark s state m) order call some, in_either, meeting_short, le_two, solo_short)
 

@@ -1,6 +1,6 @@
 -- A script whose ranks have no steps of their own has one order: all its meetings in turn.
 use Rattle.list_laws.proofs.Each.{none_any}
-use Rattle.whole_run_laws.proofs.Words.{◌≡◌, ℕ, zero, suc, ◌+◌, ◌<◌, refl, sym, ◌∙◌, ap, subst, List, [], ◌∷◌, length, map, Bool, true, false, not, ◌&&◌, Option, Some, None, arith, and-false, slice_get, filter, list_all, list_any, range_with_len, fails_each, fails_at, entry_below, and_first, equal_itself, no_false, or_first_false, or_second_false, in_range, each_in, Header, Call, Script, Mark, Meet, Solo, MeetKind, concerns, is_collective, is_data, is_of_rank_below, IsLegal, kind_of_call, kinds, marks, marks_from, is_meeting, is_lawful, serial_from, kinds_of, own_lawful, ranks_lawful, kinds_skip, kinds_take, marks_alone, marks_meet, marks_solo, all_meetings, has_independent, has_solo, is_independent, collective_kind, some_rank, nat_tests, ltb-true}
+use Rattle.whole_run_laws.proofs.Words.{◌≡◌, ℕ, zero, suc, ◌+◌, ◌<◌, refl, sym, ◌∙◌, ap, List, [], ◌∷◌, length, map, Bool, true, false, not, arith, and-false, filter, list_all, list_any, range_with_len, fails_each, fails_at, entry_below, and_first, equal_itself, no_false, or_first_false, or_second_false, in_range, each_in, Header, Call, Script, Mark, Meet, Solo, concerns, is_of_rank_below, IsLegal, kinds, marks, marks_from, is_meeting, is_lawful, serial_from, kinds_of, own_lawful, ranks_lawful, kinds_skip, kinds_take, marks_alone, marks_meet, marks_solo, all_meetings, has_independent, has_solo, is_independent, collective_kind, some_rank, nat_tests, ltb-true}
 
 abbrev is_solo : Mark → Bool
 is_solo m = not (is_meeting m)
@@ -11,42 +11,20 @@ meets_from k n = map (λ j. Meet j) (range_with_len k n)
 
 -- ---- the marks of one rank
 
-meets_more : (k n m : ℕ) → m ≡ suc n → Meet k ∷ meets_from (suc k) n ≡ meets_from k m
-meets_more k n m e = grind (arith, nat_tests)
-
-same_alone : (a b : List Mark) → a ≡ b → list_any is_solo a ≡ false → list_any is_solo b ≡ false
-same_alone a b e h = subst (λ (ms : List Mark). list_any is_solo ms ≡ false) e h
-
 marks_meet_all : (r c k : ℕ) (ind : Bool) (calls : List Call) → list_any is_solo (marks_from r c k ind calls) ≡ false
     → marks_from r c k ind calls ≡ meets_from k (length (kinds calls))
 marks_meet_all r c k ind [] h = refl
 marks_meet_all r c k ind (x ∷ calls) h =
-    by_kind (kind_of_call x) refl (ind && is_data x) refl (λ j i g. marks_meet_all r (suc c) j i calls g)
-  where
-    long : (kind : MeetKind) → kind_of_call x ≡ Some kind → length (kinds (x ∷ calls)) ≡ suc (length (kinds calls))
-    long kind e = ap (λ (ks : List MeetKind). length ks) (kinds_take x calls kind e) ∙ (omega arith)
-
-    by_kind : (o : Option MeetKind) → kind_of_call x ≡ o → (t : Bool) → (ind && is_data x) ≡ t
-        → ((j : ℕ) (i : Bool) → list_any is_solo (marks_from r (suc c) j i calls) ≡ false → marks_from r (suc c) j i calls ≡ meets_from j (length (kinds calls)))
-        → marks_from r c k ind (x ∷ calls) ≡ meets_from k (length (kinds (x ∷ calls)))
-    by_kind o e t f later = grind (arith, nat_tests, marks_meet, collective_kind, same_alone, meets_more, long, marks_solo, no_false, marks_alone, kinds_skip)
+    let later = λ (j : ℕ) (i : Bool). marks_meet_all r (suc c) j i calls in
+    grind (arith, nat_tests, later, marks_meet, collective_kind, kinds_take x calls, marks_solo, no_false, marks_alone, kinds_skip)
 
 -- ---- no step of its own
-
-not_data : (c : Call) → is_collective c ≡ false → is_independent c ≡ false → is_data c ≡ false
-not_data c e h = grind (arith, nat_tests, not)
 
 none_alone : (r c k : ℕ) (ind : Bool) (calls : List Call) → list_any is_independent calls ≡ false → list_any is_solo (marks_from r c k ind calls) ≡ false
 none_alone r c k ind [] h = refl
 none_alone r c k ind (x ∷ calls) h =
-    by_kind (is_collective x) refl (λ j i. none_alone r (suc c) j i calls (or_second_false (is_independent x) _ h))
-  where
-    by_kind : (t : Bool) → is_collective x ≡ t → ((j : ℕ) (i : Bool) → list_any is_solo (marks_from r (suc c) j i calls) ≡ false)
-        → list_any is_solo (marks_from r c k ind (x ∷ calls)) ≡ false
-    by_kind t e later = grind (arith, nat_tests, same_alone, marks_meet, not_data, or_first_false, and-false, marks_alone)
-
-abbrev marks_of_own : ℕ → Option (List Call) → List Mark
-marks_of_own r m = elim m [ None ↦ [] | Some own ↦ marks_from r 0 0 false own ]
+    let later = λ (j : ℕ) (i : Bool). none_alone r (suc c) j i calls (or_second_false (is_independent x) _ h) in
+    grind (later, arith, nat_tests, marks_meet, not, or_first_false, and-false, marks_alone)
 
 rank_not_alone : (script : Script) (r : ℕ) → has_independent script ≡ false → list_any is_solo (marks script.calls r) ≡ false
 rank_not_alone script r h = grind (arith, nat_tests, none_alone, fails_at)
@@ -61,13 +39,11 @@ rank_meets script r h l =
     each_in (λ q. list_any is_solo (marks script.calls q) ≡ false) (range_with_len 0 script.ranks) r
     (fails_each (λ q. list_any is_solo (marks script.calls q)) (range_with_len 0 script.ranks) h) (in_range 0 script.ranks r (omega arith) (omega arith))
 
-one_list_each : (script : Script) (r : ℕ) → is_lawful script ≡ true → r < script.ranks → (own : List Call) × (slice_get script.calls r ≡ Some own)
-one_list_each script r lawful l = let e = (ranks_lawful script lawful).one_each in entry_below script.calls r (omega arith)
-
 all_marks : (script : Script) (r : ℕ) → is_lawful script ≡ true → has_solo script ≡ false → r < script.ranks → marks script.calls r ≡ all_meetings script
 all_marks script r lawful h l =
-    let own = one_list_each script r lawful l in
-    grind (arith, nat_tests, marks_meet_all r 0 0 false own.0, same_alone, rank_meets script r h l, own_lawful script r own.0 lawful own.1, marks_of_own, meets_from)
+    let e = (ranks_lawful script lawful).one_each in
+    let own = entry_below script.calls r (omega arith) in
+    grind (arith, nat_tests, marks_meet_all r 0 0 false own.0, rank_meets script r h l, own_lawful script r own.0 lawful own.1, meets_from)
 
 -- ---- the order
 
@@ -98,8 +74,8 @@ meetings_not_alone k (suc n) = meetings_not_alone (k + 1) n
 
 pub no_other : (script : Script) (order : List Mark) → is_lawful script ≡ true → has_solo script ≡ false → IsLegal script order → order ≡ all_meetings script
 no_other script order lawful h legal =
-    sym (all_concern script.ranks order legal.known_ranks (λ r l. same_alone _ _ (sym (legal.each_rank r l ∙ all_marks script r lawful h l))
-    (meetings_not_alone 0 (length (kinds_of script)))))
+    sym (all_concern script.ranks order legal.known_ranks (λ r l.
+    grind (arith, nat_tests, legal.each_rank r l, all_marks script r lawful h l, meetings_not_alone 0 (length (kinds_of script)))))
     ∙ legal.each_rank 0 (some_rank script lawful) ∙ all_marks script 0 lawful h (some_rank script lawful)
 
 pub one_end : (script : Script) (header : Header) (file : List ℕ) (a b : List Mark) → is_lawful script ≡ true → has_solo script ≡ false

@@ -1,7 +1,6 @@
 -- The posts of a call of form varn are those of calls on its parts, each with its share of the values.
-use Rattle.whole_run_laws.proofs.Words.{each_in, fails_each, in_range, ◌≡◌, ℕ, zero, suc, ◌+◌, ◌<◌, ◌≤◌, refl, ◌∙◌, ap, inl, inr, List, [], ◌∷◌, ◌++◌, length, map, take, drop, Bool, true, false, not, cond, ltb, Option, Some, None, option_map, arith, ℤ, filter, flat_map, slice_get, list_any, range_with_len, lt-ltb, ltb-false, sum_by-cons, any_map, entry_below, count_of, Code, Header, NcType, Var, Post, Direction, Get, Put, Varn, Given, Part, Region, Values, Numbers, Text, Bits, class_of, product, In, find_var, kind_code, look, look_at, look_parts, look_region, part_posts, parts_code, some_fits, values_bytes, code_of_look, posts_of, check_parts, check_var, elements_of_all, has_element, is_ok_code, part_region, part_regions, value_at, parts_pass, outcome, on_part, own_values, values_from, nat_tests, common_steps, is_none}
+use Rattle.whole_run_laws.proofs.Words.{each_in, fails_each, in_range, ◌≡◌, ℕ, zero, suc, ◌+◌, ◌<◌, ◌≤◌, refl, ap, inl, inr, List, [], ◌∷◌, ◌++◌, length, map, take, drop, Bool, true, false, not, cond, ltb, Option, Some, None, option_map, arith, filter, flat_map, slice_get, range_with_len, lt-ltb, ltb-false, sum_by-cons, any_map, entry_below, count_of, Code, Header, NcType, Var, Post, Direction, Get, Put, Varn, Given, Part, Region, Values, Numbers, Text, Bits, class_of, product, In, find_var, kind_code, look, look_at, look_parts, look_region, part_posts, parts_code, some_fits, values_bytes, code_of_look, posts_of, check_parts, check_var, elements_of_all, has_element, part_region, part_regions, value_at, parts_pass, outcome, on_part, own_values, values_from, nat_tests, common_steps, is_none}
 use Rattle.nc_base.specs.declared.answer.Code.TheVariants as code
-use Rattle.nc_base.specs.declared.request.Value.TheVariants as value
 use Rattle.serial_spec.specs.Looks as looks
 use Rattle.list_laws.proofs.Ranges.{none_in_range}
 
@@ -20,8 +19,7 @@ asks checked some asked last e f = grind (arith, nat_tests, outcome)
 taken : {X : Type 0} (xs : List X) (k n i : ℕ) → i < n → slice_get (take n (drop k xs)) i ≡ slice_get xs (k + i)
 taken [] zero (suc n) i l = refl
 taken [] (suc k) (suc n) i l = refl
-taken (x ∷ xs) zero (suc n) zero l = refl
-taken (x ∷ xs) zero (suc n) (suc i) l = grind (arith, nat_tests, taken xs 0 n i (omega arith))
+taken (x ∷ xs) zero (suc n) i l = grind (arith, nat_tests, taken xs 0 n)
 taken (x ∷ xs) (suc k) n i l = grind (arith, nat_tests, taken xs k n i l)
 taken _ _ _ i l = absurd (omega arith)
 
@@ -32,13 +30,7 @@ same_value values k n i l = grind (arith, nat_tests, option_map, taken)
 flat_shifted : {A : Type 0} (f h : ℕ → List A) (a b n : ℕ) → ((i : ℕ) → i < n → f (a + i) ≡ h (b + i)) → flat_map f (range_with_len a n) ≡ flat_map h (range_with_len b n)
 flat_shifted f h a b zero e = refl
 flat_shifted f h a b (suc n) e =
-    let one : a ≡ a + 0 = omega arith in
-    let two : b + 0 ≡ b = omega arith in
-    let first : f a ≡ h b = ap f one ∙ e 0 (omega arith) ∙ ap h two in
-    let rest = flat_shifted f h (a + 1) (b + 1) n (λ i l.
-    let three : a + 1 + i ≡ a + suc i = omega arith in
-    grind (arith, nat_tests)) in
-    λ t. first t ++ rest t
+    grind (arith, nat_tests, e 0, flat_shifted f h (a + 1) (b + 1) n (λ i l. grind (arith, nat_tests, e (suc i))))
 
 -- ---- the values are enough, and fit
 
@@ -47,26 +39,15 @@ record AreRight (kind : NcType) (values : Values) (all : ℕ) : Type 0 where
   enough : all ≤ count_of values
   fit : (i : ℕ) → i < all → not (some_fits kind (value_at values i)) ≡ false
 
-abbrev of_values : Code → Bool → Bool → Code
-of_values kinds lacking unfit = cond (not (is_ok_code kinds)) kinds (cond lacking code.EMapSize (cond unfit code.ERange code.Ok))
-
-all_right : (kinds : Code) (lacking unfit : Bool) → of_values kinds lacking unfit ≡ code.Ok → (kinds ≡ code.Ok) × (lacking ≡ false) × (unfit ≡ false)
-all_right kinds lacking unfit h = grind (arith, nat_tests)
-
 right_values : (kind : NcType) (values : Values) (all : ℕ) → parts_code kind all (Some values) ≡ code.Ok → AreRight kind values all
 right_values kind values all h =
     let test = λ (m : ℕ). not (some_fits kind (value_at values m)) in
-    let r = all_right (kind_code (class_of kind) values) (ltb (count_of values) all) (list_any test (range_with_len 0 all)) h in
-    record {
-      kinds = r.0;
-      enough = ltb-false (count_of values) all r.1;
-      fit = λ i l. each_in (λ m. test m ≡ false) (range_with_len 0 all) i (fails_each test (range_with_len 0 all) r.2) (in_range 0 all i (omega arith) (omega arith));
-    }
+    grind (arith, nat_tests, ltb-false (count_of values) all, each_in (λ m. test m ≡ false) (range_with_len 0 all), fails_each test (range_with_len 0 all), in_range 0 all)
 
 value_there : (values : Values) (i : ℕ) → i < count_of values → is_none (value_at values i) ≡ false
-value_there (Numbers zs) i l = let found = entry_below zs i l in ap (λ (o : Option ℤ). is_none (option_map (λ z. value.Number z) o)) found.1
-value_there (Text cs) i l = let found = entry_below cs i l in ap (λ (o : Option ℕ). is_none (option_map (λ c. value.Char c) o)) found.1
-value_there (Bits ns) i l = let found = entry_below ns i l in ap (λ (o : Option ℕ). is_none (option_map (λ b. value.Bits b) o)) found.1
+value_there (Numbers zs) i l = grind (arith, nat_tests, entry_below zs i)
+value_there (Text cs) i l = grind (arith, nat_tests, entry_below cs i)
+value_there (Bits ns) i l = grind (arith, nat_tests, entry_below ns i)
 
 -- ---- one part
 
@@ -105,16 +86,6 @@ module _ (header : Header) (known id k : ℕ) (var : Var) where
   abbrev Right : Values → ℕ → List Region → Type 0
   Right values all regions = 0 < length regions → AreRight var.kind values all
 
-  more_room : (p : Part) (rest : List Region) (n all : ℕ) → n + elements_of_all (cond (has_element (region p)) (region p ∷ rest) rest) ≤ all
-      → (n + product p.count + elements_of_all rest ≤ all)
-  more_room p rest n all room = grind (arith, nat_tests, sum_by-cons, ltb-false, common_steps)
-
-  later_right : (p : Part) (rest : List Region) (values : Values) (all : ℕ) (b : Bool) → Right values all (cond b (region p ∷ rest) rest) → Right values all rest
-  later_right p rest values all b r l = grind (arith, nat_tests)
-
-  first_right : (p : Part) (rest : List Region) (values : Values) (all : ℕ) (b : Bool) → Right values all (cond b (region p ∷ rest) rest) → b ≡ true → AreRight var.kind values all
-  first_right p rest values all b r e = grind (arith, nat_tests)
-
   abbrev AllPass : List Part → Direction → Type 0
   AllPass parts way = (g : Region) → In (map region parts) g → check_var header var g known way ≡ code.Ok
 
@@ -123,10 +94,10 @@ module _ (header : Header) (known id k : ℕ) (var : Var) where
   puts_of_parts [] values n all ok right room = refl
   puts_of_parts (p ∷ parts) values n all ok right room =
       let rest = asked parts in
-      let more = more_room p rest n all room in
+      let more : n + product p.count + elements_of_all rest ≤ all = grind (arith, nat_tests, sum_by-cons, ltb-false, common_steps) in
       first_part (Some values) n p rest (of_part p (Some (values_from values n (product p.count)))) _
-      (put_part p values n all (ok (region p) (inl refl)) (λ t. (first_right p rest values all (has_element (region p)) right t, omega (arith, more))))
-      (puts_of_parts parts values (n + product p.count) all (λ g i. ok g (inr i)) (later_right p rest values all (has_element (region p)) right) more)
+      (put_part p values n all (ok (region p) (inl refl)) (λ t. (grind (arith, nat_tests, right, t), omega (arith, more))))
+      (puts_of_parts parts values (n + product p.count) all (λ g i. ok g (inr i)) (λ l. grind (arith, nat_tests, right, l)) more)
 
   gets_of_parts : (parts : List Part) (n : ℕ) → AllPass parts Get → part_posts id k var.kind None n (asked parts) ≡ flat_map (λ part. of_part part None) parts
   gets_of_parts [] n ok = refl

@@ -1,9 +1,7 @@
 -- The puts of a step one after another, and an independent put of many regions region by region.
-use Rattle.whole_run_laws.proofs.Words.{◌≡◌, ℕ, zero, suc, ◌+◌, ◌≤◌, max, refl, sym, ◌∙◌, ap, inl, inr, List, [], ◌∷◌, ◌++◌, length, map, Bool, true, false, cond, ltb, Option, Some, None, arith, cases_lt, or_cases, nat_tests, fold-append, map-append, AllByRecursion, filter, flat_map, fold, slice_get, some_or_none, and_first, no_both, Code, Header, NcType, Var, Post, Call, Put, Varn, Given, Part, Region, Values, Offer, Want, at, longer, written, Counted, Setting, after_puts, end_for, put_some, told, product, find_var, is_varn, look, look_at, look_parts, look_region, part_posts, Rank, answer, answers, batch_of, code_of_look, offers_look, posts_of, needed, needed_by, bound, has_element, part_regions, widen, Cell, write_cells, Going, go, solo_of, Holding, Holds, Key, Puts, first_end, holdings, key_below, second_end, at-longer, longer-enough, longer_long, after_grows, key_equal, end_grows, cells_said, same_file, outcome, outcome_posts, makes, on_part, own_values, put_parts}
+use Rattle.whole_run_laws.proofs.Words.{◌≡◌, ℕ, ◌+◌, ◌≤◌, max, refl, sym, ◌∙◌, ap, inl, inr, List, [], ◌∷◌, ◌++◌, length, map, Bool, true, false, ltb, Option, Some, None, arith, cases_lt, or_cases, nat_tests, fold-append, map-append, AllByRecursion, filter, flat_map, fold, slice_get, some_or_none, and_first, Code, Header, NcType, Var, Post, Call, Put, Varn, Given, Part, Region, Values, at, longer, written, Counted, Setting, after_puts, end_for, put_some, told, product, is_varn, look, look_at, look_parts, look_region, part_posts, code_of_look, posts_of, needed, needed_by, bound, has_element, part_regions, widen, Cell, write_cells, Going, Holding, Holds, Key, Puts, first_end, holdings, second_end, at-longer, longer-enough, longer_long, after_grows, key_equal, end_grows, cells_said, same_file, outcome, outcome_posts, makes, on_part, own_values, put_parts}
 use Rattle.nc_base.specs.declared.answer.Code.TheVariants as code
 use Rattle.nc_base.specs.declared.request.Call.TheVariants as call
-use Rattle.nc_base.specs.declared.step.OfferKind.TheVariants as offer
-use Rattle.nc_base.specs.declared.step.Want.TheVariants as want
 use Rattle.serial_spec.specs.Looks as looks
 use Rattle.whole_run_laws.proofs.PartPosts.{varn_puts}
 use Rattle.whole_run_laws.proofs.ToldLaws.{pair_is_least}
@@ -42,11 +40,7 @@ in_turn s (p ∷ puts) file h =
 
 both_in_turn : (s : Setting) (a b : Puts) (file : List ℕ) → end_for s 0 ≤ length file → after_puts s b None (after_puts s a None file) ≡ after_puts s (a ++ b) None file
 both_in_turn s a b file h =
-    let grown = after_grows s a None file in
-    in_turn s b (after_puts s a None file) (omega (arith, grown, h))
-    ∙ ap (λ (f : List ℕ). fold (left_by s) f b) (in_turn s a file h)
-    ∙ sym (fold-append (left_by s) file a b)
-    ∙ sym (in_turn s (a ++ b) file h)
+    grind (arith, nat_tests, in_turn s b (after_puts s a None file), after_grows s a None file, in_turn s a file h, in_turn s (a ++ b) file h, fold-append (left_by s) file a b)
 
 -- ---- one request tells no pair
 
@@ -66,16 +60,15 @@ own_keys header number id [] h = tt
 own_keys header number id (p ∷ posts) h = ((λ t. (number, h.0 t)), own_keys header number id posts h.1)
 
 no_pair_of_one : (s : Setting) (number id : ℕ) (posts : List Post) → HaveId id posts → told s (numbered number posts) ≡ None
-no_pair_of_one s number id posts all = elim (some_or_none (told s (numbered number posts))) [
-  | inl e ↦ e
-  | inr (p, e) ↦
-      let held = holdings s.header (numbered number posts) in
-      let keys = own_keys s.header number id posts all in
-      let is = pair_is_least s (numbered number posts) p e in
-      let first = holder_is held (number, id) (first_end p) p.at keys is.first in
-      let second = holder_is held (number, id) (second_end p) p.at keys is.second in
-      no_both (key_below (number, id) (number, id)) ((λ t. key_below (first t) (second t)) ∙ is.in_order) (not_below_itself (number, id))
-]
+no_pair_of_one s number id posts all =
+    elim (some_or_none (told s (numbered number posts))) [
+      | inl e ↦ e
+      | inr (p, e) ↦
+          let holder = holder_is (holdings s.header (numbered number posts)) (number, id) in
+          let keys = own_keys s.header number id posts all in
+          let is = pair_is_least s (numbered number posts) p e in
+          grind (arith, nat_tests, is.in_order, holder (first_end p) p.at keys is.first, holder (second_end p) p.at keys is.second, not_below_itself (number, id))
+    ]
 
 -- ---- the posts of a call have its id
 
@@ -86,33 +79,26 @@ part_ids : (id k : ℕ) (kind : NcType) (values : Option Values) (n : ℕ) (gs :
 part_ids id k kind values n [] = tt
 part_ids id k kind values n (g ∷ gs) = (refl, part_ids id k kind values (n + product g.count) gs)
 
+form_ids : (header : Header) (known id k : ℕ) (given : Given) (values : Option Values) (var : Var) (many : Bool) → HaveId id (posts_of (elim many as (λ z. looks.Look) [
+  | true ↦ look_parts header known id k given values var
+  | false ↦ look_region header known id k given values var
+]))
+form_ids header known id k given values var true =
+    outcome_ids id _ (ltb 0 (length (filter has_element (part_regions var given)))) _ _ (part_ids id k var.kind values 0 (filter has_element (part_regions var given)))
+form_ids header known id k given values var false = outcome_ids id _ (has_element (widen header var given known)) _ _ (refl, tt)
+
+var_ids : (header : Header) (known id k : ℕ) (given : Given) (values : Option Values) (v : Option Var) → HaveId id (posts_of (look_at header known id k given values v))
+var_ids header known id k given values None = tt
+var_ids header known id k given values (Some var) = form_ids header known id k given values var (is_varn given.form)
+
 look_ids : (header : Header) (known id : ℕ) (name : List ℕ) (given : Given) (values : Option Values) → HaveId id (posts_of (look header known id name given values))
-look_ids header known id name given values = by (find_var header name)
-  where
-    by_form : (k : ℕ) (var : Var) (b : Bool) → HaveId id (posts_of (elim b as (λ z. looks.Look) [
-      | true ↦ look_parts header known id k given values var
-      | false ↦ look_region header known id k given values var
-    ]))
-    by_form k var true = outcome_ids id _ (ltb 0 (length (filter has_element (part_regions var given)))) _ _ (part_ids id k var.kind values 0 (filter has_element (part_regions var given)))
-    by_form k var false = outcome_ids id _ (has_element (widen header var given known)) _ _ (refl, tt)
-
-    by_var : (k : ℕ) (v : Option Var) → HaveId id (posts_of (look_at header known id k given values v))
-    by_var k None = tt
-    by_var k (Some var) = by_form k var (is_varn given.form)
-
-    by : (o : Option ℕ) → HaveId id (posts_of (elim o as (λ z. looks.Look) [
-      | None ↦ looks.Refused code.ENotVar
-      | Some k ↦ look_at header known id k given values (slice_get header.vars k)
-    ]))
-    by None = tt
-    by (Some k) = by_var k (slice_get header.vars k)
+look_ids header known id name given values = grind (arith, nat_tests, var_ids header known id)
 
 -- ---- a put of one region does not hang on the known record count
 
 same_bounds : (a b : ℕ) (ns : List ℕ) → map (bound Put a) ns ≡ map (bound Put b) ns
 same_bounds a b [] = refl
-same_bounds a b (zero ∷ ns) = ap (λ (os : List (Option ℕ)). None ∷ os) (same_bounds a b ns)
-same_bounds a b (suc n ∷ ns) = ap (λ (os : List (Option ℕ)). Some (suc n) ∷ os) (same_bounds a b ns)
+same_bounds a b (n ∷ ns) = grind (arith, nat_tests, same_bounds a b ns)
 
 -- ---- an independent put
 
@@ -120,34 +106,10 @@ module _ (s : Setting) (number : ℕ) (name : List ℕ) where
   abbrev put_look : ℕ → Given → Values → looks.Look
   put_look known given values = look s.header known 0 name given (Some values)
 
-  abbrev wanted : Going → Bool → Given → Values → Rank × Want
-  wanted g independent given values =
-      let l = put_look g.rank.known given values in
-      cond independent (offers_look g.rank offer.Solo l (batch_of (Some values) l)) (answers g.rank (answer code.ENotIndep))
-
-  abbrev gone : Going → Rank × Want → Going × Option Offer
-  gone g next =
-      elim next.1 as (λ z. Going × Option Offer) [
-        | want.Answered a ↦ go s.header next.0 (g.answers ++ a ∷ []) []
-        | want.Meet o ↦ (record { rank = next.0; answers = g.answers; calls = [] }, Some o)
-        | want.Solo o ↦ (record { rank = next.0; answers = g.answers; calls = [] }, Some o)
-      ]
-
-  abbrev made : Counted × Going → Bool → Given → Values → Counted × Going
-  made state independent given values = solo_of s number state.0 (gone state.1 (wanted state.1 independent given values))
-
-  put_made : (state : Counted × Going) (given : Given) (values : Values) → state.1.rank.independent ≡ true
-      → makes s number state (call.Put false name given values) ≡ made state true given values
-  put_made state given values e = ap (λ (b : Bool). made state b given values) e
-
-  put_mode : (state : Counted × Going) (given : Given) (values : Values) → state.1.rank.independent ≡ true
-      → (makes s number state (call.Put false name given values)).1.rank.independent ≡ true
-  put_mode state given values e = ap (λ (z : Counted × Going). z.1.rank.independent) (put_made state given values e) ∙ e
-
   put_file : (state : Counted × Going) (given : Given) (values : Values) → state.1.rank.independent ≡ true
       → (makes s number state (call.Put false name given values)).0.file
       ≡ after_puts s (numbered number (posts_of (put_look state.1.rank.known given values))) None state.0.file
-  put_file state given values e = grind (arith, nat_tests, put_made, no_pair_of_one, look_ids)
+  put_file state given values e = grind (arith, nat_tests, no_pair_of_one s number 0 (posts_of (put_look state.1.rank.known given values)), look_ids s.header state.1.rank.known 0 name given (Some values), numbered)
 
   abbrev put_call : Part × Values → Call
   put_call q = call.Put false name (on_part q.0) q.1
@@ -163,11 +125,7 @@ module _ (s : Setting) (number : ℕ) (name : List ℕ) where
       let here : next.0.file ≡ after_puts s (numbered number own) None state.0.file =
       grind (arith, nat_tests, put_file, outcome, same_bounds, looks.Look, state.0.file, numbered) in
       let grown = after_grows s (numbered number own) None state.0.file in
-      let long = ap (λ (f : List ℕ). length f) here in
-      puts_left qs next known (put_mode state (on_part q.0) q.1 e) (omega (arith, long, grown, h))
-      ∙ ap (λ (f : List ℕ). after_puts s (numbered number later) None f) here
-      ∙ both_in_turn s (numbered number own) (numbered number later) state.0.file h
-      ∙ ap (λ (ps : Puts). after_puts s ps None state.0.file) (sym (map-append (λ post. (number, post)) own later))
+      grind (arith, nat_tests, puts_left qs next known (grind (arith, nat_tests, e)), here, grown, both_in_turn s (numbered number own) (numbered number later) state.0.file h, map-append {B = ℕ × Post} (λ post. (number, post)) own later)
 
 pub varn_left : (s : Setting) (number : ℕ) (state : Counted × Going) (name : List ℕ) (given : Given) (values : Values)
     → state.1.rank.independent ≡ true → end_for s 0 ≤ length state.0.file → given.form ≡ Varn

@@ -43,9 +43,6 @@ met_past : (header : Header) (offers : List Offer) → ((q : ℕ) (o : Offer) �
     → AllPast header (puts_met offers)
 met_past header offers f x m = grind (arith, nat_tests, flat_in, map_in, numbered_in)
 
-done_past : (s : Setting) (puts : Puts) → AllPast s.header puts → AllPast s.header (completed s puts)
-done_past s puts f = grind (arith, nat_tests)
-
 -- the ranks at a place of an order
 pub record AreRight (script : Script) (header : Header) (rest : List Mark) (goings : List Going) : Type 0 where
   pub sound : is_sound header ≡ true
@@ -69,11 +66,10 @@ mark_right script s m rest (c, goings) a = record {
   along = mark_along script s m rest (c, goings) a.along;
   fit = λ q g e.
       let w = moved script s q m rest c goings g a.along e in
+      let f = a.fit q w.before w.was in
       elim w.is [
-        | inl f ↦ subst (IsFit s.header script.ranks) (sym f) (a.fit q w.before w.was)
-        | inr h ↦
-            let f = a.fit q w.before w.was in
-            grind (arith, nat_tests, heard_fits s.header a.sound script.ranks f.number most_posts_held f.low w.before h.0 h.1 f.fit h.2, h.3)
+        | inl h ↦ subst (IsFit s.header script.ranks) (sym h) f
+        | inr h ↦ grind (arith, nat_tests, heard_fits s.header a.sound script.ranks f.number most_posts_held f.low w.before h.0 h.1 f.fit h.2, h.3)
       ];
 }
 
@@ -85,8 +81,7 @@ order_past script s [] state a x m = absurd m
 order_past script s (k ∷ order) state a x m =
     let now = completed s (puts_at s state k) in
     let later = completed_from s (after_mark s state k) order in
-    let both = subst (λ (xs : List ℕ). In xs x) (flat_map-append (λ (p : ℕ × Post). bytes_of s.header p.1) now later) m in
-    grind (arith, nat_tests, in_either (covered s.header now) (covered s.header later) x both, done_past s (puts_at s state k) (mark_past script s k order state.0 state.1 a) x, mark_past script s k order state.0 state.1 a, order_past script s order (after_mark s state k) (mark_right script s k order state a) x, mark_right script s k order state a)
+    grind (arith, nat_tests, in_either (covered s.header now) (covered s.header later) x, flat_map-append (λ (p : ℕ × Post). bytes_of s.header p.1) now later, mark_past script s k order state.0 state.1 a x, order_past script s order (after_mark s state k) (mark_right script s k order state a) x, mark_right script s k order state a)
 
 pub first_right : (script : Script) (header : Header) (order : List Mark) → is_sound header ≡ true → is_lawful script ≡ true → IsLegal script order
     → AreRight script header order (map (first_going header) script.calls)
@@ -106,7 +101,5 @@ all_past script header file order x sound lawful legal held =
 
 pub header_stays : (script : Script) (header : Header) (file : List ℕ) (order : List Mark) (x : ℕ) → is_sound header ≡ true → is_lawful script ≡ true → IsLegal script order
     → IsBesideCount header x → x < header_len header → at (serial_from script header file order).bytes x ≡ at file x
-header_stays script header file order x sound lawful legal beside below = elim (holds_or_not (is_held header (completed_puts script header file order) x)) [
-  | inl e ↦ absurd (omega (arith, below, all_past script header file order x sound lawful legal e))
-  | inr e ↦ end_kept script header file order x beside e
-]
+header_stays script header file order x sound lawful legal beside below =
+    grind (arith, nat_tests, holds_or_not (is_held header (completed_puts script header file order) x), all_past script header file order x sound lawful legal, end_kept script header file order x beside)

@@ -1,5 +1,5 @@
 -- What the elements of old and added variables read in a redefined file.
-use Rattle.whole_run_laws.proofs.Words.{◌≡◌, ℕ, ◌+◌, ◌<◌, ◌≤◌, refl, sym, ◌∙◌, ap, subst, inl, inr, List, length, map, take, replicate, Some, arith, slice_get, get_or-replicate, length-replicate, same_Some, slice_get_within, Header, Var, Extra, size_of, val, read, canon, header_len, lengths, AreApart, IsElementBelow, IsIndex, place, redefined, IsRedefined, KeepsVars, Moves, redefined_keeps, elements_apart, elements_past_header, redefined_is, element_inside, index_is_element, known_of, element_value, IsCounted, IsRedefinition, nat_tests}
+use Rattle.whole_run_laws.proofs.Words.{◌≡◌, ℕ, ◌+◌, ◌<◌, ◌≤◌, refl, sym, ◌∙◌, ap, subst, List, length, map, take, replicate, Some, arith, slice_get, get_or-replicate, length-replicate, same_Some, slice_get_within, Header, Var, Extra, size_of, val, read, canon, header_len, lengths, AreApart, IsElementBelow, IsIndex, place, redefined, IsRedefined, KeepsVars, Moves, redefined_keeps, elements_apart, elements_past_header, redefined_is, element_inside, index_is_element, known_of, element_value, IsCounted, IsRedefinition, nat_tests}
 use Rattle.whole_run_laws.proofs.FilledFile.{read_all}
 use Rattle.serial_spec.proofs.AddedLaws.{records_stay}
 
@@ -43,12 +43,9 @@ module _ (old new : Header) (extras : List Extra) (a : IsRedefinition old extras
     apart_from_old k w index i later g e l from to size (j, x, y, other, f, d, o, p, q, r) =
         let below : j < length old.vars = slice_get_within old.vars j x f in
         let kind = (kept j x y f d).kind in
-        by (r ∙ ap size_of (sym kind))
-        (elements_apart new j k y w other index a.new_sound d g (still j x y other f d o).0 e.0 (λ same. absurd (omega (arith, below, later, same.0))))
-      where
-        by : size ≡ size_of y.kind → AreApart (place new y other) (size_of y.kind) (place new w index) (size_of w.kind) → AreApart to size (place new w index + i) 1
-        by s (inl h) = inl (omega arith)
-        by s (inr h) = inr (omega arith)
+        let same : size ≡ size_of y.kind = r ∙ ap size_of (sym kind) in
+        let apart = elements_apart new j k y w other index a.new_sound d g (still j x y other f d o).0 e.0 (λ same. absurd (omega (arith, below, later, same.0))) in
+        grind (arith, nat_tests, same, apart, l, q)
 
     pub added_zero : (k : ℕ) (w : Var) (index : List ℕ) → length old.vars ≤ k → slice_get new.vars k ≡ Some w → IsCounted new w index
         → read (redefined file old new) (place new w index) (size_of w.kind) ≡ replicate (size_of w.kind) 0

@@ -1,5 +1,5 @@
 -- What a step tells its ranks, and that a step with a pair changes nothing.
-use Rattle.whole_run_laws.proofs.Words.{holds_or_not, inl, inr, ◌≡◌, ℕ, suc, ◌+◌, refl, sym, ◌∙◌, ap, List, [], ◌∷◌, ◌++◌, map, Bool, true, false, Option, Some, None, arith, same_Some, nat_tests, flat_map, slice_get, enumerate_from, in_at, Answer, Pair, Header, Post, Call, OverlapRule, Refuse, Script, Mark, Meet, Solo, MeetKind, Offer, OfferKind, Reply, Counted, get_post, known_by, meeting, puts_of, raises, Setting, told, told_under, IsLegal, is_lawful, greatest, In, Rank, advance, after_mark, go, Going, offers_of, setting_of, state_after, holdings, IsSharedPair, IsUnshared, Puts, shared_pair, pair_found, pair_none, state_more, puts_at, puts_met, quiet_step}
+use Rattle.whole_run_laws.proofs.Words.{holds_or_not, inl, inr, ◌≡◌, ℕ, suc, ◌+◌, refl, sym, ◌∙◌, ap, List, [], ◌∷◌, ◌++◌, map, Bool, true, false, Some, None, arith, same_Some, nat_tests, flat_map, slice_get, enumerate_from, in_at, Answer, Pair, Header, Call, OverlapRule, Refuse, Script, Mark, Meet, Solo, MeetKind, Offer, OfferKind, Reply, Counted, get_post, known_by, meeting, puts_of, raises, Setting, told, told_under, IsLegal, is_lawful, greatest, In, Rank, advance, after_mark, go, Going, offers_of, setting_of, state_after, holdings, IsSharedPair, IsUnshared, Puts, shared_pair, pair_found, pair_none, state_more, puts_at, puts_met, quiet_step}
 use Rattle.nc_base.specs.declared.step.OfferKind.TheVariants as offer
 use Rattle.whole_run_laws.proofs.Courses.{AreAlong, along_at, offered, offered_alone, steps}
 use Rattle.join_laws.proofs.WholeLaws.{get_map as mapped_from}
@@ -15,17 +15,14 @@ reply_told s offers c q y e =
 pub replies_told : (s : Setting) (offers : List Offer) (c : Counted) (y : Reply) → In (meeting s offers c).1 y → y.pair ≡ told s (puts_met offers)
 replies_told s offers c y h = let at = in_at (meeting s offers c).1 y h in reply_told s offers c at.0 y at.1
 
-told_shared : (rule : OverlapRule) (pair : Option Pair) (p : Pair) → told_under rule pair ≡ Some p → (pair ≡ Some p) × (rule ≡ Refuse)
-told_shared rule pair p e = grind (arith, nat_tests)
-
 pub pair_is_least : (s : Setting) (puts : Puts) (p : Pair) → told s puts ≡ Some p → IsSharedPair (holdings s.header puts) p
-pair_is_least s puts p e = pair_found (holdings s.header puts) p (told_shared s.overlap (shared_pair s.header puts) p e).0
+pair_is_least s puts p e = pair_found (holdings s.header puts) p (grind (arith, nat_tests, e))
 
 pub none_shared : (s : Setting) (puts : Puts) → s.overlap ≡ Refuse → told s puts ≡ None → (x : ℕ) → IsUnshared (holdings s.header puts) x
 none_shared s puts e f = pair_none (holdings s.header puts) (sym (ap (λ (rule : OverlapRule). told_under rule (shared_pair s.header puts)) e) ∙ f)
 
 pub only_refused : (s : Setting) (puts : Puts) (p : Pair) → told s puts ≡ Some p → s.overlap ≡ Refuse
-only_refused s puts p e = (told_shared s.overlap (shared_pair s.header puts) p e).1
+only_refused s puts p e = grind (arith, nat_tests)
 
 -- ---- an offer that raises the count by its kind brings no put
 
@@ -35,29 +32,15 @@ quiet_go header o (c ∷ calls) r answers e = grind (arith, nat_tests, quiet_go 
 
 -- ---- nothing is done
 
-no_pair : {A : Type 0} (s : Setting) (p : Pair) → told s [] ≡ Some p → A
-no_pair s p e = grind (arith, nat_tests)
-
 none_asked : (offers : List Offer) (a : ℕ) → ((q : ℕ) (o : Offer) → slice_get offers q ≡ Some o → o.batch.puts ≡ []) → flat_map puts_of (enumerate_from a offers) ≡ []
 none_asked [] a f = refl
-none_asked (o ∷ offers) a f =
-    let own : puts_of (a, o) ≡ [] = ap (λ (ps : List Post). map (λ (p : Post). (a, p)) ps) (f 0 o refl) in
-    let others = none_asked offers (a + 1) (λ q p e. f (suc q) p e) in
-    λ i. own i ++ others i
+none_asked (o ∷ offers) a f = grind (arith, nat_tests, f 0 o refl, none_asked offers (a + 1) (λ q p e. f (suc q) p e))
 
 none_known : (offers : List Offer) → ((q : ℕ) (o : Offer) → slice_get offers q ≡ Some o → raises o.kind ≡ false) → greatest (map (λ o. known_by o.kind o.known) offers) ≡ 0
 none_known [] f = refl
 none_known (o ∷ offers) f =
-    let own : known_by o.kind o.known ≡ 0 = by o.kind (f 0 o refl) in
-    let others = none_known offers (λ q p e. f (suc q) p e) in
-    omega arith
-  where
-    by : (k : OfferKind) → raises k ≡ false → known_by k o.known ≡ 0
-    by k e = grind (arith, nat_tests)
-
-meeting_nothing : (s : Setting) (offers : List Offer) (c : Counted) (p : Pair) → told s (puts_met offers) ≡ Some p
-    → greatest (map (λ o. known_by o.kind o.known) offers) ≡ 0 → (meeting s offers c).0 ≡ c
-meeting_nothing s offers c p e f = grind (arith, nat_tests)
+    let own : (k : OfferKind) → raises k ≡ false → known_by k o.known ≡ 0 = λ k e. grind (arith, nat_tests) in
+    grind (arith, nat_tests, own o.kind (f 0 o refl), none_known offers (λ q p e. f (suc q) p e))
 
 -- whether the first of these meetings raises the count by its kind
 abbrev first_raises : List MeetKind → Bool
@@ -71,16 +54,14 @@ module _ {script : Script} {j : ℕ} {rest : List Mark} {goings : List Going} (s
   offers = offers_of (map (advance s.header) goings)
 
   meeting_alike : (p : Pair) → told s (puts_met offers) ≡ Some p → (meeting s offers c).0 ≡ c
-  meeting_alike p e = elim (holds_or_not (first_raises on.left)) [
-    | inl g ↦
-        no_pair s p (sym (ap (λ (ps : Puts). told s ps) (none_asked offers 0 (λ q o h.
-        let w = offered s.header on q o h in
-        quiet_go s.header o w.going.calls w.going.rank w.going.answers w.is (same_raises q o h ∙ g)))) ∙ e)
-    | inr g ↦ meeting_nothing s offers c p e (none_known offers (λ q o h. same_raises q o h ∙ g))
-  ]
-    where
-      same_raises : (q : ℕ) (o : Offer) → slice_get offers q ≡ Some o → raises o.kind ≡ first_raises on.left
-      same_raises q o h = let w = offered s.header on q o h in ap (λ (z : OfferKind). raises z) w.of_kind ∙ sym (ap first_raises w.kinds)
+  meeting_alike p e =
+      let same : (q : ℕ) (o : Offer) → slice_get offers q ≡ Some o → raises o.kind ≡ first_raises on.left = λ q o h. grind (arith, nat_tests, offered s.header on q o h) in
+      elim (holds_or_not (first_raises on.left)) [
+        | inl g ↦
+            let none = none_asked offers 0 (λ q o h. let w = offered s.header on q o h in quiet_go s.header o w.going.calls w.going.rank w.going.answers w.is (same q o h ∙ g)) in
+            grind (arith, nat_tests, e, none)
+        | inr g ↦ grind (arith, nat_tests, e, none_known offers (λ q o h. same q o h ∙ g))
+      ]
 
 step_nothing : (script : Script) (s : Setting) (m : Mark) (rest : List Mark) (c : Counted) (goings : List Going) (p : Pair) → AreAlong script (m ∷ rest) goings
     → told s (puts_at s (c, goings) m) ≡ Some p → (after_mark s (c, goings) m).0 ≡ c
