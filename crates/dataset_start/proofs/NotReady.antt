@@ -1,5 +1,5 @@
 -- A dataset that was not made ready.
-use Rattle.dataset_start.proofs.Words.{◌≡◌, ℕ, ◌≤◌, ◌==◌, ◌⊎◌, inl, inr, refl, ◌∙◌, ap, subst, List, [], length, Bool, true, false, Option, Some, None, arith, IfSome, HeaderErr, Extra, PartlyWritten, after, BothTold, at, longer, written, canon, header_len, HasFault, start, redefined, IsBegun, IsLengthened, IsTornCreation, IsTornRedefinition, at-longer, longer_long, IsBetween, filled_long, IsApplied, new_end, KeepsPlaces, created_header, creation_fault, front, AreHeadersOf, Asks, blank_file, dataset_end, filled_if, IsCutRedefinition, IsLeftUnready, IsNotReady, IsOpened, IsPartlyOpened, IsPartlyRedefined, IsUnready, told_as, both_ways, holds_or_not, nat_tests}
+use Rattle.dataset_start.proofs.Words.{◌≡◌, ℕ, ◌≤◌, ◌==◌, ◌⊎◌, inl, inr, ◌∙◌, ap, subst, List, [], length, Bool, true, false, Option, Some, None, arith, IfSome, HeaderErr, Extra, PartlyWritten, after, BothTold, at, longer, written, canon, header_len, HasFault, start, redefined, IsBegun, IsLengthened, IsTornCreation, IsTornRedefinition, at-longer, longer_long, IsBetween, filled_long, IsApplied, new_end, KeepsPlaces, created_header, creation_fault, front, AreHeadersOf, Asks, blank_file, dataset_end, filled_if, IsCutRedefinition, IsLeftUnready, IsNotReady, IsOpened, IsPartlyOpened, IsPartlyRedefined, IsUnready, told_as, both_ways, holds_or_not, nat_tests}
 use Rattle.nc_base.specs.declared.header.Header as head
 use Rattle.nc_base.specs.declared.script.Script as script_type
 use Rattle.dataset_start.proofs.Created.{front-of-zeros}
@@ -15,8 +15,7 @@ start_refused header whole held now xs = grind (arith, nat_tests)
 -- some zeros are there
 pub grow_refused : (bytes : List ℕ) (size end : ℕ) (held mid now : Option (List ℕ)) → size ≤ end → mid ≡ after (λ _. []) held
     → now ≡ after (λ file. longer file size) mid → BothTold (λ old left. IsTornCreation bytes (longer bytes end) old left) held now
-grow_refused bytes size end None mid now few e g = g ∙ ap (λ (t : Option (List ℕ)). after (λ file. longer file size) t) e
-grow_refused bytes size end (Some file) mid now few e g = grind (arith, nat_tests, longer [] size, longer_long [] size, longer_long bytes end, at-longer [] size)
+grow_refused bytes size end held mid now few e g = grind (arith, nat_tests, longer [] size, longer_long [] size, longer_long bytes end, at-longer [] size)
 
 -- the header is there in part
 head_part : (bytes left : List ℕ) (end : ℕ) → length bytes ≤ end → PartlyWritten 0 bytes (longer [] end) left → IsBegun bytes (longer bytes end) left
@@ -43,7 +42,7 @@ filled_as_long asked header = grind (arith, nat_tests, filled_long, longer_long)
 
 start_as_long : (script : script_type.Script) (header : head.Header) (file : List ℕ) → script.fresh ≡ true → length (start script header file) ≡ length (unfilled_file header)
 unfolding unfilled_file
-start_as_long script header file f = ap (λ (g : List ℕ). length g) (start-created script header file f) ∙ filled_as_long script.filled header
+start_as_long script header file f = grind (arith, nat_tests, start-created script header file f, filled_as_long script.filled header)
 
 -- the creation was cut off before the fill
 unfilled_part : (script : script_type.Script) (header : head.Header) (file left : List ℕ) → script.fresh ≡ true
@@ -51,16 +50,11 @@ unfilled_part : (script : script_type.Script) (header : head.Header) (file left 
 unfolding unfilled_file
 unfilled_part script header file left f xs = grind (arith, nat_tests, start_as_long, at-longer)
 
--- a created dataset that is laid out was made ready in part
-created_part : (script : script_type.Script) (held now : Option (List ℕ)) → script.fresh ≡ true → creation_fault script ≡ None → BothTold (IsNotReady script) held now
-    → IsUnready script held now
-created_part script held now f l b = inr (record { faultless = created-faultless script held f l; left = b })
-
 pub create_refused : (script : script_type.Script) (header : head.Header) (held now : Option (List ℕ)) → script.fresh ≡ true → creation_fault script ≡ None
     → header ≡ created_header script
     → BothTold (λ old left. IsTornCreation (canon header) (blank_file header) old left) held now
     → IsUnready script held now
-create_refused script header held now f l h b = grind (arith, nat_tests, created_part, told_as, unfilled_part)
+create_refused script header held now f l h b = grind (arith, nat_tests, told_as, unfilled_part, created-faultless)
 
 -- the fill was cut off
 filled_part : (script : script_type.Script) (header : head.Header) (file left : List ℕ) → script.fresh ≡ true
@@ -69,15 +63,10 @@ filled_part : (script : script_type.Script) (header : head.Header) (file left : 
 unfolding unfilled_file
 filled_part script header file left f b = grind (arith, nat_tests, start_as_long, at-longer, start-created)
 
-fill_left : (script : script_type.Script) (header : head.Header) (held mid now : Option (List ℕ)) → script.fresh ≡ true → header ≡ created_header script
-    → mid ≡ after (λ _. blank_file header) held
-    → BothTold (λ old left. IsBetween old (filled_if script.filled header old) left) mid now → BothTold (IsNotReady script) held now
-fill_left script header held mid now f h e b = grind (arith, nat_tests, filled_part)
-
 pub fill_refused : (script : script_type.Script) (header : head.Header) (held mid now : Option (List ℕ)) → script.fresh ≡ true → creation_fault script ≡ None
     → header ≡ created_header script → mid ≡ after (λ _. blank_file header) held
     → BothTold (λ old left. IsBetween old (filled_if script.filled header old) left) mid now → IsUnready script held now
-fill_refused script header held mid now f l h e b = created_part script held now f l (fill_left script header held mid now f h e b)
+fill_refused script header held mid now f l h e b = grind (arith, nat_tests, created-faultless, filled_part)
 
 -- ---- a dataset that is opened
 
@@ -88,23 +77,12 @@ heads_of : (script : script_type.Script) (old header : head.Header) (file : List
     → ((length script.extra == 0) ≡ true → header ≡ old) → ((length script.extra == 0) ≡ false → IsApplied old script.extra header) → AreHeadersOf script file old header
 heads_of script old header file f o same changed = grind (arith, nat_tests, at_front, holds_or_not, header-kept, header-changed)
 
--- what is so of the file that is told, and of its first header, says what was opened in part
-opened_part : {R : List ℕ → List ℕ → Type 0} (script : script_type.Script) {old : head.Header} (held now : Option (List ℕ)) → script.fresh ≡ false → IsOpened held old
-    → BothTold R held now → ((file left : List ℕ) → IsOpened (Some file) old → R file left → IsPartlyOpened script file left) → BothTold (IsNotReady script) held now
-opened_part script held now f o b opens = grind (arith, nat_tests)
-
 pub lengthen_refused : (script : script_type.Script) (header : head.Header) (held mid now : Option (List ℕ)) → script.fresh ≡ false → (length script.extra == 0) ≡ true
     → IsOpened held header → IfSome held (λ file. (e : HeaderErr) → HasFault (front file) e → ⊥) → mid ≡ held
     → BothTold (IsLengthened (dataset_end header)) mid now → IsUnready script held now
-lengthen_refused script header held mid now f x o n e b = inr (record {
-  faultless = opened-faultless script header held f o (fault-none script header x) n;
-  left = opened_part script held now f o (subst (λ (m : Option (List ℕ)). BothTold (IsLengthened (dataset_end header)) m now) e b) (λ file left p l. inr (
-    header,
-    header,
-    heads_of script header header file f p (λ _. refl) (λ s. absurd (both_ways (length script.extra == 0) s x)),
-    record { kept = λ _. l; moved = λ s. absurd (both_ways (length script.extra == 0) s x) },
-  ));
-})
+lengthen_refused script header None mid now f x o n e b = grind (arith, nat_tests)
+lengthen_refused script header (Some file) mid now f x o n e b =
+    grind (arith, nat_tests, opened-faultless script header (Some file) f o (fault-none script header x) n, as_opened script file, heads_of script header header file f o)
 
 pub redefine_refused : (script : script_type.Script) (old : head.Header) (held mid now : Option (List ℕ)) → script.fresh ≡ false → (length script.extra == 0) ≡ false
     → IsOpened held old → IfSome held (λ file. (e : HeaderErr) → HasFault (front file) e → ⊥) → mid ≡ held

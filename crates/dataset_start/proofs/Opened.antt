@@ -19,8 +19,7 @@ begins_once header other bytes n m b c =
     (spells_once header other (take n bytes) (take m bytes) (drop n bytes) (drop m bytes) b.0 c.0 (take-append-drop n bytes ∙ sym (take-append-drop m bytes))).0
 
 pub no_fault : (header : head.Header) (bytes : List ℕ) (n : ℕ) → BeginsWith bytes header n → (e : HeaderErr) → HasFault bytes e → ⊥
-no_fault header bytes n b e (inl field) = grind (arith, nat_tests, fault_only bytes e field)
-no_fault header bytes n b e (inr (h, front, rest, s, t, u, f)) = other header bytes n e b h front rest s t f
+no_fault header bytes n b e h = grind (arith, nat_tests, fault_only bytes e, other header bytes n e b)
 
 -- ---- the front that is read
 
@@ -51,9 +50,8 @@ grown_calls r held told now len end most l e g = grind (arith, nat_tests)
 pub opened : (held : Option (List ℕ)) (bytes : List ℕ) (header : head.Header) (n : ℕ) → IfSome held (λ file. bytes ≡ headline.front file) → length bytes ≤ 2 ^ 20
     → BeginsWith bytes header n → IsOpened held header
 opened None bytes header n e few b =
-    record { file = bytes; told = tt; count = n; begins = subst (λ (t : List ℕ). BeginsWith t header n) (sym (take_all (2 ^ 20) bytes few)) b }
-opened (Some file) bytes header n e few b =
-    record { file = file; told = refl; count = n; begins = subst (λ (t : List ℕ). BeginsWith t header n) e b }
+    record { file = bytes; told = tt; count = n; begins = grind (arith, nat_tests, take_all (2 ^ 20) bytes few) }
+opened (Some file) bytes header n e few b = record { file = file; told = refl; count = n; begins = grind (arith, nat_tests) }
 
 pub faultless : (held : Option (List ℕ)) (bytes : List ℕ) (header : head.Header) (n : ℕ) → IfSome held (λ file. bytes ≡ headline.front file)
     → BeginsWith bytes header n → IfSome held (λ file. (e : HeaderErr) → HasFault (headline.front file) e → ⊥)

@@ -1,5 +1,5 @@
 -- A dataset that is ready for the ranks.
-use Rattle.dataset_start.proofs.Words.{◌≡◌, ℕ, ◌≤◌, ◌==◌, ◌++◌, Bool, true, false, List, [], ◌∷◌, length, Option, Some, None, inl, inr, refl, sym, ap, append_assoc, eqb-true, ◌∙◌, arith, IfErr, IfOk, IfSome, IsSomeAnd, Result, Ok, Err, IsErrAnd, HeaderErr, RedefErr, Extra, DiskCall, Grow, Store, after, with_end, after-after, after-same, grow_to, head_load, longer, header_len, HasFault, is_sound, brought, redefined, redefined_fault, redefined_header, start, longer-enough, BeginsWith, IsApplied, new_end, relocation_calls, Reads, created_header, creation_fault, front, header_of_run, redefinition_fault, Asks, AsksForBadLayout, HasRedefinitionFault, IsBadDataset, IsLaid, IsMislaid, IsSoundFile, TellsDataset, blank_file, dataset_end, empty_end, fill_calls_if, filled_if, first_calls, IsFaultless, IsOpened, IsReady, line_of, status_of, IsOfHeader, IsOfRedefinition, Stop, both_ways, some_not_none, nat_tests, common_steps}
+use Rattle.dataset_start.proofs.Words.{◌≡◌, ℕ, ◌≤◌, ◌==◌, Bool, true, false, List, [], ◌∷◌, length, Option, Some, None, inl, inr, refl, sym, ap, append_assoc, eqb-true, ◌∙◌, arith, IfErr, IfOk, IfSome, IsSomeAnd, Result, Ok, Err, IsErrAnd, HeaderErr, RedefErr, Extra, DiskCall, Grow, Store, after, with_end, after-after, after-same, grow_to, head_load, longer, header_len, HasFault, is_sound, brought, redefined, redefined_fault, redefined_header, start, longer-enough, BeginsWith, IsApplied, new_end, relocation_calls, Reads, created_header, creation_fault, front, header_of_run, redefinition_fault, Asks, AsksForBadLayout, HasRedefinitionFault, IsBadDataset, IsLaid, IsMislaid, IsSoundFile, TellsDataset, blank_file, dataset_end, empty_end, fill_calls_if, filled_if, first_calls, IsFaultless, IsOpened, IsReady, line_of, status_of, IsOfHeader, IsOfRedefinition, Stop, both_ways, some_not_none, nat_tests, common_steps}
 use Rattle.nc_base.specs.declared.header.Header as head
 use Rattle.nc_base.specs.declared.script.Script as script_type
 use Rattle.dataset_start.specs.declared.stop.Stop.TheVariants as stops
@@ -39,10 +39,6 @@ pub start-created : (script : script_type.Script) (header : head.Header) (file :
     → start script header file ≡ filled_if script.filled header (blank_file header)
 start-created script header file f = grind (arith, nat_tests)
 
-start-opened : (script : script_type.Script) (header : head.Header) (file : List ℕ) → script.fresh ≡ false
-    → start script header file ≡ longer file (dataset_end header)
-start-opened script header file f = rw f refl
-
 -- ---- the calls before the ranks begin
 
 created-calls : script_type.Script → head.Header → List DiskCall
@@ -55,10 +51,6 @@ calls-created : (script : script_type.Script) (header : head.Header) (held : Opt
     → IfSome held (λ bytes. now ≡ after (λ _. first_calls script header header bytes) before)
 unfolding created-calls
 calls-created script header held before mid now f x m n = grind (arith, nat_tests)
-
-extended : (before mid now : Option (List DiskCall)) (first more : List DiskCall) → mid ≡ after (λ _. first) before → now ≡ with_end mid more
-    → now ≡ after (λ _. first ++ more) before
-extended before mid now first more m n = grind (arith, nat_tests)
 
 -- what is held, or nothing where nothing is told
 abbrev told : Option (List ℕ) → List ℕ
@@ -85,7 +77,7 @@ ready-created script header before mid now calls_before calls_mid calls_now f x 
   old = header;
   file = told before;
   held = told-is before;
-  heads = record { created = λ _. h; opened = λ o. absurd (both_ways script.fresh o f); made = sym (header-kept script header x) };
+  heads = grind (arith, nat_tests, both_ways, header-kept);
   sound = s;
   faultless = created-faultless script before f l;
   bytes = grind (arith, nat_tests, after-after, after-same, start-created);
@@ -128,8 +120,8 @@ ready-kept script header before mid now calls_before calls_mid calls_now f x o s
   heads = record { created = λ c. absurd (both_ways script.fresh f c); opened = λ _. (o.count, o.begins); made = sym (header-kept script header x) };
   sound = s;
   faultless = opened-faultless script header before f o (fault-none script header x) n;
-  bytes = grind (arith, nat_tests, after-same, start-opened, file-kept);
-  calls = grind (arith, nat_tests, extended, with_end, dataset_end);
+  bytes = grind (arith, nat_tests, after-same, file-kept);
+  calls = grind (arith, nat_tests, with_end, dataset_end);
 }
 
 pub redefined-ready : (script : script_type.Script) (old : head.Header) (before mid now : Option (List ℕ)) (calls_before calls_mid calls_now : Option (List DiskCall))
@@ -147,8 +139,8 @@ redefined-ready script old before mid now calls_before calls_mid calls_now (Ok n
   heads = record { created = λ c. absurd (both_ways script.fresh f c); opened = λ _. (o.count, o.begins); made = header-changed script old new x a };
   sound = redefined_sound old new script.extra a;
   faultless = opened-faultless script old before f o (fault-some script old x ∙ a.faultless) n;
-  bytes = grind (arith, nat_tests, after-same, brought, start-opened, same_end, long_enough, longer-enough, after);
-  calls = grind (arith, nat_tests, extended, append_assoc, script.hints.wr_buffer, with_end, relocation_calls);
+  bytes = grind (arith, nat_tests, after-same, brought, same_end, long_enough, longer-enough, after);
+  calls = grind (arith, nat_tests, append_assoc, script.hints.wr_buffer, with_end, relocation_calls);
 }
 
 pub redefined_long : (old : head.Header) (len : ℕ) (extras : List Extra) (result : Result head.Header Stop)
@@ -179,10 +171,9 @@ pub bad-redefinition : (script : script_type.Script) (old : head.Header) (held :
     → AddsNothing script false → IsOpened held old
     → ((e : RedefErr) → result ≡ Err (stops.Redefinition e) → redefined_fault old script.extra ≡ Some e) → IfErr result IsOfRedefinition
     → IfErr result (λ stop. status_of stop ≡ 4 → IfSome (line_of stop) (TellsDataset script held))
-bad-redefinition script old held (Ok header) f x p h o = tt
 bad-redefinition script old held (Err (stops.Redefinition e)) f x p h o = λ s.
     record { created = λ c. absurd (both_ways script.fresh f c); opened = λ _. inr (e, (redefinition-told script old held e x p (h e refl), refl)) }
-bad-redefinition script old held (Err stop) f x p h o = λ s. absurd (grind (arith, nat_tests))
+bad-redefinition script old held result f x p h o = grind (arith, nat_tests)
 
 -- ---- one text has one script
 
