@@ -1,5 +1,5 @@
 -- The made script is lawful.
-use Rattle.generated_run.proofs.Words.{◌≡◌, ℕ, ◌≤◌, List, [], map, sum, true, refl, subst, le-leb, bytes_eq, arith, enumerate_from, list_all, range_with_len, bytes_eq-Decides, and_from, Call, agree, are_different, is_lawful, is_lawful_call, posted_ids, has_counts, made_header, made_script, calls_of_rank, nat_tests}
+use Rattle.generated_run.proofs.Words.{◌≡◌, ℕ, ◌≤◌, List, [], map, true, refl, subst, le-leb, bytes_eq, arith, enumerate_from, list_all, range_with_len, bytes_eq-Decides, Call, agree, are_different, is_lawful, is_lawful_call, posted_ids, has_counts, made_header, made_script, calls_of_rank, nat_tests, common_steps}
 use Rattle.nc_base.specs.declared.script.Script as script_type
 use Rattle.generated_run.proofs.MadeLaws.{scripted, script_is}
 use Rattle.generated_run.proofs.Ranges.{numbered_pass, range_passes, sum_within}
@@ -20,9 +20,7 @@ different_ids seed size = range_passes (λ (own : List Call). are_different (pos
 
 lawful : (seed size : ℕ) → size ≤ 64 → is_lawful (scripted made_header [] (calls_of seed size 0 8)) ≡ true
 unfolding scripted
-lawful seed size s =
-    let calls = and_from _ _ (lawful_calls seed size s) (different_ids seed size) in
-    grind (arith, nat_tests, sum_within, rank_long, le-leb, rank_values, sum, agreed, calls_of)
+lawful seed size s = grind (arith, common_steps, lawful_calls seed size s, different_ids seed size, sum_within, rank_long, le-leb, rank_values, agreed)
 
 pub made_lawful : (seed size : ℕ) → size ≤ 64 → is_lawful (made_script seed size) ≡ true
 unfolding scripted

@@ -1,5 +1,5 @@
 -- What the calls of a rank keep.
-use Rattle.generated_run.proofs.Words.{◌≡◌, ℕ, zero, suc, ◌+◌, ◌-◌, ◌*◌, ◌^◌, ◌<◌, ◌≤◌, List, [], ◌∷◌, ◌++◌, length, map, sum, replicate, Bool, true, refl, sym, ap, subst, ◌∙◌, le-leb, lt-ltb, arith, ℤ, neg_ℤ, ◌<ℤ◌, unsigned_abs, flat_map, list_all, range_with_len, ints, append-nil, length-append, list_all-append, length-map-range_with_len, and_from, pieces_long, Call, Every, Bput, Bits, Numbers, are_different, is_given, is_lawful_call, is_number, kind_numbers, posted_ids, values_in_call, first_row, is_counted, precip_at, temp_at, sum_cons, calls_of_rank, columns_of, precip_band, region_of_band, temp_band, nat_tests, pos, codes}
+use Rattle.generated_run.proofs.Words.{◌≡◌, ℕ, zero, suc, ◌+◌, ◌-◌, ◌*◌, ◌^◌, ◌<◌, ◌≤◌, List, [], ◌∷◌, ◌++◌, length, map, sum, replicate, Bool, true, refl, sym, ap, ◌∙◌, le-leb, lt-ltb, arith, ℤ, neg_ℤ, ◌<ℤ◌, unsigned_abs, flat_map, list_all, range_with_len, ints, append-nil, length-append, list_all-append, length-map-range_with_len, and_from, pieces_long, Call, Every, Bput, Bits, Numbers, are_different, is_given, is_lawful_call, is_number, kind_numbers, posted_ids, values_in_call, first_row, is_counted, precip_at, temp_at, sum_cons, calls_of_rank, columns_of, precip_band, region_of_band, temp_band, nat_tests, pos, codes, common_steps}
 use Rattle.nc_base.specs.declared.request.Call.TheVariants as call
 use Rattle.generated_run.proofs.Ranges.{pieces_pass, range_differs, range_passes}
 
@@ -101,20 +101,13 @@ rank_kinds seed size r = sym (ap (λ (calls : List Call). kind_numbers calls) (w
 
 pub rank_long : (seed size r : ℕ) → length (calls_of_rank seed size r) ≡ 3 * size + 4
 rank_long seed size r =
-    sym (ap (λ (calls : List Call). length calls) (whole_is seed size r))
-    ∙ omega (arith, length-append (records_of seed r 0 size) (reads_of size r), pieces_long (λ k. record_of seed r k) 3 (λ k. refl) 0 size)
+    grind (arith, common_steps, whole_is seed size r, length-append (records_of seed r 0 size) (reads_of size r), pieces_long (λ k. record_of seed r k) 3)
 
 values_of : (seed r : ℕ) (others : List Call) (t n : ℕ) → r < 8 → sum (map values_in_call (records_of seed r t n ++ others)) ≤ n * 16560 + sum (map values_in_call others)
 values_of seed r others t zero h = omega arith
 values_of seed r others t (suc n) h =
     let later : List Call = records_of seed r (t + 1) n ++ others in
-    let wait : Call = call.Wait true Every in
-    let temp : Call = call.Post (2 * t) Bput (codes "temp") (region_of_band r t) (Bits (temp_band seed r t)) in
-    let precip : Call = call.Post (2 * t + 1) Bput (codes "precip") (region_of_band r t) (Numbers (precip_band seed r t)) in
-    grind (arith, nat_tests, sum_cons values_in_call temp (precip ∷ wait ∷ later), sum_cons values_in_call precip (wait ∷ later), values_of seed r others (t + 1) n h, few_temps, few_precips)
+    grind (arith, common_steps, sum_cons values_in_call (call.Post (2 * t) Bput (codes "temp") (region_of_band r t) (Bits (temp_band seed r t))), sum_cons values_in_call (call.Post (2 * t + 1) Bput (codes "precip") (region_of_band r t) (Numbers (precip_band seed r t))) ((call.Wait true Every) ∷ later), values_of seed r others (t + 1) n h, few_temps, few_precips)
 
 pub rank_values : (seed size r : ℕ) → size ≤ 64 → r < 8 → sum (map values_in_call (calls_of_rank seed size r)) ≤ 1059840
-rank_values seed size r s h =
-    subst (λ (calls : List Call). sum (map values_in_call calls) ≤ 1059840) (whole_is seed size r) (
-    grind (arith, nat_tests, values_of)
-    )
+rank_values seed size r s h = grind (arith, common_steps, whole_is seed size r, values_of)
