@@ -1,35 +1,28 @@
 -- Calls one after another: those so far, and those that are left.
-use Rattle.opening_plan.proofs.Words.{◌≡◌, ℕ, ◌+◌, ◌-◌, ◌*◌, ◌≤◌, min, sym, ◌∙◌, ap, subst, List, [], ◌∷◌, ◌++◌, map, append_assoc, arith, range_with_len, flat_map-append, append-nil, map-append, range_append, DiskCall, Store, Slab, stores, stores_before, Shift, all_calls, further, gap_calls, slab_of, AreSpaced, called_append, nat_tests}
+use Rattle.opening_plan.proofs.Words.{◌≡◌, ℕ, ◌+◌, ◌-◌, ◌*◌, ◌≤◌, min, ◌∙◌, ap, subst, List, [], ◌∷◌, ◌++◌, map, append_assoc, arith, range_with_len, flat_map-append, append-nil, map-append, range_append, DiskCall, Store, Slab, stores, stores_before, Shift, all_calls, further, gap_calls, slab_of, AreSpaced, called_append, nat_tests}
 
 -- ---- so far
 
 pub calls_more : (begun old new before more all : List DiskCall) → before ++ more ≡ all → old ≡ begun ++ before → new ≡ old ++ more → new ≡ begun ++ all
-calls_more begun old new before more all s o n =
-    n ∙ ap (λ calls. calls ++ more) o ∙ append_assoc begun before more ∙ ap (λ calls. begun ++ calls) s
+calls_more begun old new before more all s o n = grind (n, o, s, append_assoc begun before more, arith)
 
 pub one_stored : (z x len j : ℕ) → stores_before z x len j ++ Store (x + j * z) (min z (len - j * z)) ∷ [] ≡ stores_before z x len (j + 1)
-one_stored z x len j =
-    let first : j ≡ 0 + j = omega arith in
-    ap (λ (i : ℕ). stores_before z x len j ++ Store (x + i * z) (min z (len - i * z)) ∷ []) first
-    ∙ sym (map-append (λ i. Store (x + i * z) (min z (len - i * z))) (range_with_len 0 j) (range_with_len (0 + j) 1))
-    ∙ ap (λ js. map (λ i. Store (x + i * z) (min z (len - i * z))) js) (sym (range_append 0 j 1))
+one_stored z x len j = grind (arith, nat_tests, map-append (λ i. Store (x + i * z) (min z (len - i * z))) (range_with_len 0 j) (range_with_len (0 + j) 1), range_append 0 j 1)
 
 -- ---- left
 
 left_over : (whole mid now part rest all : List DiskCall) → all ≡ part ++ rest → mid ++ all ≡ whole → now ≡ mid ++ part → now ++ rest ≡ whole
-left_over whole mid now part rest all e w n =
-    ap (λ calls. calls ++ rest) n ∙ append_assoc mid part rest ∙ ap (λ calls. mid ++ calls) (sym e) ∙ w
+left_over whole mid now part rest all e w n = grind (arith, nat_tests, append_assoc mid part rest)
 
 pub none_left : (whole now rest : List DiskCall) → rest ≡ [] → now ++ rest ≡ whole → now ≡ whole
-none_left whole now rest e w = sym (append-nil now) ∙ ap (λ calls. now ++ calls) (sym e) ∙ w
+none_left whole now rest e w = grind (arith, nat_tests, append-nil now)
 
 pub last_left : (whole mid now part all : List DiskCall) → all ≡ part → mid ++ all ≡ whole → now ≡ mid ++ part → now ≡ whole
-last_left whole mid now part all e w n = n ∙ ap (λ calls. mid ++ calls) (sym e) ∙ w
+last_left whole mid now part all e w n = grind (arith, nat_tests)
 
 pub moves_left : (whole mid now : List DiskCall) (z : ℕ) (part rest all : List Slab) → all ≡ part ++ rest → mid ++ all_calls z all ≡ whole → now ≡ mid ++ all_calls z part
     → now ++ all_calls z rest ≡ whole
-moves_left whole mid now z part rest all e w n =
-    left_over whole mid now (all_calls z part) (all_calls z rest) (all_calls z all) (ap (λ ss. all_calls z ss) e ∙ called_append z part rest) w n
+moves_left whole mid now z part rest all e w n = grind (arith, nat_tests, left_over whole mid now (all_calls z part) (all_calls z rest) (all_calls z all), called_append z part rest, all_calls)
 
 pub zeros_left : (whole mid now : List DiskCall) (z : ℕ) (part rest all : List (ℕ × ℕ)) → all ≡ part ++ rest → mid ++ gap_calls z all ≡ whole → now ≡ mid ++ gap_calls z part
     → now ++ gap_calls z rest ≡ whole

@@ -4,8 +4,7 @@ use Rattle.opening_plan.proofs.Words.{◌≡◌, ◌==◌, ℕ, ◌<◌, ◌≤�
 -- ---- the first bytes
 
 pub no_head : (file : List ℕ) (size : ℕ) (old : List DiskCall) → length file ≡ size → size ≡ 0 → old ≡ old ++ head_load file
-no_head [] size old e z = sym (append-nil old)
-no_head (x ∷ file) size old e z = absurd (omega arith)
+no_head file size old e z = grind (arith, nat_tests, append-nil old)
 
 pub some_head : (file : List ℕ) (size n : ℕ) (old new : List DiskCall) → length file ≡ size → 0 < size → n ≡ min size (2 ^ 20) → new ≡ old ++ Load 0 n ∷ []
     → new ≡ old ++ head_load file
@@ -45,16 +44,12 @@ pub carried_calls : (z : ℕ) (old new : Header) (begun moved zeroed calls : Lis
     → moved ≡ begun ++ all_calls z (reverse ss) → zeroed ≡ moved ++ gap_calls z (gaps first end ss) → calls ≡ zeroed ++ Store 0 len ∷ []
     → calls ≡ begun ++ carry_calls z old new
 carried_calls z old new begun moved zeroed calls ss first end len h some s f e l m g c =
+    let moves : move_calls z old new ≡ all_calls z (reverse (rising old new)) = ap (λ xs. flat_map (slab_calls z) xs) h.falls in
     c ∙ ap (λ t. t ++ Store 0 len ∷ []) (g ∙ ap (λ t. t ++ gap_calls z (gaps first end ss)) m)
     ∙ (λ t. begun ++ all_calls z (reverse (s t)) ++ gap_calls z (gaps (f t) (e t) (s t)) ++ Store 0 (l t) ∷ [])
     ∙ (λ t. begun ++ sym moves t ++ sym (h.zeros z some) t ++ Store 0 (header_len new) ∷ [])
-    ∙ four begun (move_calls z old new) (zero_calls z old new) (Store 0 (header_len new) ∷ [])
-  where
-    moves : move_calls z old new ≡ all_calls z (reverse (rising old new))
-    moves = ap (λ xs. flat_map (slab_calls z) xs) h.falls
-
-    four : (a m b s : List DiskCall) → a ++ m ++ b ++ s ≡ a ++ (m ++ b ++ s)
-    four a m b s = ap (λ calls. calls ++ s) (append_assoc a m b) ∙ append_assoc a (m ++ b) s
+    ∙ ap (λ calls. calls ++ Store 0 (header_len new) ∷ []) (append_assoc begun (move_calls z old new) (zero_calls z old new))
+    ∙ append_assoc begun (move_calls z old new ++ zero_calls z old new) (Store 0 (header_len new) ∷ [])
 
 redefined_size : (old new : Header) (file : List ℕ) → HasLaws old new → length (redefined file old new) ≡ max (length file) (new_end old new)
 redefined_size old new file h = grind (arith, nat_tests, relocated old new h file, carried_is old new file h.carriable)
