@@ -1,12 +1,12 @@
 -- The bytes that entries have.
-use Rattle.aggregator_rounds.proofs.Words.{◌≡◌, ℕ, ◌<◌, ◌≤◌, inl, inr, refl, sym, subst, List, [], ◌∷◌, ◌++◌, arith, ◌+◌, ◌-◌, length, range_with_len, Owned, In, ranges, IsAscending, extents, EndBelow, in_left, in_right, in_either, in_flat, flat_in, in_range, range_low, range_high, IsCovered, IsPast, BeginBefore, in_extents, cases_lt, nat_tests}
+use Rattle.aggregator_rounds.proofs.Words.{ℕ, ◌<◌, ◌≤◌, inr, sym, subst, List, [], ◌∷◌, ◌++◌, arith, ◌+◌, ◌-◌, length, range_with_len, Owned, In, ranges, IsAscending, extents, EndBelow, in_left, in_right, in_either, in_flat, flat_in, in_range, range_low, range_high, IsCovered, IsPast, BeginBefore, in_extents, cases_lt, nat_tests}
 use Rattle.aggregator_rounds.proofs.PastSteps.{past_in, past_kept}
 use Rattle.overlay_laws.proofs.HullLaws.{ascending_few}
 
 -- ---- covered bytes
 
 pub covered_left : (a b : List Owned) (x : ℕ) → IsCovered a x → IsCovered (a ++ b) x
-covered_left a b x h = record { by = h.by; inside = in_left a b h.by h.inside; low = h.low; high = h.high }
+covered_left a b x h = grind (arith, nat_tests, in_left a b h.by h.inside)
 
 pub covered_right : (a b : List Owned) (x : ℕ) → IsCovered b x → IsCovered (a ++ b) x
 covered_right a b x h = record { by = h.by; inside = in_right a b h.by h.inside; low = h.low; high = h.high }
@@ -41,8 +41,5 @@ covered_front place left front x h c = subst (λ (w : List Owned). IsCovered w x
 pub hole_short : (xs : List ℕ) (a e y : ℕ) → IsAscending xs → ((x : ℕ) → In xs x → (a ≤ x) × (x < e)) → a ≤ y → y < e → (In xs y → ⊥) → length xs + 1 ≤ e - a
 hole_short [] a e y h k l m n = omega arith
 hole_short (x ∷ xs) a e y h k l m n =
-    elim (cases_lt y x) [
-      | inl g ↦ (let short = ascending_few (x ∷ xs) (y + 1) e h (λ z i. (grind (arith, nat_tests, h.0 z), (k z i).1)) in omega arith)
-      | inr low ↦ (let apart : x ≡ y → ⊥ = λ s. n (inl s) in let rest = hole_short xs (x + 1) e y h.1 (λ z i. let g = h.0 z i in let r = k z (inr i) in let high = r.1 in (omega arith, omega arith)) (omega arith) m (λ i. n (inr i)) in
-          omega (arith, (k x (inl refl)).0))
-    ]
+    let later : (z : ℕ) → In xs z → (x + 1 ≤ z) × (z < e) = λ z i. (grind (arith, h.0 z i), (k z (inr i)).1) in
+    grind (arith, nat_tests, cases_lt y x, ascending_few (x ∷ xs) (y + 1) e h, h.0, k, hole_short xs (x + 1) e y h.1 later, k x)

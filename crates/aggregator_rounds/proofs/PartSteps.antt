@@ -1,5 +1,5 @@
 -- Parts of entries, and entries laid over a buffer one by one.
-use Rattle.aggregator_rounds.proofs.Words.{◌≡◌, ℕ, zero, suc, ◌+◌, ◌-◌, ◌<◌, ◌≤◌, refl, sym, ◌∙◌, ap, List, [], ◌∷◌, length, take, drop, get_or, min, slice_get, arith, set, take-take, take_all, drop-drop, length-take, get_or_default, slice_get-get_or, Owned, Post, written, Cell, write_cells, moved_down, clip, Source, cell_of, AreFound, bytes_of_post, source_of, part_at, part_in, blob_at, buffer_cell, nat_tests, ltb-true, ltb-false}
+use Rattle.aggregator_rounds.proofs.Words.{◌≡◌, ℕ, zero, suc, ◌+◌, ◌-◌, ◌<◌, ◌≤◌, refl, sym, ◌∙◌, ap, List, [], ◌∷◌, length, take, drop, get_or, min, slice_get, arith, set, take-take, take_all, length-take, get_or_default, slice_get-get_or, Owned, Post, written, Cell, write_cells, moved_down, clip, Source, cell_of, AreFound, bytes_of_post, source_of, part_at, part_in, blob_at, buffer_cell, nat_tests, ltb-true, ltb-false, common_steps}
 
 -- ---- slices of slices
 
@@ -7,10 +7,8 @@ take_none : {X : Type 0} (n : ℕ) → take {A = X} n [] ≡ []
 take_none n = grind (arith, nat_tests)
 
 drop_taken : {X : Type 0} (k n : ℕ) (xs : List X) → drop k (take n xs) ≡ take (n - k) (drop k xs)
-drop_taken zero n xs = let e : n ≡ n - 0 = omega arith in ap (λ (m : ℕ). take m xs) e
-drop_taken (suc k) zero xs = let e : zero ≡ zero - suc k = omega arith in ap (λ (m : ℕ). take m (drop (suc k) xs)) e
-drop_taken (suc k) (suc n) [] = sym (take_none (suc n - suc k))
-drop_taken (suc k) (suc n) (x ∷ xs) = let e : n - k ≡ suc n - suc k = omega arith in drop_taken k n xs ∙ ap (λ (m : ℕ). take m (drop k xs)) e
+drop_taken (suc k) (suc n) (x ∷ xs) = grind (arith, nat_tests, drop_taken k n xs)
+drop_taken k n xs = grind (arith, nat_tests, take_none)
 
 take_least : {X : Type 0} (m n : ℕ) (xs : List X) → take m (take n xs) ≡ take (min m n) xs
 take_least m n xs = grind (arith, nat_tests, ltb-true, take_all, length-take, ltb-false, take-take)
@@ -23,9 +21,7 @@ pub part_bytes : (lo hi : ℕ) (o : Owned) (b : List ℕ)
     ≡ take (hi - part_at lo hi o) (drop (lo - o.extent.at) (take o.extent.len (drop o.from b)))
 part_bytes lo hi o b =
     by_len (min (hi - part_at lo hi o) (o.extent.len - (lo - o.extent.at))) refl
-    ∙ sym (ap (λ (xs : List ℕ). take (hi - part_at lo hi o) xs) (drop_taken (lo - o.extent.at) o.extent.len (drop o.from b))
-    ∙ take_least (hi - part_at lo hi o) (o.extent.len - (lo - o.extent.at)) (drop (lo - o.extent.at) (drop o.from b))
-    ∙ ap (λ (xs : List ℕ). take (min (hi - part_at lo hi o) (o.extent.len - (lo - o.extent.at))) xs) (drop-drop (lo - o.extent.at) o.from b))
+    ∙ sym (grind (arith, common_steps, drop_taken (lo - o.extent.at) o.extent.len (drop o.from b), take_least (hi - part_at lo hi o) (o.extent.len - (lo - o.extent.at)) (drop (lo - o.extent.at) (drop o.from b))))
   where
     long : (part_in lo hi o).extent.len ≡ min (hi - part_at lo hi o) (o.extent.len - (lo - o.extent.at))
     long = omega arith
@@ -43,8 +39,7 @@ part_bytes lo hi o b =
 
 pub slot_in : (posts : List Post) (slot : ℕ) → 1 ≤ length (bytes_of_post (slice_get posts slot)) → slot < length posts
 slot_in [] slot h = absurd (omega arith)
-slot_in (p ∷ posts) zero h = omega arith
-slot_in (p ∷ posts) (suc slot) h = let l = slot_in posts slot h in omega arith
+slot_in (p ∷ posts) slot h = grind (arith, nat_tests, slot_in posts)
 
 slot_bytes : (posts : List Post) (slot : ℕ) (p : Post) → slot < length posts → (get_or posts slot p).bytes ≡ bytes_of_post (slice_get posts slot)
 slot_bytes posts slot p l = sym (ap bytes_of_post (slice_get-get_or posts slot p l))
@@ -57,8 +52,7 @@ found_bytes posts given o p bytes some room e of = grind (arith, nat_tests, slot
 pub found_at : (source : Source) (list : List Owned) (i : ℕ) (d : Owned) → i < length list → AreFound source list
     → (get_or list i d).from + (get_or list i d).extent.len ≤ length (source (get_or list i d).rank (get_or list i d).slot)
 found_at source [] i d l f = absurd (omega arith)
-found_at source (o ∷ list) zero d l f = f.0
-found_at source (o ∷ list) (suc i) d l f = found_at source list i d (omega arith) f.1
+found_at source (o ∷ list) i d l f = grind (arith, nat_tests, found_at source list)
 
 -- the part of an entry laid over a buffer is its cell in the window
 pub laid_entry : (lo hi : ℕ) (source : Source) (o p : Owned) (post bytes buf now : List ℕ) → p ≡ part_in lo hi o → bytes ≡ take p.extent.len (drop p.from post)
@@ -79,8 +73,7 @@ laid_cell source lo hi o = ((clip lo hi (cell_of source o)).0 - lo, (clip lo hi 
 
 blob_in : (blobs : List (List ℕ)) (slot : ℕ) → 1 ≤ length (blob_at blobs slot) → slot < length blobs
 blob_in [] slot h = absurd (omega arith)
-blob_in (b ∷ blobs) zero h = omega arith
-blob_in (b ∷ blobs) (suc slot) h = let l = blob_in blobs slot h in omega arith
+blob_in (b ∷ blobs) slot h = grind (arith, nat_tests, blob_in blobs)
 
 pub slot_below : (blobs : List (List ℕ)) (o : Owned) → 1 ≤ o.extent.len → o.from + o.extent.len ≤ length (blob_at blobs o.slot) → o.slot < length blobs
 slot_below blobs o h k = blob_in blobs o.slot (omega arith)

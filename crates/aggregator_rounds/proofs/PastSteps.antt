@@ -21,12 +21,8 @@ past_filter place (o ∷ list) rest = grind (arith, nat_tests, past_filter place
 
 pub past_twice : (p q : ℕ) (whole left later : List Owned) → p ≤ q → IsPast p whole left → IsPast q left later → IsPast q whole later
 past_twice p q [] left later l h k = subst (λ (list : List Owned). IsPast q list later) h k
-past_twice p q (o ∷ whole) left later l (inl h) k = let end = h.0 in inl (omega arith, past_twice p q whole left later l h.1 k)
-past_twice p q (o ∷ whole) left later l (inr h) k =
-    elim (subst (λ (list : List Owned). IsPast q list later) h.1 k) [
-      | inl g ↦ inl (g.0, past_twice p q whole h.0 later l h.2 g.1)
-      | inr g ↦ inr (g.0, g.1, past_twice p q whole h.0 g.0 l h.2 g.2)
-    ]
+past_twice p q (o ∷ whole) left later l (inl h) k = grind (arith, nat_tests, past_twice p q whole left later l h.1 k)
+past_twice p q (o ∷ whole) left later l (inr h) k = grind (arith, nat_tests, past_twice p q whole h.0 later l h.2, past_twice p q whole h.0)
 
 pub past_later : (p q : ℕ) (whole left : List Owned) → p ≤ q → IsPast p whole left → IsPast q whole left
 past_later p q whole left l h = past_twice p q whole left left l h (past_none q left)
@@ -34,9 +30,8 @@ past_later p q whole left l h = past_twice p q whole left left l h (past_none q 
 -- what is gone doesn't count where no entry does that ends there
 pub past_same : (test : Owned → Bool) (place : ℕ) (whole left : List Owned) → ((o : Owned) → o.extent.at + o.extent.len ≤ place → test o ≡ false) → IsPast place whole left
     → filter test whole ≡ filter test left
-past_same test place [] left out h = ap (λ (l : List Owned). filter test l) (sym h)
-past_same test place (o ∷ whole) left out (inl h) = grind (arith, nat_tests, past_same test place whole left out h.1)
-past_same test place (o ∷ whole) left out (inr h) = grind (arith, nat_tests, past_same test place whole h.0 out h.2)
+past_same test place [] left out h = grind (arith, nat_tests)
+past_same test place (o ∷ whole) left out h = grind (arith, nat_tests, past_same test place whole)
 
 -- ---- before anything was served
 
@@ -49,16 +44,12 @@ walk_begin list left all = subst (λ (l : List Owned). IsPast 0 list l) all (pas
 -- ---- members
 
 pub past_in : (place : ℕ) (whole left : List Owned) (o : Owned) → IsPast place whole left → In left o → In whole o
-past_in place [] left o h m = subst (λ (list : List Owned). In list o) h m
-past_in place (p ∷ whole) left o (inl h) m = inr (past_in place whole left o h.1 m)
-past_in place (p ∷ whole) left o (inr h) m = grind (arith, nat_tests, past_in place whole h.0 o h.2)
+past_in place [] left o h m = grind (arith, nat_tests)
+past_in place (p ∷ whole) left o h m = grind (arith, nat_tests, past_in place whole)
 
 pub past_kept : (place : ℕ) (whole left : List Owned) (o : Owned) → IsPast place whole left → In whole o → place < o.extent.at + o.extent.len → In left o
-past_kept place [] left o h m l = absurd m
-past_kept place (p ∷ whole) left o (inl h) (inl e) l = absurd (omega (arith, subst (λ (q : Owned). q.extent.at + q.extent.len ≤ place) e h.0))
-past_kept place (p ∷ whole) left o (inl h) (inr m) l = past_kept place whole left o h.1 m l
-past_kept place (p ∷ whole) left o (inr h) (inl e) l = subst (λ (list : List Owned). In list o) (sym h.1) (inl e)
-past_kept place (p ∷ whole) left o (inr h) (inr m) l = subst (λ (list : List Owned). In list o) (sym h.1) (inr (past_kept place whole h.0 o h.2 m l))
+past_kept place (p ∷ whole) left o h m l = grind (arith, nat_tests, past_kept place whole)
+past_kept place whole left o h m l = absurd m
 
 -- the first of those behind a list
 pub ahead_in : (place : ℕ) (whole list ahead rest : List Owned) (entry : Owned) → ahead ≡ entry ∷ rest → IsPast place whole (list ++ ahead) → In whole entry
@@ -69,19 +60,16 @@ pub past_all : (place : ℕ) (whole left : List Owned) (o : Owned) → left ≡ 
 past_all place whole left o none h m = grind (arith, nat_tests, past_kept, ltb-true, ltb-false)
 
 pub past_extents : (place : ℕ) (whole left : List Owned) (e : Extent) → IsPast place whole left → In (extents left) e → In (extents whole) e
-past_extents place [] left e h m = subst (λ (list : List Owned). In (extents list) e) h m
-past_extents place (p ∷ whole) left e (inl h) m = inr (past_extents place whole left e h.1 m)
-past_extents place (p ∷ whole) left e (inr h) m = grind (arith, nat_tests, past_extents place whole h.0 e h.2)
+past_extents place [] left e h m = grind (arith, nat_tests)
+past_extents place (p ∷ whole) left e h m = grind (arith, nat_tests, past_extents place whole)
 
 pub past_sorted : (place : ℕ) (whole left : List Owned) → IsByPlace (extents whole) → IsPast place whole left → IsByPlace (extents left)
-past_sorted place [] left s h = subst (λ (list : List Owned). IsByPlace (extents list)) (sym h) tt
-past_sorted place (o ∷ whole) left s (inl h) = past_sorted place whole left s.1 h.1
-past_sorted place (o ∷ whole) left s (inr h) = grind (arith, nat_tests, past_extents place whole h.0, past_sorted place whole h.0 s.1 h.2)
+past_sorted place [] left s h = grind (arith, nat_tests)
+past_sorted place (o ∷ whole) left s h = grind (arith, nat_tests, past_extents place whole, past_sorted place whole)
 
 pub past_found : (source : Source) (place : ℕ) (whole left : List Owned) → AreFound source whole → IsPast place whole left → AreFound source left
-past_found source place [] left f h = subst (λ (list : List Owned). AreFound source list) (sym h) f
-past_found source place (o ∷ whole) left f (inl h) = past_found source place whole left f.1 h.1
-past_found source place (o ∷ whole) left f (inr h) = grind (arith, nat_tests, past_found source place whole h.0 f.1 h.2)
+past_found source place [] left f h = grind (arith, nat_tests)
+past_found source place (o ∷ whole) left f h = grind (arith, nat_tests, past_found source place whole)
 
 -- ---- ends below 2 ^ 62
 
@@ -117,7 +105,7 @@ pub first_further : (stop : ℕ) (carried ahead : List Owned) (P : Owned → Typ
     → ((o : Owned) → In carried o → P o × (stop < o.extent.at + o.extent.len)) → ((o : Owned) → slice_get ahead 0 ≡ Some o → stop < o.extent.at + o.extent.len)
     → (o : Owned) → slice_get (carried ++ ahead) 0 ≡ Some o → stop < o.extent.at + o.extent.len
 first_further stop [] ahead P h k o e = k o e
-first_further stop (p ∷ carried) ahead P h k o e = subst (λ (q : Owned). stop < q.extent.at + q.extent.len) (same_Some p o e) (h p (inl refl)).1
+first_further stop (p ∷ carried) ahead P h k o e = grind (arith, nat_tests, same_Some p o, h p)
 
 pub first_ahead : (stop : ℕ) (ahead rest : List Owned) (entry : Owned) → ahead ≡ entry ∷ rest → stop < entry.extent.at + entry.extent.len
     → (o : Owned) → slice_get ahead 0 ≡ Some o → stop < o.extent.at + o.extent.len

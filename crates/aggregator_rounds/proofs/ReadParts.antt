@@ -4,14 +4,13 @@ use Rattle.aggregator_rounds.proofs.Words.{◌≡◌, ℕ, zero, suc, ◌+◌, �
 -- ---- parts of bytes that were read
 
 take_read : (file : List ℕ) (x n m : ℕ) → m ≤ n → take m (read file x n) ≡ read file x m
-take_read file x n zero h = refl
-take_read file x zero (suc m) h = absurd (omega arith)
-take_read file x (suc n) (suc m) h = ap (λ (r : List ℕ). at file x ∷ r) (take_read file (x + 1) n m (omega arith))
+take_read file x (suc n) (suc m) h = grind (arith, nat_tests, take_read file (x + 1) n m)
+take_read file x n m h = grind (arith, nat_tests)
 
 pub read_part : (file : List ℕ) (x n j m : ℕ) → j + m ≤ n → take m (drop j (read file x n)) ≡ read file (x + j) m
-read_part file x n zero m h = let e : x ≡ x + 0 = omega arith in take_read file x n m (omega arith) ∙ ap (λ (k : ℕ). read file k m) e
+read_part file x n zero m h = grind (arith, nat_tests, take_read file x n m)
 read_part file x zero (suc j) m h = absurd (omega arith)
-read_part file x (suc n) (suc j) m h = let e : x + 1 + j ≡ x + suc j = omega arith in read_part file (x + 1) n j m (omega arith) ∙ ap (λ (k : ℕ). read file k m) e
+read_part file x (suc n) (suc j) m h = grind (arith, nat_tests, read_part file (x + 1) n j m)
 
 -- ---- what is read of entries, from lo to hi
 
@@ -45,8 +44,7 @@ read_says file p a (suc m) y v (inr h) =
 
 says_read : (file : List ℕ) (p a m j y v : ℕ) → j < m → p + j ≡ y → at file (a + j) ≡ v → Says (enumerate_from p (read file a m)) y v
 says_read file p a zero j y v h e f = absurd (omega arith)
-says_read file p a (suc m) zero y v h e f = let g : a ≡ a + 0 = omega arith in inl (omega arith, ap (λ (k : ℕ). at file k) g ∙ f)
-says_read file p a (suc m) (suc j) y v h e f = grind (arith, nat_tests, says_read file (p + 1) (a + 1) m j y v, at)
+says_read file p a (suc m) j y v h e f = grind (arith, nat_tests, says_read file (p + 1) (a + 1) m (j - 1) y v, at)
 
 module _ (base : ℕ) (file : List ℕ) (lo hi : ℕ) where
   -- what is read of an entry
@@ -64,24 +62,20 @@ module _ (base : ℕ) (file : List ℕ) (lo hi : ℕ) where
   pub read_as : (from to : ℕ) (os more : List Owned) (y v : ℕ) (r : IsRead base file lo hi os y v) → from ≤ r.place → r.place < to → In more r.by → IsRead base file from to more y v
   read_as from to os more y v r l h m = grind (arith, nat_tests)
 
-  read_more : (os more : List Owned) (y v : ℕ) → ((o : Owned) → In os o → In more o) → IsRead base file lo hi os y v → IsRead base file lo hi more y v
-  read_more os more y v s r = read_as lo hi os more y v r r.low r.high (s r.by r.inside)
-
   pub got_says : (os : List Owned) (y v : ℕ) → ((o : Owned) → In os o → base ≤ o.extent.at) → Says (said_by (parts_got base file lo hi os)) y v → IsRead base file lo hi os y v
   got_says [] y v on h = absurd h
   got_says (o ∷ os) y v on h =
       elim (says_cases (bytes_of o) (said_by (parts_got base file lo hi os)) y v h) [
-        | inl g ↦ read_more (o ∷ []) (o ∷ os) y v (λ q m. elim m [ inl e ↦ inl e | inr n ↦ absurd n ]) (one_read o y v (on o (inl refl)) g)
-        | inr g ↦ read_more os (o ∷ os) y v (λ q m. inr m) (got_says os y v (λ q m. on q (inr m)) g)
+        | inl g ↦ (let r = one_read o y v (on o (inl refl)) g in read_as lo hi _ _ y v r r.low r.high (grind (arith, nat_tests, r.inside)))
+        | inr g ↦ (let r = got_says os y v (λ q m. on q (inr m)) g in read_as lo hi _ _ y v r r.low r.high (inr r.inside))
       ]
 
   says_got_of : (os : List Owned) (o : Owned) (x y v : ℕ) → In os o → base ≤ o.extent.at → lo ≤ x → x < hi → o.extent.at ≤ x → x < o.extent.at + o.extent.len
       → o.from + (x - o.extent.at) ≡ y → at file (x - base) ≡ v → Says (said_by (parts_got base file lo hi os)) y v
   says_got_of [] o x y v m on l h b e f g = absurd m
-  says_got_of (p ∷ os) o x y v (inr m) on l h b e f g = grind (arith, nat_tests, says_right, says_got_of os o x y v m on l h b e f g, parts_got)
-  says_got_of (p ∷ os) o x y v (inl m) on l h b e f g =
+  says_got_of (p ∷ os) o x y v m on l h b e f g =
       let k : part_at lo hi o - base + (x - part_at lo hi o) ≡ x - base = omega arith in
-      grind (arith, nat_tests, says_read, at, says_left, bytes_of)
+      grind (arith, nat_tests, says_read, at, says_left, bytes_of, says_right, says_got_of os o x y v, parts_got)
 
   pub says_got : (os : List Owned) (y v : ℕ) → ((o : Owned) → In os o → base ≤ o.extent.at) → IsRead base file lo hi os y v → Says (said_by (parts_got base file lo hi os)) y v
   says_got os y v on r = says_got_of os r.by r.place y v r.inside (on r.by r.inside) r.low r.high r.begin r.end r.from r.byte
@@ -90,13 +84,11 @@ module _ (base : ℕ) (file : List ℕ) (lo hi : ℕ) where
 
 range_says : (p a m j : ℕ) → j < m → Says (enumerate_from p (range_with_len a m)) (p + j) (a + j)
 range_says p a zero j h = absurd (omega arith)
-range_says p a (suc m) zero h = inl (omega arith, omega arith)
-range_says p a (suc m) (suc j) h = grind (arith, nat_tests, range_says (p + 1) (a + 1) m j (omega arith))
+range_says p a (suc m) j h = grind (arith, nat_tests, range_says (p + 1) (a + 1) m (j - 1))
 
 place_said : (os : List Owned) (o : Owned) (x : ℕ) → In os o → o.extent.at ≤ x → x < o.extent.at + o.extent.len → Says (places_of os) (o.from + (x - o.extent.at)) x
 place_said [] o x m l h = absurd m
-place_said (p ∷ os) o x (inr m) l h = says_right (enumerate_from p.from (range_with_len p.extent.at p.extent.len)) (places_of os) (o.from + (x - o.extent.at)) x (place_said os o x m l h)
-place_said (p ∷ os) o x (inl m) l h = grind (arith, nat_tests, range_says o.from o.extent.at o.extent.len (x - o.extent.at) (omega arith), says_left)
+place_said (p ∷ os) o x m l h = grind (arith, nat_tests, range_says o.from o.extent.at o.extent.len (x - o.extent.at), says_left, says_right, place_said os o x, places_of)
 
 pub read_once : (base : ℕ) (file : List ℕ) (lo hi : ℕ) (os : List Owned) → ((o : Owned) → In os o → base ≤ o.extent.at) → IsOneValued (places_of os)
     → IsOneValued (said_by (parts_got base file lo hi os))
@@ -108,16 +100,14 @@ read_once base file lo hi os on once y v u h k =
 
 pub parts_within : (base : ℕ) (file : List ℕ) (lo hi n : ℕ) (os : List Owned) → ((o : Owned) → In os o → o.from + o.extent.len ≤ n) → IsWithin (parts_got base file lo hi os) n
 parts_within base file lo hi n [] h = tt
-parts_within base file lo hi n (o ∷ os) h =
-    let room = h o (inl refl) in
-    (omega (arith, read_long file ((part_in lo hi o).extent.at - base) (part_in lo hi o).extent.len), parts_within base file lo hi n os (λ q m. h q (inr m)))
+parts_within base file lo hi n (o ∷ os) h = grind (arith, nat_tests, h o, read_long file ((part_in lo hi o).extent.at - base) (part_in lo hi o).extent.len, parts_within base file lo hi n os, h)
 
 whole_part : (place : ℕ) (o : Owned) → o.extent.at + o.extent.len ≤ place → part_in 0 place o ≡ o
 whole_part place o h = grind (arith, nat_tests)
 
 pub whole_parts : (place : ℕ) (os : List Owned) → ((o : Owned) → In os o → o.extent.at + o.extent.len ≤ place) → map (λ o. part_in 0 place o) os ≡ os
 whole_parts place [] h = refl
-whole_parts place (o ∷ os) h = λ i. whole_part place o (h o (inl refl)) i ∷ whole_parts place os (λ q m. h q (inr m)) i
+whole_parts place (o ∷ os) h = grind (arith, nat_tests, whole_part place o, h o, whole_parts place os, h)
 
 -- what is read of a file that begins at 0
 pub got_whole : (file : List ℕ) (list : List Owned) → got_cells 0 file list ≡ map (λ o. got_cell file o) list

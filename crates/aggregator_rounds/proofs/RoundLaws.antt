@@ -1,5 +1,5 @@
 -- What a window leaves on a disk that may tell its bytes and its calls.
-use Rattle.aggregator_rounds.proofs.Words.{◌≡◌, ℕ, ◌+◌, ◌-◌, ◌<◌, ◌≤◌, refl, sym, ◌∙◌, ap, subst, List, [], ◌∷◌, length, take, drop, Bool, true, false, Option, Some, None, arith, IfSome, if◌then◌else◌, no_none_some, DiskCall, at, read, written, Cell, said_at, said_by, write_cells, IsFrom, IsWithin, moved_down, length-written_inside, HasPlace, IsBetween, IsBegun, load_calls, store_calls, cells_long, moved_said, within_lowered, kept_read, window_answer, read_slice, after, with_end, BothTold, PartlyWritten, nat_tests}
+use Rattle.aggregator_rounds.proofs.Words.{◌≡◌, ℕ, ◌+◌, ◌-◌, ◌<◌, ◌≤◌, refl, sym, ◌∙◌, ap, List, [], ◌∷◌, length, take, drop, Bool, true, false, Option, Some, None, arith, IfSome, if◌then◌else◌, no_none_some, DiskCall, at, read, written, Cell, said_at, said_by, write_cells, IsFrom, IsWithin, moved_down, length-written_inside, HasPlace, IsBetween, IsBegun, load_calls, store_calls, cells_long, moved_said, within_lowered, kept_read, window_answer, read_slice, after, with_end, BothTold, PartlyWritten, nat_tests, common_steps}
 
 pub got_read : (held : Option (List ℕ)) (buf : List ℕ) (x m n size : ℕ) → IfSome held (λ b. length b ≡ size) → m ≡ n → x + n ≤ size
     → IfSome held (λ file. buf ≡ take m (drop x file)) → IfSome held (λ file. buf ≡ read file x n)
@@ -30,8 +30,7 @@ window_over : (full : Bool) (file buf : List ℕ) (from lo n : ℕ) (cells : Lis
 window_over full file buf from lo n cells long low room least most whole was_read =
     ap (λ (cs : List Cell). written file (lo - from) (write_cells buf cs)) (sym (lowered_twice from lo cells low))
     ∙ window_answer file buf n (lo - from) (moved_down from cells) long room (from_lowered from lo cells least)
-    (let same : lo + n ≡ from + (lo - from + n) = omega arith in
-    within_lowered from (lo - from + n) cells (from_less from lo cells low least) (subst (λ (k : ℕ). IsWithin cells k) same most))
+    (grind (arith, common_steps, within_lowered from (lo - from + n) cells (from_less from lo cells low least), from_less from lo cells low least))
     (kept full whole was_read)
   where
     kept : (full : Bool) → (full ≡ true → (x : ℕ) → lo ≤ x → x < lo + n → HasPlace cells x) → (full ≡ false → buf ≡ read file (lo - from) n)

@@ -1,5 +1,5 @@
 -- The words of this crate's proofs, from where they stand.
-pub use Rattle.list_laws.proofs.Std.{Bool, IfSome, List, None, Option, Some, [], ap, append_assoc, arith, cases_lt, cond, drop, drop-drop, enumerate_from, false, filter, filter_same, get_or, get_or_default, if◌then◌else◌, inl, inr, length, length-drop, length-take, map-append, min, nat_lt, nat_tests, option_or, range_with_len, refl, rules, same_Some, set, slice_get-get_or, subst, suc, sym, take, take-append-drop, take-append_seam, take-take, take_all, true, zero, ℕ, ◌++◌, ◌+◌, ◌-◌, ◌<◌, ◌^◌, ◌∙◌, ◌∷◌, ◌≡◌, ◌≤◌, ◌⊎◌, ltb-true, ltb-false}
+pub use Rattle.list_laws.proofs.Std.{Bool, IfSome, List, None, Option, Some, [], ap, append_assoc, arith, cases_lt, cond, drop, drop-drop, enumerate_from, false, filter, filter_same, get_or, get_or_default, if◌then◌else◌, inl, inr, length, length-drop, length-take, map-append, min, nat_lt, nat_tests, option_or, range_with_len, refl, rules, same_Some, set, slice_get-get_or, subst, suc, sym, take, take-append-drop, take-append_seam, take-take, take_all, true, zero, ℕ, ◌++◌, ◌+◌, ◌-◌, ◌<◌, ◌^◌, ◌∙◌, ◌∷◌, ◌≡◌, ◌≤◌, ◌⊎◌, ltb-true, ltb-false, common_steps}
 pub use Rattle.std.proofs.Common.{slice_get}
 pub use Rattle.std.specs.Prelude.{map}
 pub use Rattle.aggregator_rounds.specs.EntryParts.{IsCovered, blob_at, buffer_cell, bytes_of_post, got_cells, part_at, part_in, places_of, source_of}
