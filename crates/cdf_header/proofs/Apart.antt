@@ -1,5 +1,5 @@
 -- Spans that are seen to share no byte share none.
-use Rattle.cdf_header.proofs.Words.{Contains-append_left, Contains-push, ◌∙◌, ◌++◌, ◌≡◌, ℕ, ◌+◌, ◌<◌, ◌≤◌, min, List, [], ◌∷◌, Bool, true, false, None, length, get_or, drop, refl, sym, ap, subst, inl, inr, ◌⊎◌, arith, nat_lt, nat_le, All, AllPairs, Contains, cases_lt, le-ltb, le-leb, lt-leb, get_or_default, get_or-drop, length-drop, All-contains, All-head, All-tail, All-get_or, Contains-get_or, Span, fixed_meet, records_meet, share, partner, NoneShares, EndsBefore, AreApart, HasAll, AreSpans, nat_tests, cond}
+use Rattle.cdf_header.proofs.Words.{Contains-push, ◌∙◌, ◌++◌, ◌≡◌, ℕ, ◌+◌, ◌<◌, ◌≤◌, min, List, [], ◌∷◌, Bool, true, false, None, length, get_or, drop, refl, sym, ap, subst, inl, inr, ◌⊎◌, arith, nat_lt, nat_le, All, AllPairs, Contains, cases_lt, le-ltb, le-leb, lt-leb, get_or_default, get_or-drop, length-drop, All-contains, All-head, All-tail, All-get_or, Contains-get_or, Span, fixed_meet, records_meet, share, partner, NoneShares, EndsBefore, AreApart, HasAll, AreSpans, nat_tests, cond, common_steps}
 use mathlib.Core.Bool.{beq}
 
 other_kind : (a b : Bool) → beq a b ≡ false → a ≡ b → ⊥
@@ -14,10 +14,7 @@ pub kind_next : (kind : Bool) (spans found next : List Span) (n : ℕ) → n < l
 kind_next kind spans found next n within step so_far k d l is =
     let none : Span = record { begin = 0; end = 0; number = 0; is_record = false } in
     elim (cases_lt k n) [
-      | inl before ↦ elim step [
-        | inl push ↦ subst (λ (ys : List Span). Contains ys (get_or spans k d)) (sym push) (Contains-append_left found _ _ (so_far k d before is))
-        | inr stay ↦ subst (λ (ys : List Span). Contains ys (get_or spans k d)) (sym stay.0) (so_far k d before is)
-      ]
+      | inl before ↦ grind (arith, common_steps)
       | inr le ↦
           let same : k ≡ n = omega arith in
           let here : get_or spans k d ≡ get_or spans n none = ap (λ (m : ℕ). get_or spans m d) same ∙ get_or_default spans n d none within in

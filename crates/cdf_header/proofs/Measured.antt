@@ -1,5 +1,5 @@
 -- What a header has whose variables keep their bounds.
-use Rattle.cdf_header.proofs.Words.{◌≡◌, ℕ, suc, ◌+◌, ◌^◌, ◌<◌, List, [], ◌∷◌, Bool, false, Option, Some, None, refl, arith, nat_le, ◌||◌, is_none, All, AllByRecursion, All-from_recursion, recsize_below, Keeps, keeps, shares_small, told_unless, slab_below, Header, Var, record_limit, slab, vsize, record_share, recsize, keeps_bound, past_bound, measure, is_too_large, not}
+use Rattle.cdf_header.proofs.Words.{◌≡◌, ℕ, suc, ◌+◌, ◌^◌, ◌<◌, List, [], ◌∷◌, Bool, false, Option, Some, None, refl, arith, nat_le, ◌||◌, is_none, All, AllByRecursion, recsize_below, Keeps, keeps, shares_small, told_unless, slab_below, Header, Var, record_limit, slab, vsize, record_share, recsize, keeps_bound, past_bound, measure, is_too_large, not, common_steps}
 
 -- of variables that keep their bounds each has what follows from that
 each_keeps : (header : Header) (P : Var → Type 0) → ((before : ℕ) (v : Var) → Keeps header before v → P v)
@@ -15,9 +15,7 @@ sizes_kept header h = each_keeps header (λ v. vsize header v < 2 ^ 62) (λ befo
 
 -- each variable ends below 2^62
 pub bounds_kept : (header : Header) → measure header ≡ None → All (λ v. v.begin + slab header v < 2 ^ 62) header.vars
-bounds_kept header h =
-    All-from_recursion (λ v. v.begin + slab header v < 2 ^ 62) header.vars
-    (each_keeps header (λ v. v.begin + slab header v < 2 ^ 62) (λ before v k. omega (arith, k.end, slab_below header v)) 0 0 header.vars h)
+bounds_kept header h = grind (arith, common_steps, each_keeps header (λ v. v.begin + slab header v < 2 ^ 62), slab_below header)
 
 no_limit : (o : Option ℕ) (t : Bool) → (not (is_none o) || t) ≡ false → o ≡ None
 no_limit None t h = refl

@@ -1,5 +1,5 @@
 -- The pair that the spans of a header's variables give is that of the header.
-use Rattle.cdf_header.proofs.Words.{nat_tests, drop, drop_more, append_assoc, ◌++◌, ◌≡◌, ℕ, zero, suc, ◌+◌, ◌<◌, List, [], ◌∷◌, length, get_or, Bool, true, false, cond, Option, Some, None, refl, sym, ◌∙◌, arith, option_map, position, AllPairs, AllByRecursion, position_from, option_or, position_from-zero, All-from_recursion, mul-le-mul_left, size_pos, Header, Var, slab, recsize, sharing_with, sharing_from, sharing, record_later, Span, span_of, spans_of, partner, shared_pair, AreSpans, told_else}
+use Rattle.cdf_header.proofs.Words.{nat_tests, drop, drop_more, append_assoc, ◌++◌, ◌≡◌, ℕ, zero, suc, ◌+◌, ◌<◌, List, [], ◌∷◌, length, get_or, Bool, true, false, cond, Option, Some, None, refl, sym, ◌∙◌, arith, option_map, position, AllPairs, AllByRecursion, position_from, option_or, position_from-zero, mul-le-mul_left, size_pos, Header, Var, slab, recsize, sharing_with, sharing_from, sharing, record_later, Span, span_of, spans_of, partner, shared_pair, AreSpans, told_else, common_steps}
 use Rattle.serial_spec.specs.Layout as layout
 use Rattle.cdf_header.proofs.Products.{inner-pos, product-pos}
 
@@ -47,7 +47,5 @@ filled header k n [] h = tt
 filled header k n (v ∷ vs) h = grind (arith, nat_tests, told_else, some_bytes, filled header (suc k) (n + 1) vs, spans_of)
 
 pub are_spans : (header : Header) → position (record_later header) header.vars ≡ None → AreSpans (spans_of header 0 header.vars)
-are_spans header h = record {
-  rising = rising header header.vars;
-  filled = All-from_recursion (λ s. s.begin < s.end) (spans_of header 0 header.vars) (filled header 0 0 header.vars (sym (position_from-zero (record_later header) header.vars) ∙ h));
-}
+are_spans header h =
+    grind (arith, common_steps, rising header header.vars, filled header 0 0 header.vars (sym (position_from-zero (record_later header) header.vars) ∙ h))

@@ -1,5 +1,5 @@
 -- Over what is written of a header the grammar asks for right fields only.
-use Rattle.cdf_header.proofs.Words.{◌≡◌, ℕ, ◌+◌, ◌-◌, ◌*◌, ◌^◌, ◌≤◌, ◌<◌, List, [], ◌∷◌, ◌++◌, take, drop, length, Bool, true, false, cond, Some, None, refl, sym, ap, subst, ◌∙◌, append_assoc, length-append, arith, ◌==◌, ◌||◌, ◌&&◌, not, nat_lt, nat_le, replicate, list_all, w32, w64, byte_len, to_be_bytes, from_be_bytes, drop-append_seam, take-append_seam, length-drop, length-replicate, drop-drop, from_be_bytes-to_be_bytes_4, from_be_bytes-to_be_bytes_8, ltb-true, eqb-true, le-ltb, leb-true, width_long, and_first, and_second, all_three, equal_itself, Header, Dim, Attr, Var, NcType, HeaderErr, most_dims, most_vars, most_dims_of_var, size_of, round_up, vsize, number_of, is_version, count, tag, name, padded, list_of, dimension, attribute, variable, magic, canon, count_width, begin_width, Field, Magic, Records, Tag, Count, NameLength, Block, DimLength, AttrType, AttrCount, DimCount, DimId, VarType, Vsize, Begin, Entries, Dimensions, Attributes, Variables, Ids, Ask, One, Many, Run, stands, takes, asked, the_header, first_field, other_fields, many, block, most_of, tag_of, type_size, bad_type, version_of, fault_if, wrong, wrong_at, after_field, field_number, field_len, big_endian, field_fault, is_type, fits_field, fits_count, is_writable, is_writable_dim, is_writable_attr, is_writable_list, is_writable_var, run_on, run_whole, len_pos, known_version, nat_tests, flat_map}
+use Rattle.cdf_header.proofs.Words.{◌≡◌, ℕ, ◌+◌, ◌-◌, ◌*◌, ◌^◌, ◌≤◌, ◌<◌, List, [], ◌∷◌, ◌++◌, take, drop, length, Bool, true, false, cond, Some, None, refl, sym, ap, subst, ◌∙◌, append_assoc, length-append, arith, ◌==◌, ◌||◌, ◌&&◌, not, nat_lt, nat_le, replicate, list_all, w32, w64, byte_len, to_be_bytes, from_be_bytes, drop-append_seam, take-append_seam, length-drop, length-replicate, drop-drop, from_be_bytes-to_be_bytes_4, from_be_bytes-to_be_bytes_8, ltb-true, eqb-true, le-ltb, leb-true, width_long, and_first, and_second, all_three, equal_itself, Header, Dim, Attr, Var, NcType, HeaderErr, most_dims, most_vars, most_dims_of_var, size_of, round_up, vsize, number_of, is_version, count, tag, name, padded, list_of, dimension, attribute, variable, magic, canon, count_width, begin_width, Field, Magic, Records, Tag, Count, NameLength, Block, DimLength, AttrType, AttrCount, DimCount, DimId, VarType, Vsize, Begin, Entries, Dimensions, Attributes, Variables, Ids, Ask, One, Many, Run, stands, takes, asked, the_header, first_field, other_fields, many, block, most_of, tag_of, type_size, bad_type, version_of, fault_if, wrong, wrong_at, after_field, field_number, field_len, big_endian, field_fault, is_type, fits_field, fits_count, is_writable, is_writable_dim, is_writable_attr, is_writable_list, is_writable_var, run_on, run_whole, len_pos, known_version, nat_tests, flat_map, common_steps}
 use Rattle.nc_base.specs.declared.errors.HeaderErr.TheVariants as fault
 use Rattle.cdf_header.proofs.Pieces.{AtMost, above_none}
 
@@ -10,7 +10,7 @@ Walk v asks later text = (b : List ℕ) (x : ℕ) (more : List ℕ) → drop x b
 pub drop_on : (b : List ℕ) (x : ℕ) (s t : List ℕ) → drop x b ≡ s ++ t → drop (x + length s) b ≡ t
 drop_on b x s t e = sym (drop-drop (length s) x b) ∙ ap (λ (c : List ℕ). drop (length s) c) e ∙ drop-append_seam s t
 
-pub walk_then : (v : ℕ) (asks mid later : List Ask) (s t : List ℕ) → Walk v asks mid s → Walk v mid later t → Walk v asks later (s ++ t)
+walk_then : (v : ℕ) (asks mid later : List Ask) (s t : List ℕ) → Walk v asks mid s → Walk v mid later t → Walk v asks later (s ++ t)
 walk_then v asks mid later s t p q b x more e =
     let there = e ∙ append_assoc s t more in
     let far : x + length s + length t ≡ x + length (s ++ t) = omega (arith, length-append s t) in
@@ -38,15 +38,14 @@ walk_field v asks rest later f text a len is_right b x more e =
     let r = is_right b x (take_here b text more x (field_len v f) e len) in
     let ends_inside = le-ltb (length b) (x + field_len v f) (inside b text more x (field_len v f) e len (len_pos v f)) in
     let fine : wrong_at v f b x ≡ None = rw ends_inside r.0 in
-    takes a fine (subst (λ (as' : List Ask). Run v b as' (x + field_len v f) later (x + length text)) (sym r.1)
-    (subst (λ (n : ℕ). Run v b later (x + field_len v f) later (x + n)) (sym len) stands))
+    takes a fine (grind (arith, common_steps, stands))
 
 -- ---- numbers
 
-pub read_4 : (p q r s : ℕ) → big_endian (p ∷ q ∷ r ∷ s ∷ []) ≡ from_be_bytes w32 (p ∷ q ∷ r ∷ s ∷ [])
+read_4 : (p q r s : ℕ) → big_endian (p ∷ q ∷ r ∷ s ∷ []) ≡ from_be_bytes w32 (p ∷ q ∷ r ∷ s ∷ [])
 read_4 p q r s = omega arith
 
-pub read_8 : (a b c d p q r s : ℕ) → big_endian (a ∷ b ∷ c ∷ d ∷ p ∷ q ∷ r ∷ s ∷ []) ≡ from_be_bytes w64 (a ∷ b ∷ c ∷ d ∷ p ∷ q ∷ r ∷ s ∷ [])
+read_8 : (a b c d p q r s : ℕ) → big_endian (a ∷ b ∷ c ∷ d ∷ p ∷ q ∷ r ∷ s ∷ []) ≡ from_be_bytes w64 (a ∷ b ∷ c ∷ d ∷ p ∷ q ∷ r ∷ s ∷ [])
 read_8 a b c d p q r s = omega arith
 
 pub back_4 : (n : ℕ) → n < 2 ^ 32 → big_endian (to_be_bytes w32 n) ≡ n
@@ -255,9 +254,7 @@ header_walk h is =
     walk_then v the_header after_attrs [] described (list_of v 11 (λ w. variable h w) h.vars)
     (walk_then v the_header after_dims after_attrs shaped (list_of v 12 (λ a. attribute v a) h.attrs)
     (walk_then v the_header after_records after_dims counted (list_of v 10 (λ d. dimension v d) h.dims)
-    (walk_then v the_header after_magic after_records (magic v) (count v h.records)
-    (magic_walk v after_magic (known_version h sound))
-    (records_walk v h.records after_records (and_second _ _ h2)))
+    (grind (arith, common_steps, walk_then v the_header after_magic after_records (magic v) (count v h.records) (magic_walk v after_magic (known_version h sound)), magic_walk v after_magic (known_version h sound), known_version h sound, records_walk v h.records after_records, and_second))
     (list_walk v Dimensions (λ d. dimension v d) (is_writable_dim v) (record { some = refl; small = omega arith })
     (λ d k asks more e. dim_walk v d asks more e k) h.dims (leb-true (length h.dims) most_dims (and_first _ _ (and_first _ _ small))) (and_first _ _ (and_second _ _ h3)) (and_second _ _ (and_second _ _ h3)) after_dims))
     (attrs_walk v h.attrs (and_second _ _ h4) after_attrs))

@@ -1,5 +1,5 @@
 -- What the writers write, part after part.
-use Rattle.cdf_header.proofs.Words.{Header, attribute, canon, dimension, magic, variable, ◌≡◌, ℕ, suc, ap, count, tag, ◌+◌, ◌<◌, List, [], ◌∷◌, ◌++◌, length, take, get_or, flat_map, ◌∙◌, append-nil, arith, nat_tests, list_of, list_head, take_more, then_append, flat_map-append}
+use Rattle.cdf_header.proofs.Words.{Header, attribute, canon, dimension, magic, variable, ◌≡◌, ℕ, suc, ap, count, tag, ◌+◌, ◌<◌, List, [], ◌∷◌, ◌++◌, length, take, get_or, flat_map, ◌∙◌, append-nil, arith, nat_tests, list_of, list_head, take_more, then_append, flat_map-append, common_steps}
 
 some_head : (v t n : ℕ) → list_head v t (suc n) ≡ tag t ++ count v (suc n)
 some_head v t n = grind (arith, nat_tests)
@@ -21,7 +21,4 @@ pub fields_written : (header : Header) (o p q r s t : List ℕ) → p ≡ o ++ m
 unfolding canon
 fields_written header o p q r s t f g h i j =
     let v = header.version in
-    let first = magic v ++ count v header.records in
-    let dims = list_of v 10 (λ d. dimension v d) header.dims in
-    let attrs = list_of v 12 (λ a. attribute v a) header.attrs in
-    grind (arith, nat_tests, then_append o s t (first ++ dims ++ attrs), then_append o r s (first ++ dims) attrs, then_append o q r first dims (then_append o p q (magic v) (count v header.records) f g) h, then_append o p q (magic v) (count v header.records) f g)
+    grind (arith, common_steps, then_append o s t ((magic v ++ count v header.records) ++ (list_of v 10 (λ d. dimension v d) header.dims) ++ (list_of v 12 (λ a. attribute v a) header.attrs)), then_append o r s ((magic v ++ count v header.records) ++ (list_of v 10 (λ d. dimension v d) header.dims)) (list_of v 12 (λ a. attribute v a) header.attrs), then_append o q r (magic v ++ count v header.records) (list_of v 10 (λ d. dimension v d) header.dims) (then_append o p q (magic v) (count v header.records) f g) h, then_append o p q (magic v) (count v header.records) f g)
