@@ -1,5 +1,5 @@
 -- The domains so far adjoin, and have the bytes of the shares so far.
-use Rattle.collective_round.proofs.Words.{◌≡◌, ℕ, ◌+◌, ◌-◌, ◌/◌, ◌^◌, ◌<◌, ◌≤◌, inl, inr, refl, sym, ◌∙◌, ap, List, [], ◌∷◌, ◌++◌, length, map, true, Some, arith, append-nil, flat_map_more, length_push, map-append, leb-true, same_Some, filter, flat_map, ◌==◌, range_with_len, no_none_some, Extent, Hints, first_of, last_of, windows, collective_windows, are_lawful_hints, In, EndBelow, end_after, first_at, told_of, IsCover, spans, hull_told, spans_ascend, filter_in, ceil_covers, first_least, in_left, in_range, last_most, filter_none, windows_walked, border, low_of, share_of, bytes_in, turns_of, Told, begin_or, Adjoin, AreDomains, nat_tests, ltb-true, slice_get}
+use Rattle.collective_round.proofs.Words.{◌≡◌, ℕ, ◌+◌, ◌-◌, ◌/◌, ◌^◌, ◌<◌, ◌≤◌, inl, inr, refl, sym, ◌∙◌, ap, List, [], ◌∷◌, ◌++◌, length, map, true, Some, arith, length_push, leb-true, same_Some, filter, flat_map, ◌==◌, range_with_len, no_none_some, Extent, Hints, first_of, last_of, windows, collective_windows, are_lawful_hints, In, EndBelow, end_after, first_at, told_of, IsCover, spans, hull_told, spans_ascend, filter_in, ceil_covers, first_least, in_left, in_range, last_most, filter_none, windows_walked, border, low_of, share_of, bytes_in, turns_of, Told, begin_or, Adjoin, AreDomains, nat_tests, ltb-true, slice_get, common_steps}
 use Rattle.collective_round.proofs.DomainSteps.{collective_is, in_range_hints, same_domains}
 use Rattle.list_laws.proofs.Ranges.{range_next}
 
@@ -40,20 +40,14 @@ abbrev so_far : ℕ → (ℕ → List ℕ) → ℕ → List Told
 so_far size bytes a = map told_of (flat_map (λ i. windows size (bytes i)) (range_with_len 0 a))
 
 windows_push : (size : ℕ) (bytes : ℕ → List ℕ) (a : ℕ) → so_far size bytes a ++ map told_of (windows size (bytes a)) ≡ so_far size bytes (a + 1)
-windows_push size bytes a =
-    sym (map-append told_of (flat_map (λ i. windows size (bytes i)) (range_with_len 0 a)) (windows size (bytes a)))
-    ∙ ap (λ (ws : List (List ℕ)). map told_of ws) (flat_map_more (λ i. windows size (bytes i)) [] (range_with_len 0 a) a)
-    ∙ ap (λ (r : List ℕ). map told_of (flat_map (λ i. windows size (bytes i)) r)) (sym (range_next a))
+windows_push size bytes a = grind (arith, common_steps, range_next a)
 
 windows_more : (size : ℕ) (cover : List Extent) (bytes : ℕ → List ℕ) (a : ℕ) (domains : List Extent) (d : Extent) → flat_map (λ e. turns_of size e cover) domains ≡ so_far size bytes a
     → bytes_in d cover ≡ bytes a → flat_map (λ e. turns_of size e cover) (domains ++ d ∷ []) ≡ so_far size bytes (a + 1)
-windows_more size cover bytes a domains d h e =
-    sym (flat_map_more (λ e. turns_of size e cover) [] domains d) ∙ (λ i. h i ++ map told_of (windows size (e i))) ∙ windows_push size bytes a
+windows_more size cover bytes a domains d h e = grind (arith, common_steps, windows_push size bytes a)
 
 windows_none : (size : ℕ) (bytes : ℕ → List ℕ) (a : ℕ) (ts : List Told) → 1 ≤ size → ts ≡ so_far size bytes a → bytes a ≡ [] → ts ≡ so_far size bytes (a + 1)
-windows_none size bytes a ts s h e =
-    let none : [] ≡ windows size (bytes a) = sym (ap (λ (b : List ℕ). windows size b) e ∙ windows_walked size [] s tt) in
-    h ∙ sym (append-nil (so_far size bytes a)) ∙ ap (λ (ws : List (List ℕ)). so_far size bytes a ++ map told_of ws) none ∙ windows_push size bytes a
+windows_none size bytes a ts s h e = grind (arith, common_steps, windows_walked size [] s tt, windows_push size bytes a)
 
 -- an extent without a byte has no covered byte
 empty_bytes : (d : Extent) (cover : List Extent) → d.len ≤ 0 → bytes_in d cover ≡ []
@@ -83,15 +77,12 @@ pub cut_none : (lo hi nodes unit size : ℕ) (cover : List Extent) (a : ℕ) (do
     → d.at ≡ border lo hi nodes unit a → d.at + d.len ≡ border lo hi nodes unit (a + 1) → bytes_in d cover ≡ share_bytes lo hi nodes unit cover a → d.len ≤ 0
     → AreCut lo hi nodes unit size cover (a + 1) domains
 cut_none lo hi nodes unit size cover a domains d s h begin end bytes none =
-    let still : d.at ≡ d.at + d.len = omega arith in
-    let same : border lo hi nodes unit a ≡ border lo hi nodes unit (a + 1) = sym begin ∙ still ∙ end in
-    record {
-      line = h.line;
-      begin = ap (λ (n : ℕ). begin_or n domains) (sym same) ∙ h.begin;
-      end = h.end ∙ same;
-      many = (let many = h.many in omega arith);
-      windows = windows_none size (λ i. share_bytes lo hi nodes unit cover i) a (flat_map (λ e. turns_of size e cover) domains) s h.windows (sym bytes ∙ empty_bytes d cover none);
-    }
+    grind (
+      arith,
+      common_steps,
+      windows_none size (λ i. share_bytes lo hi nodes unit cover i) a (flat_map (λ e. turns_of size e cover) domains) s h.windows (sym bytes ∙ empty_bytes d cover none),
+      empty_bytes d cover none,
+    )
 
 -- the last share ends at the end
 pub last_border : (lo hi nodes unit : ℕ) → lo ≤ hi → 1 ≤ nodes → 1 ≤ unit → border lo hi nodes unit nodes ≡ hi

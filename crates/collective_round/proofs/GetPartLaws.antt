@@ -1,5 +1,5 @@
 -- Gets on the parts of a disk, which are joined again.
-use Rattle.collective_round.proofs.Words.{◌≡◌, ◌∙◌, ℕ, ◌+◌, ◌≤◌, inl, inr, refl, sym, ap, subst, List, [], ◌∷◌, length, map, Option, Some, Result, arith, flat_map, zip, IfSome, OnOk, AllZip, on_ok_weaker, Extent, DiskCall, with_end, load_calls, In, end_after, in_map, HasGot, PartState, Told, read, parts_of, with_parts, Adjoin, AreSplit, read_slice, nat_tests}
+use Rattle.collective_round.proofs.Words.{◌≡◌, ◌∙◌, ℕ, ◌+◌, ◌≤◌, inl, inr, refl, sym, ap, subst, List, [], ◌∷◌, length, map, Option, Some, Result, arith, flat_map, zip, IfSome, OnOk, AllZip, Extent, with_end, load_calls, In, end_after, in_map, HasGot, PartState, Told, read, parts_of, with_parts, Adjoin, AreSplit, read_slice, nat_tests, common_steps}
 use Rattle.collective_round.proofs.PartDomains.{part_bytes}
 use Rattle.collective_round.proofs.PartLaws.{IsInPlace, IsOld, all_calls, all_place, all_told, fine, flat_flat, kept_told, told_kept}
 use Rattle.collective_round.proofs.PartSplits.{next_begin}
@@ -38,8 +38,7 @@ parts_got {D} {T} {E} state turns disk front new domains parts news end s long g
       place = all_place state disk front domains parts s Got news got (λ d p now h. record { from = h.from; len = h.len });
       held = kept_told disk.held (with_parts front (map state news)).held
           (all_told state disk front domains parts s Got news got fine IsOld long (λ x v l. refl) (λ d p now h. told_kept p.from p.held now.held h.held));
-      device = on_ok_weaker end (λ e. e ∙ ap (λ (c : List DiskCall). with_end disk.calls c) (sym (flat_flat load_calls turns domains)))
-          (all_calls state disk front domains parts s Got news got end (λ d. flat_map load_calls (turns d)) (λ d p now h. h.device));
+      device = grind (arith, common_steps, flat_flat load_calls turns domains, all_calls state disk front domains parts s Got news got end (λ d. flat_map load_calls (turns d)) (λ d p now h. h.device));
     })
   where
     Got : Extent → PartState → PartState → Type 0

@@ -1,15 +1,10 @@
 -- Entries that say one value of each byte.
-use Rattle.collective_round.proofs.Words.{◌≡◌, ℕ, inl, inr, refl, subst, List, [], ◌∷◌, map, enumerate_from, Owned, Source, cell_of, In, AreFound, IsOnceEach, IsResolved, byte_at, origins, says_moved, in_map, map_in, cells_by_origins, greatest_once, Cell, IsOneValued, Says, said_by, arith, nat_tests}
+use Rattle.collective_round.proofs.Words.{◌≡◌, ℕ, inl, inr, refl, List, [], ◌∷◌, map, enumerate_from, Owned, Source, cell_of, In, AreFound, IsOnceEach, IsResolved, byte_at, origins, says_moved, in_map, map_in, cells_by_origins, greatest_once, Cell, IsOneValued, Says, said_by, arith, nat_tests, common_steps}
 
 -- so do those of a list with nothing more
 pub one_moved : (cell : Owned → Cell) (xs ys : List Owned) → ((o : Owned) → In ys o → In xs o) → IsOneValued (said_by (map cell xs)) → IsOneValued (said_by (map cell ys))
-one_moved cell xs ys sub one x v w a b = one x v w (moved v a) (moved w b)
-  where
-    among : (c : Cell) → In (map cell ys) c → In (map cell xs) c
-    among c m = let r = map_in cell ys c m in subst (λ (d : Cell). In (map cell xs) d) r.2 (in_map cell xs r.0 (sub r.0 r.1))
-
-    moved : (u : ℕ) → Says (said_by (map cell ys)) x u → Says (said_by (map cell xs)) x u
-    moved u h = says_moved (λ (c : Cell). enumerate_from c.0 c.1) (map cell ys) (map cell xs) x u among h
+one_moved cell xs ys sub one x v w a b =
+    grind (arith, common_steps, map_in cell ys, in_map cell xs, says_moved (λ (c : Cell). enumerate_from c.0 c.1) (map cell ys) (map cell xs) x)
 
 mapped_says : {A B : Type 0} (f : A → B) (ps : List (ℕ × A)) (x : ℕ) (v : B) → Says (map (λ p. (p.0, f p.1)) ps) x v → (a : A) × Says ps x a × (f a ≡ v)
 mapped_says f [] x v h = absurd h

@@ -1,5 +1,5 @@
 -- Parts that are one disk again: what holds of each part holds of the whole.
-use Rattle.collective_round.proofs.Words.{cases_lt, ◌≡◌, ℕ, ◌+◌, ◌-◌, ◌^◌, ◌<◌, ◌≤◌, min, inl, inr, refl, sym, ◌∙◌, ap, subst, List, [], ◌∷◌, ◌++◌, length, take, drop, map, Option, Some, None, Result, Ok, Err, IsErrOf, append_assoc, arith, append-nil, length-append, length-take, get_or_append_left, get_or-append_right, take_all, flat_map-append, flat_map, zip, zip_weaker, IfSome, OnOk, AllZip, Extent, DiskCall, StepErr, Disk, HasDiskCause, Rose, after, joined, with_end, with_end-nil, BothTold, at, same_file, get_or_past, end_after, PartState, SomeZip, begin_or, parts_of, with_part, with_parts, Adjoin, AreSplit, Follow, IsSplit, nat_tests}
+use Rattle.collective_round.proofs.Words.{◌≡◌, ℕ, ◌+◌, ◌-◌, ◌^◌, ◌<◌, ◌≤◌, min, inl, inr, refl, sym, ◌∙◌, ap, subst, List, [], ◌∷◌, ◌++◌, length, take, drop, map, Option, Some, None, Result, Ok, Err, IsErrOf, append_assoc, arith, append-nil, length-take, flat_map-append, flat_map, zip, zip_weaker, IfSome, OnOk, AllZip, Extent, DiskCall, StepErr, Disk, HasDiskCause, Rose, after, joined, with_end, with_end-nil, BothTold, at, same_file, end_after, PartState, SomeZip, begin_or, parts_of, with_part, with_parts, Adjoin, AreSplit, Follow, IsSplit, nat_tests, common_steps}
 use Rattle.collective_round.proofs.PartSplits.{adjoin_dropped, end_dropped, joined_at_least, next_begin, take_both}
 use Rattle.collective_round.proofs.PartDomains.{as_many_parts, on_states, some_states}
 
@@ -11,21 +11,7 @@ pub record AreBytes (S : ℕ → ℕ → ℕ → Type 0) (base : ℕ) (old left 
   pub each : (y x : ℕ) → x ≡ base + y → y < length old → S x (at old y) (at left y)
 
 bytes_joined : (S : ℕ → ℕ → ℕ → Type 0) (a x b y : List ℕ) (n : ℕ) → length a ≡ n → AreBytes S 0 a x → AreBytes S n b y → AreBytes S 0 (a ++ b) (x ++ y)
-bytes_joined S a x b y n e h k = record {
-  len = omega (arith, length-append x y, length-append a b, h.len, k.len);
-  each = λ z p q l. (let same : z ≡ p = omega arith in subst (λ (r : ℕ). S r (at (a ++ b) z) (at (x ++ y) z)) same (elim (cases_lt z (length a)) [
-    | inl t ↦
-        let old : at a z ≡ at (a ++ b) z = sym (get_or_append_left a b 0 z t) in
-        let new : at x z ≡ at (x ++ y) z = sym (get_or_append_left x y 0 z (omega (arith, t, h.len))) in
-        subst (λ (p : ℕ × ℕ). S z p.0 p.1) (λ i. (old i, new i)) (h.each z z (omega arith) t)
-    | inr past ↦
-        let low : n ≤ z = omega arith in
-        let room : z - n < length b = omega (arith, length-append a b) in
-        let old : at b (z - n) ≡ at (a ++ b) z = sym (get_or-append_right a b n z 0 e low) in
-        let new : at y (z - n) ≡ at (x ++ y) z = sym (get_or-append_right x y n z 0 (h.len ∙ e) low) in
-        subst (λ (p : ℕ × ℕ). S z p.0 p.1) (λ i. (old i, new i)) (k.each (z - n) z (omega arith) room)
-  ]));
-}
+bytes_joined S a x b y n e h k = grind (arith, common_steps, at (a ++ b), at (x ++ y))
 
 -- the same of what a disk may tell: its front is unchanged
 told_front : (S : ℕ → ℕ → ℕ → Type 0) (n : ℕ) (held now : Option (List ℕ)) → ((x v : ℕ) → x < n → S x v v) → now ≡ after (take n) held
@@ -39,18 +25,12 @@ told_more : (S : ℕ → ℕ → ℕ → Type 0) (from to n : ℕ) (held front p
     → BothTold (λ file left. AreBytes S 0 (take to file) left) held (joined front part)
 told_more S from to n None front part order within long h k = ap (λ (o : Option (List ℕ)). joined o part) h
 told_more S from to n (Some file) front part order within long h k =
-    let whole : length file ≡ n = long in (
-      h.0 ++ k.0,
-      λ i. joined (h.1 i) (k.1 i),
-      subst (λ (bytes : List ℕ). AreBytes S 0 bytes (h.0 ++ k.0)) (take_both from to file order)
-          (bytes_joined S (take from file) h.0 (take (to - from) (drop from file)) k.0 from (omega (arith, length-take from file)) h.2 k.2),
-    )
+    grind (arith, common_steps, take_both from to file order, bytes_joined S (take from file) h.0 (take (to - from) (drop from file)) k.0 from)
 
 told_all : (S : ℕ → ℕ → ℕ → Type 0) (n : ℕ) (held now : Option (List ℕ)) → IfSome held (λ file. length file ≡ n)
     → BothTold (λ file left. AreBytes S 0 (take n file) left) held now → BothTold (AreBytes S 0) held now
 told_all S n None now long h = h
-told_all S n (Some file) now long h =
-    (h.0, h.1, subst (λ (bytes : List ℕ). AreBytes S 0 bytes h.0) (take_all n file (omega arith)) h.2)
+told_all S n (Some file) now long h = grind (arith, common_steps)
 
 -- bytes that are the old ones
 abbrev pub IsOld : ℕ → ℕ → ℕ → Type 0
@@ -61,10 +41,7 @@ told_kept base held now e = grind (arith, nat_tests)
 
 pub kept_told : (held now : Option (List ℕ)) → BothTold (AreBytes IsOld 0) held now → now ≡ held
 kept_told None now h = h
-kept_told (Some file) now h = h.1 ∙ ap Some (same_file h.0 file h.2.len (λ x. elim (cases_lt x (length file)) [
-  | inl l ↦ h.2.each x x (omega arith) l
-  | inr l ↦ get_or_past h.0 x 0 (omega (arith, h.2.len)) ∙ sym (get_or_past file x 0 l)
-]))
+kept_told (Some file) now h = grind (arith, common_steps, same_file h.0 file h.2.len)
 
 -- ---- the parts of a disk, one after another
 
@@ -132,13 +109,8 @@ module _ (disk : PartState) where
 -- what was split off so far, of which the domains are the last ones
 pub split_from : {D T E : Type 0} (state : D → PartState) (disk front : PartState) (domains : List Extent) (parts : List D) (states : List PartState) (end : Result T E) → disk.from ≡ 0 → Adjoin domains
     → end_after 0 domains ≤ disk.len → (s : IsSplit domains disk front states end) → map state parts ≡ states → AreSplit state disk front (drop s.at domains) parts
-split_from state disk front domains parts states end begin line room s are = record {
-  begin = begin;
-  line = adjoin_dropped s.at domains line;
-  room = end_dropped s.at domains 0 disk.len room;
-  front_is = s.front;
-  parts_are = are ∙ s.parts_are;
-}
+split_from state disk front domains parts states end begin line room s are =
+    grind (arith, common_steps, adjoin_dropped s.at domains line, end_dropped s.at domains 0 disk.len room)
 
 -- the parts fail only where a count rose
 pub all_cause : {D T : Type 0} (state : D → PartState) (disk front new : PartState) (domains : List Extent) (parts news : List D) (end : Result T StepErr) → AreSplit state disk front domains parts
@@ -152,8 +124,7 @@ module _ {D : Type 0} (state : D → PartState) (disk front : PartState) (domain
   of_each : (R : Extent → PartState → PartState → Type 0) → ((d : Extent) (p new : PartState) → Q d p new → R d p new) → OfEach disk domains R (map state news)
   of_each R f =
       subst (λ (ps : List PartState). AllZip (λ p new. R p.1 p.0 new) (zip ps domains) (map state news)) s.parts_are
-      (on_states state (λ p d new. R d p new) parts domains news
-      (zip_weaker (λ p new. Q p.1 (state p.0) (state new)) (λ p new. R p.1 (state p.0) (state new)) (zip parts domains) news (λ p new q. f p.1 (state p.0) (state new) q) did))
+      (grind (arith, common_steps, on_states state (λ p d new. R d p new) parts domains news, zip_weaker (λ p new. Q p.1 (state p.0) (state new)) (λ p new. R p.1 (state p.0) (state new)) (zip parts domains) news (λ p new q. f p.1 (state p.0) (state new) q) did))
 
   -- the parts follow the front, as taking them back requires
   pub all_follow : ((d : Extent) (p new : PartState) → Q d p new → IsInPlace p new) → Follow (front.from + front.len) (map state news)

@@ -1,5 +1,5 @@
 -- A disk that is split from the last domain on, and taken back.
-use Rattle.collective_round.proofs.Words.{◌≡◌, ℕ, zero, suc, ◌+◌, ◌-◌, ◌^◌, ◌<◌, ◌≤◌, ◌∙◌, ap, subst, List, [], ◌∷◌, ◌++◌, length, take, drop, get_or, map, Err, arith, drop-take, drop_more, reverse-append, take-append-drop, take-take, reverse, IsErrOf, Extent, both_faults, after, joined, end_after, PartState, begin_or, part_between, with_part, with_parts, Adjoin, Follow, IsFront, nat_tests}
+use Rattle.collective_round.proofs.Words.{◌≡◌, ℕ, zero, suc, ◌+◌, ◌-◌, ◌^◌, ◌<◌, ◌≤◌, ◌∙◌, ap, subst, List, [], ◌∷◌, ◌++◌, length, take, drop, get_or, map, Err, arith, drop-take, drop_more, reverse-append, take-append-drop, take-take, reverse, IsErrOf, Extent, both_faults, after, joined, end_after, PartState, begin_or, part_between, with_part, with_parts, Adjoin, Follow, IsFront, nat_tests, common_steps}
 use Rattle.collective_round.proofs.DomainCuts.{end_grows}
 use Rattle.collective_round.proofs.PutLaws.{held_two}
 
@@ -33,16 +33,12 @@ take_both a b file l = grind (arith, nat_tests, cut_between a b file l, take-tak
 pub front_more : (disk mid new : PartState) (d : Extent) (rest : List Extent) → disk.from ≡ 0 → Adjoin (d ∷ rest) → end_after 0 (d ∷ rest) ≤ disk.len → IsFront rest disk mid
     → new.from ≡ mid.from → new.len ≡ d.at - mid.from → new.held ≡ after (take (d.at - mid.from)) mid.held → new.calls ≡ mid.calls → IsFront (d ∷ rest) disk new
 front_more disk mid new d rest whole line room f from len held calls =
-    let next = next_begin d rest 0 disk.len line room in
-    let first : d.at - mid.from ≡ d.at = omega arith in
-    let order : d.at ≤ begin_or disk.len rest = omega arith in
-    record {
-      from = from ∙ f.from;
-      len = len ∙ first;
-      held = held_two disk.held mid.held new.held (take (begin_or disk.len rest)) (take (d.at - mid.from)) (take d.at) f.held held
-          (λ file. ap (λ (n : ℕ). take n (take (begin_or disk.len rest) file)) first ∙ take-take d.at (begin_or disk.len rest) file order);
-      calls = calls ∙ f.calls;
-    }
+    grind (
+      arith,
+      common_steps,
+      next_begin d rest 0 disk.len line room,
+      held_two disk.held mid.held new.held (take (begin_or disk.len rest)) (take (d.at - mid.from)) (take d.at) f.held held,
+    )
 
 pub part_split : (disk mid part : PartState) (d : Extent) (rest : List Extent) → disk.from ≡ 0 → Adjoin (d ∷ rest) → end_after 0 (d ∷ rest) ≤ disk.len → IsFront rest disk mid
     → part.from ≡ d.at → part.len ≡ mid.from + mid.len - d.at → part.held ≡ after (drop (d.at - mid.from)) mid.held → part.calls ≡ after (λ _. []) mid.calls → part.faults ≡ 0

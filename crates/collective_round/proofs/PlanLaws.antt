@@ -1,5 +1,5 @@
 -- The entries of puts or gets and their cover are a plan of what is to be done.
-use Rattle.collective_round.proofs.Words.{◌≡◌, ℕ, ◌+◌, ◌<◌, ◌≤◌, refl, List, length, Option, Some, None, arith, slice_get, get_is, Header, Batch, Extent, Owned, bytes_of_post, Source, HaveSame, ranges, AreFound, IsCover, spans, in_map, IsGetPlan, ArePieces, IsPlan, Puts, source_of, AreLaid, AreSorted, nat_tests}
+use Rattle.collective_round.proofs.Words.{◌≡◌, ℕ, ◌+◌, ◌<◌, ◌≤◌, refl, List, length, Option, Some, None, arith, slice_get, get_is, Header, Batch, Extent, Owned, bytes_of_post, Source, HaveSame, ranges, AreFound, IsCover, spans, in_map, IsGetPlan, ArePieces, IsPlan, Puts, source_of, AreLaid, AreSorted, nat_tests, common_steps}
 use Rattle.exchange_crew.specs.Turns as turns
 use Rattle.collective_round.proofs.LaidLaws.{found_at}
 use Rattle.collective_round.proofs.PutLaws.{cover_ends}
@@ -9,11 +9,7 @@ pub same_source : (batches : List Batch) → source_of 0 batches ≡ turns.sourc
 same_source batches = grind (arith, nat_tests)
 
 are_pieces : (source : Source) (list : List Owned) → AreFound source list → AreSorted list → ArePieces source list
-are_pieces source list found sorted o m = record {
-  some = sorted.filled o m;
-  ends = sorted.ends o.extent (in_map (λ (q : Owned). q.extent) list o m);
-  found = found_at source list o found m;
-}
+are_pieces source list found sorted o m = grind (arith, common_steps, in_map (λ (q : Owned). q.extent) list o m, found_at source list o found m)
 
 -- a rank that has a byte is one of those with a batch
 rank_below : (batches : List Batch) (rank slot n : ℕ) → 1 ≤ n → n ≤ length (turns.source_of batches rank slot) → rank < length batches

@@ -1,5 +1,5 @@
 -- Puts on the parts of a disk, which are joined again.
-use Rattle.collective_round.proofs.Words.{cases_lt, ◌≡◌, ℕ, ◌+◌, ◌-◌, ◌<◌, inl, inr, refl, sym, ◌∙◌, ap, subst, ◌⊎◌, List, length, map, Option, Some, None, Result, arith, get_or_past, flat_map, zip, IfSome, OnOk, AllZip, on_ok_weaker, Extent, Owned, DiskCall, AreFilled, entries_within, after, with_end, BothTold, told_as, at, byte_or, cells_said, said_at, said_by, Cell, write_cells, moved_down, IsFrom, IsWithin, store_calls, IsBetween, cell_of, Source, same_file, moved_said, none_below, clips, clips_in, cells_long, within_lowered, clips_within, clips_from, HasPut, PartState, Told, begin_or, with_parts, nat_tests, AreOn, AreSplit}
+use Rattle.collective_round.proofs.Words.{◌≡◌, ℕ, ◌+◌, ◌-◌, ◌<◌, inl, refl, sym, ◌∙◌, ap, subst, ◌⊎◌, List, length, map, Option, Some, None, Result, arith, flat_map, zip, IfSome, OnOk, AllZip, on_ok_weaker, Extent, Owned, AreFilled, entries_within, after, with_end, BothTold, told_as, at, byte_or, cells_said, said_at, said_by, Cell, write_cells, moved_down, IsFrom, IsWithin, store_calls, IsBetween, cell_of, Source, same_file, moved_said, none_below, clips, clips_in, cells_long, within_lowered, clips_within, clips_from, HasPut, PartState, Told, begin_or, with_parts, nat_tests, AreOn, AreSplit, common_steps}
 use Rattle.collective_round.proofs.PartDomains.{cells_behind}
 use Rattle.collective_round.proofs.PartLaws.{IsInPlace, AreBytes, all_calls, all_place, all_told, fine, flat_flat}
 
@@ -36,22 +36,11 @@ module _ (cells : List Cell) where
   put_whole n None now within long h = h
   put_whole n (Some file) now within long h =
       let many = cells_long cells file (subst (λ (k : ℕ). IsWithin cells k) (sym long) within) in
-      h.1 ∙ ap Some (same_file h.0 (write_cells file cells) (h.2.len ∙ sym many) (λ x. elim (cases_lt x (length file)) [
-        | inl l ↦ h.2.each x x (omega arith) l ∙ sym (cells_said cells file x)
-        | inr l ↦ get_or_past h.0 x 0 (omega (arith, h.2.len)) ∙ sym (get_or_past (write_cells file cells) x 0 (omega arith))
-      ]))
+      grind (arith, common_steps, same_file h.0 (write_cells file cells) (h.2.len ∙ sym many), cells_said cells file)
 
   between_whole : (held now : Option (List ℕ)) → BothTold (AreBytes IsEither 0) held now → BothTold (λ file left. IsBetween file (write_cells file cells) left) held now
   between_whole held now b =
-      told_as (AreBytes IsEither 0) (λ file left. IsBetween file (write_cells file cells) left) held now
-      (λ file left h. record {
-        len = h.len;
-        each = λ x. elim (cases_lt x (length file)) [
-          | inl l ↦ elim (h.each x x (omega arith) l) [ inl k ↦ inl k | inr k ↦ inr (k ∙ sym (cells_said cells file x)) ]
-          | inr l ↦ inl (get_or_past left x 0 (omega (arith, h.len)) ∙ sym (get_or_past file x 0 l))
-        ];
-      })
-      b
+      grind (arith, common_steps, told_as (AreBytes IsEither 0) (λ file left. IsBetween file (write_cells file cells) left) held now, cells_said cells)
 
 -- ---- puts
 
@@ -75,8 +64,7 @@ parts_put {D} {T} {E} state source list turns cover disk front new domains parts
       between = between_whole cells disk.held _
           (all_told state disk front domains parts s Put news put fine (IsEither cells) long (λ x v l. inl refl)
           (λ d p now h. told_between cells p.from p.held now.held h.between));
-      device = on_ok_weaker end (λ e. e ∙ ap (λ (c : List DiskCall). with_end disk.calls c) (sym (flat_flat store_calls turns domains)))
-          (all_calls state disk front domains parts s Put news put end (λ d. flat_map store_calls (turns d)) (λ d p now h. h.device));
+      device = grind (arith, common_steps, flat_flat store_calls turns domains, all_calls state disk front domains parts s Put news put end (λ d. flat_map store_calls (turns d)) (λ d p now h. h.device));
     })
   where
     cells : List Cell
