@@ -1,5 +1,5 @@
 -- The entries of one window, which are collected from its buffer one after another.
-use Rattle.data_sieving.proofs.Words.{◌≡◌, ℕ, ◌+◌, ◌-◌, ◌<◌, ◌≤◌, sym, ◌∙◌, subst, List, [], ◌∷◌, ◌++◌, length, take, drop, get_or, set, Option, Some, None, arith, fold-append, map-append, length-take, length-set, take_more, get_or-set_same, get_or-set_other, IfSome, length-written_inside, Owned, Window, read, written, write_cells, of_slot, FitBlobs, HaveOnePlace, AreAsLong, LieOn, blob_at, part_in, buffer_cell, IsPast, IsNext, HasGotPart, filter-append, buffer_cells, nat_tests, eqb-true, eqb-false, map}
+use Rattle.data_sieving.proofs.Words.{◌≡◌, ℕ, ◌+◌, ◌-◌, ◌<◌, ◌≤◌, sym, ◌∙◌, subst, List, ◌++◌, length, take, drop, get_or, set, Option, arith, fold-append, map-append, length-take, length-set, take_more, get_or-set_same, get_or-set_other, IfSome, length-written_inside, Owned, Window, read, written, write_cells, of_slot, FitBlobs, HaveOnePlace, AreAsLong, LieOn, blob_at, part_in, buffer_cell, IsPast, IsNext, HasGotPart, filter-append, buffer_cells, nat_tests, eqb-true, eqb-false, map, common_steps}
 use Rattle.data_sieving.proofs.GetSteps.{got_step}
 
 -- ---- one entry more
@@ -10,13 +10,6 @@ as_long_twice old mid now h k = (k.0 ∙ h.0, (λ j. k.1 j ∙ h.1 j))
 pub fit_as_long : (old now : List (List ℕ)) (list : List Owned) → AreAsLong old now → FitBlobs old list → FitBlobs now list
 fit_as_long old now list h fit o m = subst (λ (n : ℕ). o.from + o.extent.len ≤ n) (sym (h.1 o.slot)) (fit o m)
 
-buffer_fits : (lo hi : ℕ) (buf : List ℕ) (o : Owned) (n : ℕ) → o.from + o.extent.len ≤ n → (buffer_cell lo hi buf o).0 + length (buffer_cell lo hi buf o).1 ≤ n
-buffer_fits lo hi buf o n h = omega (arith, length-take (part_in lo hi o).extent.len (drop ((part_in lo hi o).extent.at - lo) buf))
-
-one_slot : (k : ℕ) (list : List Owned) (i : ℕ) (o d : Owned) → i < length list → o ≡ get_or list i d
-    → of_slot k (take (i + 1) list) ≡ of_slot k (take i list) ++ of_slot k (o ∷ [])
-one_slot k list i o d l e = grind (arith, nat_tests, take_more list i d l, filter-append)
-
 pub collected_more : (lo hi : ℕ) (buf : List ℕ) (old mid now : List (List ℕ)) (list : List Owned) (i : ℕ) (o d : Owned) → i < length list → o ≡ get_or list i d
     → o.slot < length mid → now ≡ set mid o.slot (written (blob_at mid o.slot) (buffer_cell lo hi buf o).0 (buffer_cell lo hi buf o).1)
     → ((k : ℕ) → blob_at mid k ≡ write_cells (blob_at old k) (map (λ q. buffer_cell lo hi buf q) (of_slot k (take i list))))
@@ -25,7 +18,8 @@ collected_more lo hi buf old mid now list i o d l e room is h k =
     grind (
       arith,
       nat_tests,
-      one_slot k list i o d l e,
+      take_more list i d l,
+      filter-append,
       set mid o.slot (written (blob_at mid o.slot) (buffer_cell lo hi buf o).0 (buffer_cell lo hi buf o).1),
       fold-append,
       map-append,
@@ -38,7 +32,7 @@ collected_more lo hi buf old mid now list i o d l e room is h k =
 pub collected_long : (lo hi : ℕ) (buf : List ℕ) (mid now : List (List ℕ)) (o : Owned) → o.slot < length mid → o.from + o.extent.len ≤ length (blob_at mid o.slot)
     → now ≡ set mid o.slot (written (blob_at mid o.slot) (buffer_cell lo hi buf o).0 (buffer_cell lo hi buf o).1) → AreAsLong mid now
 collected_long lo hi buf mid now o room fit is =
-    grind (arith, nat_tests, length-set, eqb-true, set, get_or-set_same, length-written_inside, buffer_fits, eqb-false, get_or-set_other)
+    grind (arith, nat_tests, length-set, eqb-true, set, get_or-set_same, length-written_inside, length-take (part_in lo hi o).extent.len (drop ((part_in lo hi o).extent.at - lo) buf), eqb-false, get_or-set_other)
 
 -- entries of two lists, one after another
 pub collected_twice : (lo hi : ℕ) (buf : List ℕ) (a b : List Owned) (old mid now : List (List ℕ)) (k : ℕ)
@@ -61,8 +55,7 @@ module _ {left : List Owned} {place size : ℕ} {w : Window} {served : List Owne
   pub got_more : (held here : Option (List ℕ)) (base there n : ℕ) (list : List Owned) (old mid now : List (List ℕ)) → here ≡ held → there ≡ base → LieOn base n list → HaveOnePlace list
       → FitBlobs old list → IsPast place list left → IfSome held (λ file. HasGotPart (0, place) base file list old mid)
       → IfSome here (λ file. HasGotPart (w.hull.at, w.hull.at + w.hull.len) there file served mid now) → IfSome held (λ file. HasGotPart (0, stop) base file list old now)
-  got_more None here base there n list old mid now same begin on once fit p got read = tt
-  got_more (Some file) here base there n list old mid now same begin on once fit p got read =
-      got_step base file list (λ o m. (on o m).0) p k old mid now once fit got
-      (subst (λ (b : ℕ). HasGotPart (w.hull.at, w.hull.at + w.hull.len) b file served mid now) begin
-      (subst (λ (m : Option (List ℕ)). IfSome m (λ file. HasGotPart (w.hull.at, w.hull.at + w.hull.len) there file served mid now)) same read))
+  got_more held here base there n list old mid now same begin on once fit p got read =
+      let step : (file : List ℕ) → HasGotPart (0, place) base file list old mid → HasGotPart (w.hull.at, w.hull.at + w.hull.len) base file served mid now
+      → HasGotPart (0, stop) base file list old now = λ file. got_step base file list (λ o m. (on o m).0) p k old mid now once fit in
+      grind (arith, common_steps, step)

@@ -1,5 +1,5 @@
 -- The bytes that entries have from a place on.
-use Rattle.data_sieving.proofs.Words.{◌≡◌, ℕ, ◌≤◌, inl, refl, ap, List, [], ◌∷◌, arith, nat_le, leb-true, in_filter, filter_in, Owned, in_order, In, ranges, IsAscending, filter_ascends, in_in_order, in_order_in, in_order_ascends, first_least, same_ascending, IsCovered, in_ranges, ranges_in, bytes_from, nat_tests}
+use Rattle.data_sieving.proofs.Words.{◌≡◌, ℕ, ◌≤◌, inl, refl, List, [], ◌∷◌, arith, nat_le, leb-true, in_filter, filter_in, Owned, in_order, In, ranges, IsAscending, filter_ascends, in_in_order, in_order_in, in_order_ascends, first_least, same_ascending, IsCovered, in_ranges, ranges_in, bytes_from, nat_tests}
 
 pub byte_from : (place : ℕ) (list : List Owned) (x : ℕ) → place ≤ x → IsCovered list x → In (bytes_from place list) x
 byte_from place list x h c = grind (arith, nat_tests, in_filter, in_order, in_in_order, in_ranges, bytes_from)
@@ -20,8 +20,4 @@ same_bytes place a b there back =
 -- numbers in order with a least one begin with it
 pub begins : (xs : List ℕ) (a : ℕ) → IsAscending xs → In xs a → ((x : ℕ) → In xs x → a ≤ x) → (ys : List ℕ) × (xs ≡ a ∷ ys)
 begins [] a h k l = absurd k
-begins (y ∷ ys) a h k l =
-    let low = first_least (y ∷ ys) a h k in
-    let high = l y (inl refl) in
-    let same : y ≡ a = omega arith in
-    (ys, ap (λ (z : ℕ). z ∷ ys) same)
+begins (y ∷ ys) a h k l = (ys, grind (arith, nat_tests, first_least (y ∷ ys) a h k, l y (inl refl)))

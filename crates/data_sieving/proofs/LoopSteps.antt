@@ -1,7 +1,7 @@
 -- One window of a loop over all windows.
-use Rattle.data_sieving.proofs.Words.{Bool, ◌≡◌, ℕ, ◌+◌, ◌^◌, ◌≤◌, ◌∙◌, ap, subst, List, [], ◌++◌, length, Option, Some, None, arith, IfSome, flat_map, at_in, In, Owned, Post, DiskCall, Window, after, with_end, BothTold, overlays, write_cells, moved_down, told_of, clips, extents, IsByPlace, EndBelow, IsBetween, IsBegun, store_calls, told_window, source_of, AreFilled, put_cells, entry_windows, LieOn, IsPast, AreLeft, LieAcross, IsNext, HasDone, windows_from, entries_from, entries_within, nat_tests, with_end-with_end, append_assoc}
+use Rattle.data_sieving.proofs.Words.{Bool, ◌≡◌, ℕ, ◌+◌, ◌^◌, ◌≤◌, subst, List, [], length, Option, arith, IfSome, flat_map, at_in, In, Owned, Post, DiskCall, Window, after, with_end, BothTold, overlays, write_cells, moved_down, told_of, clips, extents, IsByPlace, EndBelow, IsBetween, IsBegun, store_calls, told_window, source_of, AreFilled, put_cells, entry_windows, LieOn, IsPast, AreLeft, LieAcross, IsNext, HasDone, windows_from, entries_from, entries_within, nat_tests, with_end-with_end, append_assoc, common_steps, no_calls}
 use Rattle.data_sieving.proofs.WindowSteps.{window_bytes, next_told, windows_next, all_windows, no_window}
-use Rattle.data_sieving.proofs.CallSteps.{none_done, all_done, done_begun}
+use Rattle.data_sieving.proofs.CallSteps.{done_begun}
 use Rattle.data_sieving.proofs.PutSteps.{AreCells, file_to, file_step, to_begin, to_end, mixed_to, held_refused}
 use Rattle.data_sieving.proofs.ReachSteps.{hull_low, hull_high}
 
@@ -19,7 +19,7 @@ walk_ready list left size all sorted ends filled some =
 
 pub calls_begin : (f : List ℕ → List DiskCall) (size : ℕ) (list : List Owned) (old : Option (List DiskCall))
     → HasDone (flat_map f (entry_windows size list)) (flat_map f (windows_from size 0 list)) old old
-calls_begin f size list old = grind (arith, nat_tests, none_done, all_windows, flat_map, entry_windows, windows_from)
+calls_begin f size list old = record { done = []; told = no_calls old; whole = grind (arith, nat_tests, all_windows) }
 
 module _ {left : List Owned} {place size : ℕ} {w : Window} {served : List Owned} {stop : ℕ} (list : List Owned) (p : IsPast place list left) (l : AreLeft left place size)
     (n : IsNext left place size w served stop) where
@@ -31,13 +31,11 @@ module _ {left : List Owned} {place size : ℕ} {w : Window} {served : List Owne
       → HasDone plan (flat_map overlays (windows_from size place list)) old mid → IsBegun plan old now
   stores_begun plan old mid now b h =
       done_begun plan (store_calls (told_window w)) (flat_map overlays (windows_from size stop list)) old mid now
-      (subst (λ (c : List DiskCall). HasDone plan (c ++ flat_map overlays (windows_from size stop list)) old mid) (ap store_calls (next_told l n))
-      (subst (λ (ws : List (List ℕ)). HasDone plan (flat_map overlays ws) old mid) (windows_next list l n p) h)) b
+      (grind (arith, common_steps, next_told l n, windows_next list l n p)) b
 
 pub calls_end : (f : List ℕ → List DiskCall) (size place : ℕ) (list left : List Owned) (plan : List DiskCall) (old now : Option (List DiskCall)) → left ≡ []
     → IsPast place list left → HasDone plan (flat_map f (windows_from size place list)) old now → now ≡ with_end old plan
-calls_end f size place list left plan old now none p h =
-    all_done plan (flat_map f (windows_from size place list)) old now (ap (λ (ws : List (List ℕ)). flat_map f ws) (no_window size place list left none p)) h
+calls_end f size place list left plan old now none p h = grind (arith, nat_tests, no_window, with_end, flat_map, common_steps)
 
 -- ---- the bytes of puts
 
@@ -66,14 +64,12 @@ module _ (posts : List Post) (list : List Owned) {left : List Owned} {place size
   pub put_refused : (held mid now : Option (List ℕ)) → IfSome held (λ b. length b ≡ n) → mid ≡ after (λ file. file_to base place (put_cells posts list) file) held
       → BothTold (λ old left. IsBetween old (over here old) left) mid now → BothTold (λ old left. IsBetween old (write_cells old (moved_down base (put_cells posts list))) left) held now
   put_refused held mid now told e f =
-      held_refused held mid now n (upto place) (over base) (upto stop) (λ file. write_cells file (moved_down base (put_cells posts list))) told step
-      (λ file long. mixed_to base place n (put_cells posts list) file (are_cells posts list base n on) long)
-      (λ file long. mixed_to base stop n (put_cells posts list) file (are_cells posts list base n on) long)
+      let mixed : (at : ℕ) (file : List ℕ) → length file ≡ n → IsBetween file (write_cells file (moved_down base (put_cells posts list))) (upto at file) = λ at file.
+      mixed_to base at n (put_cells posts list) file (are_cells posts list base n on) in
+      held_refused held mid now n (upto place) (over base) (upto stop) (λ file. write_cells file (moved_down base (put_cells posts list))) told step (mixed place) (mixed stop)
       e (subst (λ (b : ℕ). BothTold (λ old left. IsBetween old (over b old) left) mid now) same f)
 
 pub put_end : (held now : Option (List ℕ)) (posts : List Post) (list left : List Owned) (place base n : ℕ) → IfSome held (λ b. length b ≡ n) → LieOn base n list
     → left ≡ [] → IsPast place list left → now ≡ after (λ file. file_to base place (put_cells posts list) file) held
     → now ≡ after (λ file. write_cells file (moved_down base (put_cells posts list))) held
-put_end None now posts list left place base n told on none p e = e
-put_end (Some file) now posts list left place base n told on none p e =
-    e ∙ ap Some (to_end (source_of posts) list left base place n file (are_cells posts list base n on) told none p)
+put_end held now posts list left place base n told on none p e = grind (arith, nat_tests, to_end (source_of posts) list left base place n, are_cells posts list base n on)

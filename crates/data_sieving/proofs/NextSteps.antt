@@ -1,5 +1,5 @@
 -- The next window of what is left.
-use Rattle.data_sieving.proofs.Words.{◌≡◌, ℕ, ◌+◌, ◌-◌, ◌^◌, ◌<◌, ◌≤◌, ◌⊎◌, inl, refl, subst, List, [], ◌∷◌, ◌++◌, length, max, min, Some, slice_get, arith, same_Some, at_in, Owned, In, Window, IsPast, BeginBefore, AreLeft, LieAcross, IsHull, IsNext, past_in, past_extents, past_sorted, front_all, first_begins, first_joined, in_extents, nat_tests}
+use Rattle.data_sieving.proofs.Words.{◌≡◌, ℕ, ◌+◌, ◌-◌, ◌^◌, ◌<◌, ◌≤◌, ◌⊎◌, List, [], ◌∷◌, ◌++◌, length, max, min, Some, slice_get, arith, same_Some, at_in, Owned, In, Window, IsPast, BeginBefore, AreLeft, LieAcross, IsHull, IsNext, past_in, past_extents, past_sorted, front_all, first_begins, first_joined, in_extents, nat_tests}
 
 module _ {left : List Owned} {place size : ℕ} (l : AreLeft left place size) (at : ℕ) (first : Owned) (e : slice_get left 0 ≡ Some first) (is : at ≡ max first.extent.at place) where
   -- the first byte that is not served lies in the first entry
@@ -26,10 +26,7 @@ some_served left (o ∷ served) at stop first e begin room b = omega arith
 pub carried_at : (carried ahead : List Owned) (place at : ℕ) (first o : Owned) → LieAcross place carried → slice_get (carried ++ ahead) 0 ≡ Some first
     → at ≡ max first.extent.at place → In carried o → (o.extent.at ≤ at) × (at < o.extent.at + o.extent.len)
 carried_at [] ahead place at first o h e is m = absurd m
-carried_at (p ∷ carried) ahead place at first o h e is m =
-    let low : first.extent.at < place = subst (λ (q : Owned). q.extent.at < place) (same_Some p first e) (h p (inl refl)).0 in
-    let r = h o m in
-    grind (arith, nat_tests, r.0, r.1)
+carried_at (p ∷ carried) ahead place at first o h e is m = grind (arith, nat_tests, h p, h o m, same_Some p first e)
 
 -- what is known of the next window before its hull is, the carried entries being those of a list
 pub record Ready (carried ahead fresh : List Owned) (place size at stop : ℕ) (first : Owned) : Type 0 where

@@ -1,25 +1,13 @@
 -- Entries that are written window by window.
-use Rattle.data_sieving.proofs.Words.{◌≡◌, ℕ, ◌+◌, ◌-◌, ◌<◌, ◌≤◌, ◌⊎◌, inl, inr, refl, sym, ◌∙◌, ap, subst, List, [], ◌∷◌, ◌++◌, length, max, Option, Some, None, arith, fold-append, map-append, length-take, length-drop, nat_lt, nat_le, ◌&&◌, cond, first_counts, IfSome, option_or, from_less, cells_said, second_counts, Owned, Window, after, BothTold, at, written, Cell, said_at, said_by, write_cells, IsFrom, IsWithin, moved_down, clips, In, Source, IsBetween, cells_long, same_said, moved_said, within_lowered, within_more, append_within, none_below, none_past, clips_within, clips_from, clips_in, said_joined, IsPast, IsNext, past_covered, front_covered, entry_cells, entries_two, unsaid, nat_tests}
+use Rattle.data_sieving.proofs.Words.{◌≡◌, ℕ, ◌+◌, ◌-◌, ◌<◌, ◌≤◌, inl, inr, sym, ◌∙◌, ap, subst, List, [], ◌∷◌, ◌++◌, length, max, Option, Some, None, arith, length-take, length-drop, nat_lt, nat_le, ◌&&◌, cond, first_counts, IfSome, option_or, from_less, cells_said, second_counts, Owned, Window, after, BothTold, at, written, Cell, said_at, said_by, write_cells, IsFrom, IsWithin, moved_down, clips, Source, IsBetween, cells_long, same_said, moved_said, within_lowered, within_more, append_within, none_below, none_past, clips_within, clips_from, clips_in, said_joined, IsPast, IsNext, past_covered, front_covered, entry_cells, entries_two, unsaid, nat_tests, common_steps, none_last}
 
 -- ---- entries laid
-
-pub or_none : (o : Option ℕ) → option_or o None ≡ o
-or_none o = grind (arith, nat_tests)
 
 -- entries of two lists, one after another
 pub laid_twice : (source : Source) (lo hi : ℕ) (a b : List Owned) (old mid now : List ℕ)
     → mid ≡ write_cells old (moved_down lo (clips lo hi (entry_cells source a))) → now ≡ write_cells mid (moved_down lo (clips lo hi (entry_cells source b)))
     → now ≡ write_cells old (moved_down lo (clips lo hi (entry_cells source (a ++ b))))
-laid_twice source lo hi a b old mid now h g =
-    g
-    ∙ ap (λ (m : List ℕ). write_cells m (moved_down lo (clips lo hi (entry_cells source b)))) h
-    ∙ sym (fold-append (λ f cell. written f cell.0 cell.1) old (moved_down lo (clips lo hi (entry_cells source a))) (moved_down lo (clips lo hi (entry_cells source b))))
-    ∙ ap (λ (cells : List Cell). write_cells old cells) (joined a)
-  where
-    joined : (os : List Owned)
-        → moved_down lo (clips lo hi (entry_cells source os)) ++ moved_down lo (clips lo hi (entry_cells source b)) ≡ moved_down lo (clips lo hi (entry_cells source (os ++ b)))
-    joined [] = refl
-    joined (o ∷ os) = ap (λ (cells : List Cell). moved_down lo (clips lo hi (entry_cells source (o ∷ []))) ++ cells) (joined os)
+laid_twice source lo hi a b old mid now h g = grind (arith, common_steps, written)
 
 -- ---- where cells lie
 
@@ -43,13 +31,7 @@ past_said : (source : Source) (place : ℕ) (whole left : List Owned) (x : ℕ) 
 past_said source place [] left x l h = ap (λ (os : List Owned). said_at (said_by (entry_cells source os)) x) (sym h)
 past_said source place (o ∷ whole) left x l (inl h) =
     entries_two source (o ∷ []) whole x
-    ∙ ap (λ (s : Option ℕ). option_or (said_at (said_by (entry_cells source whole)) x) s)
-    (unsaid source (o ∷ []) x (λ c. elim c.inside [
-      | inl e ↦ (let end : c.by.extent.at + c.by.extent.len ≤ place = subst (λ (q : Owned). q.extent.at + q.extent.len ≤ place) e h.0 in let k = c.high in absurd (omega arith))
-      | inr m ↦ absurd m
-    ]))
-    ∙ or_none (said_at (said_by (entry_cells source whole)) x)
-    ∙ past_said source place whole left x l h.1
+    ∙ grind (arith, common_steps, unsaid source (o ∷ []) x, past_said source place whole left x l h.1, none_last (said_at (said_by (entry_cells source whole)) x))
 past_said source place (o ∷ whole) left x l (inr h) =
     grind (arith, nat_tests, past_said source place whole h.0 x l h.2, entries_two source (o ∷ []) whole x, entries_two source (o ∷ []) h.0 x)
 
@@ -62,7 +44,7 @@ clips_say lo hi cells x l =
 parts_say : (s t : Option ℕ) (x base place low high stop : ℕ) → base ≤ x → base ≤ low → place ≤ low → low ≤ high → high ≤ stop → (place ≤ x → x < stop → s ≡ t)
     → (place ≤ x → x < low → s ≡ None) → (high ≤ x → x < stop → s ≡ None)
     → option_or (cond (nat_le low x && nat_lt x high) t None) (cond (nat_le base x && nat_lt x (max base place)) s None) ≡ cond (nat_le base x && nat_lt x (max base stop)) s None
-parts_say s t x base place low high stop h b l m u both least each = grind (arith, nat_tests, or_none, first_counts)
+parts_say s t x base place low high stop h b l m u both least each = grind (arith, nat_tests, none_last, first_counts)
 
 -- ---- the file
 
@@ -77,9 +59,6 @@ file_to base place cells file = write_cells file (moved_down base (clips base (m
 
 to_within : (base place n : ℕ) (cells : List Cell) → AreCells base n cells → IsWithin (moved_down base (clips base (max base place) cells)) n
 to_within base place n cells a = grind (arith, nat_tests, within_lowered, clips_from, clips_fit)
-
-to_long : (base place n : ℕ) (cells : List Cell) (file : List ℕ) → AreCells base n cells → length file ≡ n → length (file_to base place cells file) ≡ length file
-to_long base place n cells file a e = grind (arith, nat_tests, cells_long, to_within)
 
 -- one window more
 module _ (source : Source) (list : List Owned) {left : List Owned} {place size : ℕ} {w : Window} {served : List Owned} {stop : ℕ} (p : IsPast place list left)
@@ -96,7 +75,6 @@ module _ (source : Source) (list : List Owned) {left : List Owned} {place size :
   -- the parts of the entries up to a window, and in it, say what their parts up to its end say
   step_said : (base x : ℕ) → base ≤ w.hull.at → base ≤ x → said_at (said_by (clips base (max base place) cells ++ here)) x ≡ said_at (said_by (clips base (max base stop) cells)) x
   step_said base x low least =
-      let short = k.hull.short in
       let from = k.from in
       said_joined (clips base (max base place) cells) here x
       ∙ (λ i. option_or (clips_say w.hull.at (w.hull.at + w.hull.len) (entry_cells source served) x (omega arith) i) (clips_say base (max base place) cells x (omega arith) i))
@@ -111,37 +89,13 @@ module _ (source : Source) (list : List Owned) {left : List Owned} {place size :
   file_step base n file a low high e =
       let before = clips base (max base place) cells in
       let whole = clips base (max base stop) cells in
-      let lows = append_from base before here (clips_from base (max base place) cells (omega arith))
-      (from_less base w.hull.at here low (clips_from w.hull.at (w.hull.at + w.hull.len) (entry_cells source served) (omega arith))) in
-      let fits = append_within before here (base + n) (clips_fit base (max base place) (base + n) cells (omega arith) a.from a.within)
-      (within_more here (w.hull.at + w.hull.len) (base + n) high (clips_within w.hull.at (w.hull.at + w.hull.len) (entry_cells source served) (omega arith))) in
-      sym (fold-append (λ f cell. written f cell.0 cell.1) file (moved_down base before) (moved_down base here))
-      ∙ ap (λ (cells : List Cell). write_cells file cells) (sym (map-append (λ (cell : Cell). let lowered : Cell = (cell.0 - base, cell.1) in lowered) before here))
-      ∙ same_said (moved_down base (before ++ here)) (moved_down base whole) file
-      (subst (λ (m : ℕ). IsWithin (moved_down base (before ++ here)) m) (sym e) (within_lowered base n (before ++ here) lows fits))
-      (subst (λ (m : ℕ). IsWithin (moved_down base whole) m) (sym e) (to_within base stop n cells a))
-      (λ i. moved_at base (before ++ here) i lows ∙ step_said base (i + base) low (omega arith) ∙ sym (moved_at base whole i (clips_from base (max base stop) cells (omega arith))))
-
--- each byte is old, or that of the whole
-to_either : (base place n : ℕ) (cells : List Cell) (file : List ℕ) (i : ℕ) → AreCells base n cells
-    → (at (file_to base place cells file) i ≡ at file i) ⊎ (at (file_to base place cells file) i ≡ at (write_cells file (moved_down base cells)) i)
-to_either base place n cells file i a =
-    grind (
-      arith,
-      nat_tests,
-      cells_said (moved_down base (clips base (max base place) cells)) file i,
-      moved_at base (clips base (max base place) cells) i (clips_from base (max base place) cells (omega arith)),
-      moved_at base cells i a.from,
-      cells_said (moved_down base cells) file i,
-      clips_say base (max base place) cells (i + base) (omega arith),
-    )
+      grind (arith, common_steps, append_from base before here, clips_from base (max base place), from_less base w.hull.at here low, clips_from w.hull.at (w.hull.at + w.hull.len) (entry_cells source served), append_within before here (base + n), clips_fit base (max base place) (base + n), within_more here (w.hull.at + w.hull.len) (base + n) high, clips_within w.hull.at (w.hull.at + w.hull.len) (entry_cells source served), written, same_said (moved_down base (before ++ here)) (moved_down base whole) file, within_lowered base n (before ++ here), to_within base stop n, moved_at base (before ++ here), step_said base, moved_at base whole, clips_from base (max base stop))
 
 pub to_begin : (base n : ℕ) (cells : List Cell) (file : List ℕ) → AreCells base n cells → length file ≡ n → file ≡ file_to base 0 cells file
 to_begin base n cells file a e =
     same_said [] (moved_down base (clips base (max base 0) cells)) file tt
     (subst (λ (m : ℕ). IsWithin (moved_down base (clips base (max base 0) cells)) m) (sym e) (to_within base 0 n cells a))
-    (λ i. sym (moved_at base (clips base (max base 0) cells) i (clips_from base (max base 0) cells (omega arith))
-    ∙ none_past (max base 0) (clips base (max base 0) cells) (i + base) (clips_within base (max base 0) cells (omega arith)) (omega arith)))
+    (grind (arith, common_steps, moved_at base (clips base (max base 0) cells), clips_from base (max base 0) cells, none_past (max base 0) (clips base (max base 0) cells), clips_within base (max base 0) cells))
 
 pub to_end : (source : Source) (list left : List Owned) (base place n : ℕ) (file : List ℕ) → AreCells base n (entry_cells source list) → length file ≡ n
     → left ≡ [] → IsPast place list left → file_to base place (entry_cells source list) file ≡ write_cells file (moved_down base (entry_cells source list))
@@ -152,39 +106,22 @@ to_end source list left base place n file a e none p =
     (subst (λ (m : ℕ). IsWithin (moved_down base clipped) m) (sym e) (to_within base place n cells a))
     (subst (λ (m : ℕ). IsWithin (moved_down base cells) m) (sym e) (within_lowered base n cells a.from a.within))
     (λ i. moved_at base clipped i (clips_from base (max base place) cells (omega arith))
-    ∙ grind (arith, nat_tests, clips_say base (max base place) (entry_cells source list) (i + base) (omega arith), nothing (i + base))
+    ∙ grind (arith, nat_tests, clips_say base (max base place) (entry_cells source list) (i + base) (omega arith), unsaid source list (i + base), past_covered place list left (i + base) p)
     ∙ sym (moved_at base cells i a.from))
-  where
-    nothing : (x : ℕ) → place ≤ x → said_at (said_by (entry_cells source list)) x ≡ None
-    nothing x l = unsaid source list x (λ c. let d = past_covered place list left x p l c in subst (λ (l : List Owned). In l d.by → ⊥) (sym none) (λ m. m) d.inside)
 
 -- ---- a disk that may tell its bytes
 
--- a file that is old or new at each byte
-pub record IsMixed (old new left : List ℕ) : Type 0 where
-  pub len : length left ≡ length old
-  pub each : (i : ℕ) → (at left i ≡ at old i) ⊎ (at left i ≡ at new i)
-
 pub mixed_to : (base place n : ℕ) (cells : List Cell) (file : List ℕ) → AreCells base n cells → length file ≡ n
-    → IsMixed file (write_cells file (moved_down base cells)) (file_to base place cells file)
-mixed_to base place n cells file a e = record { len = to_long base place n cells file a e; each = λ i. to_either base place n cells file i a }
+    → IsBetween file (write_cells file (moved_down base cells)) (file_to base place cells file)
+mixed_to base place n cells file a e = grind (arith, nat_tests, file_to, cells_long, to_within, cells_said, moved_at, clips_from, clips_say)
 
 pub held_refused : (held mid now : Option (List ℕ)) (n : ℕ) (f g h whole : List ℕ → List ℕ) → IfSome held (λ b. length b ≡ n)
     → ((file : List ℕ) → length file ≡ n → g (f file) ≡ h file)
-    → ((file : List ℕ) → length file ≡ n → IsMixed file (whole file) (f file)) → ((file : List ℕ) → length file ≡ n → IsMixed file (whole file) (h file))
+    → ((file : List ℕ) → length file ≡ n → IsBetween file (whole file) (f file)) → ((file : List ℕ) → length file ≡ n → IsBetween file (whole file) (h file))
     → mid ≡ after f held → BothTold (λ old left. IsBetween old (g old) left) mid now → BothTold (λ old left. IsBetween old (whole old) left) held now
 held_refused None mid now n f g h whole long same before past e b = grind (arith, nat_tests)
 held_refused (Some file) mid now n f g h whole long same before past e b =
-    by_told (subst (λ (m : Option (List ℕ)). BothTold (λ old left. IsBetween old (g old) left) m now) e b)
-  where
-    earlier : IsMixed file (whole file) (f file)
-    earlier = before file long
-
-    later : IsMixed file (whole file) (g (f file))
-    later = subst (λ (l : List ℕ). IsMixed file (whole file) l) (sym (same file long)) (past file long)
-
-    either : (left : List ℕ) (i : ℕ) → (at left i ≡ at (f file) i) ⊎ (at left i ≡ at (g (f file)) i) → (at left i ≡ at file i) ⊎ (at left i ≡ at (whole file) i)
-    either left i xs = grind (arith, nat_tests, earlier.each i, later.each i)
-
-    by_told : BothTold (λ old left. IsBetween old (g old) left) (Some (f file)) now → BothTold (λ old left. IsBetween old (whole old) left) (Some file) now
-    by_told r = (r.0, r.1, record { len = (r.2).len ∙ earlier.len; each = λ i. either r.0 i ((r.2).each i) })
+    let earlier : IsBetween file (whole file) (f file) = before file long in
+    let later : IsBetween file (whole file) (g (f file)) = subst (λ (l : List ℕ). IsBetween file (whole file) l) (sym (same file long)) (past file long) in
+    let r : BothTold (λ old left. IsBetween old (g old) left) (Some (f file)) now = subst (λ (m : Option (List ℕ)). BothTold (λ old left. IsBetween old (g old) left) m now) e b in
+    (r.0, r.1, record { len = (r.2).len ∙ earlier.len; each = λ i. grind (arith, nat_tests, (r.2).each i, earlier.each i, later.each i) })

@@ -1,5 +1,5 @@
 -- The first window of what is left, as it is told and as one of the windows of sieving.
-use Rattle.data_sieving.proofs.Words.{◌≡◌, ℕ, ◌+◌, ◌-◌, ◌^◌, ◌<◌, ◌≤◌, refl, sym, ◌∙◌, ap, List, [], ◌∷◌, length, Bool, true, false, arith, filter, nat_lt, nat_le, ◌==◌, range_with_len, length-range_with_len, le-leb, lt-leb, in_filter, filter_in, equal_below, equal_true, Owned, Window, first_of, hull_len, In, IsAscending, told_of, filter_at_most, filter_ascends, in_range, range_low, range_high, range_ascends, last_most, last_below, drop_first, filter_all, sieved_walked, same_ascending, triple_same, walked_enough, told_window, entry_windows, IsCovered, IsPast, AreLeft, IsNext, bytes_from, windows_from, covered_below, past_covered, covered_past, front_covered, covered_front, hole_short, nat_tests}
+use Rattle.data_sieving.proofs.Words.{◌≡◌, ℕ, ◌+◌, ◌-◌, ◌^◌, ◌<◌, ◌≤◌, List, [], ◌∷◌, length, true, false, arith, filter, nat_lt, nat_le, ◌==◌, range_with_len, length-range_with_len, le-leb, lt-leb, in_filter, filter_in, Owned, Window, first_of, hull_len, In, told_of, filter_at_most, filter_ascends, in_range, range_low, range_high, range_ascends, last_most, last_below, drop_first, filter_all, sieved_walked, same_ascending, triple_same, walked_enough, told_window, entry_windows, IsCovered, IsPast, AreLeft, IsNext, bytes_from, windows_from, covered_below, past_covered, covered_past, front_covered, covered_front, hole_short, nat_tests, common_steps}
 use Rattle.data_sieving.proofs.LeftBytes.{byte_from, from_byte, bytes_ascend, same_bytes, begins}
 
 -- ---- the bytes of the window
@@ -25,49 +25,31 @@ module _ {left : List Owned} {place size : ℕ} {w : Window} {served : List Owne
 
   -- what is told of the bytes of the window is its hull, and whether it has a hole
   pub next_told : told_of bytes ≡ told_window w
-  next_told = triple_same (first_of bytes) (hull_len bytes) w.hull.at w.hull.len (length bytes == hull_len bytes) w.full first long (by_full w.full refl)
-    where
-      asc : IsAscending bytes
-      asc = filter_ascends (λ (y : ℕ). nat_lt y (w.hull.at + size)) (bytes_from place left) (bytes_ascend place left)
-
-      first : first_of bytes ≡ w.hull.at
-      first = grind (arith, nat_tests, begins bytes w.hull.at asc, window_in w.hull.at, front_covered stop left served w.hull.at n.front, in_window, first_of)
-
-      long : hull_len bytes ≡ w.hull.len
-      long =
-          let s = n.hull.some in
-          let f = first in
-          let most = last_most bytes (w.hull.at + w.hull.len - 1) (window_in (w.hull.at + w.hull.len - 1) (omega arith) (omega arith) n.hull.last) in
-          let least = last_below bytes (w.hull.at + w.hull.len) (omega arith) (λ x m. (in_window x m).1) in
-          omega arith
-
-      solid : w.full ≡ true → bytes ≡ range_with_len w.hull.at w.hull.len
-      solid t =
-          same_ascending bytes (range_with_len w.hull.at w.hull.len) asc (range_ascends w.hull.at w.hull.len)
-          (λ x m. let r = in_window x m in in_range w.hull.at w.hull.len x r.0 r.1)
-          (λ x m. let low = range_low w.hull.at w.hull.len x m in let high = range_high w.hull.at w.hull.len x m in
-          window_in x low high (n.hull.full t x low high))
-
-      by_full : (t : Bool) → w.full ≡ t → (length bytes == hull_len bytes) ≡ t
-      by_full true f =
-          let all : length bytes ≡ w.hull.len = ap (λ (xs : List ℕ). length xs) (solid f) ∙ length-range_with_len w.hull.at w.hull.len in
-          equal_true (length bytes) (hull_len bytes) (all ∙ sym long)
-      by_full false f =
-          let r = n.hull.hole f in
-          let short = hole_short bytes w.hull.at (w.hull.at + w.hull.len) r.0 asc (λ x m. let g = in_window x m in (g.0, g.1)) r.1 r.2 (λ m. r.3 (in_window r.0 m).2) in
-          let is = long in
-          equal_below (length bytes) (hull_len bytes) (omega arith)
+  next_told =
+      let asc = filter_ascends (λ (y : ℕ). nat_lt y (w.hull.at + size)) (bytes_from place left) (bytes_ascend place left) in
+      let first : first_of bytes ≡ w.hull.at = grind (arith, nat_tests, begins bytes w.hull.at asc, window_in w.hull.at, front_covered stop left served w.hull.at n.front, in_window, first_of) in
+      let long : hull_len bytes ≡ w.hull.len = grind (arith, nat_tests, first, n.hull.some, last_most bytes (w.hull.at + w.hull.len - 1), window_in (w.hull.at + w.hull.len - 1), n.hull.last, last_below bytes (w.hull.at + w.hull.len) (omega arith) (λ x m. (in_window x m).1)) in
+      let solid : w.full ≡ true → bytes ≡ range_with_len w.hull.at w.hull.len = λ t.
+      same_ascending bytes (range_with_len w.hull.at w.hull.len) asc (range_ascends w.hull.at w.hull.len)
+      (λ x m. in_range w.hull.at w.hull.len x (in_window x m).0 (in_window x m).1)
+      (λ x m. grind (arith, nat_tests, range_low w.hull.at w.hull.len x m, range_high w.hull.at w.hull.len x m, window_in x, n.hull.full t x))
+      in
+      let short : w.full ≡ false → length bytes < w.hull.len = λ f.
+      let r = n.hull.hole f in
+      let s = hole_short bytes w.hull.at (w.hull.at + w.hull.len) r.0 asc (λ x m. let g = in_window x m in (g.0, g.1)) r.1 r.2 (λ m. r.3 (in_window r.0 m).2) in
+      omega arith
+      in
+      triple_same (first_of bytes) (hull_len bytes) w.hull.at w.hull.len (length bytes == hull_len bytes) w.full first long
+      (grind (arith, nat_tests, long, solid, short, length-range_with_len w.hull.at w.hull.len))
 
   rest_bytes : filter (λ (y : ℕ). nat_le (w.hull.at + size) y) (bytes_from place left) ≡ bytes_from stop left
   rest_bytes =
       same_ascending (filter (λ (y : ℕ). nat_le (w.hull.at + size) y) (bytes_from place left)) (bytes_from stop left)
       (filter_ascends (λ (y : ℕ). nat_le (w.hull.at + size) y) (bytes_from place left) (bytes_ascend place left)) (bytes_ascend stop left)
       (λ x m.
-      let r = filter_in (λ (y : ℕ). nat_le (w.hull.at + size) y) (bytes_from place left) x m in
-      grind (arith, nat_tests, byte_from, from_byte, w.hull.at, r.1, n.ends))
+      grind (arith, common_steps, filter_in (λ (y : ℕ). nat_le (w.hull.at + size) y) (bytes_from place left) x m, byte_from, from_byte))
       (λ x m.
-      let b = from_byte stop left x m in
-      grind (arith, nat_tests, covered_below (2 ^ 62) left x l.ends b.1, in_filter, byte_from place left x, b.0, n.ends, n.from, w.hull.at, bytes_from))
+      grind (arith, common_steps, from_byte stop left x m, covered_below (2 ^ 62) left x l.ends (from_byte stop left x m).1, in_filter, byte_from place left x))
 
   -- a window ends past what was served before it
   pub goes_on : place < stop

@@ -1,7 +1,8 @@
 -- The words of this crate's proofs, from where they stand.
-pub use Rattle.list_laws.proofs.Std.{Bool, IfSome, List, None, Option, Some, [], ap, append-nil, append_assoc, arith, cases_lt, common_steps, cond, drop, drop_at, false, filter, filter-append, flat_map, fold-append, get_or, get_or-set_other, get_or-set_same, inl, inr, le-leb, leb-true, length, length-drop, length-range_with_len, length-set, length-take, lt-leb, lt-ltb, map, map-append, max, min, nat_le, nat_lt, nat_tests, option_or, range_with_len, refill, refl, rules, same_Some, set, slice_get-get_or, subst, sym, take, take-add, take-append-le, take-append_seam, take_all, take_at, take_min, take_more, true, ℕ, ◌&&◌, ◌++◌, ◌+◌, ◌-◌, ◌<◌, ◌==◌, ◌^◌, ◌∙◌, ◌∷◌, ◌≡◌, ◌≤◌, ◌⊎◌, eqb-true, eqb-false, ltb-true, ltb-false}
+pub use Rattle.list_laws.proofs.Std.{cases_Bool, Bool, IfSome, List, None, Option, Some, [], ap, append-nil, append_assoc, arith, cases_lt, common_steps, cond, drop, drop_at, false, filter, filter-append, flat_map, fold-append, get_or, get_or-set_other, get_or-set_same, inl, inr, le-leb, leb-true, length, length-drop, length-range_with_len, length-set, length-take, lt-leb, lt-ltb, map, map-append, max, min, nat_le, nat_lt, nat_tests, option_or, range_with_len, refill, refl, rules, same_Some, set, slice_get-get_or, subst, sym, take, take-add, take-append-le, take-append_seam, take_all, take_at, take_min, take_more, true, ℕ, ◌&&◌, ◌++◌, ◌+◌, ◌-◌, ◌<◌, ◌==◌, ◌^◌, ◌∙◌, ◌∷◌, ◌≡◌, ◌≤◌, ◌⊎◌, eqb-true, eqb-false, ltb-true, ltb-false}
 pub use Rattle.std.proofs.Common.{slice_get}
-pub use Rattle.std.proofs.lemmas.List.{length-append}
+pub use Rattle.std.proofs.lemmas.List.{length-append, nil_from_length}
+pub use Rattle.std.proofs.lemmas.Option.{slice_get_cases}
 pub use Rattle.std.specs.Option.{option_map}
 pub use Rattle.aggregator_rounds.proofs.CoveredBytes.{covered_below, covered_front, covered_left, covered_past, front_covered, hole_short, in_ranges, past_covered, ranges_in}
 pub use Rattle.aggregator_rounds.proofs.EntryCells.{covered_place, entries_from, entries_two, entries_within, entry_cells, unsaid}
@@ -17,7 +18,7 @@ pub use Rattle.data_sieving.specs.Sieving.{AreAsLong, FitBlobs, HasGot, HaveOneP
 pub use Rattle.data_sieving.specs.Walked.{AreLeft, HasDone, HasGotPart, IsHull, IsNext, LieAcross, Reach, bytes_from, entries_in, windows_from}
 pub use Rattle.file_domains.proofs.WalkSteps.{walked_enough}
 pub use Rattle.file_domains.specs.declared.walk.Window.{Window}
-pub use Rattle.list_laws.proofs.Common.{equal_below, equal_true, filter_at_most, first_counts, on_err, second_counts, some_or_none}
+pub use Rattle.list_laws.proofs.Common.{none_last, equal_below, equal_true, filter_at_most, first_counts, on_err, second_counts, some_or_none}
 pub use Rattle.list_laws.proofs.Types.{DiskCall, Extent, Owned, Post}
 pub use Rattle.nc_outside.proofs.ToldLaws.{no_calls, with_end-with_end}
 pub use Rattle.nc_outside.specs.Told.{BothTold, after, with_end}
