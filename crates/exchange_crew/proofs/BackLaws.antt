@@ -1,40 +1,30 @@
 -- Parts that come back one after another.
-use Rattle.exchange_crew.proofs.Words.{◌≡◌, ℕ, zero, suc, ◌+◌, ◌<◌, ◌≤◌, ◌⊎◌, min, get_or, inl, inr, refl, ◌∙◌, ap, subst, List, [], ◌∷◌, ◌++◌, length, map, take, drop, Some, Result, Ok, arith, length-append, take_more, slice_get_within, all_zipped_more, slice_get, zip, OnOk, IsErr, IsErrOf, IsOk, AllZip, result_and, entry_below, refilled, Extent, StepErr, Disk, In, in_either, in_right, at_in, in_at, SomeZip, zip_weaker, nat_tests, rules, common_steps, Global, Vec, append_assoc, sym, vec_capacity}
+use Rattle.exchange_crew.proofs.Words.{◌≡◌, ℕ, zero, suc, ◌+◌, ◌<◌, ◌≤◌, ◌⊎◌, min, get_or, inl, inr, refl, ◌∙◌, ap, subst, List, [], ◌∷◌, ◌++◌, length, map, take, drop, Some, Result, Ok, arith, length-append, take_more, slice_get_within, all_zipped_more, slice_get, zip, OnOk, IsErr, IsErrOf, IsOk, AllZip, result_and, entry_below, refilled, Extent, StepErr, Disk, In, in_either, in_right, at_in, in_at, SomeZip, zip_weaker, nat_tests, rules, common_steps, Global, Vec, vec_capacity}
 
 -- ---- two lists, place by place
 
 -- each beside what stands at its place, and one place more
 pub zip_next : {A B : Type 0} (xs : List A) (ys : List B) (k : ℕ) (x : A) (y : B) → slice_get xs k ≡ Some x → slice_get ys k ≡ Some y → zip (take (suc k) xs) ys ≡ zip (take k xs) ys ++ (x, y) ∷ []
-zip_next (z ∷ xs) (w ∷ ys) zero x y e f = let a : z ≡ x = cc in let b : w ≡ y = cc in λ i. (a i, b i) ∷ []
-zip_next (z ∷ xs) (w ∷ ys) (suc k) x y e f = λ i. (z, w) ∷ zip_next xs ys k x y e f i
+zip_next (z ∷ xs) (w ∷ ys) k x y e f = grind (arith, nat_tests, zip_next xs ys)
 zip_next _ _ k x y e f = absurd cc
 
 pub some_more : {A B : Type 0} (R : A → B → Type 0) (xs : List A) (ys : List B) (x : A) (y : B) → SomeZip R xs ys → SomeZip R (xs ++ x ∷ []) (ys ++ y ∷ [])
-some_more R (a ∷ xs) (b ∷ ys) x y (inl r) = inl r
-some_more R (a ∷ xs) (b ∷ ys) x y (inr h) = inr (some_more R xs ys x y h)
+some_more R (a ∷ xs) (b ∷ ys) x y n = grind (arith, nat_tests, some_more R xs ys x y)
 some_more _ _ _ x y h = absurd h
 
-pub some_last : {A B : Type 0} (R : A → B → Type 0) (xs : List A) (ys : List B) (x : A) (y : B) → length ys ≡ length xs → R x y → SomeZip R (xs ++ x ∷ []) (ys ++ y ∷ [])
+some_last : {A B : Type 0} (R : A → B → Type 0) (xs : List A) (ys : List B) (x : A) (y : B) → length ys ≡ length xs → R x y → SomeZip R (xs ++ x ∷ []) (ys ++ y ∷ [])
 some_last R [] [] x y l r = inl r
 some_last R (a ∷ xs) (b ∷ ys) x y l r = inr (some_last R xs ys x y (omega arith) r)
 some_last _ _ _ x y l r = absurd (omega arith)
 
 pub zip_mapped : {S A B C : Type 0} (f : S → A) (g : S → B) (Q : A × B → C → Type 0) (ss : List S) (ys : List C) → AllZip (λ s y. Q (f s, g s) y) ss ys
     → AllZip Q (zip (map f ss) (map g ss)) ys
-zip_mapped f g Q [] [] h = h
-zip_mapped f g Q [] (y ∷ ys) h = h
-zip_mapped f g Q (s ∷ ss) [] h = h
 zip_mapped f g Q (s ∷ ss) (y ∷ ys) h = (h.0, zip_mapped f g Q ss ys h.1)
+zip_mapped f g Q ss ys h = grind (arith, nat_tests)
 
 pub some_mapped : {S A C : Type 0} (f : S → A) (R : A → C → Type 0) (ss : List S) (ys : List C) → SomeZip (λ s y. R (f s) y) ss ys → SomeZip R (map f ss) ys
-some_mapped f R (s ∷ ss) (y ∷ ys) (inl r) = inl r
-some_mapped f R (s ∷ ss) (y ∷ ys) (inr h) = inr (some_mapped f R ss ys h)
+some_mapped f R (s ∷ ss) (y ∷ ys) xs = grind (arith, nat_tests, some_mapped f R ss ys)
 some_mapped f _ _ _ h = absurd h
-
--- ---- an entry in the middle
-
-pub middle_in : {A : Type 0} (xs rest whole : List A) (x : A) → xs ++ x ∷ rest ≡ whole → In whole x
-middle_in {A} xs rest whole x e = subst (λ (v : List A). In v x) e (in_right xs (x ∷ rest) x (inl refl))
 
 -- ---- an end, and one that came later
 
@@ -49,11 +39,8 @@ and_failed end came both is f = grind (arith, nat_tests)
 
 -- ---- a vector whose slice was lent, and came back as long
 
-pub slice_kept : {X : Type 0} (n : ℕ) (new old : List X) → n ≡ length old → length new ≡ length old → take n (new ++ drop (length new) old) ≡ new
-slice_kept {X} n new old e l = ap (λ (m : ℕ). take m (new ++ drop (length new) old)) e ∙ refilled old new l
-
 pub came_back : {X : Type 0} (n : ℕ) (new lent old : List X) → n ≡ length old → lent ≡ old → length new ≡ length lent → take n (new ++ drop (length new) old) ≡ new
-came_back {X} n new lent old e is l = slice_kept n new old e (l ∙ ap (λ (xs : List X). length xs) is)
+came_back {X} n new lent old e is l = grind (arith, nat_tests, refilled)
 
 -- ---- workers that were lent, and came back changed
 
@@ -72,7 +59,7 @@ pub record AreKept {S : Type 0} (Kept : S → S → Type 0) (first last whole : 
 
 pub lent_kept : {S : Type 0} (Kept : S → S → Type 0) (count : ℕ) (first lent last : List S) → lent ≡ first → count ≡ length first → length last ≡ length lent
     → ((k : ℕ) (a b : S) → slice_get lent k ≡ Some a → slice_get last k ≡ Some b → Kept a b) → AreKept Kept first last (take count (last ++ drop (length last) first))
-lent_kept {S} Kept count first lent last is many long each = grind (arith, nat_tests, slice_kept, take, drop)
+lent_kept {S} Kept count first lent last is many long each = grind (arith, nat_tests, take, drop, refilled)
 
 pub kept_all : {S : Type 0} (Kept : S → S → Type 0) (P Q : S → Type 0) {first last whole : List S} → AreKept Kept first last whole → ((x y : S) → Kept x y → P x → Q y)
     → ((x : S) → In first x → P x) → (y : S) → In whole y → Q y
@@ -124,19 +111,13 @@ coming_none Done Failing workers left first t all none = record { all = all; roo
 
 module _ {S D T : Type 0} {Done : Result T StepErr → S → D → Type 0} {Failing : S → D → Type 0} {workers yielded left more : List S} {first now : Vec D Global} {end : Result T StepErr} {worker : S}
     (s : AreComing Done Failing workers yielded left first now end) (e : left ≡ worker ∷ more) where
-  next_worker : yielded ++ worker ∷ more ≡ workers
-  next_worker = ap (λ (ws : List S). yielded ++ ws) (sym e) ∙ s.all
-
   pub coming_worker : In workers worker
-  coming_worker = middle_in yielded more workers worker next_worker
+  coming_worker = grind (arith, nat_tests, in_right)
 
   pub coming_next : (new : Vec D Global) (y : D) (came both : Result T StepErr) → IsLater Done → both ≡ result_and end came → new.items ≡ now.items ++ y ∷ [] → vec_capacity new ≡ vec_capacity now
       → Done came worker y → (IsErrOf came Disk → Failing worker y) → AreComing Done Failing workers (yielded ++ worker ∷ []) more first new both
-  coming_next new y came both later is pushed room own fault = record {
-    all = append_assoc yielded (worker ∷ []) more ∙ next_worker;
-    room = room ∙ s.room;
-    back = joined_back Done Failing yielded worker now.items new.items y end came both later is pushed s.back own fault;
-  }
+  coming_next new y came both later is pushed room own fault =
+      grind (arith, common_steps, joined_back Done Failing yielded worker now.items new.items y end came both later is pushed s.back own fault)
 
 pub err_not_ok : {T E : Type 0} (P : Type 0) (r : Result T E) → IsErr r → OnOk r P
 err_not_ok P r e = grind (arith, nat_tests)

@@ -1,5 +1,5 @@
 -- The first one of the least round, of those so far.
-use Rattle.exchange_crew.proofs.Words.{◌≡◌, ◌≤◌, ◌<◌, ◌+◌, ℕ, refl, List, Option, None, Some, IfSome, IfNone, arith, nat_tests, length, slice_get, slice_get_within, true, false, is_some, same_Some, sym, subst, ◌∙◌, HasRound}
+use Rattle.exchange_crew.proofs.Words.{◌≡◌, ◌≤◌, ◌<◌, ◌+◌, ℕ, refl, List, Option, None, Some, IfSome, IfNone, arith, nat_tests, length, slice_get, slice_get_within, true, false, is_some, same_Some, sym, subst, ◌∙◌, HasRound, common_steps, some_or_none, inl, inr}
 
 pub record IsLeast {T : Type 0} (next : T → Option ℕ) (all : List T) (n : ℕ) (first least : Option ℕ) : Type 0 where
   pub alike : is_some least ≡ is_some first
@@ -9,12 +9,7 @@ pub record IsLeast {T : Type 0} (next : T → Option ℕ) (all : List T) (n : �
 
 module _ {T : Type 0} (next : T → Option ℕ) (all : List T) where
   pub least_none : IsLeast next all 0 None None
-  least_none = record {
-    alike = refl;
-    held = λ k r e. cc;
-    lowest = λ k r j s e. cc;
-    nobody = λ e j s. omega arith;
-  }
+  least_none = grind (arith, common_steps)
 
   module _ (n : ℕ) (first least : Option ℕ) (one : T) (h : IsLeast next all n first least) (at : slice_get all n ≡ Some one) where
     round_of_one : (j s : ℕ) → j ≡ n → HasRound next all j s → next one ≡ Some s
@@ -65,8 +60,4 @@ module _ {T : Type 0} (next : T → Option ℕ) (all : List T) where
     pub least_nobody : (first least : Option ℕ) → IsLeast next all n first least → IfNone first ((k : ℕ) (one : T) → slice_get all k ≡ Some one → next one ≡ None)
     least_nobody (Some k) least h = tt
     least_nobody None (Some q) h = absurd (grind (arith, nat_tests, h.alike, is_some))
-    least_nobody None None h = λ k one at. no_round k one at (next one) refl
-      where
-        no_round : (k : ℕ) (one : T) → slice_get all k ≡ Some one → (o : Option ℕ) → next one ≡ o → o ≡ None
-        no_round k one at None of = refl
-        no_round k one at (Some r) of = absurd (h.nobody refl k r (within k r n long (one, at, of)) (one, at, of))
+    least_nobody None None h = λ k one at. elim (some_or_none (next one)) [ inl e ↦ e | inr (r, of) ↦ absurd (h.nobody refl k r (within k r n long (one, at, of)) (one, at, of)) ]

@@ -1,12 +1,11 @@
 -- A list of which one element was changed: what holds of each, and how many there are in all.
-use Rattle.exchange_crew.proofs.Words.{◌≡◌, ℕ, zero, suc, ◌+◌, ◌<◌, List, [], ◌∷◌, length, set, Some, arith, nat_tests, length-append, same_Some, flat_map, slice_get, entry_set, entry_set_other}
+use Rattle.exchange_crew.proofs.Words.{◌≡◌, ℕ, ◌+◌, ◌<◌, List, [], ◌∷◌, length, set, Some, arith, nat_tests, length-append, same_Some, flat_map, slice_get, entry_set, entry_set_other}
 
 -- what an element changed has more or less, the whole has
 set_all : {X Y : Type 0} (f : X → List Y) (xs : List X) (i : ℕ) (x y : X) → slice_get xs i ≡ Some x
     → length (flat_map f (set xs i y)) + length (f x) ≡ length (flat_map f xs) + length (f y)
 set_all f [] i x y e = absurd cc
-set_all f (z ∷ xs) zero x y e = grind (arith, nat_tests, length-append (f z) (flat_map f xs), length-append (f y) (flat_map f xs))
-set_all f (z ∷ xs) (suc i) x y e = grind (arith, nat_tests, set_all f xs i x y e, length-append (f z) (flat_map f xs), length-append (f z) (flat_map f (set xs i y)), set)
+set_all f (z ∷ xs) i x y e = grind (arith, nat_tests, set_all f xs, length-append, set)
 
 pub fewer_all : {X Y : Type 0} (f : X → List Y) (xs : List X) (i : ℕ) (x y : X) → slice_get xs i ≡ Some x → length (f y) < length (f x)
     → length (flat_map f (set xs i y)) < length (flat_map f xs)

@@ -1,18 +1,16 @@
 -- Parts that are served in turn, each over the domain at its place, up to the first fault.
-use Rattle.exchange_crew.proofs.Words.{◌≡◌, ◌∙◌, ℕ, zero, suc, ◌+◌, ◌<◌, ◌≤◌, refl, sym, subst, inl, inr, List, [], ◌∷◌, length, set, zip, Some, Result, arith, same_Some, slice_get, slice_get_within, OnOk, IsOk, AllZip, each_more, left_more, length-set, leb_tells, entry_set, Extent, StepErr, SomeZip}
+use Rattle.exchange_crew.proofs.Words.{◌≡◌, ◌∙◌, ℕ, zero, suc, ◌+◌, ◌<◌, ◌≤◌, refl, sym, subst, inl, inr, List, ◌∷◌, length, set, zip, Some, Result, arith, same_Some, slice_get, slice_get_within, OnOk, IsOk, AllZip, each_more, left_more, length-set, leb_tells, entry_set, Extent, StepErr, SomeZip, nat_tests}
 use Rattle.exchange_crew.proofs.BackLaws.{IsLater}
 
 -- what holds of three lists place by place
 all_zipped : {A B C : Type 0} (Q : A × B → C → Type 0) (xs : List A) (ds : List B) (ys : List C) → length ds ≡ length xs → length ys ≡ length xs
     → ((k : ℕ) (x : A) (d : B) (y : C) → slice_get xs k ≡ Some x → slice_get ds k ≡ Some d → slice_get ys k ≡ Some y → Q (x, d) y) → AllZip Q (zip xs ds) ys
-all_zipped Q [] [] [] many long each = tt
 all_zipped Q (x ∷ xs) (d ∷ ds) (y ∷ ys) many long each =
     (each zero x d y refl refl refl, all_zipped Q xs ds ys (omega arith) (omega arith) (λ k a b c. each (suc k) a b c))
-all_zipped Q _ _ _ many long each = absurd (omega arith)
+all_zipped Q xs ds ys many long each = grind (arith, nat_tests)
 
 some_zipped : {A B : Type 0} (R : A → B → Type 0) (xs : List A) (ys : List B) (k : ℕ) (x : A) (y : B) → slice_get xs k ≡ Some x → slice_get ys k ≡ Some y → R x y → SomeZip R xs ys
-some_zipped R (a ∷ xs) (b ∷ ys) zero x y e f r = inl (subst (λ z. R z b) (same_Some x a (sym e)) (subst (λ z. R x z) (same_Some y b (sym f)) r))
-some_zipped R (a ∷ xs) (b ∷ ys) (suc k) x y e f r = inr (some_zipped R xs ys k x y e f r)
+some_zipped R (a ∷ xs) (b ∷ ys) k x y e f r = grind (arith, nat_tests, some_zipped R xs ys, same_Some)
 some_zipped R _ _ k x y e f r = absurd cc
 
 -- nothing was done, which holds of each part as it is

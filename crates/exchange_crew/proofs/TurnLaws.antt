@@ -1,13 +1,12 @@
 -- A walk over windows and entries: each entry with a byte in a window is among those that the walk gives with it.
-use Rattle.exchange_crew.proofs.Words.{◌≡◌, ℕ, ◌+◌, ◌^◌, ◌<◌, ◌≤◌, inl, inr, refl, sym, subst, List, [], ◌∷◌, ◌++◌, append_assoc, arith, Extent, Owned, In, Source, extents, EndBelow, IsByPlace, in_left, in_either, IsCovered, AreFilled, BeginBefore, IsPast, past_extents, past_in, past_kept, past_later, past_sorted, past_twice, AreInFront, AreServed, IsAt, ArePieces, Told, AreTurns, IsTurn, LieOnPart, in_extents, nat_tests}
+use Rattle.exchange_crew.proofs.Words.{◌≡◌, ℕ, ◌+◌, ◌^◌, ◌<◌, ◌≤◌, inl, refl, sym, subst, List, [], ◌∷◌, ◌++◌, append_assoc, arith, Extent, Owned, In, Source, extents, EndBelow, IsByPlace, in_left, in_either, IsCovered, AreFilled, BeginBefore, IsPast, past_extents, past_in, past_kept, past_later, past_sorted, past_twice, AreInFront, AreServed, IsAt, ArePieces, Told, AreTurns, IsTurn, LieOnPart, in_extents, nat_tests, map_in}
 
 pub turn_end : (list : List Owned) (room : ℕ) (t : Told) → EndBelow (2 ^ 62) (extents list) → IsTurn list room t → t.0 + t.1 < 2 ^ 62
 turn_end list room t ends h = grind (arith, nat_tests, in_extents list h.last.by h.last.inside)
 
 pub turn_in : (list : List Owned) (room : ℕ) (ts : List Told) (t : Told) → AreTurns list room ts → In ts t → IsTurn list room t
 turn_in list room [] t h m = absurd m
-turn_in list room (u ∷ ts) t h (inl e) = subst (λ (z : Told). IsTurn list room z) e h.0
-turn_in list room (u ∷ ts) t h (inr m) = turn_in list room ts t h.2 m
+turn_in list room (u ∷ ts) t h xs = grind (arith, nat_tests, turn_in list room ts t h.2)
 
 -- ---- the entries
 
@@ -61,13 +60,8 @@ served_are source list begun lo hi s h o m = h o (served_in list begun lo hi o s
 
 pub served_ends : (list begun : List Owned) (lo hi : ℕ) → AreServed list begun lo hi → EndBelow (2 ^ 62) (extents list) → EndBelow (2 ^ 62) (extents begun)
 served_ends list begun lo hi s h e m =
-    let r = from_extents begun e m in
+    let r = map_in (λ (o : Owned). o.extent) begun e m in
     subst (λ (d : Extent). d.at + d.len < 2 ^ 62) r.2 (h r.0.extent (in_extents list r.0 (served_in list begun lo hi r.0 s r.1)))
-  where
-    from_extents : (os : List Owned) (d : Extent) → In (extents os) d → (o : Owned) × In os o × (o.extent ≡ d)
-    from_extents [] d k = absurd k
-    from_extents (o ∷ os) d (inl g) = (o, inl refl, g)
-    from_extents (o ∷ os) d (inr k) = let r = from_extents os d k in (r.0, inr r.1, r.2)
 
 -- the window that a walk gives next, with its entries
 pub record IsDue (list begun : List Owned) (room from len : ℕ) (t : Told) : Type 0 where

@@ -24,7 +24,7 @@ pub use Rattle.exchange_crew.specs.declared.shares.Shares.{Shares}
 pub use Rattle.file_domains.specs.Domains.{LiesIn}
 pub use Rattle.file_domains.specs.Rounds.{IsWalk, bytes_in, round_windows, window_told}
 pub use Rattle.file_domains.specs.declared.walk.Window.{Window}
-pub use Rattle.list_laws.proofs.Common.{each_more, entry_below, entry_set, entry_set_other, equal_true, left_more, middle_at, no_both, refilled, take_next, zip_weaker}
+pub use Rattle.list_laws.proofs.Common.{some_or_none, each_more, entry_below, entry_set, entry_set_other, equal_true, left_more, middle_at, no_both, refilled, take_next, zip_weaker}
 pub use Rattle.nc_outside.specs.declared.disk.Disk.{Ghosts as DiskGhosts}
 pub use Rattle.list_laws.proofs.Types.{Batch, Disk, Extent, Owned, StepErr}
 pub use Rattle.overlay_laws.proofs.Common.{EndBelow, HaveSame, In, IsAscending, IsByPlace, IsCover, Source, any_in, div_grows, extents, filter_ascends, first_least, flat_in, in_any, in_either, in_extents, in_flat, in_left, in_map, in_range, in_right, joined, last_most, map_in, range_low, ranges, same_ascending, share, spans_ascend, told_of, window_short, windows_have}
