@@ -1,17 +1,14 @@
 -- What is left of a cover from a place on, by how many extents begin before the place.
-use Rattle.file_domains.proofs.Words.{◌≡◌, ℕ, zero, suc, ◌+◌, ◌-◌, ◌<◌, ◌≤◌, refl, sym, ◌∙◌, ap, subst, inl, inr, List, [], ◌∷◌, ◌++◌, length, take, drop, get_or, length-drop, ◌^◌, true, false, min, Some, slice_get, arith, take_all, get_or_default, filter, nat_le, ◌==◌, range_with_len, AllWithin, IsPartitionedBy, same_Some, slice_get-get_or, le-leb, at_in, no_none_some, Extent, In, EndBelow, below, IsCover, end_after, is_single, first_at, spans, range_above_none, IsLeft, filter-append, nat_tests, cases_lt}
+use Rattle.file_domains.proofs.Words.{◌≡◌, ℕ, zero, suc, ◌+◌, ◌-◌, ◌<◌, ◌≤◌, refl, sym, ◌∙◌, inr, List, [], ◌∷◌, length, take, drop, get_or, length-drop, ◌^◌, true, false, min, Some, slice_get, arith, take_all, get_or_default, filter, nat_le, ◌==◌, range_with_len, AllWithin, IsPartitionedBy, same_Some, slice_get-get_or, at_in, no_none_some, Extent, In, EndBelow, below, IsCover, end_after, is_single, first_at, spans, range_above_none, IsLeft, filter-append, nat_tests, cases_lt}
 pub use Rattle.overlay_laws.proofs.CoverLaws.{long_enough}
 
 pub in_dropped : {X : Type 0} (k : ℕ) (xs : List X) (e : X) → In (drop k xs) e → In xs e
-in_dropped zero xs e h = h
-in_dropped (suc k) [] e h = h
 in_dropped (suc k) (x ∷ xs) e h = inr (in_dropped k xs e h)
+in_dropped k xs e h = h
 
 pub ends_before : (cover : List Extent) (i j : ℕ) (d e : Extent) → IsCover cover → i < j → slice_get cover i ≡ Some d → slice_get cover j ≡ Some e → d.at + d.len < e.at
 ends_before [] i j d e h l f g = no_none_some d f
-ends_before (c ∷ cover) zero (suc j) d e h l f g = grind (arith, nat_tests, at_in cover j e g)
-ends_before (c ∷ cover) (suc i) (suc j) d e h l f g = ends_before cover i j d e h.2 (omega arith) f g
-ends_before (c ∷ cover) _ zero d e h l f g = absurd (omega arith)
+ends_before (c ∷ cover) i j d e h l f g = grind (arith, nat_tests, at_in cover (j - 1) e, ends_before cover (i - 1) (j - 1) d e h.2)
 
 -- extents of a cover rise
 pub ends_rise : (cover : List Extent) (i j : ℕ) (d e : Extent) → IsCover cover → i ≤ j → slice_get cover i ≡ Some d → slice_get cover j ≡ Some e
@@ -19,25 +16,21 @@ pub ends_rise : (cover : List Extent) (i j : ℕ) (d e : Extent) → IsCover cov
 ends_rise cover i j d e h l f g = grind (arith, nat_tests, cases_lt i j, ends_before cover i j d e h, same_Some)
 
 pub cover_dropped : (k : ℕ) (cover : List Extent) → IsCover cover → IsCover (drop k cover)
-cover_dropped zero cover h = h
-cover_dropped (suc k) [] h = tt
 cover_dropped (suc k) (e ∷ cover) h = cover_dropped k cover h.2
+cover_dropped k cover h = h
 
 pub dropped_bytes : (k place : ℕ) (cover : List Extent) → ((i : ℕ) (e : Extent) → i < k → slice_get cover i ≡ Some e → e.at + e.len ≤ place)
     → filter (λ y. nat_le place y) (spans (drop k cover)) ≡ filter (λ y. nat_le place y) (spans cover)
-dropped_bytes zero place cover h = refl
-dropped_bytes (suc k) place [] h = refl
 dropped_bytes (suc k) place (e ∷ cover) h =
     dropped_bytes k place cover (λ i d l g. h (suc i) d (omega arith) g)
-    ∙ sym (filter-append (λ y. nat_le place y) (range_with_len e.at e.len) (spans cover)
-    ∙ ap (λ r. r ++ filter (λ y. nat_le place y) (spans cover)) (range_above_none place e.at e.len (h zero e (omega arith) refl)))
+    ∙ sym (grind (arith, nat_tests, filter-append (λ y. nat_le place y) (range_with_len e.at e.len) (spans cover), range_above_none place e.at e.len, h zero e))
+dropped_bytes k place cover h = refl
 
 pub dropped_left : (k place : ℕ) (cover : List Extent) → IsCover cover → ((e : Extent) → slice_get cover k ≡ Some e → place < e.at + e.len)
     → (e : Extent) → In (drop k cover) e → place < e.at + e.len
-dropped_left k place [] h g e m = absurd (in_dropped k [] e m)
-dropped_left zero place (d ∷ cover) h g e (inl m) = g e (ap Some m)
-dropped_left zero place (d ∷ cover) h g e (inr m) = let first = g d refl in let gap = h.1 e m in omega arith
 dropped_left (suc k) place (d ∷ cover) h g e m = dropped_left k place cover h.2 g e m
+dropped_left zero place (d ∷ cover) h g e m = grind (arith, nat_tests, g d, h.1 e)
+dropped_left k place cover h g e m = absurd (in_dropped k cover e m)
 
 pub whole_tail : {X : Type 0} (k : ℕ) (xs : List X) → take (length xs - k) (drop k xs) ≡ drop k xs
 whole_tail k xs = take_all (length xs - k) (drop k xs) (omega (arith, length-drop k xs))
@@ -64,21 +57,16 @@ pub left_from_next : (count place : ℕ) (cover : List Extent) → IsCover cover
     → IsLeft place cover (drop count cover)
 left_from_next count place cover h ends last bound after =
     dropped count place cover h ends
-    (λ i e l g.
-    let there = slice_get-get_or cover (count - 1) (record { at = 0; len = 0 }) (omega arith) in
-    grind (arith, nat_tests, ends_rise))
-    (λ e g. let low = after e g in let long = long_enough cover e h (at_in cover count e g) in omega arith)
+    (λ i e l g. grind (arith, nat_tests, ends_rise, slice_get-get_or cover (count - 1) (record { at = 0; len = 0 })))
+    (λ e g. grind (arith, after e g, long_enough cover e h (at_in cover count e g)))
 
 pub cover_rises : (cover : List Extent) (place i j : ℕ) (d : Extent) → IsCover cover → i ≤ j → j < length cover
     → nat_le (get_or cover j d).at place ≡ true → nat_le (get_or cover i d).at place ≡ true
-cover_rises cover place i j d h l room e =
-    let rise = ends_rise cover i j _ _ h l (slice_get-get_or cover i d (omega arith)) (slice_get-get_or cover j d room) in
-    grind (arith, nat_tests)
+cover_rises cover place i j d h l room e = grind (arith, nat_tests, ends_rise cover i j (get_or cover i d) (get_or cover j d) h l, slice_get-get_or)
 
 pub get_is : {X : Type 0} (xs : List X) (i : ℕ) (e : X) → slice_get xs i ≡ Some e → (i < length xs) × (get_or xs i e ≡ e)
 get_is [] i e h = no_none_some e h
-get_is (x ∷ xs) zero e h = (omega arith, same_Some x e h)
-get_is (x ∷ xs) (suc i) e h = let r = get_is xs i e h in let l = r.0 in (omega arith, r.1)
+get_is (x ∷ xs) i e h = grind (arith, nat_tests, get_is xs (i - 1) e, same_Some x e)
 
 pub front_low : (cover : List Extent) (place k : ℕ) → AllWithin (λ e. nat_le e.at place ≡ true) cover 0 k
     → (i : ℕ) (e : Extent) → i < k → slice_get cover i ≡ Some e → e.at ≤ place
@@ -91,8 +79,7 @@ front_high cover place k h e g = grind (arith, nat_tests, get_is cover k e g)
 -- a half below a place where an extent begins by then, and a half from a place on where one does not
 pub half_front : (cover : List Extent) (place middle i : ℕ) (none d : Extent) → IsPartitionedBy (λ e. nat_le e.at place) cover → middle < length cover
     → (get_or cover middle none).at ≤ place → i ≤ middle → nat_le (get_or cover i d).at place ≡ true
-half_front cover place middle i none d h room e l =
-    h i middle d l room (subst (λ (z : Extent). nat_le z.at place ≡ true) (get_or_default cover middle none d room) (le-leb (get_or cover middle none).at place e))
+half_front cover place middle i none d h room e l = grind (arith, nat_tests, h i middle d l room, get_or_default cover middle none d room)
 
 pub half_left : (cover : List Extent) (place middle i : ℕ) (none d : Extent) → IsPartitionedBy (λ e. nat_le e.at place) cover → i < length cover
     → place < (get_or cover middle none).at → middle ≤ i → nat_le (get_or cover i d).at place ≡ false
@@ -110,6 +97,4 @@ pub counted_below : (m k : ℕ) (e last : Extent) (cover : List Extent) → IsCo
     → (end_after 0 (below m (e ∷ cover)) ≡ min (last.at + last.len) m) × (is_single (below m (e ∷ cover)) ≡ (k == 0)) × (first_at (below m (e ∷ cover)) ≡ e.at)
 counted_below m zero e last cover h l g low after = grind (arith, nat_tests, none_below m cover after, same_Some e last g)
 counted_below m (suc k) e last [] h l g low after = no_none_some last g
-counted_below m (suc k) e last (f ∷ cover) h l g low after =
-    let gap = h.1 f (inl refl) in
-    grind (arith, nat_tests, ends_rise (f ∷ cover) 0 k f last h.2, counted_below m k f last cover h.2)
+counted_below m (suc k) e last (f ∷ cover) h l g low after = grind (arith, nat_tests, h.1 f, ends_rise (f ∷ cover) 0 k f last h.2, counted_below m k f last cover h.2)

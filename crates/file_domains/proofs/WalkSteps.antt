@@ -1,17 +1,16 @@
 -- One window of a walk.
-use Rattle.file_domains.proofs.Words.{◌≡◌, ℕ, zero, suc, ◌+◌, ◌-◌, ◌/◌, ◌^◌, ◌<◌, ◌≤◌, refl, sym, ◌∙◌, ap, subst, inl, inr, List, [], ◌∷◌, length, ◌&&◌, min, max, Some, None, slice_get, get_or, arith, nat_tests, filter, map, nat_lt, nat_le, ◌==◌, range_with_len, no_none_some, Extent, first_of, IsAscending, In, EndBelow, below, above, IsCover, end_after, is_single, first_at, told_of, walked, round_end, spans, filter_same, take_first, drop_first, windows_walked, filter_in, filter_at_most, filter_ascends, flat_in, range_high, range_low, in_either, filter_two, spans_below, spans_above, below_told, range_first, past_round, spans_below_none, spans_ascend, spans_past, triple_same, same_Some, slice_get-get_or, lt-ltb, Window, window_told, round_windows, cases_lt, ◌⊎◌}
+use Rattle.file_domains.proofs.Words.{◌≡◌, ℕ, zero, suc, ◌+◌, ◌-◌, ◌/◌, ◌^◌, ◌<◌, ◌≤◌, refl, sym, ◌∙◌, ap, inl, inr, List, [], ◌∷◌, length, ◌&&◌, min, max, Some, None, slice_get, get_or, arith, nat_tests, filter, map, nat_lt, nat_le, ◌==◌, range_with_len, no_none_some, Extent, first_of, IsAscending, In, EndBelow, above, IsCover, told_of, walked, round_end, spans, filter_same, take_first, drop_first, windows_walked, filter_in, filter_at_most, filter_ascends, flat_in, range_high, range_low, in_either, filter_two, spans_below, spans_above, below_told, range_first, past_round, spans_below_none, spans_ascend, spans_past, triple_same, same_Some, slice_get-get_or, Window, window_told, round_windows, cases_lt}
 use Rattle.file_domains.proofs.CoverParts.{counted_below, ends_rise}
 
 -- ---- walks
 
 pub walked_enough : (stop : ℕ → ℕ) (f g : ℕ) (xs : List ℕ) → length xs ≤ f → length xs ≤ g → walked stop f xs ≡ walked stop g xs
+walked_enough stop (suc f) (suc g) (x ∷ xs) h k = grind (arith, nat_tests, filter_at_most, walked_enough stop f g)
 walked_enough stop zero zero xs h k = refl
 walked_enough stop zero (suc g) [] h k = refl
-walked_enough stop zero (suc g) (x ∷ xs) h k = absurd (omega arith)
 walked_enough stop (suc f) zero [] h k = refl
-walked_enough stop (suc f) zero (x ∷ xs) h k = absurd (omega arith)
 walked_enough stop (suc f) (suc g) [] h k = refl
-walked_enough stop (suc f) (suc g) (x ∷ xs) h k = grind (arith, nat_tests, filter_at_most, walked_enough stop f g)
+walked_enough stop f g xs h k = absurd (omega arith)
 
 -- ---- the bytes of the first window, and those after it
 
@@ -52,24 +51,14 @@ pub first_told : (from stop k : ℕ) (e last : Extent) (cover : List Extent) →
     → told_of (between from stop (e ∷ cover)) ≡ (max e.at from, min (last.at + last.len) stop - max e.at from, k == 0)
 first_told from stop k e last cover h l room at_last low after =
     let head = head_cover from e cover h l in
-    let counted = by_count k at_last low after in
-    grind (arith, nat_tests, spans_above from (e ∷ cover) h, above_first from e cover l, spans_below stop (head_from from e ∷ cover) head, below_told stop (head_from from e) cover head room, triple_same, counted.2, counted.0, counted.1, filter)
-  where
-    by_count : (k : ℕ) → slice_get (e ∷ cover) k ≡ Some last → last.at < stop → ((d : Extent) → slice_get cover k ≡ Some d → stop ≤ d.at)
-        → (end_after 0 (below stop (head_from from e ∷ cover)) ≡ min (last.at + last.len) stop) × (is_single (below stop (head_from from e ∷ cover)) ≡ (k == 0))
-        × (first_at (below stop (head_from from e ∷ cover)) ≡ max e.at from)
-    by_count zero g low a =
-        grind (arith, nat_tests, counted_below stop zero (head_from from e) (head_from from e) cover (head_cover from e cover h l) room refl room a, same_Some e last g)
-    by_count (suc k) g low a = counted_below stop (suc k) (head_from from e) last cover (head_cover from e cover h l) room g low a
+    let zeroth = counted_below stop zero (head_from from e) (head_from from e) cover head room refl room in
+    grind (arith, nat_tests, spans_above from (e ∷ cover) h, above_first from e cover l, spans_below stop (head_from from e ∷ cover) head, below_told stop (head_from from e) cover head room, triple_same, counted_below stop k (head_from from e) last cover head room, zeroth, same_Some e last, filter)
 
 -- the bytes of the cover begin with the first one left
 pub first_byte : (from end : ℕ) (e : Extent) (cover : List Extent) → IsCover (e ∷ cover) → from < e.at + e.len → max e.at from < end → (ys : List ℕ) × (between from end (e ∷ cover) ≡ max e.at from ∷ ys)
 first_byte from end e cover h l room =
-    let some = range_first (max e.at from) (e.at + e.len - max e.at from) (spans cover) (omega arith) in (
-      filter (λ y. nat_lt y end) some.0,
-      ap (λ (b : List ℕ). filter (λ y. nat_lt y end) b) (spans_above from (e ∷ cover) h ∙ ap spans (above_first from e cover l) ∙ some.1)
-          ∙ take_first (max e.at from) (filter (λ y. nat_lt y end) some.0) (nat_lt (max e.at from) end) (lt-ltb (max e.at from) end room),
-    )
+    let some = range_first (max e.at from) (e.at + e.len - max e.at from) (spans cover) (omega arith) in
+    (filter (λ y. nat_lt y end) some.0, grind (arith, nat_tests, spans_above from (e ∷ cover) h, above_first from e cover l, some.1, take_first, filter))
 
 -- ---- a step
 
@@ -97,25 +86,19 @@ first_window first size from end stop k e last cover left big begin h l room is_
 -- nothing is left past the end
 no_bytes : (from end : ℕ) (e : Extent) (cover : List Extent) → IsCover (e ∷ cover) → from < e.at + e.len → end ≤ max e.at from → between from end (e ∷ cover) ≡ []
 no_bytes from end e cover h l past =
-    ap (λ (b : List ℕ). filter (λ y. nat_lt y end) b) (spans_above from (e ∷ cover) h ∙ ap spans (above_first from e cover l))
-    ∙ spans_below_none end (head_from from e ∷ cover) all_past
-  where
-    all_past : (d : Extent) → In (head_from from e ∷ cover) d → end ≤ d.at
-    all_past d (inl m) = subst (λ (z : Extent). end ≤ z.at) m past
-    all_past d (inr m) = let gap = h.1 d m in omega arith
+    grind (arith, nat_tests, spans_above from (e ∷ cover) h, above_first from e cover l, spans_below_none end (head_from from e ∷ cover), h.1, filter)
 
 -- ---- a step, of the extents by their numbers
 
 pub first_ends : (cover : List Extent) (k : ℕ) (e d : Extent) → IsCover cover → slice_get cover 0 ≡ Some e → k < length cover
     → e.at + e.len ≤ (get_or cover k d).at + (get_or cover k d).len
-first_ends cover k e d h g l = (ends_rise cover 0 k e _ h (omega arith) g (slice_get-get_or cover k d l)).1
+first_ends cover k e d h g l = grind (arith, nat_tests, ends_rise cover 0 k e, slice_get-get_or cover k d l)
 
 one_more : (count : ℕ) → 1 ≤ count → (count - 1 == 0) ≡ (count == 1)
 one_more count h = grind (arith, nat_tests)
 
 some_before : (stop count : ℕ) (e : Extent) (cover : List Extent) → ((c : Extent) → slice_get (e ∷ cover) count ≡ Some c → stop ≤ c.at) → e.at < stop → 1 ≤ count
-some_before stop zero e cover after l = let high = after e refl in absurd (omega arith)
-some_before stop (suc n) e cover after l = omega arith
+some_before stop count e cover after l = grind (arith, nat_tests, after e)
 
 -- ---- the windows of a domain
 
@@ -143,23 +126,14 @@ begin_windows size low from end top [] big h ends cap past begins = sym (no_wind
 begin_windows size low from end top (e ∷ cover) big h ends cap past begins =
     let is : from ≡ max e.at low = begins e refl in
     let long = past e (inl refl) in
-    let from_low : filter (λ y. nat_le from y) (spans (e ∷ cover)) ≡ filter (λ y. nat_le low y) (spans (e ∷ cover))
-    = filter_same (λ y. nat_le from y) (λ y. nat_le low y) (spans (e ∷ cover)) (λ y m. same_begin y low from e.at is (spans_low e cover y h m)) in
+    let from_low = filter_same (λ y. nat_le from y) (λ y. nat_le low y) (spans (e ∷ cover)) (λ y m. same_begin y low from e.at is (spans_low e cover y h m)) in
     let same : between from (min end top) (e ∷ cover) ≡ between from end (e ∷ cover)
     = grind (arith, nat_tests, filter_same, spans_high (e ∷ cover) (2 ^ 62), filter_in, filter) in
-    ap (told_windows from size) same
-    ∙ by_end is (omega arith) (cases_lt from end)
-    ∙ ap (λ (b : List ℕ). round_windows size (filter (λ y. nat_lt y end) b)) from_low
-  where
-    by_end : from ≡ max e.at low → from < e.at + e.len → (from < end) ⊎ (end ≤ from)
-        → told_windows from size (between from end (e ∷ cover)) ≡ round_windows size (between from end (e ∷ cover))
-    by_end is l (inl room) =
-        let begin : max e.at from ≡ from = omega arith in
-        let some = first_byte from end e cover h l (omega arith) in
-        same_windows from size from some.0 (between from end (e ∷ cover)) big
-        (filter_ascends (λ y. nat_lt y end) (filter (λ y. nat_le from y) (spans (e ∷ cover))) (filter_ascends (λ y. nat_le from y) (spans (e ∷ cover)) (spans_ascend (e ∷ cover) h)))
-        (some.1 ∙ ap (λ (n : ℕ). n ∷ some.0) begin)
-    by_end is l (inr past_end) = grind (arith, nat_tests, no_bytes, no_windows)
+    let ascends = filter_ascends (λ y. nat_lt y end) _ (filter_ascends (λ y. nat_le from y) (spans (e ∷ cover)) (spans_ascend (e ∷ cover) h)) in
+    elim (cases_lt from end) [
+      | inl room ↦ (let some = first_byte from end e cover h (omega arith) (omega arith) in grind (arith, nat_tests, same, from_low, same_windows from size from some.0 (between from end (e ∷ cover)) big ascends, some.1))
+      | inr past_end ↦ grind (arith, nat_tests, same, from_low, no_bytes, no_windows)
+    ]
 
 pub empty_left : (first size from end : ℕ) (cover : List Extent) → None ≡ slice_get cover 0 → told_windows first size (between from end cover) ≡ []
 empty_left first size from end [] h = refl
@@ -168,8 +142,7 @@ empty_left first size from end (e ∷ cover) h = no_none_some e h
 pub none_left_at : (first size from end : ℕ) (e : Extent) (cover : List Extent) → IsCover cover → ((c : Extent) → In cover c → from < c.at + c.len)
     → slice_get cover 0 ≡ Some e → end ≤ max e.at from → told_windows first size (between from end cover) ≡ []
 none_left_at first size from end e [] h past g room = refl
-none_left_at first size from end e (c ∷ cover) h past g room =
-    ap (told_windows first size) (no_bytes from end c cover h (past c (inl refl)) (subst (λ (z : Extent). end ≤ max z.at from) (sym (same_Some c e g)) room))
+none_left_at first size from end e (c ∷ cover) h past g room = grind (arith, nat_tests, no_bytes from end c cover h, past c, same_Some c e g)
 
 -- a window ends past its first byte
 pub stops_past : (first size at end top : ℕ) → 1 ≤ size → at < end → end ≤ top → at < min (min (round_end first size at) top) end
@@ -186,14 +159,9 @@ pub next_window_at : (first size from end sat stop top count last at : ℕ) (e d
 next_window_at first size from end sat stop top count last at e d [] left is big low h past g room cap is_sat is_stop bound before after is_last same = no_none_some e g
 next_window_at first size from end sat stop top count last at e d (c ∷ cover) left is big low h past g room cap is_sat is_stop bound before after is_last same =
     let begin : max c.at from ≡ at = ap (λ (z : Extent). max z.at from) (same_Some c e g) ∙ sym is in
-    let stops : stop ≡ min (round_end first size at) end = omega arith in
     let some : 1 ≤ count = some_before stop count c cover after (omega arith) in
-    let index : suc (count - 1) ≡ count = omega arith in
     let at_last = slice_get-get_or (c ∷ cover) (count - 1) d (omega arith) in
-    first_window first size from end stop (count - 1) c (get_or (c ∷ cover) (count - 1) d) cover left big (omega arith) h (past c (inl refl)) (omega arith)
-    (stops ∙ ap (λ (n : ℕ). min (round_end first size n) end) (sym begin)) at_last (before (count - 1) _ (omega arith) at_last)
-    (λ z q. after z (ap (λ (n : ℕ). slice_get (c ∷ cover) n) (sym index) ∙ q)) same
-    ∙ (λ i. window_told first size (begin i, sym is_last i - begin i, one_more count some i) ∷ told_windows first size (between stop end left))
+    grind (arith, nat_tests, begin, some, at_last, first_window first size from end stop (count - 1) c (get_or (c ∷ cover) (count - 1) d) cover left big, past c, before (count - 1), after, one_more count, window_told)
 
 -- every extent of a walk that begins has bytes left
 pub left_from : (low from : ℕ) (cover : List Extent) → IsCover cover → ((c : Extent) → In cover c → low < c.at + c.len)
