@@ -1,5 +1,5 @@
 -- The boxes of a range, as they are found row by row.
-use Rattle.fill_records.proofs.Words.{◌≡◌, ℕ, zero, suc, ◌+◌, ◌-◌, ◌*◌, ◌/◌, ◌%◌, ◌<◌, ◌≤◌, refl, sym, ◌∙◌, ap, inl, inr, ◌⊎◌, List, [], ◌∷◌, ◌++◌, length, map, replicate, take, drop, Bool, true, false, append_assoc, length-append, arith, nat_lt, ◌==◌, mul-div_cancel, mul-mod_left, zero-mod, eqb-false, map-append, append-nil, length-map, take_all, some_factor, Part, product, boxes, in_row, whole_rows, at_row, boxes_before, nat_tests, eqb-true, ltb-true, ltb-false}
+use Rattle.fill_records.proofs.Words.{◌≡◌, ℕ, zero, suc, ◌+◌, ◌-◌, ◌*◌, ◌/◌, ◌%◌, ◌<◌, ◌≤◌, refl, sym, ap, inl, inr, ◌⊎◌, List, [], ◌∷◌, ◌++◌, length, map, replicate, take, drop, append_assoc, length-append, arith, mul-div_cancel, mul-mod_left, eqb-false, map-append, append-nil, length-map, take_all, some_factor, Part, product, boxes, in_row, whole_rows, at_row, boxes_before, nat_tests, eqb-true, ltb-true, ltb-false}
 
 -- ---- boxes in a row
 
@@ -10,32 +10,19 @@ one_more (suc n) xs = ap (λ ys. 1 ∷ ys) (one_more n xs)
 at_row_more : (row : List ℕ) (i : ℕ) (p : Part) → at_row (row ++ i ∷ []) p ≡ at_row row (record { start = i ∷ p.start; count = 1 ∷ p.count })
 at_row_more row i p = grind (arith, nat_tests, length-append row (i ∷ []), one_more (length row) p.count, append_assoc)
 
-pub in_row_more : (row : List ℕ) (i : ℕ) (parts : List Part) → map (λ p. at_row (row ++ i ∷ []) p) parts ≡ map (λ p. at_row row p) (in_row i parts)
+in_row_more : (row : List ℕ) (i : ℕ) (parts : List Part) → map (λ p. at_row (row ++ i ∷ []) p) parts ≡ map (λ p. at_row row p) (in_row i parts)
 in_row_more row i [] = refl
 in_row_more row i (p ∷ parts) = λ t. at_row_more row i p t ∷ in_row_more row i parts t
 
-at_none : (p : Part) → at_row [] p ≡ p
-at_none p = refl
-
 pub at_first : (parts : List Part) → map (λ p. at_row [] p) parts ≡ parts
 at_first [] = refl
-at_first (p ∷ parts) = λ t. at_none p t ∷ at_first parts t
-
--- ---- rows
-
--- what the boxes of rows are, by what their tests say
-pub one_row : (n : ℕ) (lengths : List ℕ) (from to : ℕ) → from / product lengths ≡ to / product lengths
-    → boxes (n ∷ lengths) from to ≡ in_row (from / product lengths) (boxes lengths (from % product lengths) (to % product lengths))
-one_row n lengths from to e = grind (arith, nat_tests, eqb-false)
+at_first (p ∷ parts) = grind (arith, nat_tests, at_first parts)
 
 -- ---- no element
 
-same_below : (x : ℕ) → nat_lt x x ≡ false
-same_below x = grind (arith, nat_tests, ltb-true)
-
 pub no_boxes : (lengths : List ℕ) (x : ℕ) → boxes lengths x x ≡ []
-no_boxes [] x = ap (λ (t : Bool). elim t as (λ u. List Part) [ true ↦ record { start = []; count = [] } ∷ [] | false ↦ [] ]) (same_below x)
-no_boxes (n ∷ lengths) x = one_row n lengths x x refl ∙ ap (λ parts. in_row (x / product lengths) parts) (no_boxes lengths (x % product lengths))
+no_boxes [] x = grind (arith, nat_tests, ltb-true)
+no_boxes (n ∷ lengths) x = grind (arith, nat_tests, in_row, no_boxes lengths (x % product lengths), eqb-false)
 
 pub found_none : (row lengths : List ℕ) (from to : ℕ) (old : List Part) → from ≡ to → old ≡ old ++ map (λ p. at_row row p) (boxes lengths from to)
 found_none row lengths from to old e = grind (arith, nat_tests, no_boxes lengths to, append-nil old)
@@ -56,9 +43,7 @@ found_rows row later lengths n size from to old mid new s e r f g = grind (arith
 pub found_counts : (row counts : List ℕ) (from to : ℕ) (old new : List Part) → 1 ≤ length counts
     → ((count : ℕ) → new ≡ old ++ map (λ p. at_row row p) (boxes (count ∷ take (length counts - 1) (drop 1 counts)) from to)) → new ≡ old ++ map (λ p. at_row row p) (boxes counts from to)
 found_counts row [] from to old new h f = absurd (omega arith)
-found_counts row (n ∷ counts) from to old new h f =
-    let all : length counts ≤ suc (length counts) - 1 = omega arith in
-    f n ∙ ap (λ (ls : List ℕ). old ++ map (λ p. at_row row p) (boxes (n ∷ ls) from to)) (take_all (suc (length counts) - 1) counts all)
+found_counts row (n ∷ counts) from to old new h f = grind (arith, nat_tests, f n, take_all (suc (length counts) - 1) counts)
 
 -- the boxes of the whole range
 pub found_first : (row lengths counts : List ℕ) (from to : ℕ) (none found result : List Part) → row ≡ [] → none ≡ [] → counts ≡ lengths
@@ -73,14 +58,6 @@ in_row_long i parts = length-map parts (λ (p : Part). let q : Part = record { s
 whole_few : (lengths : List ℕ) (first last : ℕ) → length (whole_rows lengths first last) ≤ 1
 whole_few lengths first last = grind (arith, nat_tests)
 
--- those of rows, by those of one row and by those of the first and the last row's parts
-rows_few : (n : ℕ) (lengths : List ℕ) (from to few first last : ℕ)
-    → (from / product lengths ≡ to / product lengths → length (boxes lengths (from % product lengths) (to % product lengths)) ≤ few)
-    → length (boxes_before lengths from (to / product lengths)) ≤ first → length (boxes lengths 0 (to % product lengths)) ≤ last → first + last ≤ few
-    → length (boxes (n ∷ lengths) from to) ≤ few
-rows_few n lengths from to few first last same before after sum =
-    grind (arith, nat_tests, in_row_long (from / product lengths) (boxes lengths (from % product lengths) (to % product lengths)), in_row_long (to / product lengths) (boxes lengths 0 (to % product lengths)), eqb-true, one_row, eqb-false, length-append)
-
 -- ---- the bound
 
 less_or_same : (a b : ℕ) → a ≤ b → (a ≡ b) ⊎ (a < b)
@@ -94,14 +71,7 @@ front_few : (lengths : List ℕ) (to : ℕ) → length (boxes lengths 0 to) ≤ 
 front_few [] to = grind (arith, nat_tests)
 front_few (n ∷ lengths) to =
     let rest = front_few lengths (to % product lengths) in
-    grind (arith, nat_tests, rows_few n lengths 0 to (suc (length lengths) + 1) 1 (length lengths + 1))
-  where
-    whole_before : (t : Bool) → (0 % product lengths == 0) ≡ t → length (elim t as (λ v. List Part) [
-      | true ↦ whole_rows lengths (0 / product lengths) (to / product lengths)
-      | false ↦ in_row (0 / product lengths) (boxes lengths (0 % product lengths) (product lengths)) ++ whole_rows lengths (0 / product lengths + 1) (to / product lengths)
-    ]) ≤ 1
-    whole_before true e = whole_few lengths (0 / product lengths) (to / product lengths)
-    whole_before false e = absurd (eqb-false _ _ e (zero-mod (product lengths)))
+    grind (arith, nat_tests, in_row_long, eqb-true, eqb-false, length-append)
 
 -- the numbers from `from` to the last one
 back_few : (lengths : List ℕ) (from : ℕ) → from ≤ product lengths → length (boxes lengths from (product lengths)) ≤ length lengths + 1
@@ -111,10 +81,10 @@ back_few (n ∷ lengths) from h = elim (less_or_same from (n * product lengths) 
   | inr l ↦
       (let some = some_factor n (product lengths) from l in
       let last : n * product lengths / product lengths ≡ n = mul-div_cancel n some in
-      grind (arith, nat_tests, back_few lengths (from % product lengths), rows_few n lengths from (n * product lengths) (suc (length lengths) + 1) (length lengths + 1 + 1) 0, whole_few, in_row_long, length-append, none_few lengths 0 (n * product lengths % product lengths) 0 (sym (mul-mod_left n (product lengths)))))
+      grind (arith, nat_tests, back_few lengths (from % product lengths), whole_few, in_row_long, length-append, none_few lengths 0 (n * product lengths % product lengths) 0 (sym (mul-mod_left n (product lengths))), eqb-true, eqb-false))
 ]
 
 pub boxes_few : (lengths : List ℕ) (from to : ℕ) → from ≤ to → to ≤ product lengths → length (boxes lengths from to) ≤ 2 * length lengths + 1
 boxes_few [] from to h k = grind (arith, nat_tests)
 boxes_few (n ∷ lengths) from to h k =
-    grind (arith, nat_tests, less_or_same from to h, none_few (n ∷ lengths) from to (2 * suc (length lengths) + 1), some_factor n (product lengths) from, rows_few n lengths from to (2 * suc (length lengths) + 1) (length lengths + 1 + 1) (length lengths + 1), boxes_few lengths (from % product lengths) (to % product lengths), whole_few, in_row_long, length-append, back_few lengths (from % product lengths), front_few lengths (to % product lengths))
+    grind (arith, nat_tests, less_or_same from to h, none_few (n ∷ lengths) from to (2 * suc (length lengths) + 1), some_factor n (product lengths) from, boxes_few lengths (from % product lengths) (to % product lengths), whole_few, in_row_long, length-append, back_few lengths (from % product lengths), front_few lengths (to % product lengths), eqb-true, eqb-false)

@@ -1,5 +1,5 @@
 -- A value's bytes over and over.
-use Rattle.fill_records.proofs.Words.{◌≡◌, ℕ, zero, suc, ◌+◌, ◌-◌, ◌*◌, ◌%◌, ◌<◌, ◌≤◌, refl, sym, ◌∙◌, ap, List, ◌++◌, length, take, drop, get_or, arith, slice_index, repeat, each_same, AllZip, add-mod_right, add-mod-mod, mod-eq_of_lt, same_number_lists, take_at, drop_at, length-map-range_with_len, get_or-map-range_with_len, repeated, nat_tests}
+use Rattle.fill_records.proofs.Words.{◌≡◌, ℕ, zero, suc, ◌+◌, ◌-◌, ◌*◌, ◌%◌, ◌<◌, ◌≤◌, refl, sym, ◌∙◌, ap, List, ◌++◌, length, take, drop, get_or, arith, slice_index, repeat, each_same, AllZip, add-mod_right, add-mod-mod, mod-eq_of_lt, same_number_lists, drop_at, length-map-range_with_len, get_or-map-range_with_len, repeated, nat_tests, common_steps}
 
 pub repeated_long : (value : List ℕ) (from len : ℕ) → length (repeated value from len) ≡ len
 repeated_long value from len = length-map-range_with_len (λ (i : ℕ). slice_index value (i % length value)) from len
@@ -16,17 +16,8 @@ repeated_more value from (suc m) n =
 -- two places that stand at one byte of the value
 pub same_phase : (value : List ℕ) (a b n : ℕ) → a % length value ≡ b % length value → repeated value a n ≡ repeated value b n
 same_phase value a b n e =
-    same_number_lists (repeated value a n) (repeated value b n) (repeated_long value a n ∙ sym (repeated_long value b n)) (λ k h.
-    let long = repeated_long value a n in
-    let low : k < n = omega arith in
-    at_repeated value a n k low ∙ ap (λ (i : ℕ). get_or value i 0) (later k) ∙ sym (at_repeated value b n k low))
-  where
-    later : (k : ℕ) → (a + k) % length value ≡ (b + k) % length value
-    later k =
-        let turn_a : a + k ≡ k + a = omega arith in
-        let turn_b : k + b ≡ b + k = omega arith in
-        ap (λ (i : ℕ). i % length value) turn_a ∙ sym (add-mod-mod k a (length value)) ∙ ap (λ (i : ℕ). (k + i) % length value) e
-        ∙ add-mod-mod k b (length value) ∙ ap (λ (i : ℕ). i % length value) turn_b
+    same_number_lists (repeated value a n) (repeated value b n) (repeated_long value a n ∙ sym (repeated_long value b n))
+    (λ k h. grind (arith, nat_tests, repeated_long value a n, at_repeated value a n k, at_repeated value b n k, add-mod-mod k a (length value), add-mod-mod k b (length value), e))
 
 pub once : (value : List ℕ) → repeated value 0 (length value) ≡ value
 once value = grind (arith, nat_tests, repeated_long value 0 (length value), same_number_lists, at_repeated, mod-eq_of_lt)
@@ -42,14 +33,7 @@ copies value (suc n) = grind (arith, nat_tests, copies value n, value_first valu
 -- some of the copies
 pub part_of_copies : (value : List ℕ) (k n m : ℕ) → k + n ≤ m → take n (drop k (repeated value 0 m)) ≡ repeated value k n
 part_of_copies value k n m h =
-    let split : m ≡ k + (n + (m - k - n)) = omega arith in
-    let first : 0 + k ≡ k = omega arith in
-    ap (λ (l : ℕ). take n (drop k (repeated value 0 l))) split
-    ∙ ap (λ bytes. take n (drop k bytes)) (repeated_more value 0 k (n + (m - k - n)))
-    ∙ ap (λ bytes. take n bytes) (drop_at (repeated value 0 k) (repeated value (0 + k) (n + (m - k - n))) k (repeated_long value 0 k))
-    ∙ ap (λ (j : ℕ). take n (repeated value j (n + (m - k - n)))) first
-    ∙ ap (λ bytes. take n bytes) (repeated_more value k n (m - k - n))
-    ∙ take_at (repeated value k n) (repeated value (k + n) (m - k - n)) n (repeated_long value k n)
+    grind (arith, common_steps, repeated_more value 0 k (n + (m - k - n)), drop_at (repeated value 0 k) (repeated value (0 + k) (n + (m - k - n))) k (repeated_long value 0 k), repeated_long value 0 k, repeated_more value k n (m - k - n), repeated_long value k n)
 
 -- the copies that the code makes, where a clone of a byte is the byte
 pub all_copies : (value made : List ℕ) (n : ℕ) → AllZip (λ x y. y ≡ x) (repeat n value) made → made ≡ repeated value 0 (length made)

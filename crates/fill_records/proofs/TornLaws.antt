@@ -1,5 +1,5 @@
 -- What a filling that was refused leaves: each byte is old, or that of the filled file.
-use Rattle.fill_records.proofs.Words.{◌≡◌, ℕ, suc, ◌+◌, ◌<◌, ◌≤◌, ◌⊎◌, inl, inr, refl, sym, ◌∙◌, ap, subst, in_left, filter_in, in_at, filter-append, take-append-drop, drop, In, List, [], ◌∷◌, ◌++◌, length, take, true, false, not, Option, Some, None, arith, fold, IfSome, cases_lt, nat_tests, told_else, both_none, Header, Var, PartlyWritten, after, BothTold, at, written, fill_bytes, fill_var, filled, header_len, is_sound, end_of, fixed_variables, is_record, share, sharing_from, slab, none_shared, none_with, length-written_inside, get_or-written_below, get_or-written_within, get_or-written_above, IsBetween, repeated, filled_variable, found_long}
+use Rattle.fill_records.proofs.Words.{◌≡◌, ℕ, suc, ◌+◌, ◌<◌, ◌≤◌, ◌⊎◌, inl, inr, refl, sym, ◌∙◌, ap, subst, in_left, filter_in, in_at, filter-append, take-append-drop, drop, In, List, [], ◌∷◌, ◌++◌, length, take, true, false, not, Option, Some, None, arith, fold, IfSome, cases_lt, nat_tests, told_else, both_none, Header, Var, PartlyWritten, after, BothTold, at, written, fill_bytes, fill_var, filled, header_len, is_sound, end_of, fixed_variables, is_record, share, sharing_from, slab, none_shared, none_with, length-written_inside, get_or-written_below, get_or-written_within, get_or-written_above, IsBetween, repeated, filled_variable, found_long, common_steps}
 use Rattle.fill_records.proofs.RepeatedLaws.{repeated_long, at_repeated}
 use Rattle.fill_records.proofs.VariableLaws.{filled_more, fixed_end}
 use Rattle.fill_records.proofs.WindowLaws.{for_told}
@@ -8,7 +8,7 @@ use Rattle.fill_records.proofs.WriteLaws.{var_filled}
 -- ---- files
 
 -- the first of the bytes that are written
-pub some_written : (value file : List ℕ) (begin n len : ℕ) → n ≤ len → begin + len ≤ length file
+some_written : (value file : List ℕ) (begin n len : ℕ) → n ≤ len → begin + len ≤ length file
     → IsBetween file (written file begin (repeated value 0 len)) (written file begin (repeated value 0 n))
 some_written value file begin n len h room =
     grind (
@@ -27,13 +27,13 @@ some_written value file begin n len h room =
 -- ---- files that may be told
 
 -- a change more was cut off
-pub change_refused : (held mid now : Option (List ℕ)) (f g whole : List ℕ → List ℕ) → mid ≡ after f held
+change_refused : (held mid now : Option (List ℕ)) (f g whole : List ℕ → List ℕ) → mid ≡ after f held
     → IfSome held (λ file. IsBetween file (whole file) (f file) × IsBetween file (whole file) (g (f file)))
     → BothTold (λ old left. IsBetween old (g old) left) mid now → BothTold (λ old left. IsBetween old (whole old) left) held now
 change_refused held mid now f g whole e s b = grind (arith, nat_tests)
 
 -- the write of some bytes was cut off
-pub write_refused : (mid now : Option (List ℕ)) (place : ℕ) (bytes : List ℕ) → IfSome mid (λ file. place + length bytes ≤ length file)
+write_refused : (mid now : Option (List ℕ)) (place : ℕ) (bytes : List ℕ) → IfSome mid (λ file. place + length bytes ≤ length file)
     → BothTold (PartlyWritten place bytes) mid now → BothTold (λ old left. IsBetween old (written old place bytes) left) mid now
 write_refused mid now place bytes room b = grind (arith, nat_tests, length-written_inside)
 
@@ -46,11 +46,9 @@ pub part_refused : (held mid now : Option (List ℕ)) (value bytes : List ℕ) (
 part_refused None mid now value bytes begin len some next place size long few less room fits same e b = subst (λ (m : Option (List ℕ)). BothTold (PartlyWritten place bytes) m now) e b
 part_refused (Some file) mid now value bytes begin len some next place size long few less room fits same e b =
     let one = some_written value file begin some len few (omega arith) in
-    let two = some_written value file begin next len less (omega arith) in
-    change_refused (Some file) (Some (written file begin (repeated value 0 some))) now (λ f. written f begin (repeated value 0 some)) (λ f. written f place bytes)
-    (λ f. written f begin (repeated value 0 len)) refl (one, subst (λ (f : List ℕ). IsBetween file (written file begin (repeated value 0 len)) f) (sym (same file long)) two)
-    (write_refused (Some (written file begin (repeated value 0 some))) now place bytes (omega arith)
-    (subst (λ (m : Option (List ℕ)). BothTold (PartlyWritten place bytes) m now) e b))
+    change_refused (Some file) mid now (λ f. written f begin (repeated value 0 some)) (λ f. written f place bytes) (λ f. written f begin (repeated value 0 len)) e
+    (one, subst (λ (f : List ℕ). IsBetween file (written file begin (repeated value 0 len)) f) (sym (same file long)) (some_written value file begin next len less (omega arith)))
+    (write_refused mid now place bytes (rw e (omega (arith, one.len))) b)
 
 -- the same bytes by another name
 pub whole_same : (held now : Option (List ℕ)) (f g : List ℕ → List ℕ) → IfSome held (λ file. f file ≡ g file)
@@ -82,21 +80,18 @@ module _ (header : Header) where
       → fill_var header file v ≡ written file v.begin (repeated (fill_bytes v) 0 (slab header v))
   fill_written v file fixed room = var_filled header v (fill_bytes v) file fixed refl (found_long v.kind v.attrs) room
 
-  fill_long : (v : Var) (file : List ℕ) → is_record header v ≡ false → v.begin + slab header v ≤ length file → length (fill_var header file v) ≡ length file
-  fill_long v file fixed room = grind (arith, nat_tests, repeated_long, fill_written, length-written_inside)
-
   -- bytes beside the variable stay
   fill_beside : (v : Var) (file : List ℕ) (x : ℕ) → is_record header v ≡ false → v.begin + slab header v ≤ length file → IsBeside header x v
       → at (fill_var header file v) x ≡ at file x
   fill_beside v file x fixed room xs = grind (arith, nat_tests, repeated_long, fill_written, get_or-written_below, get_or-written_above)
 
   inside_next : (v : Var) (vars : List Var) (file : List ℕ) → AreInside header (length file) (v ∷ vars) → AreInside header (length (fill_var header file v)) vars
-  inside_next v vars file inside w i = grind (arith, nat_tests, fill_long v file)
+  inside_next v vars file inside w i = grind (arith, nat_tests, repeated_long, fill_written, length-written_inside)
 
   all_long : (vars : List Var) (file : List ℕ) → AreInside header (length file) vars → length (fill_all header vars file) ≡ length file
   all_long [] file inside = refl
   all_long (v ∷ vars) file inside =
-      grind (arith, nat_tests, all_long vars (fill_var header file v) (inside_next v vars file inside), inside_next, fill_long, fill_all)
+      grind (arith, nat_tests, all_long vars (fill_var header file v) (inside_next v vars file inside), inside_next, fill_all, repeated_long, fill_written, length-written_inside)
 
   all_beside : (vars : List Var) (file : List ℕ) (x : ℕ) → AreInside header (length file) vars → ((w : Var) → In vars w → IsBeside header x w)
       → at (fill_all header vars file) x ≡ at file x
@@ -119,14 +114,9 @@ module _ (header : Header) where
   some_of (v ∷ first) rest file x inside apart =
       let own = inside v (inl refl) in
       let next = inside_next v (first ++ rest) file inside in
-      elim (some_of first rest (fill_var header file v) x next apart.1) [
-        | inr e ↦ inr e
-        | inl e ↦ elim (in_or_beside v x) [
-          | inl b ↦ inl (e ∙ fill_beside v file x own.0 own.1 b)
-          | inr t ↦
-              inr (e ∙ sym (all_beside (first ++ rest) (fill_var header file v) x next (λ w i. two_apart v w x own.0 (inside w (inr i)).0 (apart.0 w i) t.0 t.1)))
-        ]
-      ]
+      let last : v.begin ≤ x → x < v.begin + slab header v → at (fill_all header (first ++ rest) (fill_var header file v)) x ≡ at (fill_var header file v) x = λ l h.
+      all_beside (first ++ rest) (fill_var header file v) x next (λ w i. two_apart v w x own.0 (inside w (inr i)).0 (apart.0 w i) l h) in
+      grind (arith, nat_tests, some_of first rest (fill_var header file v) x next apart.1, in_or_beside v x, fill_beside v file x own.0 own.1, last)
 
   -- of a header of which no variables share a byte
   fixed_apart : (first n : ℕ) (vars : List Var) → sharing_from header first n vars ≡ None → AreApart header (fixed_variables header vars)
@@ -137,7 +127,7 @@ module _ (header : Header) where
   fixed_inside long room w i = grind (arith, nat_tests, filter_in, in_at, fixed_end, AreInside)
 
   -- the first of the variables are filled
-  pub some_filled : (k : ℕ) (file : List ℕ) → is_sound header ≡ true → end_of header (header_len header) 0 ≤ length file
+  some_filled : (k : ℕ) (file : List ℕ) → is_sound header ≡ true → end_of header (header_len header) 0 ≤ length file
       → IsBetween file (filled header file) (fold (fill_var header) file (fixed_variables header (take k header.vars)))
   some_filled k file sound room =
       by_parts (fixed_variables header (take k header.vars)) (fixed_variables header (drop k header.vars))
@@ -161,7 +151,4 @@ pub variable_refused : (header : Header) (held mid now : Option (List ℕ)) (k s
     → BothTold (λ old left. IsBetween old (filled header old) left) held now
 variable_refused header held mid now k size v next sound long room e b =
     change_refused held mid now (λ file. fold (fill_var header) file (fixed_variables header (take k header.vars))) (filled_variable header v) (filled header) e
-    (for_told held (λ file l. (
-      some_filled header k file sound (omega arith),
-      subst (λ (f : List ℕ). IsBetween file (filled header file) f) (sym (filled_more header k v file next)) (some_filled header (k + 1) file sound (omega arith)),
-    )) long) b
+    (for_told held (λ file l. grind (arith, common_steps, some_filled header k file sound, filled header file, filled_more header k v file next, some_filled header (k + 1) file sound)) long) b

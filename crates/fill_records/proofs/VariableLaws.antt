@@ -1,5 +1,5 @@
 -- The fixed variables of a sound header, one after another.
-use Rattle.fill_records.proofs.Words.{◌≡◌, ℕ, zero, suc, ◌+◌, ◌*◌, ◌<◌, ◌≤◌, ◌-◌, refl, sym, ◌∙◌, ap, List, [], ◌∷◌, ◌++◌, length, map, take, length-take, get_or, Bool, true, false, not, cond, Some, arith, ◌==◌, IfSome, slice_get, fold, flat_map, flat_map-append, append-nil, filter-append, fold-append, size_most, greatest_holds, Header, NcType, Var, stores, size_of, written, fill_bytes, fill_var, is_record, slab, vsize, end_of, end_of_var, fixed_variables, recsize, last_share, repeated, filled_variable, variable_stores, entry_map, entry_read, nat_tests}
+use Rattle.fill_records.proofs.Words.{◌≡◌, ℕ, zero, suc, ◌+◌, ◌<◌, ◌≤◌, ◌-◌, refl, ◌∙◌, ap, List, [], ◌∷◌, ◌++◌, length, map, take, length-take, get_or, true, false, not, Some, arith, IfSome, slice_get, fold, flat_map, flat_map-append, append-nil, filter-append, fold-append, size_most, greatest_holds, Header, NcType, Var, stores, size_of, written, fill_bytes, fill_var, is_record, slab, end_of, end_of_var, fixed_variables, repeated, filled_variable, variable_stores, entry_map, entry_read, nat_tests, common_steps}
 use Rattle.fill_records.proofs.WriteLaws.{var_filled}
 
 -- ---- items of a list
@@ -24,25 +24,19 @@ room_long kind n e = let most = size_most kind in length-take n (0 ∷ 0 ∷ 0 �
 
 pub fixed_end : (header : Header) (first k : ℕ) (v : Var) → slice_get header.vars k ≡ Some v → is_record header v ≡ false → v.begin + slab header v ≤ end_of header first 0
 fixed_end header first k v h e =
-    let own : end_of_var header 0 v ≡ v.begin + vsize header v =
-    ap (λ (b : Bool). cond b (cond (0 == 0) 0 (v.begin + (0 - 1) * recsize header + last_share header v)) (v.begin + vsize header v)) e in
-    let all = greatest_holds (map (λ w. end_of_var header 0 w) header.vars) k (end_of_var header 0 v) (entry_map (λ w. end_of_var header 0 w) header.vars k v h) in
-    omega arith
+    grind (arith, common_steps, greatest_holds (map (λ w. end_of_var header 0 w) header.vars) k (end_of_var header 0 v) (entry_map (λ w. end_of_var header 0 w) header.vars k v h), entry_map (λ w. end_of_var header 0 w) header.vars k v h)
 
 -- ---- one variable
 
-none_fixed : (header : Header) (v : Var) → is_record header v ≡ true → fixed_variables header (v ∷ []) ≡ []
-none_fixed header v e = ap (λ (b : Bool). cond (not b) (v ∷ []) []) e
-
 pub record_kept : (header : Header) (v : Var) (file : List ℕ) → is_record header v ≡ true → file ≡ filled_variable header v file
-record_kept header v file e = sym (ap (λ vs. fold (fill_var header) file vs) (none_fixed header v e))
+record_kept header v file e = grind (arith, nat_tests)
 
 pub fixed_filled : (header : Header) (v : Var) (value file : List ℕ) (len : ℕ) → is_record header v ≡ false → value ≡ fill_bytes v → length value ≡ size_of v.kind
     → len ≡ slab header v → v.begin + len ≤ length file → written file v.begin (repeated value 0 len) ≡ filled_variable header v file
 fixed_filled header v value file len e f l s h = grind (arith, nat_tests, var_filled header v value file e f l (omega arith))
 
 pub record_stores : (size : ℕ) (header : Header) (v : Var) → is_record header v ≡ true → variable_stores size header v ≡ []
-record_stores size header v e = ap (λ vs. flat_map (λ w. stores size w.begin (slab header w)) vs) (none_fixed header v e)
+record_stores size header v e = grind (arith, nat_tests)
 
 pub fixed_stores : (size : ℕ) (header : Header) (v : Var) (len : ℕ) → is_record header v ≡ false → len ≡ slab header v
     → stores size v.begin len ≡ variable_stores size header v

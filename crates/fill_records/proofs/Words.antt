@@ -1,5 +1,5 @@
 -- The words of this crate's proofs, from where they stand.
-pub use Rattle.list_laws.proofs.Std.{not-true, AllZip, Bool, IfSome, List, None, Option, Some, [], add-mod-mod, add-mod_right, ap, append-nil, append_assoc, arith, cases_lt, cond, div-add-mod', div_below, drop, drop-append-add, drop-drop, drop_at, drop_more, each_same, eqb-false, false, filter-append, find, find-append, flat_map, flat_map-append, fold, fold-map, get_or, get_or-map-range_with_len, inl, inr, length, length-append, length-map, length-map-range_with_len, map, map-append, min, mod-eq_of_lt, mod-mod, mod_below, mul-div_cancel, mul-mod_left, mul-one, nat_le, nat_lt, nat_tests, not, on_err_weaker, on_ok_weaker, option_or, places, range_with_len, refl, repeat, replicate, same_number_lists, slice_get, slice_index, subst, suc, sym, take, take-append-drop, take_at, take_more, true, zero, zero-mod, ℕ, ◌%◌, ◌*◌, ◌++◌, ◌+◌, ◌-◌, ◌/◌, ◌<◌, ◌==◌, ◌∙◌, ◌∷◌, ◌≡◌, ◌≤◌, ◌⊎◌, eqb-true, ltb-true, ltb-false}
+pub use Rattle.list_laws.proofs.Std.{not-true, AllZip, Bool, IfSome, List, None, Option, Some, [], add-mod-mod, add-mod_right, ap, append-nil, append_assoc, arith, cases_lt, cond, div-add-mod', div_below, drop, drop-append-add, drop-drop, drop_at, drop_more, each_same, eqb-false, false, filter-append, find, find-append, flat_map, flat_map-append, fold, fold-map, get_or, get_or-map-range_with_len, inl, inr, length, length-append, length-map, length-map-range_with_len, map, map-append, min, mod-eq_of_lt, mod-mod, mod_below, mul-div_cancel, mul-mod_left, mul-one, nat_le, nat_lt, nat_tests, not, on_err_weaker, on_ok_weaker, option_or, places, range_with_len, refl, repeat, replicate, same_number_lists, slice_get, slice_index, subst, suc, sym, take, take-append-drop, take_at, take_more, true, zero, zero-mod, ℕ, ◌%◌, ◌*◌, ◌++◌, ◌+◌, ◌-◌, ◌/◌, ◌<◌, ◌==◌, ◌∙◌, ◌∷◌, ◌≡◌, ◌≤◌, ◌⊎◌, eqb-true, ltb-true, ltb-false, common_steps}
 pub use Rattle.std.proofs.Common.{length-take}
 pub use Rattle.std.proofs.Math.Seq.{take_all}
 pub use Rattle.std.proofs.lemmas.List.Sums.{fold-append}

@@ -11,10 +11,11 @@ write_next file xs ys place next e h =
     let first = written-inside file place xs (omega arith) in
     let long = length-written_inside file place xs (omega arith) in
     let both : length (xs ++ ys) ≡ length xs + length ys = length-append xs ys in
+    let end : next + length ys ≡ place + length (xs ++ ys) = omega arith in
     written-inside (written file place xs) next ys (omega arith)
     ∙ (λ t. front first t ++ ys ++ back first t)
     ∙ ap (λ bytes. bytes ++ drop (next + length ys) file) (append_assoc (take place file) xs ys)
-    ∙ ap (λ (n : ℕ). take place file ++ (xs ++ ys) ++ drop n file) (end both)
+    ∙ ap (λ (n : ℕ). take place file ++ (xs ++ ys) ++ drop n file) end
     ∙ sym (written-inside file place (xs ++ ys) (omega arith))
   where
     head_long : length (take place file ++ xs) ≡ next
@@ -32,9 +33,6 @@ write_next file xs ys place next e h =
         ∙ drop-append-add (take place file ++ xs) (drop (place + length xs) file) (length ys)
         ∙ drop-drop (length ys) (place + length xs) file
         ∙ ap (λ (n : ℕ). drop n file) whole
-
-    end : length (xs ++ ys) ≡ length xs + length ys → next + length ys ≡ place + length (xs ++ ys)
-    end both = omega arith
 
 -- ---- elements in row-major order
 
