@@ -1,5 +1,5 @@
 -- The regions that a rank posts.
-use Rattle.generated_run.proofs.Words.{◌≡◌, ℕ, List, [], ◌∷◌, Bool, cond, Option, Some, None, ◌==◌, refl, ap, option_map, option_copied, Bor, Call, Given, FindsGiven, elements_given, posted_elements, posted_given, arith, nat_tests}
+use Rattle.generated_run.proofs.Words.{◌≡◌, ℕ, List, [], ◌∷◌, Option, Some, None, refl, ap, option_map, option_copied, Bor, Call, Given, FindsGiven, elements_given, posted_elements, posted_given, arith, nat_tests}
 use Rattle.std.specs.HashMap.{HashMap, IsEmpty, Updates}
 use Rattle.std.specs.Map.{lookup}
 use Rattle.std.specs.Prelude.{nat_eq}
@@ -14,14 +14,9 @@ abbrev pub elements_of : Option Given → ℕ
 elements_of None = 0
 elements_of (Some g) = elements_given g
 
-by_test : (b : Bool) (g : Given) (calls : List Call) (id : ℕ) → posted_elements calls id ≡ elements_of (posted_given calls id)
-    → cond b (elements_given g) (posted_elements calls id) ≡ elements_of (cond b (Some g) (posted_given calls id))
-by_test b g calls id e = grind (arith, nat_tests)
-
 posted_are : (calls : List Call) (id : ℕ) → posted_elements calls id ≡ elements_of (posted_given calls id)
+posted_are (c ∷ calls) id = grind (arith, nat_tests, posted_are calls id)
 posted_are [] id = refl
-posted_are (call.Post own kind name given values ∷ calls) id = by_test (own == id) given calls id (posted_are calls id)
-posted_are (_ ∷ calls) id = posted_are calls id
 
 pub found_are : (calls : List Call) (id : ℕ) (found : Option (Bor (Bor Given))) (kept : Option (Bor Given)) → option_copied found ≡ kept → option_map (λ (g : Bor Given). g.now) kept ≡ posted_given calls id
     → elements_of (option_map (λ (g : Bor Given). g.now) (option_copied found)) ≡ posted_elements calls id

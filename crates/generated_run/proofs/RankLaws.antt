@@ -1,44 +1,25 @@
 -- What the calls of a rank keep.
-use Rattle.generated_run.proofs.Words.{◌≡◌, ℕ, zero, suc, ◌+◌, ◌-◌, ◌*◌, ◌^◌, ◌<◌, ◌≤◌, List, [], ◌∷◌, ◌++◌, length, map, sum, replicate, Bool, true, refl, sym, ap, ◌∙◌, le-leb, lt-ltb, arith, ℤ, neg_ℤ, ◌<ℤ◌, unsigned_abs, flat_map, list_all, range_with_len, ints, append-nil, length-append, list_all-append, length-map-range_with_len, and_from, pieces_long, Call, Every, Bput, Bits, Numbers, are_different, is_given, is_lawful_call, is_number, kind_numbers, posted_ids, values_in_call, first_row, is_counted, precip_at, temp_at, sum_cons, calls_of_rank, columns_of, precip_band, region_of_band, temp_band, nat_tests, pos, codes, common_steps}
+use Rattle.generated_run.proofs.Words.{◌≡◌, ℕ, zero, suc, ◌+◌, ◌-◌, ◌*◌, ◌<◌, ◌≤◌, List, [], ◌∷◌, ◌++◌, length, map, sum, replicate, true, refl, sym, ap, ◌∙◌, le-leb, arith, flat_map, list_all, range_with_len, append-nil, length-append, list_all-append, length-map-range_with_len, and_from, pieces_long, Call, Every, Bput, Bits, Numbers, are_different, is_lawful_call, is_number, kind_numbers, posted_ids, values_in_call, first_row, is_counted, precip_at, temp_at, sum_cons, calls_of_rank, columns_of, precip_band, region_of_band, temp_band, nat_tests, codes, common_steps}
 use Rattle.nc_base.specs.declared.request.Call.TheVariants as call
 use Rattle.generated_run.proofs.Ranges.{pieces_pass, range_differs, range_passes}
 
 -- ---- the values of its rows
 
-long : {A : Type 0} (f : ℕ → ℕ → A) (m a n : ℕ) → length (flat_map (λ y. map (λ x. f y x) (range_with_len 0 m)) (range_with_len a n)) ≡ n * m
-long f m a n = pieces_long (λ y. map (λ x. f y x) (range_with_len 0 m)) m (λ y. length-map-range_with_len (λ x. f y x) 0 m) a n
-
-pass : {A : Type 0} (p : A → Bool) (f : ℕ → ℕ → A) (m a n : ℕ) → ((y x : ℕ) → p (f y x) ≡ true)
-    → list_all p (flat_map (λ y. map (λ x. f y x) (range_with_len 0 m)) (range_with_len a n)) ≡ true
-pass p f m a n h = pieces_pass p (λ y. map (λ x. f y x) (range_with_len 0 m)) a n (λ y b. range_passes p (λ x. f y x) 0 m (λ x b. h y x))
-
 few_temps : (seed r t : ℕ) → r < 8 → length (temp_band seed r t) ≤ 8280
 unfolding temp_band
-few_temps seed r t h = let many = long (temp_at seed t) 360 (first_row r) (first_row (r + 1) - first_row r) in omega (arith, many)
+few_temps seed r t h =
+    grind (arith, nat_tests, pieces_long (λ y. map (λ x. temp_at seed t y x) (range_with_len 0 360)) 360 (λ y. length-map-range_with_len (temp_at seed t y) 0 360))
 
 few_precips : (seed r t : ℕ) → r < 8 → length (precip_band seed r t) ≤ 8280
 unfolding precip_band
-few_precips seed r t h = let many = long (precip_at seed t) 360 (first_row r) (first_row (r + 1) - first_row r) in omega (arith, many)
-
-small : (z : ℤ) → neg_ℤ (pos 10001) <ℤ z → z <ℤ pos 10001 → unsigned_abs z < 10 ^ 20
-small z low high = grind (arith, nat_tests)
-
-small_precip : (seed t y x : ℕ) → is_number (precip_at seed t y x) ≡ true
-small_precip seed t y x = lt-ltb _ (10 ^ 20) (small (precip_at seed t y x) (omega (arith, ints)) (omega (arith, ints)))
+few_precips seed r t h =
+    grind (arith, nat_tests, pieces_long (λ y. map (λ x. precip_at seed t y x) (range_with_len 0 360)) 360 (λ y. length-map-range_with_len (precip_at seed t y) 0 360))
 
 small_precips : (seed r t : ℕ) → list_all is_number (precip_band seed r t) ≡ true
 unfolding precip_band
-small_precips seed r t = pass is_number (precip_at seed t) 360 (first_row r) (first_row (r + 1) - first_row r) (small_precip seed t)
-
--- ---- its regions
-
-given_band : (r t : ℕ) → r < 8 → t < 64 → is_given (region_of_band r t) ≡ true
-unfolding region_of_band
-given_band r t h l = grind (arith, nat_tests)
-
-given_columns : (size r : ℕ) → size ≤ 64 → r < 8 → is_given (columns_of size r) ≡ true
-unfolding columns_of
-given_columns size r s h = grind (arith, nat_tests)
+small_precips seed r t =
+    pieces_pass is_number (λ y. map (λ x. precip_at seed t y x) (range_with_len 0 360)) (first_row r) (first_row (r + 1) - first_row r)
+    (λ y b. range_passes is_number (λ x. precip_at seed t y x) 0 360 (λ x c. grind (arith, nat_tests)))
 
 -- ---- its calls
 
@@ -65,21 +46,13 @@ whole_is seed size r = refl
 -- ---- what they keep
 
 pub rank_lawful : (seed size r : ℕ) → size ≤ 64 → r < 8 → list_all (λ c. is_lawful_call 8 r c) (calls_of_rank seed size r) ≡ true
-rank_lawful seed size r s h = grind (arith, nat_tests, whole_is seed size r, list_all-append, and_from, pieces_pass, given_band, le-leb, few_temps, few_precips, small_precips, given_columns)
-
-counted_record : (seed r t : ℕ) → list_all is_counted (record_of seed r t) ≡ true
-unfolding region_of_band
-counted_record seed r t = refl
-
-counted_reads : (size r : ℕ) → list_all is_counted (reads_of size r) ≡ true
-unfolding columns_of
-counted_reads size r = refl
+unfolding region_of_band columns_of
+rank_lawful seed size r s h = grind (arith, nat_tests, whole_is seed size r, list_all-append, and_from, pieces_pass, le-leb, few_temps, few_precips, small_precips)
 
 pub rank_counted : (seed size r : ℕ) → list_all is_counted (calls_of_rank seed size r) ≡ true
+unfolding region_of_band columns_of
 rank_counted seed size r =
-    sym (ap (λ (calls : List Call). list_all is_counted calls) (whole_is seed size r))
-    ∙ list_all-append is_counted (records_of seed r 0 size) (reads_of size r)
-    ∙ and_from _ _ (pieces_pass is_counted (λ k. record_of seed r k) 0 size (λ k b. counted_record seed r k)) (counted_reads size r)
+    grind (arith, nat_tests, whole_is seed size r, list_all-append is_counted, and_from, pieces_pass is_counted (λ k. record_of seed r k) 0 size (λ k b. refl))
 
 ids_of : (seed r : ℕ) (others : List Call) (t n : ℕ) → posted_ids (records_of seed r t n ++ others) ≡ range_with_len (2 * t) (2 * n) ++ posted_ids others
 ids_of seed r others t zero = refl

@@ -1,9 +1,6 @@
 -- Sums and products that go on by one item.
 use Rattle.generated_run.proofs.Words.{◌≡◌, ℕ, ◌+◌, ◌*◌, ◌%◌, ◌^◌, ◌<◌, List, length, map, sum, take, get_or, fold, ap, ◌∙◌, arith, ℤ, ◌*ℤ◌, slice_get, take_all, take_more, fold-append, fold_push, sum_by-append, sum_by_push, BitRun, NumberRun, bit_steps, bits_of_run, bits_of_runs, numbers_of_run, numbers_of_runs, steps, bit_steps_more, steps_more, sum_more, take_next, nat_tests, common_steps, pos, ◌+ℤ◌, Some}
 
-mapped_more : {A : Type 0} (f : A → ℕ) (xs : List A) (i : ℕ) (d : A) → i < length xs → sum (map f (take (i + 1) xs)) ≡ sum (map f (take i xs)) + f (get_or xs i d)
-mapped_more {A} f xs i d h = ap (λ (ys : List A). sum (map f ys)) (take_more xs i d h) ∙ sum_more f (take i xs) (get_or xs i d)
-
 -- ---- over a list that is read by its places
 
 pub number_summed : (start : ℤ) (zs : List ℤ) (k : ℕ) (z : ℤ) → slice_get zs k ≡ Some z
@@ -17,7 +14,7 @@ pattern_summed ns k n there = ap (λ (ms : List ℕ). sum ms) (take_next ns k n 
 
 pub next_summed : {A : Type 0} (f : A → ℕ) (now part next : ℕ) (all : List A) (n m : ℕ) (x : A) → n < length all → x ≡ get_or all n x → m ≡ n + 1
     → now ≡ sum (map f (take n all)) → part ≡ f x → next ≡ now + part → next ≡ sum (map f (take m all))
-next_summed {A} f now part next all n m x within here one so_far own more = grind (arith, nat_tests, sum, mapped_more)
+next_summed {A} f now part next all n m x within here one so_far own more = grind (arith, nat_tests, sum, take_more all n x within, sum_more f (take n all))
 
 pub all_summed : {A : Type 0} (f : A → ℕ) (now : ℕ) (all : List A) (n : ℕ) → n ≡ length all → now ≡ sum (map f (take n all)) → now ≡ sum (map f all)
 all_summed {A} f now all n whole so_far = grind (arith, nat_tests, sum, take_all)
