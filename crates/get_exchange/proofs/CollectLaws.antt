@@ -19,7 +19,7 @@ blob_long : (table : List (List (List ℕ))) (rank slot : ℕ) → get_or (get_o
 blob_long table rank slot = ap (λ (ns : List ℕ). get_or ns slot 0) (get_or-map (λ (blobs : List (List ℕ)). map (λ (blob : List ℕ). length blob) blobs) table rank [])
     ∙ get_or-map (λ (blob : List ℕ). length blob) (get_or table rank []) slot []
 
-pub as_long_at : (old now : List (List (List ℕ))) (rank slot : ℕ) → AreAsLong old now → length (blob_at now rank slot) ≡ length (blob_at old rank slot)
+as_long_at : (old now : List (List (List ℕ))) (rank slot : ℕ) → AreAsLong old now → length (blob_at now rank slot) ≡ length (blob_at old rank slot)
 as_long_at old now rank slot h = grind (arith, nat_tests, blob_long now rank slot, blob_long old rank slot)
 
 pub fit_as_long : (old now : List (List (List ℕ))) (list : List Owned) → AreAsLong old now → FitTable old list → FitTable now list
@@ -49,7 +49,7 @@ pub collected : (table : List (List (List ℕ))) (rank slot : ℕ) (d lent now :
     → set table rank now ≡ set table rank (set (get_or table rank []) slot (written (blob_at table rank slot) cell.0 cell.1))
 collected table rank slot d lent now cell l e f = grind (arith, nat_tests, get_or_default table rank d [] l, set)
 
-pub blob_long_kept : (table : List (List (List ℕ))) (rank slot : ℕ) (blob : List ℕ) → length blob ≡ length (blob_at table rank slot)
+blob_long_kept : (table : List (List (List ℕ))) (rank slot : ℕ) (blob : List ℕ) → length blob ≡ length (blob_at table rank slot)
     → AreAsLong table (with_blob table rank slot blob)
 blob_long_kept table rank slot blob e = grind (arith, nat_tests, set (get_or table rank []) slot blob, map-set_same)
 

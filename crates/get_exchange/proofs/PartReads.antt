@@ -1,5 +1,5 @@
 -- The windows of all parts, each read of its own part, are the file's bytes of all entries.
-use Rattle.get_exchange.proofs.Words.{◌≡◌, ℕ, ◌+◌, ◌-◌, ◌<◌, ◌≤◌, inl, inr, refl, sym, ◌∙◌, ap, subst, List, [], ◌∷◌, ◌++◌, length, map, Option, Some, None, Result, Ok, Err, arith, slice_get_within, append-nil, length-map, slice_get, zip, IfErr, IfSome, IsErrOf, OnOk, result_and, entry_below, Extent, StepErr, Disk, Memory, at, read, read_at, read_same, In, in_either, in_left, in_right, at_in, in_at, in_map, in_zip, map_in, zip_in, IsCovered, AreAsLong, FitTable, HasRead, HaveOnePlaces, get_turns, AreRead, IsGetPlanned, told_in, HasReadParts, HasReadTurns, HasTaken, HaveTakenTurns, IsKept, IsReadOf, Log, IsDomainOf, domain_of, part_of, turns_due, IsFresh, Told, ReadWorker, GetPlan, domain_part, domain_windows, nat_tests, take, drop, map-append, zip_split, IsSplit, AreKept, HaveServed, DiskGhosts, IsErr, came_back, zip_next, err_not_ok, suc}
+use Rattle.get_exchange.proofs.Words.{◌≡◌, ℕ, ◌+◌, ◌-◌, ◌<◌, ◌≤◌, inl, inr, refl, sym, ◌∙◌, ap, subst, List, [], ◌∷◌, ◌++◌, length, map, Option, Some, None, Result, Ok, Err, arith, slice_get_within, append-nil, length-map, slice_get, zip, IfErr, IfSome, IsErrOf, OnOk, result_and, entry_below, Extent, StepErr, Disk, Memory, at, read, read_at, read_same, In, in_either, in_left, in_right, at_in, in_at, in_map, in_zip, map_in, zip_in, IsCovered, AreAsLong, FitTable, HasRead, HaveOnePlaces, get_turns, AreRead, IsGetPlanned, told_in, HasReadParts, HasReadTurns, HasTaken, HaveTakenTurns, IsKept, IsReadOf, Log, IsDomainOf, domain_of, part_of, turns_due, IsFresh, Told, ReadWorker, GetPlan, domain_part, domain_windows, nat_tests, take, drop, zip_split, IsSplit, AreKept, HaveServed, DiskGhosts, IsErr, came_back, zip_next, err_not_ok, suc, common_steps}
 use Rattle.get_exchange.proofs.FetchLaws.{GotBy}
 use Rattle.get_exchange.proofs.ReadLaws.{log_joined, read_law}
 use Rattle.get_exchange.proofs.TakeLaws.{items_read}
@@ -34,10 +34,7 @@ module _ {D : Type 0} (from : D → ℕ) (held : D → Option (List ℕ)) (plan 
   parts_both pairs more old mid now h t = record {
     log = h.log ++ t.log;
     collected = log_joined plan.list.now h.log t.log old mid now h.collected t.collected;
-    all = λ p u m k. subst (λ (ts : List Told). In ts u) (sym (map-append (λ (e : Told × List ℕ). e.0) h.log t.log)) (elim (in_either pairs more p m) [
-      | inl g ↦ in_left (told_in h.log) (told_in t.log) u (h.all p u g k)
-      | inr g ↦ in_right (told_in h.log) (told_in t.log) u (t.all p u g k)
-    ]);
+    all = grind (arith, common_steps, in_either pairs more, in_left (told_in h.log) (told_in t.log), in_right (told_in h.log) (told_in t.log));
     only = λ e m. elim (in_either h.log t.log e m) [
       | inl g ↦ (let r = h.only e g in record { pair = r.pair; inside = in_left pairs more r.pair r.inside; turn = r.turn; told = r.told })
       | inr g ↦ (let r = t.only e g in record { pair = r.pair; inside = in_right pairs more r.pair r.inside; turn = r.turn; told = r.told })

@@ -1,5 +1,5 @@
 -- Hulls that were read and collected, in whatever order, make each blob the file's bytes of its entries.
-use Rattle.get_exchange.proofs.Words.{◌≡◌, ℕ, zero, suc, ◌+◌, ◌-◌, ◌^◌, ◌<◌, ◌≤◌, inl, inr, refl, sym, ◌∙◌, ap, subst, List, [], ◌∷◌, ◌++◌, length, map, true, append_assoc, arith, fold-append, append-nil, ext_get_or, replicate, Owned, at, read, written, Cell, said_at, said_by, Says, write_cells, IsOneValued, IsWithin, read_at, read_long, got_cell, In, extents, EndBelow, says_left, says_right, says_cases, in_extents, same_said, said_in_any_order, append_within, said_by_joined, got_cells, places_of, buffer_cell, part_in, IsCovered, IsRead, got_says, says_got, read_as, read_once, parts_within, whole_parts, buffer_cells, got_whole, blob_at, got_in_hull, of_request, FitTable, HasCollected, HasRead, HaveOnePlaces, log_cells, told_in, HasCollectedLog, Log, Told, AreServed, in_served, served_in, nat_tests, flat_map}
+use Rattle.get_exchange.proofs.Words.{◌≡◌, ℕ, zero, suc, ◌+◌, ◌-◌, ◌^◌, ◌<◌, ◌≤◌, inl, inr, refl, sym, ◌∙◌, ap, subst, List, [], ◌∷◌, ◌++◌, length, map, true, arith, append-nil, ext_get_or, replicate, Owned, at, read, written, Cell, said_at, said_by, Says, write_cells, IsOneValued, IsWithin, read_at, read_long, got_cell, In, extents, EndBelow, says_left, says_right, says_cases, in_extents, same_said, said_in_any_order, append_within, said_by_joined, got_cells, places_of, buffer_cell, part_in, IsCovered, IsRead, got_says, says_got, read_as, read_once, parts_within, whole_parts, buffer_cells, got_whole, blob_at, got_in_hull, of_request, FitTable, HasCollected, HasRead, HaveOnePlaces, log_cells, told_in, HasCollectedLog, Log, Told, AreServed, in_served, served_in, nat_tests, flat_map, common_steps}
 use Rattle.get_exchange.proofs.CollectLaws.{fit_request, in_request, request_in}
 
 -- ---- one hull
@@ -15,8 +15,7 @@ says_too : (file : List ℕ) (rank slot lo hi : ℕ) (one two : List Owned) → 
     → (x v : ℕ) → Says (hull_says file rank slot lo hi one) x v → Says (hull_says file rank slot lo hi two) x v
 says_too file rank slot lo hi one two has x v h =
     let r = got_says 0 file lo hi (of_request rank slot one) x v (from_0 (of_request rank slot one)) h in
-    let m = in_request rank slot one r.by r.inside in
-    grind (arith, nat_tests, says_got 0 file lo hi (of_request rank slot two) x v (from_0 (of_request rank slot two)), from_0 (of_request rank slot two), read_as 0 file lo hi lo hi (of_request rank slot one) (of_request rank slot two) x v r r.low r.high, request_in rank slot two r.by (has r.by r.place m.0 r.low r.high r.begin r.end) m.1 m.2)
+    grind (arith, common_steps, in_request rank slot one r.by r.inside, says_got 0 file lo hi (of_request rank slot two) x v (from_0 (of_request rank slot two)), from_0 (of_request rank slot two), read_as 0 file lo hi lo hi (of_request rank slot one) (of_request rank slot two) x v r r.low r.high, request_in rank slot two r.by (has r.by r.place (in_request rank slot one r.by r.inside).0 r.low r.high r.begin r.end) (in_request rank slot one r.by r.inside).1)
 
 hull_said : (file : List ℕ) (rank slot lo hi : ℕ) (list begun : List Owned) (y : ℕ) → IsOneValued (places_of (of_request rank slot list)) → AreServed list begun lo hi
     → said_at (hull_says file rank slot lo hi list) y ≡ said_at (hull_says file rank slot lo hi begun) y
@@ -29,8 +28,7 @@ hull_same : (file blob : List ℕ) (rank slot : ℕ) (t : Told) (list begun : Li
     → ((o : Owned) → In (of_request rank slot list) o → o.from + o.extent.len ≤ length blob)
     → write_cells blob (got_in_hull file (of_request rank slot begun) t) ≡ write_cells blob (got_in_hull file (of_request rank slot list) t)
 hull_same file blob rank slot t list begun once served fit = same_said (got_in_hull file (of_request rank slot begun) t) (got_in_hull file (of_request rank slot list) t) blob
-    (parts_within 0 file t.0 (t.0 + t.1) (length blob) (of_request rank slot begun)
-    (λ o m. let r = in_request rank slot begun o m in fit o (request_in rank slot list o (served_in list begun t.0 (t.0 + t.1) o served r.0) r.1 r.2)))
+    (grind (arith, common_steps, parts_within 0 file t.0 (t.0 + t.1) (length blob) (of_request rank slot begun), in_request rank slot begun, request_in rank slot list, served_in list begun t.0 (t.0 + t.1)))
     (parts_within 0 file t.0 (t.0 + t.1) (length blob) (of_request rank slot list) fit) (λ y. sym (hull_said file rank slot t.0 (t.0 + t.1) list begun y once served))
 
 -- ---- a buffer has the bytes of some file
@@ -83,8 +81,7 @@ say_parts : (file : List ℕ) (top : ℕ) (os : List Owned) (ts : List Told) (t 
     → Says (said_by (all_parts file os ts)) y v
 say_parts file top os [] t y v r m l h = absurd m
 say_parts file top os (u ∷ ts) t y v r (inl e) l h = subst (λ (ps : List (ℕ × ℕ)). Says ps y v) (sym (said_by_joined (got_in_hull file os u) (all_parts file os ts)))
-    (says_left (said_by (got_in_hull file os u)) (said_by (all_parts file os ts)) y v (subst (λ (z : Told). Says (said_by (got_in_hull file os z)) y v) (sym e)
-    (says_got 0 file t.0 (t.0 + t.1) os y v (from_0 os) (read_as 0 file 0 top t.0 (t.0 + t.1) os os y v r l h r.inside))))
+    (grind (arith, common_steps, says_left (said_by (got_in_hull file os u)) (said_by (all_parts file os ts)) y v, says_got 0 file t.0 (t.0 + t.1) os y v (from_0 os) (read_as 0 file 0 top t.0 (t.0 + t.1) os os y v r l h r.inside), from_0 os, read_as 0 file 0 top t.0 (t.0 + t.1) os os y v r l h r.inside))
 say_parts file top os (u ∷ ts) t y v r (inr m) l h =
     grind (arith, nat_tests, say_parts file top os ts t y v r m l h, said_by_joined (got_in_hull file os u) (all_parts file os ts), says_right)
 
@@ -101,22 +98,14 @@ parts_whole file top os ts blob below each once fit =
     (parts_within 0 file 0 top (length blob) os fit) (λ y. sym (said_in_any_order (said_by (got_cells 0 file (map (λ o. part_in 0 top o) os))) (said_by (all_parts file os ts))
     (read_once 0 file 0 top os (from_0 os) once) (λ x v h.
     let r = got_says 0 file 0 top os x v (from_0 os) h in
-    let t = each r.place (record { by = r.by; inside = r.inside; low = r.begin; high = r.end }) in
-    say_parts file top os ts t.0 x v r t.1 t.2 t.3) (λ x v h. says_got 0 file 0 top os x v (from_0 os) (parts_say file top os ts x v below h)) y))
+    grind (arith, common_steps, say_parts file top os ts (each r.place (record { by = r.by; inside = r.inside; low = r.begin; high = r.end })).0 x v r)) (λ x v h. says_got 0 file 0 top os x v (from_0 os) (parts_say file top os ts x v below h)) y))
     ∙ ap (λ (es : List Owned). write_cells blob (got_cells 0 file es)) (whole_parts top os below) ∙ ap (λ (cs : List Cell). write_cells blob cs) (got_whole file os)
 
 -- ---- a log of hulls
 
 pub log_joined : (list : List Owned) (first second : Log) (old mid now : List (List (List ℕ))) → HasCollectedLog list first old mid → HasCollectedLog list second mid now
     → HasCollectedLog list (first ++ second) old now
-log_joined list first second old mid now f g = λ r s. g r s ∙ ap (λ (b : List ℕ). write_cells b (log_cells (of_request r s list) second)) (f r s)
-    ∙ sym (fold-append (λ b cell. written b cell.0 cell.1) (blob_at old r s) (log_cells (of_request r s list) first) (log_cells (of_request r s list) second))
-    ∙ ap (λ (cs : List Cell). write_cells (blob_at old r s) cs) (sym (cells_joined (of_request r s list) first second))
-  where
-    cells_joined : (os : List Owned) (one two : Log) → log_cells os (one ++ two) ≡ log_cells os one ++ log_cells os two
-    cells_joined os [] two = refl
-    cells_joined os (e ∷ one) two = ap (λ (cs : List Cell). map (λ o. buffer_cell e.0.0 (e.0.0 + e.0.1) e.1 o) os ++ cs) (cells_joined os one two)
-        ∙ sym (append_assoc (map (λ o. buffer_cell e.0.0 (e.0.0 + e.0.1) e.1 o) os) (log_cells os one) (log_cells os two))
+log_joined list first second old mid now f g = grind (arith, common_steps, written)
 
 -- one hull
 pub log_one : (list : List Owned) (t : Told) (bytes : List ℕ) (old now : List (List (List ℕ))) → HasCollected t.0 (t.0 + t.1) bytes list old now

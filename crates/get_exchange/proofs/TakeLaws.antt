@@ -1,16 +1,11 @@
 -- Hulls that are taken off the lines of helpers, one after another.
-use Rattle.get_exchange.proofs.Words.{◌≡◌, ℕ, ◌+◌, ◌-◌, inl, inr, refl, sym, ◌∙◌, ap, subst, List, [], ◌∷◌, ◌++◌, length, map, set, Option, Some, Result, Ok, Err, append_assoc, arith, append-nil, length-map, map-append, same_Some, slice_get_within, slice_get, IfErr, IfSome, OnOk, result_and, entry_below, entry_set, entry_set_other, Owned, StepErr, Memory, read, In, in_either, in_left, in_right, turns_due, IsFresh, IsStartedFor, FitTable, HasCollected, HaveOnePlaces, AreServed, reading_of, AreRead, told_in, HasTaken, HasTakenOf, HasTakenTurn, HaveTakenTurns, IsKept, IsTakenOf, Log, Told, Reading, Hull, Shelf, ReadWorker, GetPlan, set_each, nat_tests, AreKept, kept_all, eqb_tells}
+use Rattle.get_exchange.proofs.Words.{◌≡◌, ℕ, ◌+◌, ◌-◌, inl, inr, refl, sym, ◌∙◌, ap, subst, List, [], ◌∷◌, ◌++◌, length, map, set, Option, Some, Result, Ok, Err, arith, append-nil, length-map, same_Some, slice_get_within, slice_get, IfErr, IfSome, OnOk, result_and, entry_below, entry_set, entry_set_other, Owned, StepErr, Memory, read, In, in_either, in_left, in_right, turns_due, IsFresh, IsStartedFor, FitTable, HasCollected, HaveOnePlaces, AreServed, reading_of, AreRead, told_in, HasTaken, HasTakenOf, HasTakenTurn, HaveTakenTurns, IsKept, IsTakenOf, Log, Told, Reading, Hull, Shelf, ReadWorker, GetPlan, set_each, nat_tests, AreKept, kept_all, eqb_tells, common_steps}
 use Rattle.get_exchange.proofs.ReadLaws.{hull_collected, log_joined, log_one}
 
 -- ---- hulls of one helper
 
 taken_twice : (first second : Log) (old mid new : Shelf) → HasTaken first old mid → HasTaken second mid new → HasTaken (first ++ second) old new
-taken_twice first second old mid new f g = record {
-  turns = ap (λ (ts : List Told). ts ++ turns_due new) (map-append (λ (e : Told × List ℕ). e.0) first second) ∙ append_assoc (told_in first) (told_in second) (turns_due new)
-      ∙ ap (λ (ts : List Told). told_in first ++ ts) g.turns ∙ f.turns;
-  items = g.items ∙ ap (λ (is : List Reading). is ++ map (λ e. Hull e.1) second) f.items ∙ append_assoc old.line.items (map (λ e. Hull e.1) first) (map (λ e. Hull e.1) second)
-      ∙ ap (λ (is : List Reading). old.line.items ++ is) (sym (map-append (λ (e : Told × List ℕ). Hull e.1) first second));
-}
+taken_twice first second old mid new f g = grind (arith, common_steps)
 
 -- a hull that came, where it is as long as it is to be
 pub taken_turn : {T E : Type 0} (list begun : List Owned) (t : Told) (bytes : List ℕ) (old new : Shelf) (before now : List (List (List ℕ))) (came : Result T E)

@@ -1,5 +1,5 @@
 -- Hulls of a part that are read and collected one after another: what was done and what is left to be done are the whole.
-use Rattle.get_exchange.proofs.Words.{◌≡◌, ℕ, ◌+◌, ◌-◌, inr, sym, ◌∙◌, ap, subst, List, [], ◌∷◌, ◌++◌, Option, append_assoc, append-nil, map-append, IfSome, Owned, DiskCall, with_end-nil, with_end-with_end, with_end, read, IsWalk, load_calls, In, in_either, entries_left, IsPast, AreAsLong, FitTable, HaveOnePlaces, AreInFront, IsAt, LieOnPart, told_in, HasCollectedLog, HasReadTurn, HasReadTurns, Log, Told, turns_ahead, ReadWalk, at_next, served_now, arith, nat_tests, ◌^◌, EndBelow, extents, Window, WindowWalk, told_window, IsDue, due_now, flat_map}
+use Rattle.get_exchange.proofs.Words.{◌≡◌, ℕ, ◌+◌, ◌-◌, inr, sym, ◌∙◌, ap, subst, List, [], ◌∷◌, ◌++◌, Option, append-nil, IfSome, Owned, DiskCall, with_end-nil, with_end-with_end, with_end, read, IsWalk, load_calls, In, in_either, entries_left, IsPast, AreAsLong, FitTable, HaveOnePlaces, AreInFront, IsAt, LieOnPart, told_in, HasCollectedLog, HasReadTurn, HasReadTurns, Log, Told, turns_ahead, ReadWalk, at_next, served_now, arith, nat_tests, ◌^◌, EndBelow, extents, Window, WindowWalk, told_window, IsDue, due_now, flat_map, common_steps}
 use Rattle.get_exchange.proofs.CollectLaws.{fit_as_long}
 use Rattle.get_exchange.proofs.ReadLaws.{hull_collected, log_joined, log_one}
 
@@ -44,8 +44,7 @@ reading_next list begun room from len here all w v t held kept old mid now calls
   here = at_next list (entries_left w.entries) (entries_left v.entries) room (turns_ahead w.windows) (turns_ahead v.windows) t s.here e p;
   on_part = λ u m. s.on_part u (subst (λ (ts : List Told). In ts u) (sym e) (inr m));
   log = s.log ++ (t, r.bytes) ∷ [];
-  turns = ap (λ (ts : List Told). ts ++ turns_ahead v.windows) (map-append (λ (u : Told × List ℕ). u.0) s.log ((t, r.bytes) ∷ []))
-      ∙ append_assoc (told_in s.log) (t ∷ []) (turns_ahead v.windows) ∙ ap (λ (ts : List Told). told_in s.log ++ ts) (sym e) ∙ s.turns;
+  turns = grind (arith, common_steps);
   told = grind (arith, nat_tests, told_more, read, t.0, t.1, r.told);
   collected = grind (arith, nat_tests, log_joined list s.log ((t, r.bytes) ∷ []) old mid now s.collected, log_one list t r.bytes mid now, hull_collected t.0 t.1 r.bytes list begun mid now r.long once (fit_as_long old mid list s.long fit), fit_as_long old mid list s.long fit, served_now list (entries_left w.entries) begun room (turns_ahead w.windows) (turns_ahead v.windows) t s.here e);
   long = long ∙ s.long;
