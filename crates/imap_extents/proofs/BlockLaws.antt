@@ -1,5 +1,5 @@
 -- Lists that are made a block at a time.
-use Rattle.imap_extents.proofs.Cited.{◌≡◌, ℕ, ◌+◌, ◌<◌, refl, arith, List, ◌++◌, length, map, take, set, append_assoc, flat_map, range_with_len, take_more_set, flat_map-append, flat_map-map, map-range_with_len_more, range_append}
+use Rattle.imap_extents.proofs.Cited.{◌≡◌, ℕ, ◌+◌, ◌<◌, refl, arith, List, ◌++◌, length, map, take, set, append_assoc, flat_map, range_with_len, take_more_set, flat_map-append, flat_map-map, map-range_with_len_more, range_append, nat_tests}
 
 -- one element more is written
 pub written_more : {X : Type 0} (f : ℕ → X) (s i : ℕ) (xs : List X) (y : X) → i < length xs → take i xs ≡ map f (range_with_len s i) → y ≡ f (s + i)
@@ -14,12 +14,4 @@ block_bytes f forms s n m is long = rw (is, flat_map-map (λ form. form) f (rang
 -- one block more
 pub blocks_more : (f : ℕ → List ℕ) (old now new : List ℕ) (done here : ℕ) → now ≡ old ++ flat_map f (range_with_len 0 done)
     → new ≡ now ++ flat_map f (range_with_len done here) → new ≡ old ++ flat_map f (range_with_len 0 (done + here))
-blocks_more f old now new done here before added =
-    let start : 0 + done ≡ done = omega arith in
-    rw (
-      range_append 0 done here,
-      start,
-      flat_map-append f (range_with_len 0 done) (range_with_len done here),
-      ← append_assoc old (flat_map f (range_with_len 0 done)) (flat_map f (range_with_len done here)),
-      ← before,
-    ) added
+blocks_more f old now new done here before added = grind (arith, nat_tests, range_append 0 done here, flat_map-append, append_assoc)

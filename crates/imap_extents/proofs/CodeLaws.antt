@@ -1,5 +1,5 @@
 -- The lowest bytes of a number: those of a value, where the value is in a type's range.
-use Rattle.imap_extents.proofs.Cited.{◌≡◌, ℕ, zero, suc, ◌+◌, ◌*◌, ◌^◌, ◌<◌, ◌≤◌, refl, ◌∙◌, ap, map, true, false, not, arith, pos, negsuc, ◌+ℤ◌, FitsSigned, to_z, of_z, ◌%◌, flat_map, list_any, range_with_len, w8, w16, w32, w64, byte_len, byte_at, bytes_high_first, to_be_bytes, cast_unsigned, cast_signed, int_wrap, int_rem_euclid, unsigned_abs, of_z-to_z, to_z-of_z, wrapping_add-bits, wrapping_mul-bits, int_wrap-add_right, NcType, Value, width_of, ext, fits, nat_tests}
+use Rattle.imap_extents.proofs.Cited.{◌≡◌, ℕ, zero, suc, ◌+◌, ◌*◌, ◌^◌, ◌<◌, ◌≤◌, refl, map, true, false, not, arith, pos, negsuc, ◌+ℤ◌, FitsSigned, to_z, of_z, ◌%◌, flat_map, list_any, range_with_len, w8, w64, byte_len, byte_at, bytes_high_first, to_be_bytes, cast_unsigned, int_wrap, int_rem_euclid, unsigned_abs, to_z-of_z, wrapping_add-bits, wrapping_mul-bits, int_wrap-add_right, NcType, Value, width_of, ext, fits, nat_tests, Width}
 use Rattle.std.proofs.Common.{ℤ, ◌*ℤ◌}
 use Rattle.nc_base.specs.declared.request.Value.TheVariants as value
 use mir.Val.{bits}
@@ -12,31 +12,19 @@ narrow : (kind : NcType) → byte_len (width_of kind) ≤ 8
 narrow kind = grind (arith, nat_tests)
 
 -- ---- two's complement
-opened : (z : ℤ) → int_wrap w64 z ≡ cast_signed w64 (unsigned_abs (int_rem_euclid z (pos (2 ^ bits w64))))
-unfolding int_wrap
-opened z = refl
-
-small : (z : ℤ) → unsigned_abs (int_rem_euclid z (pos (2 ^ bits w64))) < 2 ^ bits w64
-small z = grind (arith, nat_tests)
 
 wrapped : (z : ℤ) → cast_unsigned w64 (int_wrap w64 z) ≡ unsigned_abs (int_rem_euclid z (pos (2 ^ bits w64)))
-wrapped z = ap (λ (y : ℤ). cast_unsigned w64 y) (opened z) ∙ of_z-to_z w64 (unsigned_abs (int_rem_euclid z (pos (2 ^ bits w64)))) (small z)
+unfolding int_wrap
+wrapped z = grind (arith, nat_tests)
 
-complement_8 : (n : ℕ) → 2 * n < 256 ^ 1 → to_be_bytes w8 (cast_unsigned w64 (int_wrap w64 (negsuc n))) ≡ to_be_bytes w8 (cast_unsigned w8 (negsuc n))
-complement_8 n h = grind (arith, nat_tests, wrapped (negsuc n))
-
-complement_16 : (n : ℕ) → 2 * n < 256 ^ 2 → to_be_bytes w16 (cast_unsigned w64 (int_wrap w64 (negsuc n))) ≡ to_be_bytes w16 (cast_unsigned w16 (negsuc n))
-complement_16 n h = grind (arith, nat_tests, wrapped (negsuc n), same_bytes)
-
-complement_32 : (n : ℕ) → 2 * n < 256 ^ 4 → to_be_bytes w32 (cast_unsigned w64 (int_wrap w64 (negsuc n))) ≡ to_be_bytes w32 (cast_unsigned w32 (negsuc n))
-complement_32 n h = grind (arith, nat_tests, wrapped (negsuc n), same_bytes)
-
-complement_64 : (n : ℕ) → 2 * n < 256 ^ 8 → to_be_bytes w64 (cast_unsigned w64 (int_wrap w64 (negsuc n))) ≡ to_be_bytes w64 (cast_unsigned w64 (negsuc n))
-complement_64 n h = grind (arith, nat_tests, wrapped)
+complement : (w : Width) (n : ℕ) → byte_len w ≤ 8 → 2 * n < 256 ^ byte_len w → to_be_bytes w (cast_unsigned w64 (int_wrap w64 (negsuc n))) ≡ to_be_bytes w (cast_unsigned w (negsuc n))
+complement w8 n l h = grind (arith, nat_tests, wrapped (negsuc n))
+complement w64 n l h = grind (arith, nat_tests, wrapped)
+complement w n l h = grind (arith, nat_tests, wrapped (negsuc n), same_bytes)
 
 -- a number in the range of a type has there the lowest bytes that it has in 64 bits
 pub number_form : (kind : NcType) (z : ℤ) → fits kind (value.Number z) ≡ true → to_be_bytes (width_of kind) (cast_unsigned w64 (int_wrap w64 z)) ≡ ext kind (value.Number z)
-number_form kind z h = grind (arith, nat_tests, wrapped, same_bytes, narrow, complement_8, complement_16, complement_32, complement_64)
+number_form kind z h = grind (arith, nat_tests, wrapped, same_bytes, narrow, complement)
 
 below_wrap : (z : ℤ) → FitsSigned w64 z → of_z w64 z < 2 ^ bits w64
 below_wrap z f = grind (arith, nat_tests)
@@ -45,12 +33,9 @@ below_wrap z f = grind (arith, nat_tests)
 pub wrapped_step : (a b z : ℤ) (k : ℕ) → FitsSigned w64 a → FitsSigned w64 b → FitsSigned w64 z → z ≡ pos k
     → to_z w64 ((of_z w64 a + (of_z w64 b * of_z w64 z) % 2 ^ 64) % 2 ^ 64) ≡ int_wrap w64 (a +ℤ (b *ℤ pos k))
 wrapped_step a b z k fa fb fz is =
-    wrapping_add-bits w64 (of_z w64 a) ((of_z w64 b * of_z w64 z) % 2 ^ 64) (below_wrap a fa) (omega arith)
-    ∙ ap (λ (y : ℤ). int_wrap w64 (y +ℤ to_z w64 ((of_z w64 b * of_z w64 z) % 2 ^ 64))) (to_z-of_z w64 a fa)
-    ∙ ap (λ (y : ℤ). int_wrap w64 (a +ℤ y)) (wrapping_mul-bits w64 (of_z w64 b) (of_z w64 z) (below_wrap b fb) (below_wrap z fz))
-    ∙ int_wrap-add_right w64 a (to_z w64 (of_z w64 b) *ℤ to_z w64 (of_z w64 z))
-    ∙ ap (λ (y : ℤ). int_wrap w64 (a +ℤ (y *ℤ to_z w64 (of_z w64 z)))) (to_z-of_z w64 b fb)
-    ∙ ap (λ (y : ℤ). int_wrap w64 (a +ℤ (b *ℤ y))) (to_z-of_z w64 z fz ∙ is)
+    let sum = wrapping_add-bits w64 (of_z w64 a) ((of_z w64 b * of_z w64 z) % 2 ^ 64) (below_wrap a fa) (omega arith) in
+    let product = wrapping_mul-bits w64 (of_z w64 b) (of_z w64 z) (below_wrap b fb) (below_wrap z fz) in
+    rw (sum, product, to_z-of_z w64 a fa, to_z-of_z w64 b fb, to_z-of_z w64 z fz, is) (int_wrap-add_right w64 a (b *ℤ pos k))
 
 -- values that all are in the range, from numbers that have their lowest bytes
 pub fitting_forms : (kind : NcType) (at : ℕ → Value) (code : ℕ → ℕ) (s n : ℕ) → ((k : ℕ) → fits kind (at k) ≡ true → to_be_bytes (width_of kind) (code k) ≡ ext kind (at k))

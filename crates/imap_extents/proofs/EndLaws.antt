@@ -12,35 +12,26 @@ none_hit test at s (suc n) h = grind (arith, nat_tests, none_hit test at (s + 1)
 pub hit_at : (test : Value → Bool) (at : ℕ → Value) (n k : ℕ) → k < n → test (at k) ≡ true → list_any test (map at (range_with_len 0 n)) ≡ true
 hit_at test at n k h hit = grind (arith, nat_tests, step_hit test at 0 n k h)
 
-by_value : (test : Value → Bool) (at : ℕ → Value) (n m : ℕ) (b : Bool) → n ≡ m + 1 → test (at m) ≡ b → ((k : ℕ) → k ≤ m → test (at m) ≡ false → test (at k) ≡ false)
-    → list_any test (map at (range_with_len 0 n)) ≡ b
-by_value test at n m true count hit h = hit_at test at n m (omega (arith, count)) hit
-by_value test at n m false count none h = none_hit test at 0 n (λ k low high. h k (omega (arith, count, high)) none)
-
 -- the last value decides
 pub by_last : (test : Value → Bool) (at : ℕ → Value) (n m : ℕ) → n ≡ m + 1 → ((k : ℕ) → k ≤ m → test (at m) ≡ false → test (at k) ≡ false)
     → list_any test (map at (range_with_len 0 n)) ≡ test (at m)
-by_last test at n m count h = by_value test at n m (test (at m)) count refl h
+by_last test at n m count h =
+    let none : test (at m) ≡ false → list_any test (map at (range_with_len 0 n)) ≡ false = λ e. none_hit test at 0 n (λ k low high. h k (omega (arith, count, high)) e) in
+    grind (arith, nat_tests, hit_at test at n m)
 
 -- ---- numbers
-
-between : (class : Class) (size : ℕ) (x y z : ℤ) → x ≤ℤ y → y ≤ℤ z → fits_in class size (value.Number x) ≡ true → fits_in class size (value.Number z) ≡ true → fits_in class size (value.Number y) ≡ true
-between class size x y z low high a b = grind (arith, nat_tests)
-
-rising : (a : ℤ) (p q : ℕ) → p ≤ q → (a +ℤ pos p) ≤ℤ (a +ℤ pos q)
-rising a p q h = omega (arith, ints, h)
-
-falling : (a : ℤ) (p q : ℕ) → p ≤ q → (a +ℤ neg_ℤ (pos q)) ≤ℤ (a +ℤ neg_ℤ (pos p))
-falling a p q h = omega (arith, ints, h)
 
 -- of numbers of one step each is between the first and the last
 number_fits : (class : Class) (size : ℕ) (a b : ℤ) (k m : ℕ) → k ≤ m → fits_in class size (value.Number (a +ℤ (b *ℤ pos 0))) ≡ true
     → fits_in class size (value.Number (a +ℤ (b *ℤ pos m))) ≡ true → fits_in class size (value.Number (a +ℤ (b *ℤ pos k))) ≡ true
 number_fits class size a (pos b) k m le first last =
-    grind (arith, nat_tests, rising a (b * 0) (b * k) (mul-le-mul_left b (omega arith)), rising a (b * k) (b * m) (mul-le-mul_left b le), between)
+    let low : (a +ℤ pos (b * 0)) ≤ℤ (a +ℤ pos (b * k)) = omega (arith, ints) in
+    let high : (a +ℤ pos (b * k)) ≤ℤ (a +ℤ pos (b * m)) = omega (arith, ints, mul-le-mul_left b le) in
+    grind (arith, nat_tests, low, high)
 number_fits class size a (negsuc b) k m le first last =
-    between class size (a +ℤ neg_ℤ (pos (suc b * m))) (a +ℤ neg_ℤ (pos (suc b * k))) (a +ℤ neg_ℤ (pos (suc b * 0)))
-    (falling a (suc b * k) (suc b * m) (mul-le-mul_left (suc b) le)) (falling a (suc b * 0) (suc b * k) (mul-le-mul_left (suc b) (omega arith))) last first
+    let low : (a +ℤ neg_ℤ (pos (suc b * m))) ≤ℤ (a +ℤ neg_ℤ (pos (suc b * k))) = omega (arith, ints, mul-le-mul_left (suc b) le) in
+    let high : (a +ℤ neg_ℤ (pos (suc b * k))) ≤ℤ (a +ℤ neg_ℤ (pos (suc b * 0))) = omega (arith, ints) in
+    grind (arith, nat_tests, low, high)
 
 pub numbers_by_last : (kind : NcType) (a b : ℤ) (n m : ℕ) → n ≡ m + 1 → not (fits kind (value.Number (a +ℤ (b *ℤ pos 0)))) ≡ false
     → list_any (λ v. not (fits kind v)) (map (λ k. value.Number (a +ℤ (b *ℤ pos k))) (range_with_len 0 n)) ≡ not (fits kind (value.Number (a +ℤ (b *ℤ pos m))))
