@@ -3,7 +3,7 @@ use Rattle.join_laws.proofs.Words.{◌≡◌, ℕ, suc, ◌≤◌, List, [], ◌
 use Rattle.nc_base.specs.declared.step.OfferKind.TheVariants as offer
 use Rattle.nc_base.specs.declared.step.RankItem.TheVariants as item
 use Rattle.nc_base.specs.declared.step.Reply as reply
-use Rattle.join_laws.proofs.StreamLaws.{waiting_reply, waiting_end_reply, waiting_stop_reply, to_come, client_end, client_stop, ended_item, Offered, offered_offer, marks_of, heard}
+use Rattle.join_laws.proofs.StreamLaws.{waiting_reply, waiting_end_reply, waiting_stop_reply, to_come, client_end, client_stop, ended_item, Offered, marks_of, heard}
 
 -- ---- what stays true of a rank, whatever its offers are
 
@@ -38,7 +38,7 @@ module _ (header : Header) (Good : ℕ → Going → Type 0) where
   -- what its offer tells
   pub offered_now : (ks : List MeetKind) (n : ℕ) (x : Client) (g : Going) (c : ℕ) (o : Offer) (coming : List RankItem) (back : List OwnerItem)
       → x.ended ≡ None → x.held ≡ None → IsPaired header Good ks n x g (item.Offer c o ∷ coming) back → Offered header (advance header g) back c o coming
-  offered_now ks n x g c o coming back e h s = grind (arith, nat_tests, offered_offer)
+  offered_now ks n x g c o coming back e h s = grind (arith, nat_tests)
 
   -- its end arrives
   pub turn_ended : (ks : List MeetKind) (n q k : ℕ) (x : Client) (g : Going) (m : Bool) (coming : List RankItem) (back : List OwnerItem)

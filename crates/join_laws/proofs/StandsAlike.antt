@@ -1,7 +1,7 @@
 -- Runs over files that differ in their bytes, step by step: ranks beside one another, and ends that are alike.
-use Rattle.join_laws.proofs.Words.{◌≡◌, ℕ, zero, suc, ◌+◌, refl, sym, ◌∙◌, ap, subst, List, [], ◌∷◌, map, set, Option, Some, None, slice_get, fold, take, zip, Header, Call, Script, Mark, Meet, Solo, Offer, Setting, Counted, meeting, solo, told_of, Going, advance, close_by, count_after, first_state, hears, offers_of, serial_from, setting_of, state_after, Arrived, Stand, ended_from, first_stand, heard, solo_to, step_to, arrival_steps, first_up, gone_up, serial_of_arrivals, AllBeside, AreAlikeEnds, AreBeside, AreNear, IsLike, TellAlike, arith, nat_tests}
+use Rattle.join_laws.proofs.Words.{◌≡◌, ℕ, ◌+◌, refl, sym, ◌∙◌, ap, subst, List, [], ◌∷◌, map, set, Option, Some, None, slice_get, fold, take, zip, Header, Script, Mark, Meet, Solo, Offer, Setting, Counted, meeting, solo, told_of, Going, advance, close_by, count_after, first_state, hears, offers_of, serial_from, setting_of, state_after, Arrived, Stand, ended_from, first_stand, heard, step_to, arrival_steps, first_up, gone_up, serial_of_arrivals, AllBeside, AreAlikeEnds, AreBeside, AreNear, IsLike, TellAlike, arith, nat_tests}
 use Rattle.nc_base.specs.declared.step.Reply as reply
-use Rattle.join_laws.proofs.AlikeLaws.{advance_beside, hears_near, same_near}
+use Rattle.join_laws.proofs.AlikeLaws.{advance_beside, hears_near}
 pub use Rattle.join_laws.proofs.OwnerAlikeLaws.{AllTell}
 use Rattle.join_laws.proofs.OwnerAlikeLaws.{meeting_records, meeting_tells, raised_records, solo_alike}
 use Rattle.list_laws.proofs.Maps.{map_map}
@@ -10,12 +10,11 @@ use Rattle.list_laws.proofs.Maps.{map_map}
 
 pub same_beside : (ranks : List Arrived) → AllBeside ranks ranks
 same_beside [] = tt
-same_beside (p ∷ ranks) = ((same_near p.0, refl), same_beside ranks)
+same_beside (p ∷ ranks) = grind (arith, nat_tests, same_beside ranks)
 
 pub offers_beside : (one other : List Arrived) → AllBeside one other → offers_of one ≡ offers_of other
-offers_beside [] [] w = refl
 offers_beside (p ∷ one) (q ∷ other) w = grind (arith, nat_tests, offers_beside one other w.1)
-offers_beside xs ys w = absurd w
+offers_beside one other w = grind (arith, nat_tests)
 
 abbrev BesideAt : Option Arrived → Option Arrived → Type 0
 BesideAt None None = Unit {0}
@@ -23,28 +22,20 @@ BesideAt (Some p) (Some q) = AreBeside p q
 BesideAt _ _ = ⊥
 
 at_beside : (one other : List Arrived) (r : ℕ) → AllBeside one other → BesideAt (slice_get one r) (slice_get other r)
-at_beside [] [] r w = tt
-at_beside (p ∷ one) (q ∷ other) zero w = w.0
-at_beside (p ∷ one) (q ∷ other) (suc r) w = at_beside one other r w.1
-at_beside xs ys r w = absurd w
+at_beside (p ∷ one) (q ∷ other) r w = grind (arith, nat_tests, at_beside one other)
+at_beside one other r w = grind (arith, nat_tests)
 
 set_beside : (one other : List Arrived) (r : ℕ) (p q : Arrived) → AllBeside one other → AreBeside p q → AllBeside (set one r p) (set other r q)
-set_beside [] [] r p q w v = tt
-set_beside (x ∷ one) (y ∷ other) zero p q w v = (v, w.1)
-set_beside (x ∷ one) (y ∷ other) (suc r) p q w v = (w.0, set_beside one other r p q w.1 v)
-set_beside xs ys r p q w v = absurd w
+set_beside (x ∷ one) (y ∷ other) r p q w v = grind (arith, nat_tests, set, λ (k : ℕ). set_beside one other k p q w.1 v)
+set_beside one other r p q w v = grind (arith, nat_tests)
 
 -- ---- replies
 
 all_heard : (header : Header) (one other : List Arrived) (ys zs : List reply.Reply) → AllBeside one other → AllTell ys zs
     → AllBeside (map (heard header) (zip one ys)) (map (heard header) (zip other zs))
-all_heard header [] (q ∷ other) ys zs w t = absurd w
-all_heard header (p ∷ one) [] ys zs w t = absurd w
-all_heard header (p ∷ one) (q ∷ other) [] (z ∷ zs) w t = absurd t
-all_heard header (p ∷ one) (q ∷ other) (y ∷ ys) [] w t = absurd t
 all_heard header (p ∷ one) (q ∷ other) (y ∷ ys) (z ∷ zs) w t =
     (advance_beside header (hears header p.0 y) (hears header q.0 z) (hears_near header p.0 q.0 y z w.0.0 t.0), all_heard header one other ys zs w.1 t.1)
-all_heard header xs n ys zs w t = tt
+all_heard header one other ys zs w t = grind (arith, nat_tests)
 
 -- ---- a step
 
@@ -63,21 +54,10 @@ meets_like s x k m n ranks replies w e t =
 pub solo_like : (s : Setting) (x : Stand) (r k n : ℕ) (ranks : List Arrived) (t : Going) (o : Offer) (y : reply.Reply) → IsLike x n ranks
     → slice_get ranks r ≡ Some (t, Some o) → TellAlike (solo s r o x.0).1 y
     → IsLike (step_to s x (Solo r k)) n (set ranks r (advance s.header (hears s.header t y)))
-solo_like s x r k n ranks t o y w e tells = by (slice_get x.1 r) (subst (λ (m : Option Arrived). BesideAt (slice_get x.1 r) m) e (at_beside x.1 ranks r w.beside))
-  where
-    by : (m : Option Arrived) → BesideAt m (Some (t, Some o))
-        → IsLike (elim m [ None ↦ x | Some a ↦ solo_to s r x.0 x.1 a ]) n (set ranks r (advance s.header (hears s.header t y)))
-    by None v = absurd v
-    by (Some (g, None)) v = absurd (let e : None ≡ Some o = v.1 in cc)
-    by (Some (g, Some p)) v =
-        let alike : Some p ≡ Some o = v.1 in
-        let same : o ≡ p = cc in
-        let heard_tells = subst (λ (q : Offer). TellAlike (solo s r q x.0).1 y) same tells in
-        record {
-          records = w.records;
-          beside = set_beside x.1 ranks r _ _ w.beside
-              (advance_beside s.header (hears s.header g (solo s r p x.0).1) (hears s.header t y) (hears_near s.header g t (solo s r p x.0).1 y v.0 heard_tells));
-        }
+solo_like s x r k n ranks t o y w e tells =
+    let beside = λ (g : Going) (v : AreNear g t). set_beside x.1 ranks r (advance s.header (hears s.header g (solo s r o x.0).1)) (advance s.header (hears s.header t y)) w.beside
+    (advance_beside s.header (hears s.header g (solo s r o x.0).1) (hears s.header t y) (hears_near s.header g t (solo s r o x.0).1 y v tells)) in
+    grind (arith, nat_tests, at_beside x.1 ranks r w.beside, beside)
 
 abbrev AreLike : Stand → Stand → Type 0
 AreLike x y = IsLike x y.0.records y.1
@@ -89,21 +69,17 @@ step_alike s x y (Meet k) w =
 step_alike s x y (Solo r k) w =
     grind (arith, nat_tests, set_beside x.1 y.1 r, advance_beside s.header, at_beside x.1 y.1 r w.beside, solo_like s x r k y.0.records y.1, solo_alike s r)
 
-pub steps_alike : (s : Setting) (x y : Stand) (order : List Mark) → AreLike x y → AreLike (fold (step_to s) x order) (fold (step_to s) y order)
+steps_alike : (s : Setting) (x y : Stand) (order : List Mark) → AreLike x y → AreLike (fold (step_to s) x order) (fold (step_to s) y order)
 steps_alike s x y [] w = w
 steps_alike s x y (m ∷ order) w = steps_alike s (step_to s x m) (step_to s y m) order (step_alike s x y m w)
-
-pub first_alike : (header : Header) (file other : List ℕ) (calls : List (List Call)) → AreLike (first_stand header file calls) (first_stand header other calls)
-first_alike header file other calls = record { records = refl; beside = same_beside (first_stand header file calls).1 }
 
 -- ---- the close
 
 -- what does not depend on such values is the same
 each_beside : {X : Type 0} (f : Going → X) → ((g h : Going) → AreNear g h → f g ≡ f h) → (one other : List Arrived) → AllBeside one other
     → map f (map (λ (a : Arrived). a.0) one) ≡ map f (map (λ (a : Arrived). a.0) other)
-each_beside f same [] [] w = refl
 each_beside f same (p ∷ one) (q ∷ other) w = let first = same p.0 q.0 w.0.0 in let again = each_beside f same one other w.1 in λ i. first i ∷ again i
-each_beside f same xs ys w = absurd w
+each_beside f same one other w = grind (arith, nat_tests)
 
 pub close_alike : (s : Setting) (x : Stand) (c : Counted) (ranks : List Arrived) → IsLike x c.records ranks
     → AreAlikeEnds (close_by s x.0 (map (λ (a : Arrived). a.0) x.1)) (close_by s c (map (λ (a : Arrived). a.0) ranks))
@@ -114,7 +90,7 @@ close_alike s x c ranks w = grind (arith, nat_tests, each_beside, raised_records
 pub ends_alike : (script : Script) (header : Header) (file other : List ℕ) (order : List Mark) → AreAlikeEnds (serial_from script header file order) (serial_from script header other order)
 ends_alike script header file other order =
     let s = setting_of script header in
-    grind (arith, nat_tests, close_alike s (fold (step_to s) (first_stand header file script.calls) order), steps_alike s (first_stand header file script.calls) (first_stand header other script.calls) order, first_alike header file other script.calls, serial_of_arrivals script header file order, serial_of_arrivals script header other order, ended_from, first_stand)
+    grind (arith, nat_tests, close_alike s (fold (step_to s) (first_stand header file script.calls) order), steps_alike s (first_stand header file script.calls) (first_stand header other script.calls) order, serial_of_arrivals script header file order, serial_of_arrivals script header other order, ended_from, first_stand, same_beside)
 
 stand_after : (script : Script) (header : Header) (file : List ℕ) (order : List Mark)
     → fold (step_to (setting_of script header)) (first_stand header file script.calls) order ≡ gone_up (setting_of script header) (state_after script header file order)
@@ -125,7 +101,7 @@ stand_after script header file order =
 pub count_alike : (script : Script) (header : Header) (file other : List ℕ) (order : List Mark) (k : ℕ) → count_after script header file order k ≡ count_after script header other order k
 count_alike script header file other order k =
     let s = setting_of script header in
-    grind (arith, nat_tests, stand_after script header file (take k order), steps_alike s (first_stand header file script.calls) (first_stand header other script.calls) (take k order), first_alike header file other script.calls, stand_after script header other (take k order), take)
+    grind (arith, nat_tests, stand_after script header file (take k order), steps_alike s (first_stand header file script.calls) (first_stand header other script.calls) (take k order), stand_after script header other (take k order), take, same_beside)
 
 -- a mark with its number, told with the count after it
 abbrev told_with : (ℕ → ℕ) → ℕ × Mark → Mark × ℕ

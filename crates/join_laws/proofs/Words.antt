@@ -1,5 +1,5 @@
 -- The words of this crate's proofs, from where they stand.
-pub use Rattle.list_laws.proofs.Std.{Bool, List, None, Option, Some, [], and-false, and_from, ap, append-nil, append_assoc, arith, bytes_eq-Decides, cond, cons_option, enumerate_from, eq-eqb, eqb-true, eqb_tells, false, filter, filter-append, filter_map-append, flat_map, fold, inl, inr, is_some, le-ltb, length, length-enumerate_from, length-map, length-range_with_len, length-replicate, length-set, length-zip, list_all, list_all-append, list_any, list_any-append, lt-ltb, ltb, ltb-false, map, map-append, max, nat_le, nat_lt, nat_tests, ne_eqb, not, option_map, or_from, or_parts, range_with_len, refl, replicate, same_Some, set, slice_get, slice_get-map, slice_get_within, subst, suc, sum_by-cons, sym, true, zero, zip, ℕ, ◌&&◌, ◌*◌, ◌++◌, ◌+◌, ◌-◌, ◌<◌, ◌==◌, ◌^◌, ◌||◌, ◌∙◌, ◌∷◌, ◌≡◌, ◌≤◌, ◌⊎◌, ltb-true}
+pub use Rattle.list_laws.proofs.Std.{Bool, List, None, Option, Some, [], and-false, and_from, ap, append-nil, append_assoc, arith, bytes_eq-Decides, cond, cons_option, enumerate_from, eq-eqb, eqb-true, eqb_tells, false, filter, filter-append, filter_map-append, flat_map, fold, inl, inr, is_some, le-ltb, length, length-enumerate_from, length-map, length-range_with_len, length-replicate, length-set, length-zip, list_all, list_all-append, list_any, list_any-append, lt-ltb, ltb, ltb-false, map, map-append, max, nat_le, nat_lt, nat_tests, ne_eqb, not, option_map, or_from, or_parts, range_with_len, refl, replicate, same_Some, set, slice_get, slice_get-map, slice_get_within, subst, suc, sum_by-cons, sym, true, zero, zip, ℕ, ◌&&◌, ◌*◌, ◌++◌, ◌+◌, ◌-◌, ◌<◌, ◌==◌, ◌^◌, ◌||◌, ◌∙◌, ◌∷◌, ◌≡◌, ◌≤◌, ◌⊎◌, ltb-true, common_steps}
 pub use Rattle.std.proofs.lemmas.List.{length-append}
 pub use Rattle.std.specs.Prelude.{bytes_eq, pos, take, ℤ}
 pub use Rattle.fill_records.proofs.CutLaws.{boxes_few}
