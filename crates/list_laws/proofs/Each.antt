@@ -1,19 +1,17 @@
 -- What holds of each entry of a list, and the tests that tell it.
-use Rattle.list_laws.proofs.Words.{◌≡◌, ℕ, zero, suc, List, [], ◌∷◌, ◌++◌, drop, map, Bool, true, false, refl, subst, Some, ◌||◌, inl, inr, ◌⊎◌, ◌∙◌, AllByRecursion, AllZip, list_any, list_all, flat_map, and_from, or_from, list_all-append, arith, nat_tests}
-use Rattle.std.proofs.Common.{slice_get}
+use Rattle.list_laws.proofs.Words.{◌≡◌, ℕ, suc, List, [], ◌∷◌, ◌++◌, drop, map, Bool, true, false, refl, Some, ◌||◌, inl, inr, ◌⊎◌, ◌∙◌, AllByRecursion, AllZip, list_any, list_all, flat_map, and_from, or_from, list_all-append, arith, nat_tests, slice_get}
 use Rattle.list_laws.proofs.Truth.{holds_or_not, and_first, and_second, or_first_false, or_second_false}
 
 pub each_weaker : {A : Type 0} (P Q : A → Type 0) → ((x : A) → P x → Q x) → (xs : List A) → AllByRecursion P xs → AllByRecursion Q xs
 each_weaker P Q f [] h = tt
 each_weaker P Q f (x ∷ xs) h = (f x h.0, each_weaker P Q f xs h.1)
 
-pub each_push : {A : Type 0} (P : A → Type 0) (xs : List A) (x : A) → AllByRecursion P xs → P x → AllByRecursion P (xs ++ x ∷ [])
-each_push P [] x h p = (p, tt)
-each_push P (y ∷ ys) x h p = (h.0, each_push P ys x h.1 p)
-
 pub each_append : {A : Type 0} (P : A → Type 0) (xs ys : List A) → AllByRecursion P xs → AllByRecursion P ys → AllByRecursion P (xs ++ ys)
 each_append P [] ys h k = k
 each_append P (x ∷ xs) ys h k = (h.0, each_append P xs ys h.1 k)
+
+pub each_push : {A : Type 0} (P : A → Type 0) (xs : List A) (x : A) → AllByRecursion P xs → P x → AllByRecursion P (xs ++ x ∷ [])
+each_push P xs x h p = each_append P xs (x ∷ []) h (p, tt)
 
 pub each_map : {A B : Type 0} (P : B → Type 0) (f : A → B) (xs : List A) → AllByRecursion (λ x. P (f x)) xs → AllByRecursion P (map f xs)
 each_map P f [] h = tt
@@ -28,8 +26,7 @@ each_later P ys h = grind (arith, nat_tests)
 
 pub each_at : {A : Type 0} (P : A → Type 0) (xs : List A) (k : ℕ) (x : A) → AllByRecursion P xs → slice_get xs k ≡ Some x → P x
 each_at P [] k x h e = absurd cc
-each_at P (y ∷ ys) zero x h e = let same : y ≡ x = cc in subst P same h.0
-each_at P (y ∷ ys) (suc k) x h e = each_at P ys k x h.1 e
+each_at P (y ∷ ys) k x h e = grind (arith, nat_tests, each_at P ys)
 
 -- ---- tests of all entries
 
@@ -60,10 +57,7 @@ fails_at p xs k x h e = each_at (λ y. p y ≡ false) xs k x (fails_each p xs h)
 
 pub none_any : {X : Type 0} (p : X → Bool) (xs : List X) → ((q : ℕ) (x : X) → slice_get xs q ≡ Some x → p x ≡ false) → list_any p xs ≡ false
 none_any p [] f = refl
-none_any p (x ∷ xs) f =
-    let a = f 0 x refl in
-    let b = none_any p xs (λ q y e. f (suc q) y e) in
-    λ i. (a i || b i)
+none_any p (x ∷ xs) f = grind (arith, nat_tests, f 0 x refl, none_any p xs (λ q y e. f (suc q) y e))
 
 -- one that is, or none
 pub any_or_none : {X : Type 0} (p : X → Bool) (xs : List X) → (list_any p xs ≡ false) ⊎ ((q : ℕ) × ((x : X) × ((slice_get xs q ≡ Some x) × (p x ≡ true))))

@@ -1,16 +1,12 @@
 -- Beginnings of lists.
-use Rattle.list_laws.proofs.Words.{◌≡◌, refl, List, [], ◌∷◌, length, take, ◌≤◌, arith, inl, inr, ◌⊎◌, ◌++◌, nat_tests}
+use Rattle.list_laws.proofs.Words.{◌≡◌, refl, List, [], ◌∷◌, length, take, ◌≤◌, arith, inl, inr, ◌⊎◌, ◌++◌, nat_tests, take-append_seam, length-append}
 use mathlib.Core.List.{IsPrefix}
 
 pub first_of : {X : Type 0} (xs ys : List X) → IsPrefix xs ys → xs ≡ take (length xs) ys
-first_of [] ys e = refl
-first_of (x ∷ xs) [] e = cc
-first_of (x ∷ xs) (y ∷ ys) (more, e) = grind (arith, nat_tests, first_of xs ys (more, cc))
+first_of xs ys p = grind (arith, nat_tests, take-append_seam xs p.0, p.1)
 
 pub prefix_long : {X : Type 0} (xs ys : List X) → IsPrefix xs ys → length xs ≤ length ys
-prefix_long [] ys e = omega arith
-prefix_long (x ∷ xs) [] e = cc
-prefix_long (x ∷ xs) (y ∷ ys) (more, e) = let a = prefix_long xs ys (more, cc) in omega arith
+prefix_long xs ys p = grind (arith, nat_tests, length-append xs p.0, p.1)
 
 -- a beginning of a list and one item more is all of it, or a beginning of the list
 pub front_or_all : {X : Type 0} (xs ys : List X) (z : X) → IsPrefix xs (ys ++ z ∷ []) → IsPrefix xs ys ⊎ (xs ≡ ys ++ z ∷ [])

@@ -1,6 +1,7 @@
 -- Lists that are mapped, searched or filtered.
-use Rattle.list_laws.proofs.Words.{◌≡◌, ◌≤◌, refl, sym, ◌∙◌, ap, List, [], ◌∷◌, length, map, Bool, true, not, ◌||◌, Some, arith, ℕ, zero, suc, None, ◌+◌, ◌<◌, ◌++◌, take, get_or, drop, filter, slice_get, flat_map, list_any, position, prefix_len, find, enumerate_from, length-map, drop_more, nat_tests}
-use Rattle.std.proofs.lemmas.List.{append_assoc}
+use Rattle.list_laws.proofs.Words.{◌≡◌, ◌≤◌, refl, sym, ◌∙◌, ap, List, [], ◌∷◌, length, map, Bool, true, not, ◌||◌, Some, arith, ℕ, suc, None, ◌+◌, ◌<◌, ◌++◌, take, get_or, drop, filter, slice_get, flat_map, list_any, position, prefix_len, find, enumerate_from, length-map, drop_more, nat_tests, option_map, slice_get-map, append_assoc}
+use Rattle.list_laws.proofs.Optional.{some_of_map}
+use Rattle.std.proofs.lemmas.List as std
 
 pub map_map : {A B C : Type 0} (f : B → C) (g : A → B) (xs : List A) → map f (map g xs) ≡ map (λ x. f (g x)) xs
 map_map f g [] = refl
@@ -10,7 +11,7 @@ pub any_map : {A B : Type 0} (p : B → Bool) (f : A → B) (xs : List A) → li
 any_map p f [] = refl
 any_map p f (x ∷ xs) = ap (λ (t : Bool). p (f x) || t) (any_map p f xs)
 
-pub prefix_map : {A B : Type 0} (p : B → Bool) (f : A → B) (xs : List A) → prefix_len p (map f xs) ≡ prefix_len (λ x. p (f x)) xs
+prefix_map : {A B : Type 0} (p : B → Bool) (f : A → B) (xs : List A) → prefix_len p (map f xs) ≡ prefix_len (λ x. p (f x)) xs
 prefix_map p f [] = refl
 prefix_map p f (x ∷ xs) = rw (prefix_map p f xs) refl
 
@@ -26,34 +27,24 @@ found_passes p [] x e = cc
 found_passes {A} p (y ∷ ys) x e = grind (arith, nat_tests, found_passes p ys x)
 
 pub entry_map : {A B : Type 0} (f : A → B) (xs : List A) (k : ℕ) (x : A) → slice_get xs k ≡ Some x → slice_get (map f xs) k ≡ Some (f x)
-entry_map f [] k x h = cc
-entry_map f (y ∷ xs) zero x h = let e : y ≡ x = cc in ap (λ z. Some (f z)) e
-entry_map f (y ∷ xs) (suc k) x h = entry_map f xs k x h
+entry_map f xs k x h = slice_get-map f xs k ∙ ap (λ o. option_map f o) h
 
 pub entry_map_none : {X Y : Type 0} (f : X → Y) (xs : List X) (r : ℕ) → slice_get xs r ≡ None → slice_get (map f xs) r ≡ None
-entry_map_none f [] r e = refl
-entry_map_none f (z ∷ xs) zero e = cc
-entry_map_none f (z ∷ xs) (suc r) e = entry_map_none f xs r e
+entry_map_none f xs r e = slice_get-map f xs r ∙ ap (λ o. option_map f o) e
 
 pub mapped_entry : {X Y : Type 0} (f : X → Y) (xs : List X) (r : ℕ) (y : Y) → slice_get (map f xs) r ≡ Some y → (x : X) × ((slice_get xs r ≡ Some x) × (f x ≡ y))
-mapped_entry f [] r y e = absurd cc
-mapped_entry f (x ∷ xs) zero y e = let a : f x ≡ y = cc in (x, (refl, a))
-mapped_entry f (x ∷ xs) (suc r) y e = mapped_entry f xs r y e
+mapped_entry f xs r y e = let s = some_of_map f (slice_get xs r) y (sym (slice_get-map f xs r) ∙ e) in (s.0, (s.1, s.2))
 
 -- a map of one element more
 pub map_more : {X Y : Type 0} (f : X → Y) (xs : List X) (i : ℕ) (x : X) → i < length xs → x ≡ get_or xs i x → map f (take (i + 1) xs) ≡ map f (take i xs) ++ f x ∷ []
-map_more f [] i x h e = absurd (omega arith)
-map_more f (z ∷ xs) zero x h e = let a : x ≡ z = e in ap (λ (y : _). f y ∷ []) (sym a)
-map_more f (z ∷ xs) (suc i) x h e = grind (arith, nat_tests, map_more f xs i x)
+map_more f xs i x h e = std.map_more f xs i x h ∙ ap (λ y. map f (take i xs) ++ f y ∷ []) (sym e)
 
 pub rows_same : {A B X : Type 0} (f : A → X) (h : ℕ × B → X) (xs : List A) (ys : List B) (from : ℕ) → length xs ≡ length ys
     → ((r : ℕ) (a : A) (b : B) → slice_get xs r ≡ Some a → slice_get ys r ≡ Some b → f a ≡ h (from + r, b)) → map f xs ≡ map h (enumerate_from from ys)
 rows_same f h [] [] from l e = refl
 rows_same f h (a ∷ xs) (b ∷ ys) from l e =
-    let zero_more : from + 0 ≡ from = omega arith in
-    let one = e 0 a b refl refl ∙ ap (λ (n : ℕ). h (n, b)) zero_more in
-    let more = rows_same f h xs ys (from + 1) (omega arith) (λ r a' b' p q. let next : from + suc r ≡ (from + 1) + r = omega arith in e (suc r) a' b' p q ∙ ap (λ (n : ℕ). h (n, b')) next) in
-    λ i. one i ∷ more i
+    let more = rows_same f h xs ys (from + 1) (omega arith) (λ r a' b' p q. grind (arith, nat_tests, e (suc r) a' b' p q)) in
+    grind (arith, nat_tests, e 0 a b refl refl, more)
 rows_same f h n m from l e = absurd (omega arith)
 
 -- One more is done: with those that are left it is still the whole.
