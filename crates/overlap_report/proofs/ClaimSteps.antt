@@ -1,6 +1,6 @@
 -- The claims of a heap, as entries.
-use Rattle.overlap_report.proofs.Words.{◌≡◌, ℕ, zero, suc, ◌+◌, ◌-◌, ◌<◌, ◌≤◌, refl, sym, ◌∙◌, ap, subst, inl, inr, List, [], ◌∷◌, ◌++◌, take, drop, get_or, length, true, false, Option, Some, None, slice_get, nat_cmp, is_lt, Bor, ◌^◌, arith, nat_lt, IsHeap, IsUpperBound, PopsGreatest, IsItemAt, option_copied, IfSome, IfNone, MatchOption, IsPermutation, ordering_then, Ordering, nat_tests, Owned, In, HaveSame, same_permuted, in_map, map_in, ◌⊎◌, in_extents, Claim, IsPartOfOne, owned_of, entries_of, part_of, claim_cmp, AreFit, StandsBy, Swept, IsTop, take_all, lt-ltb, extents, IsInLine, IsByPlace, EndBelow, origins, IsOnceEach, IsResolved, same_Some}
-use Rattle.overlap_report.proofs.SweepSteps.{swept_empty, swept_without, swept_part, swept_more}
+use Rattle.overlap_report.proofs.Words.{◌≡◌, ℕ, suc, ◌+◌, ◌-◌, ◌<◌, ◌≤◌, sym, subst, inr, List, [], ◌∷◌, ◌++◌, take, drop, get_or, length, Option, Some, slice_get, Bor, ◌^◌, arith, IsHeap, IsUpperBound, PopsGreatest, IsItemAt, option_copied, IfSome, IfNone, MatchOption, IsPermutation, nat_tests, Owned, In, HaveSame, same_permuted, in_map, map_in, in_extents, Claim, IsPartOfOne, owned_of, entries_of, part_of, claim_cmp, AreFit, StandsBy, Swept, IsTop, take_all, extents, IsInLine, IsByPlace, EndBelow, origins, IsOnceEach, IsResolved, common_steps, at_in}
+use Rattle.overlap_report.proofs.SweepSteps.{swept_empty, swept_part, swept_more}
 use Rattle.overlap_report.proofs.OriginSteps.{resolved_by}
 use Rattle.overlap_report.proofs.KeySteps.{IsNext}
 
@@ -9,39 +9,24 @@ same_entries cs ds p = grind (arith, nat_tests, same_permuted cs ds p, map_in ow
 
 -- ---- the top
 
-first_in : (cs : List Claim) (t : Claim) → Some t ≡ slice_get cs 0 → In cs t
-first_in [] t e = cc
-first_in (c ∷ cs) t e = inl (sym (same_Some t c e))
-
-pub top_in : (cs : List Claim) (t : Claim) → Some t ≡ slice_get cs 0 → In (entries_of cs) (owned_of t)
-top_in cs t e = in_map owned_of cs t (first_in cs t e)
-
-stands_by : (x y u v : ℕ) (rest : Ordering) → is_lt (ordering_then (nat_cmp x y) (ordering_then (nat_cmp u v) rest)) ≡ false → (y < x) ⊎ ((y ≡ x) × (v ≤ u))
-stands_by x y u v rest h = grind (arith, nat_tests)
-
-not_less : (a b : Claim) → is_lt (claim_cmp a b) ≡ false → StandsBy (owned_of b) (owned_of a)
-not_less a b h = stands_by a.rank b.rank a.slot b.slot _ h
+top_in : (cs : List Claim) (t : Claim) → Some t ≡ slice_get cs 0 → In (entries_of cs) (owned_of t)
+top_in cs t e = in_map owned_of cs t (at_in cs 0 t (sym e))
 
 -- of all claims of the heap the top stands last
-pub last_of_all : (t : Claim) (cs : List Claim) → IsUpperBound claim_cmp t cs → (q : Owned) → In (entries_of cs) q → StandsBy q (owned_of t)
+last_of_all : (t : Claim) (cs : List Claim) → IsUpperBound claim_cmp t cs → (q : Owned) → In (entries_of cs) q → StandsBy q (owned_of t)
 last_of_all t [] h q m = absurd m
-last_of_all t (c ∷ cs) h q (inl e) = subst (λ (z : Owned). StandsBy z (owned_of t)) e (not_less t c h.0)
-last_of_all t (c ∷ cs) h q (inr m) = last_of_all t cs h.1 q m
+last_of_all t (c ∷ cs) h q xs = grind (arith, nat_tests, last_of_all t cs h.1 q)
 
 pub top_told : (cs : List Claim) (r : Option (Bor Claim)) → IsHeap claim_cmp cs → IsItemAt cs 0 r
     → IfSome r (λ x. IsHeap claim_cmp cs → IsUpperBound claim_cmp x.now cs) → MatchOption (option_copied r) (cs ≡ []) (λ t. IsTop cs t)
-top_told [] None heap item greatest = refl
-top_told [] (Some x) heap item greatest = cc (item.0)
-top_told (c ∷ cs) None heap item greatest = let yes : nat_lt 0 (suc (length cs)) ≡ true = lt-ltb 0 (suc (length cs)) (omega arith) in let no = item.0 in absurd (cc)
-top_told (c ∷ cs) (Some x) heap item greatest = (ap Some (sym item.1), last_of_all x.now (c ∷ cs) (greatest heap))
+top_told cs r heap item greatest = grind (arith, common_steps, last_of_all, claim_cmp)
 
 pub ended_fit : (cs ds : List Claim) (t : Claim) (p : ℕ) → IsPermutation cs (t ∷ ds) → AreFit p (entries_of cs) → AreFit p (entries_of ds)
 ended_fit cs ds t p perm fit o m = fit o ((same_entries cs (t ∷ ds) perm).1 o (inr m))
 
 pub ended_swept : (seen out : List Owned) (cs ds : List Claim) (t : Claim) (p : ℕ) → IsPermutation cs (t ∷ ds) → t.at + t.len ≤ p
     → Swept seen out (entries_of cs) p → Swept seen out (entries_of ds) p
-ended_swept seen out cs ds t p perm ended s =
-    swept_without seen out (entries_of cs) (entries_of ds) (owned_of t) p ended (same_entries cs (t ∷ ds) perm) s
+ended_swept seen out cs ds t p perm ended s = grind (arith, nat_tests, same_entries cs (t ∷ ds) perm)
 
 pub later_fit : (cs : List Claim) (p q : ℕ) → p ≤ q → AreFit p (entries_of cs) → AreFit q (entries_of cs)
 later_fit cs p q h fit o m = let f = fit o m in let l = f.0 in (omega arith, f.1, f.2)
@@ -64,17 +49,11 @@ popped_heap cs ds r heap pops same = grind (arith, nat_tests)
 
 pub popped_rest : (cs ds : List Claim) (r : Option Claim) (n : ℕ) → IfSome r (λ x. x ≡ get_or cs 0 x) → IfSome r (λ x. IsPermutation cs (x ∷ ds)) → IfNone r (n ≡ 0) → length cs ≡ n
     → (t : Claim) → slice_get cs 0 ≡ Some t → IsPermutation cs (t ∷ ds)
-popped_rest [] ds r n top perm none long t e = cc
-popped_rest (c ∷ cs) ds None n top perm none long t e = absurd (omega arith)
-popped_rest (c ∷ cs) ds (Some x) n top perm none long t e = grind (arith, nat_tests)
+popped_rest cs ds r n top perm none long t e = grind (arith, common_steps, get_or)
 
 pub pushed_fit : (cs ds : List Claim) (t : Claim) (o : Owned) (p : ℕ) → owned_of t ≡ o → IsPermutation (t ∷ cs) ds → o.extent.at ≤ p → o.extent.at + o.extent.len < 2 ^ 62
     → o.from + o.extent.len < 2 ^ 62 → AreFit p (entries_of cs) → AreFit p (entries_of ds)
-pushed_fit cs ds t o p is perm low ends found fit q m = by_one ((same_entries (t ∷ cs) ds perm).1 q m)
-  where
-    by_one : In (entries_of (t ∷ cs)) q → (q.extent.at ≤ p) × (q.extent.at + q.extent.len < 2 ^ 62) × (q.from + q.extent.len < 2 ^ 62)
-    by_one (inl e) = subst (λ (z : Owned). (z.extent.at ≤ p) × (z.extent.at + z.extent.len < 2 ^ 62) × (z.from + z.extent.len < 2 ^ 62)) (sym is ∙ e) (low, ends, found)
-    by_one (inr n) = fit q n
+pushed_fit cs ds t o p is perm low ends found fit q m = grind (arith, nat_tests, (same_entries (t ∷ cs) ds perm).1 q m, fit q)
 
 pub pushed_swept : (seen more out : List Owned) (cs ds : List Claim) (t : Claim) (o : Owned) → IsNext seen more o → owned_of t ≡ o → IsPermutation (t ∷ cs) ds
     → Swept seen out (entries_of cs) o.extent.at → Swept more out (entries_of ds) o.extent.at
@@ -85,13 +64,11 @@ pushed_swept seen more out cs ds t o next is perm s =
 
 pub at_dropped : (list : List Owned) (i : ℕ) (d : Owned) → i < length list → In (drop i list) (get_or list i d)
 at_dropped [] i d h = absurd (omega arith)
-at_dropped (o ∷ list) zero d h = inl refl
-at_dropped (o ∷ list) (suc i) d h = at_dropped list i d (omega arith)
+at_dropped (o ∷ list) i d h = grind (arith, common_steps, at_dropped list i d, drop, get_or)
 
 pub later_begin : (list : List Owned) (i : ℕ) (d o : Owned) → i < length list → IsByPlace (extents list) → In (drop (suc i) list) o → (get_or list i d).extent.at ≤ o.extent.at
 later_begin [] i d o h sorted m = absurd (omega arith)
-later_begin (p ∷ list) zero d o h sorted m = sorted.0 o.extent (in_extents list o m)
-later_begin (p ∷ list) (suc i) d o h sorted m = later_begin list i d o (omega arith) sorted.1 m
+later_begin (p ∷ list) i d o h sorted m = grind (arith, nat_tests, in_extents list o, later_begin list, sorted.0 o.extent)
 
 -- ---- the whole
 

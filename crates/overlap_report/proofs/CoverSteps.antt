@@ -1,5 +1,5 @@
 -- Extents in the order of their places, joined where they touch.
-use Rattle.overlap_report.proofs.Words.{◌≡◌, ℕ, ◌+◌, ◌-◌, ◌<◌, ◌≤◌, ◌⊎◌, refl, sym, ◌∙◌, ap, subst, inl, inr, List, [], ◌∷◌, ◌++◌, length, drop, get_or, cond, max, arith, nat_lt, ◌==◌, flat_map-append, append-nil, flat_in, nat_tests, drop_of_length-le, range_with_len, Extent, Owned, In, HaveSame, ranges, extents, IsByPlace, EndBelow, IsCover, spans, in_either, in_extents, entry_in, in_left, in_right, in_range, range_low, range_high, run, ltb-true}
+use Rattle.overlap_report.proofs.Words.{◌≡◌, ℕ, ◌+◌, ◌-◌, ◌<◌, ◌≤◌, ◌⊎◌, refl, ap, inl, inr, List, [], ◌∷◌, ◌++◌, length, drop, get_or, cond, max, arith, nat_lt, ◌==◌, flat_in, nat_tests, range_with_len, Extent, Owned, In, HaveSame, ranges, extents, IsByPlace, EndBelow, IsCover, spans, in_either, in_extents, entry_in, in_left, in_right, in_range, range_low, range_high, run, common_steps}
 use Rattle.list_laws.proofs.Truth.{either}
 
 -- the runs of the extents, where one from a place to an end has begun
@@ -9,80 +9,39 @@ joined_from at end (e ∷ es) =
     cond (e.len == 0) (joined_from at end es)
     (cond (nat_lt end e.at) (run at end ++ joined_from e.at (max end (e.at + e.len)) es) (joined_from at (max end (e.at + e.len)) es))
 
-in_run : (at end : ℕ) (d : Extent) → In (run at end) d → (d.at ≡ at) × (d.at + d.len ≡ end) × (1 ≤ d.len)
-in_run at end d m = grind (arith, nat_tests, nat_lt at end)
-
 begins_by : (at end : ℕ) (es : List Extent) → IsByPlace es → ((d : Extent) → In es d → at ≤ d.at) → (d : Extent) → In (joined_from at end es) d → at ≤ d.at
-begins_by at end [] sorted low d m = let r = (in_run at end d m).0 in omega arith
+begins_by at end [] sorted low d m = grind (arith, nat_tests, nat_lt)
 begins_by at end (e ∷ es) sorted low d m =
-    grind (
-      arith,
-      nat_tests,
-      begins_by at end es sorted.1 (λ c k. low c (inr k)) d,
-      begins_by at (max end (e.at + e.len)) es sorted.1 (λ c k. low c (inr k)) d,
-      begins_by e.at (max end (e.at + e.len)) es sorted.1 sorted.0 d,
-      low e (inl refl),
-      in_either,
-      in_run,
-    )
+    grind (arith, nat_tests, begins_by at end es sorted.1 (λ c k. low c (inr k)) d, begins_by at (max end (e.at + e.len)) es sorted.1 (λ c k. low c (inr k)) d, begins_by e.at (max end (e.at + e.len)) es sorted.1 sorted.0 d, low e (inl refl), in_either, nat_lt)
 
-run_cover : (at end : ℕ) (es : List Extent) → IsCover es → ((d : Extent) → In es d → end < d.at) → IsCover (run at end ++ es)
-run_cover at end es h past = grind (arith, nat_tests)
-
-pub joined_cover : (at end : ℕ) (es : List Extent) → IsByPlace es → ((d : Extent) → In es d → at ≤ d.at) → IsCover (joined_from at end es)
-joined_cover at end [] sorted low = subst (λ (es : List Extent). IsCover es) (append-nil (run at end)) (run_cover at end [] tt (λ d m. absurd m))
+joined_cover : (at end : ℕ) (es : List Extent) → IsByPlace es → ((d : Extent) → In es d → at ≤ d.at) → IsCover (joined_from at end es)
+joined_cover at end [] sorted low = grind (arith, nat_tests)
 joined_cover at end (e ∷ es) sorted low =
     either (λ ds. IsCover ds) (e.len == 0) _ _ (λ f. joined_cover at end es sorted.1 (λ c k. low c (inr k)))
-    (λ f. either (λ ds. IsCover ds) (nat_lt end e.at) _ _
-    (λ g. run_cover at end (joined_from e.at (max end (e.at + e.len)) es) (joined_cover e.at (max end (e.at + e.len)) es sorted.1 sorted.0)
-    (λ d m. let gap : end < e.at = ltb-true _ _ g in let l = begins_by e.at (max end (e.at + e.len)) es sorted.1 sorted.0 d m in omega arith))
-    (λ g. joined_cover at (max end (e.at + e.len)) es sorted.1 (λ c k. low c (inr k))))
+    (grind (arith, common_steps, joined_cover e.at (max end (e.at + e.len)) es sorted.1 sorted.0, begins_by e.at (max end (e.at + e.len)) es sorted.1 sorted.0, joined_cover at (max end (e.at + e.len)) es sorted.1 (λ c k. low c (inr k))))
 
 -- ---- the bytes
 
-run_bytes : (at end x : ℕ) → In (spans (run at end)) x → (at ≤ x) × (x < end)
-run_bytes at end x m = grind (arith, nat_tests, flat_in, in_run at end, range_low, range_high)
-
-bytes_run : (at end x : ℕ) → at ≤ x → x < end → In (spans (run at end)) x
-bytes_run at end x l h = grind (arith, nat_tests, in_left, in_range, run, range_with_len)
-
-spans_joined : (ds es : List Extent) → spans (ds ++ es) ≡ spans ds ++ spans es
-spans_joined ds es = flat_map-append (λ e. range_with_len e.at e.len) ds es
-
-pub joined_only : (at end x : ℕ) (es : List Extent) → In (spans (joined_from at end es)) x → ((at ≤ x) × (x < end)) ⊎ In (spans es) x
-joined_only at end x [] m = inl (run_bytes at end x m)
+joined_only : (at end x : ℕ) (es : List Extent) → In (spans (joined_from at end es)) x → ((at ≤ x) × (x < end)) ⊎ In (spans es) x
+joined_only at end x [] m = grind (arith, nat_tests, flat_in, range_low, range_high, nat_lt)
 joined_only at end x (e ∷ es) m =
-    grind (
-      arith,
-      nat_tests,
-      joined_only at end x es,
-      joined_only at (max end (e.at + e.len)) x es,
-      joined_only e.at (max end (e.at + e.len)) x es,
-      spans_joined (run at end) (joined_from e.at (max end (e.at + e.len)) es),
-      in_either,
-      run_bytes,
-      in_right (range_with_len e.at e.len) (spans es) x,
-      in_left (range_with_len e.at e.len) (spans es) x,
-      in_range e.at e.len x,
-    )
+    grind (arith, nat_tests, joined_only at end x es, joined_only at (max end (e.at + e.len)) x es, joined_only e.at (max end (e.at + e.len)) x es, in_either, in_right (range_with_len e.at e.len) (spans es) x, in_left (range_with_len e.at e.len) (spans es) x, in_range e.at e.len x, flat_in, range_low, range_high, nat_lt)
 
-pub joined_all : (at end x : ℕ) (es : List Extent) → IsByPlace es → ((d : Extent) → In es d → at ≤ d.at) → ((at ≤ x) × (x < end)) ⊎ In (spans es) x
+joined_all : (at end x : ℕ) (es : List Extent) → IsByPlace es → ((d : Extent) → In es d → at ≤ d.at) → ((at ≤ x) × (x < end)) ⊎ In (spans es) x
     → In (spans (joined_from at end es)) x
-joined_all at end x [] sorted low (inl m) = bytes_run at end x m.0 m.1
-joined_all at end x [] sorted low (inr m) = absurd m
+joined_all at end x [] sorted low xs = grind (arith, nat_tests, in_left, in_range)
 joined_all at end x (e ∷ es) sorted low m =
-    grind (arith, nat_tests, joined_all at end x es sorted.1 (λ d k. low d (inr k)), joined_all at (max end (e.at + e.len)) x es sorted.1 (λ d k. low d (inr k)), joined_all e.at (max end (e.at + e.len)) x es sorted.1 sorted.0, spans_joined (run at end) (joined_from e.at (max end (e.at + e.len)) es), in_either, range_low, range_high, in_right, in_left, bytes_run at end x, low e (inl refl))
+    grind (arith, nat_tests, joined_all at end x es sorted.1 (λ d k. low d (inr k)), joined_all at (max end (e.at + e.len)) x es sorted.1 (λ d k. low d (inr k)), joined_all e.at (max end (e.at + e.len)) x es sorted.1 sorted.0, in_either, range_low, range_high, in_right, in_left, low e (inl refl), in_range, run, range_with_len)
 
 -- ---- one more entry
 
-pub spans_extents : (list : List Owned) → spans (extents list) ≡ ranges list
+spans_extents : (list : List Owned) → spans (extents list) ≡ ranges list
 spans_extents [] = refl
 spans_extents (o ∷ list) = ap (λ (r : List ℕ). range_with_len o.extent.at o.extent.len ++ r) (spans_extents list)
 
 pub last_run : (list : List Owned) (i at end : ℕ) (done all more : List Extent) → length list ≤ i → more ≡ done ++ run at end
     → done ++ joined_from at end (extents (drop i list)) ≡ all → more ≡ all
-last_run list i at end done all more h added e =
-    added ∙ ap (λ (es : List Owned). done ++ joined_from at end (extents es)) (sym (drop_of_length-le list h)) ∙ e
+last_run list i at end done all more h added e = grind (arith, common_steps)
 
 pub all_cover : (list : List Owned) → IsByPlace (extents list) → IsCover (joined_from 0 0 (extents list))
 all_cover list sorted = joined_cover 0 0 (extents list) sorted (λ d m. omega arith)

@@ -1,5 +1,5 @@
 -- Requests that are the same or not, and entries among the first of a list.
-use Rattle.overlap_report.proofs.Words.{◌≡◌, ℕ, zero, suc, ◌+◌, ◌<◌, ◌≤◌, ◌⊎◌, sym, subst, inl, inr, List, [], ◌∷◌, ◌++◌, length, take, get_or, true, false, arith, nat_tests, take_more, take_all, entry_in, Owned, Key, same_key, key_below, In, extents, IsByPlace, EndBelow, in_either, in_left, in_right, map_in, in_extents}
+use Rattle.overlap_report.proofs.Words.{◌≡◌, ℕ, ◌+◌, ◌<◌, ◌≤◌, ◌⊎◌, sym, subst, inl, inr, List, [], ◌∷◌, ◌++◌, length, take, get_or, true, false, arith, nat_tests, take_more, take_all, entry_in, Owned, Key, same_key, key_below, In, extents, IsByPlace, EndBelow, in_either, in_left, in_right, map_in, in_extents}
 pub use Rattle.serial_spec.proofs.KeyLaws.{not_below_itself}
 
 -- ---- keys
@@ -33,17 +33,12 @@ next_pushed seen o = grind (arith, nat_tests, in_either, in_left, in_right)
 
 pub before_next : (list : List Owned) (i : ℕ) (o p : Owned) → i < length list → o ≡ get_or list i o → IsByPlace (extents list) → In (take i list) p → p.extent.at ≤ o.extent.at
 before_next [] i o p h is sorted m = absurd (omega arith)
-before_next (a ∷ list) zero o p h is sorted m = absurd m
-before_next (a ∷ list) (suc i) o p h is sorted (inl m) = grind (arith, nat_tests, entry_in list i o, in_extents list o)
-before_next (a ∷ list) (suc i) o p h is sorted (inr m) = before_next list i o p (omega arith) is sorted.1 m
+before_next (a ∷ list) i o p h is sorted m = grind (arith, nat_tests, entry_in list, in_extents list o, before_next list)
 
 pub at_or_before : (list : List Owned) (i : ℕ) (o p : Owned) → i < length list → o ≡ get_or list i o → IsByPlace (extents list) → In list p
     → In (take i list) p ⊎ (o.extent.at ≤ p.extent.at)
 at_or_before [] i o p h is sorted m = absurd m
-at_or_before (a ∷ list) zero o p h is sorted (inl m) = grind (arith, nat_tests)
-at_or_before (a ∷ list) zero o p h is sorted (inr m) = grind (arith, nat_tests, in_extents list p m)
-at_or_before (a ∷ list) (suc i) o p h is sorted (inl m) = inl (inl m)
-at_or_before (a ∷ list) (suc i) o p h is sorted (inr m) = grind (arith, nat_tests, at_or_before list i o p)
+at_or_before (a ∷ list) i o p h is sorted m = grind (arith, nat_tests, in_extents list p, at_or_before list)
 
 abbrev pub nothing : Owned
 nothing = record { extent = record { at = 0; len = 0 }; rank = 0; request = 0; slot = 0; from = 0 }

@@ -1,5 +1,5 @@
 -- What entries say of a byte, as origins.
-use Rattle.overlap_report.proofs.Words.{◌≡◌, ℕ, zero, suc, ◌+◌, ◌-◌, ◌<◌, ◌≤◌, sym, subst, inl, inr, List, [], ◌∷◌, map, arith, range_with_len, enumerate_from, Owned, Says, In, Origin, origins_of, origins, IsGreatest, IsResolved, IsOnceEach, says_left, says_right, says_cases, greatest_once, Covers, Winner, nat_tests}
+use Rattle.overlap_report.proofs.Words.{◌≡◌, ℕ, zero, suc, ◌+◌, ◌-◌, ◌<◌, ◌≤◌, List, [], ◌∷◌, map, arith, range_with_len, enumerate_from, Owned, Says, In, Origin, origins_of, origins, IsGreatest, IsResolved, IsOnceEach, says_left, says_right, says_cases, greatest_once, Covers, Winner, nat_tests, common_steps}
 
 abbrev pub origin_at : Owned → ℕ → Origin
 origin_at o x = (o.rank, o.slot, o.from + (x - o.extent.at))
@@ -14,14 +14,12 @@ origin_said rank slot p from (suc n) x h l = grind (arith, nat_tests, origin_sai
 said_origin : (rank slot p from n x : ℕ) (a : Origin) → Says (enumerate_from p (map (origin rank slot) (range_with_len from n))) x a
     → (p ≤ x) × (x < p + n) × (a ≡ origin rank slot (from + (x - p)))
 said_origin rank slot p from zero x a m = absurd m
-said_origin rank slot p from (suc n) x a (inl m) = grind (arith, nat_tests)
-said_origin rank slot p from (suc n) x a (inr m) = grind (arith, nat_tests, said_origin rank slot (p + 1) (from + 1) n x a m)
+said_origin rank slot p from (suc n) x a xs = grind (arith, nat_tests, said_origin rank slot (p + 1) (from + 1) n x a)
 
 pub says_of : (os : List Owned) (o : Owned) (x : ℕ) → In os o → Covers o x → Says (origins os) x (origin_at o x)
 says_of [] o x m c = absurd m
-says_of (p ∷ os) o x (inl m) c =
-    grind (arith, nat_tests, says_left (origins_of p) (origins os) x (origin_at o x), origin_said o.rank o.slot o.extent.at o.from o.extent.len x c.0 c.1)
-says_of (p ∷ os) o x (inr m) c = says_right (origins_of p) (origins os) x (origin_at o x) (says_of os o x m c)
+says_of (p ∷ os) o x m c =
+    grind (arith, nat_tests, says_left (origins_of p) (origins os) x (origin_at o x), origin_said o.rank o.slot o.extent.at o.from o.extent.len x c.0 c.1, says_right (origins_of p) (origins os) x (origin_at o x), says_of os o x)
 
 pub record HasOrigin (os : List Owned) (x : ℕ) (a : Origin) : Type 0 where
   pub holder : Owned
@@ -40,10 +38,8 @@ winner_greatest seen o x w = grind (arith, nat_tests, says_of, of_says, origin_a
 pub resolved_by : (list out : List Owned) → IsOnceEach (origins list) → ((o : Owned) (y : ℕ) → In out o → Covers o y → Winner list o y)
     → ((q : Owned) (y : ℕ) → In list q → Covers q y → (o : Owned) × In out o × Covers o y) → IsResolved list out
 resolved_by list out once won served = (
-  (λ x a m. let r = of_says out x a m in
-      subst (λ (b : Origin). IsGreatest (origins list) x b) (sym r.is) (winner_greatest list r.holder x (won r.holder x r.is_one r.covers))),
-  (λ x a m. let q = of_says list x a m.0 in
-      grind (arith, nat_tests, greatest_once (origins list) once x a (origin_at (served q.holder x q.is_one q.covers).0 x) m, winner_greatest list (served q.holder x q.is_one q.covers).0 x, says_of out (served q.holder x q.is_one q.covers).0 x (served q.holder x q.is_one q.covers).1)),
+  grind (arith, common_steps, of_says out, winner_greatest list),
+  (λ x a m. grind (arith, common_steps, of_says list x a m.0, greatest_once (origins list) once x a (origin_at (served (of_says list x a m.0).holder x (of_says list x a m.0).is_one (of_says list x a m.0).covers).0 x) m, winner_greatest list (served (of_says list x a m.0).holder x (of_says list x a m.0).is_one (of_says list x a m.0).covers).0 x, says_of out (served (of_says list x a m.0).holder x (of_says list x a m.0).is_one (of_says list x a m.0).covers).0 x)),
 )
 
 -- entries of which no two are of one post

@@ -1,5 +1,5 @@
 -- How far the entries so far reach, and the first byte that two requests hold.
-use Rattle.overlap_report.proofs.Words.{◌≡◌, ℕ, ◌+◌, ◌<◌, ◌≤◌, ◌⊎◌, refl, sym, ap, subst, inl, inr, List, length, take, get_or, Bool, true, false, cond, max, Option, Some, None, arith, MatchOption, range_with_len, take_all, entry_in, in_taken, Owned, Pair, Key, same_key, key_below, Holds, holdings_of_entries, shared_pair_of, first_end, second_end, key_itself, key_equal, pair_found, pair_only, In, extents, IsByPlace, in_range, range_low, range_high, holds_by, holder_of, Reach, key_of, Covers, IsClearAt, AreTwo, IsFirst, HasHolder, ArePairAt, same_as, with_entry, no_both, nat_tests}
+use Rattle.overlap_report.proofs.Words.{◌≡◌, ℕ, ◌+◌, ◌<◌, ◌≤◌, refl, sym, ap, subst, inl, inr, List, length, take, get_or, Bool, true, false, cond, max, Option, Some, None, arith, MatchOption, range_with_len, take_all, entry_in, in_taken, Owned, Pair, Key, same_key, key_below, Holds, holdings_of_entries, shared_pair_of, first_end, second_end, key_itself, key_equal, pair_found, pair_only, In, extents, IsByPlace, in_range, range_low, range_high, holds_by, holder_of, Reach, key_of, Covers, IsClearAt, AreTwo, IsFirst, HasHolder, ArePairAt, same_as, with_entry, no_both, nat_tests, common_steps}
 use Rattle.list_laws.proofs.Optional.{some_or_none}
 use Rattle.list_laws.proofs.Truth.{holds_or_not}
 use Rattle.overlap_report.proofs.KeySteps.{key_meet, key_apart, key_apart_back, not_below_itself, IsNext, for_next, before_next, at_or_before}
@@ -32,41 +32,29 @@ pub reach_next : (seen more : List Owned) (r : Reach) (o : Owned) → IsNext see
     → cond (same_as r o) r.other r.end ≤ o.extent.at → Reaches r seen → Reaches (with_entry r o) more
 reach_next seen more r o next long free h = by_same (same_as r o) refl free
   where
-    meet_same : same_as r o ≡ true → r.other ≤ o.extent.at → (x : ℕ) (p : Owned) → In seen p → Covers p x → Covers o x → same_key (key_of p) (key_of o) ≡ true
-    meet_same e low x p m c d = grind (arith, nat_tests, holds_or_not, key_meet, h.others, c.0, c.1, d.0)
-
-    by_end : same_as r o ≡ true → EndsAt more (record r { end = max r.end (o.extent.at + o.extent.len) }) (max r.end (o.extent.at + o.extent.len)) true
-    by_end e = grind (arith, nat_tests, moved, next.has, h.end_of)
-
     by_same : (t : Bool) → same_as r o ≡ t → cond t r.other r.end ≤ o.extent.at
         → Reaches (cond t (record r { end = max r.end (o.extent.at + o.extent.len) })
         (record { end = o.extent.at + o.extent.len; rank = o.rank; request = o.request; other = r.end })) more
     by_same true e low = record {
-      most = for_next (λ p. 1 ≤ p.extent.len → p.extent.at + p.extent.len ≤ max r.end (o.extent.at + o.extent.len)) next (λ p a l. omega (arith, h.most p a l)) (λ l. omega arith);
-      others = for_next (λ p. 1 ≤ p.extent.len → same_as r p ≡ false → p.extent.at + p.extent.len ≤ r.other) next h.others (λ l f. no_both (same_as r o) e f);
-      end_of = λ l. by_end e;
-      other_of = λ l. moved seen more r (record r { end = max r.end (o.extent.at + o.extent.len) }) o r.other r.other false next refl refl refl (h.other_of l);
-      clear = λ x. clear_next seen more o x next (h.clear x) (λ p m c d. meet_same e low x p m c d);
+      most = grind (arith, nat_tests, next.splits, h.most);
+      others = grind (arith, nat_tests, next.splits, h.others);
+      end_of = grind (arith, nat_tests, moved, next.has, h.end_of);
+      other_of = grind (arith, nat_tests, moved, h.other_of);
+      clear = λ x. clear_next seen more o x next (h.clear x) (λ p m c d. grind (arith, nat_tests, holds_or_not, key_meet, h.others, c.0, c.1, d.0));
     }
     by_same false e low = record {
-      most = for_next (λ p. 1 ≤ p.extent.len → p.extent.at + p.extent.len ≤ o.extent.at + o.extent.len) next (λ p a l. omega (arith, h.most p a l)) (λ l. omega arith);
-      others = for_next (λ p. 1 ≤ p.extent.len → same_key (key_of p) (key_of o) ≡ false → p.extent.at + p.extent.len ≤ r.end) next (λ p a l f. h.most p a l)
-          (λ l f. no_both (same_key (key_of o) (key_of o)) (key_itself (key_of o)) f);
-      end_of = λ l. record { entry = o; is_one = next.has; ends = refl; of_it = key_itself (key_of o) };
-      other_of = λ l. (let q = h.end_of l in
-          record { entry = q.entry; is_one = next.keeps q.entry q.is_one; ends = q.ends; of_it = key_apart (key_of q.entry) (key_of o) (r.rank, r.request) q.of_it e });
+      most = grind (arith, nat_tests, next.splits, h.most);
+      others = grind (arith, nat_tests, next.splits, h.most, key_itself);
+      end_of = grind (arith, nat_tests, next.has, key_itself);
+      other_of = grind (arith, nat_tests, h.end_of, next.keeps, key_apart);
       clear = λ x. clear_next seen more o x next (h.clear x) (λ p m c d. absurd (omega (arith, h.most p m (omega (arith, c.0, c.1)), c.1, d.0)));
     }
 
 -- an entry without bytes
 pub reach_same : (seen more : List Owned) (r : Reach) (o : Owned) → IsNext seen more o → o.extent.len ≡ 0 → Reaches r seen → Reaches r more
-reach_same seen more r o next none h = record {
-  most = for_next (λ p. 1 ≤ p.extent.len → p.extent.at + p.extent.len ≤ r.end) next h.most (λ l. absurd (omega arith));
-  others = for_next (λ p. 1 ≤ p.extent.len → same_as r p ≡ false → p.extent.at + p.extent.len ≤ r.other) next h.others (λ l f. absurd (omega arith));
-  end_of = λ l. moved seen more r r o r.end r.end true next refl refl refl (h.end_of l);
-  other_of = λ l. moved seen more r r o r.other r.other false next refl refl refl (h.other_of l);
-  clear = λ x. clear_next seen more o x next (h.clear x) (λ p m c d. absurd (omega (arith, d.0, d.1)));
-}
+reach_same seen more r o next none h =
+    let clear : (x : ℕ) → IsClearAt more x = λ x. clear_next seen more o x next (h.clear x) (λ p m c d. absurd (omega (arith, d.0, d.1))) in
+    grind (arith, nat_tests, next.splits, h.most, h.others, h.end_of, h.other_of, moved, clear)
 
 -- ---- the byte
 
@@ -74,33 +62,23 @@ pub first_found : (list : List Owned) (i : ℕ) (r : Reach) (o : Owned) → i < 
     → o.extent.at < cond (same_as r o) r.other r.end → Reaches r (take i list) → IsFirst list o.extent.at
 first_found list i r o room is sorted some meets h = (by_same (same_as r o) refl meets, λ y l. clear_below y l)
   where
-    here : In list o
-    here = subst (λ (z : Owned). In list z) (sym is) (entry_in list i o room)
-
     two : (n : ℕ) (same : Bool) → EndsAt (take i list) r n same → o.extent.at < n → ((q : Owned) → same_as r q ≡ same → same_key (key_of q) (key_of o) ≡ false) → AreTwo list o.extent.at
-    two n same e past apart =
-        let low = before_next list i o e.entry room is sorted e.is_one in
-        let ends = e.ends in
-        record {
-          one = e.entry;
-          other = o;
-          one_in = in_taken i list e.entry e.is_one;
-          other_in = here;
-          one_covers = (low, omega arith);
-          other_covers = (omega arith, omega arith);
-          differ = apart e.entry e.of_it;
-        }
+    two n same e past apart = record {
+      one = e.entry;
+      other = o;
+      one_in = in_taken i list e.entry e.is_one;
+      other_in = grind (arith, nat_tests, is, entry_in list i o room);
+      one_covers = (before_next list i o e.entry room is sorted e.is_one, omega (arith, e.ends));
+      other_covers = (omega arith, omega arith);
+      differ = apart e.entry e.of_it;
+    }
 
     by_same : (t : Bool) → same_as r o ≡ t → o.extent.at < cond t r.other r.end → AreTwo list o.extent.at
     by_same true e past = two r.other false (h.other_of (omega arith)) past (λ q f. key_apart_back (key_of q) (key_of o) (r.rank, r.request) f e)
     by_same false e past = two r.end true (h.end_of (omega arith)) past (λ q f. key_apart (key_of q) (key_of o) (r.rank, r.request) f e)
 
     clear_below : (y : ℕ) → y < o.extent.at → IsClearAt list y
-    clear_below y l p q m n c d =
-        h.clear y p q (before p m c) (before q n d) c d
-      where
-        before : (z : Owned) → In list z → Covers z y → In (take i list) z
-        before z m c = elim (at_or_before list i o z room is sorted m) [ inl a ↦ a | inr a ↦ (let b = c.0 in absurd (omega arith)) ]
+    clear_below y l p q m n c d = grind (arith, nat_tests, h.clear y p q, at_or_before list i o p room is sorted m, at_or_before list i o q room is sorted n, c.0, d.0)
 
 pub all_clear : (list : List Owned) (i : ℕ) (r : Reach) → length list ≤ i → Reaches r (take i list) → (x : ℕ) → IsClearAt list x
 all_clear list i r h reaches x = subst (λ (os : List Owned). IsClearAt os x) (take_all i list h) (reaches.clear x)
@@ -113,9 +91,7 @@ holds_of list k x h =
     (in_range h.holder.extent.at h.holder.extent.len x h.covers.0 h.covers.1)
 
 of_holds : (list : List Owned) (k : Key) (x : ℕ) → Holds (holdings_of_entries list) k x → HasHolder list k x
-of_holds list k x h =
-    let r = holder_of key_of (λ o. range_with_len o.extent.at o.extent.len) list k x h in
-    grind (arith, nat_tests, range_low, range_high, r.rank, r.request, r.holder, r.is_one)
+of_holds list k x h = grind (arith, common_steps, holder_of key_of (λ o. range_with_len o.extent.at o.extent.len) list k x h, range_low, range_high)
 
 unshared : (list : List Owned) (x : ℕ) → IsClearAt list x → (a b : Key) → HasHolder list a x → HasHolder list b x → a ≡ b
 unshared list x clear a b h k = grind (arith, nat_tests, key_equal)
@@ -137,16 +113,10 @@ one_pair list p x e clear h =
       second = holds_of list (second_end p) p.at (subst (λ (n : ℕ). HasHolder list (second_end p) n) (sym e) h.second);
       in_order = h.in_order;
       least_byte = λ y l a b m n. unshared list y (clear y (subst (λ (k : ℕ). y < k) e l)) a b (of_holds list a y m) (of_holds list b y n);
-      least_ends = λ a m. by_key a (of_holds list a x (subst (λ (n : ℕ). Holds (holdings_of_entries list) a n) e m));
+      least_ends = λ a m. (let k = of_holds list a x (subst (λ (n : ℕ). Holds (holdings_of_entries list) a n) e m) in grind (arith, nat_tests, k.key, h.least k.holder k.is_one k.covers));
     }))
-  where
-    by_key : (a : Key) → HasHolder list a x → (a ≡ first_end p) ⊎ (a ≡ second_end p) ⊎ (key_below (second_end p) a ≡ true)
-    by_key a k = subst (λ (b : Key). (b ≡ first_end p) ⊎ (b ≡ second_end p) ⊎ (key_below (second_end p) b ≡ true)) k.key (h.least k.holder k.is_one k.covers)
-
-pub two_differ : {A : Type 0} (list : List Owned) (x : ℕ) → AreTwo list x → IsClearAt list x → A
-two_differ list x h clear = no_both (same_key (key_of h.one) (key_of h.other)) (clear h.one h.other h.one_in h.other_in h.one_covers h.other_covers) h.differ
 
 pub found_pair : (list : List Owned) (x : ℕ) (o : Option Pair) → IsFirst list x
     → MatchOption o (IsClearAt list x) (λ p. (p.at ≡ x) × ArePairAt list (first_end p) (second_end p) x) → o ≡ shared_pair_of (holdings_of_entries list)
-found_pair list x None first h = two_differ list x first.0 h
+found_pair list x None first h = grind (arith, nat_tests, no_both)
 found_pair list x (Some p) first h = one_pair list p x h.0 first.1 h.1

@@ -5,32 +5,18 @@ use Rattle.overlap_report.proofs.KeySteps.{IsNext, for_next, next_pushed}
 -- ---- nothing goes on
 
 pub swept_empty : (seen out : List Owned) (p stop : ℕ) → p ≤ stop → Swept seen out [] p → Swept seen out [] stop
-swept_empty seen out p stop h s = record {
-  won = s.won;
-  served = λ q y m l c. elim (cases_lt y p) [ inl e ↦ s.served q y m e c | inr past ↦ (let high = c.1 in absurd (s.alive q m (omega arith))) ];
-  alive = λ o m l. s.alive o m (omega arith);
-  pooled = s.pooled;
-  low = λ o m. (omega (arith, (s.low o m).0), (s.low o m).1);
-  line = s.line;
-  parts = s.parts;
-  begun = λ o m. omega (arith, s.begun o m);
-}
-
--- ---- an entry that ended
-
-pub swept_without : (seen out pool rest : List Owned) (top : Owned) (p : ℕ) → top.extent.at + top.extent.len ≤ p → HaveSame pool (top ∷ rest) → Swept seen out pool p → Swept seen out rest p
-swept_without seen out pool rest top p ended same s = grind (arith, nat_tests)
+swept_empty seen out p stop h s =
+    let served : (q : Owned) (y : ℕ) → In seen q → y < stop → Covers q y → (o : Owned) × In out o × Covers o y = λ q y m l c.
+    elim (cases_lt y p) [ inl e ↦ s.served q y m e c | inr past ↦ (let high = c.1 in absurd (s.alive q m (omega arith))) ]
+    in
+    grind (arith, nat_tests, s.won, s.alive, s.low, s.line, s.parts, s.begun, served)
 
 -- ---- bytes of the top
 
 line_more : (out : List Owned) (e : Extent) → IsInLine (extents out) → ((o : Owned) → In out o → o.extent.at + o.extent.len ≤ e.at) → IsInLine (extents out ++ e ∷ [])
 line_more [] e h low = ((λ d m l. absurd m), tt)
 line_more (o ∷ out) e h low = (
-  (λ d m l. elim (in_either (extents out) (e ∷ []) d m) [
-    | inl g ↦ h.0 d g l
-    | inr (inl g) ↦ subst (λ (z : Extent). o.extent.at + o.extent.len ≤ z.at) g (low o (inl refl))
-    | inr (inr g) ↦ absurd g
-  ]),
+  (λ d m l. grind (arith, nat_tests, in_either (extents out) (e ∷ []) d m, h.0 d, low o (inl refl))),
   line_more out e h.1 (λ q m. low q (inr m)),
 )
 
