@@ -1,7 +1,7 @@
 -- What the proofs of other crates take from here.
 pub use Rattle.overlay_laws.proofs.ChangeLaws.{between_next}
 pub use Rattle.overlay_laws.proofs.CoverLaws.{below_told, cover_in_order, hull_told, last_joined, last_of_range, past_round, range_above_none, range_first, same_ascending, spans_above, spans_ascend, spans_below, spans_below_none, spans_past, triple_same}
-pub use Rattle.overlay_laws.proofs.DomainLaws.{filter_two, share}
+pub use Rattle.overlay_laws.proofs.DomainLaws.{share}
 pub use Rattle.overlay_laws.proofs.EntryLaws.{enumerate_joined, gathered_says, get_collected, in_extents, list_says, same_permuted, says_cases, says_left, says_moved, says_place, says_right}
 pub use Rattle.overlay_laws.proofs.HolderLaws.{entries_pair, holder_of, holds_by}
 pub use Rattle.overlay_laws.proofs.HullLaws.{any_in, ceil_covers, div_grows, filter_ascends, first_least, flat_in, in_any, in_either, in_flat, in_in_order, in_left, in_order_ascends, in_order_in, in_range, in_right, last_below, last_most, range_ascends, range_high, range_low, windows_have}
@@ -13,7 +13,7 @@ pub use Rattle.overlay_laws.proofs.RegionLaws.{coordinate_row}
 pub use Rattle.overlay_laws.proofs.RoomLaws.{puts_room}
 pub use Rattle.overlay_laws.proofs.SaidLaws.{cells_long, one_said, said_in_any_order, said_is, same_file, same_said, says_some}
 pub use Rattle.overlay_laws.proofs.ShareLaws.{no_pair_once}
-pub use Rattle.overlay_laws.proofs.WalkLaws.{drop_first, filter_all, filter_none, filter_same, sieved_walked, take_first, windows_walked}
+pub use Rattle.overlay_laws.proofs.WalkLaws.{drop_first, filter_all, filter_none, filter_same, filter_two, sieved_walked, take_first, windows_walked}
 pub use Rattle.overlay_laws.proofs.WindowCounts.{count_is, stores_before, stores_more, window_inside, windows_of, windows_reach}
 pub use Rattle.overlay_laws.proofs.WindowHulls.{window_short}
 pub use Rattle.overlay_laws.proofs.WindowLaws.{append_within, clips_from, clips_in, clips_within, moved_said, none_below, none_past, said_by_joined, said_joined, within_lowered, within_more}

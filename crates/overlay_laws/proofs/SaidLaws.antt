@@ -1,5 +1,5 @@
 -- Cells written one after another: each byte is what the last cell that has it says, else the old one.
-use Rattle.overlay_laws.proofs.Words.{◌≡◌, ℕ, refl, sym, ◌∙◌, inl, inr, List, [], ◌∷◌, length, Some, ext_get_or, equal_true, one_hit, cells_said, no_none_some, first_counts, at, written, length-written_inside, same_Some, said_at, Says, IsOneValued, Cell, write_cells, said_by, IsWithin, arith, nat_tests, some_or_none, second_counts, eqb-true}
+use Rattle.overlay_laws.proofs.Words.{◌≡◌, ℕ, refl, sym, inl, inr, List, [], ◌∷◌, length, Some, ext_get_or, one_hit, cells_said, no_none_some, first_counts, at, written, length-written_inside, same_Some, said_at, Says, IsOneValued, Cell, write_cells, said_by, IsWithin, arith, nat_tests, some_or_none, second_counts, eqb-true, Option, None}
 
 -- ---- cells
 
@@ -25,11 +25,16 @@ said_is {A} (p ∷ ps) x v h = grind (arith, nat_tests, said_is ps x v, eqb-true
 -- a place of which something is said
 pub says_some : {A : Type 0} (ps : List (ℕ × A)) (x : ℕ) (v : A) → Says ps x v → (w : A) × (said_at ps x ≡ Some w)
 says_some [] x v h = absurd h
-says_some (p ∷ ps) x v (inr h) = let s = says_some ps x v h in (s.0, first_counts (said_at ps x) _ s.0 s.1)
-says_some (p ∷ ps) x v (inl h) = elim (some_or_none (said_at ps x)) [
-  | inl n ↦ (p.1, second_counts (said_at ps x) _ n ∙ one_hit p.0 x p.1 (equal_true p.0 x h.0))
+says_some (p ∷ ps) x v h = elim (some_or_none (said_at ps x)) [
+  | inl n ↦ (p.1, grind (arith, nat_tests, says_some ps x v, second_counts, one_hit))
   | inr s ↦ (s.0, first_counts (said_at ps x) _ s.0 s.1)
 ]
+
+-- two of which each tells what the other does
+pub same_told : {A : Type 0} (o q : Option A) → ((v : A) → o ≡ Some v → q ≡ Some v) → ((v : A) → q ≡ Some v → o ≡ Some v) → o ≡ q
+same_told None None f g = refl
+same_told (Some v) q f g = sym (f v refl)
+same_told o (Some v) f g = g v refl
 
 pub one_said : {A : Type 0} (ps : List (ℕ × A)) → IsOneValued ps → (x : ℕ) (v : A) → Says ps x v → said_at ps x ≡ Some v
 one_said ps once x v h = grind (arith, nat_tests, says_some ps x v h, said_is ps x (says_some ps x v h).0 (says_some ps x v h).1)
@@ -37,7 +42,5 @@ one_said ps once x v h = grind (arith, nat_tests, says_some ps x v h, said_is ps
 -- lists that say the same pairs, in whatever order
 pub said_in_any_order : {A : Type 0} (a b : List (ℕ × A)) → IsOneValued a → ((x : ℕ) (v : A) → Says a x v → Says b x v)
     → ((x : ℕ) (v : A) → Says b x v → Says a x v) → (x : ℕ) → said_at a x ≡ said_at b x
-said_in_any_order a b once there back x = elim (some_or_none (said_at b x)) [
-  | inr v ↦ one_said a once x v.0 (back x v.0 (said_is b x v.0 v.1)) ∙ sym v.1
-  | inl n ↦ elim (some_or_none (said_at a x)) [ inl e ↦ e ∙ sym n | inr v ↦ (let s = says_some b x v.0 (there x v.0 (said_is a x v.0 v.1)) in no_none_some s.0 (sym n ∙ s.1)) ]
-]
+said_in_any_order a b once there back x =
+    same_told _ _ (λ v e. one_said b (λ y w u h k. once y w u (back y w h) (back y u k)) x v (there x v (said_is a x v e))) (λ v e. one_said a once x v (back x v (said_is b x v e)))

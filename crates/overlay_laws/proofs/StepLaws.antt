@@ -1,27 +1,10 @@
 -- A step: gathered entries, written window by window over hulls, make the file of the model.
-use Rattle.overlay_laws.proofs.Words.{◌≡◌, ℕ, ◌≤◌, sym, ◌∙◌, ap, List, length, None, flat_map, map, Hints, Owned, Header, longer, Puts, covered, holdings, holdings_of_entries, shared_pair_of, needed_by, Setting, end_for, after_puts, in_order, collective_windows, sieving_windows, said_at, said_by, IsOneValued, said_by_puts, IsOwnOnce, Source, cell_of, IsGathered, HaveSame, written_over, AreHints, origins, byte_at, AreFound, IsResolved, IsOnceEach, IsInOrder, HasRoom, option_map, arith, nat_tests}
-use Rattle.overlay_laws.proofs.EntryLaws.{gathered_says, cells_moved}
+use Rattle.overlay_laws.proofs.Words.{◌≡◌, ℕ, ◌≤◌, sym, ◌∙◌, List, length, None, flat_map, map, Hints, Owned, longer, Puts, covered, holdings, holdings_of_entries, shared_pair_of, needed_by, Setting, end_for, after_puts, in_order, collective_windows, sieving_windows, IsOwnOnce, Source, cell_of, IsGathered, HaveSame, written_over, AreHints, origins, AreFound, IsResolved, IsOnceEach, IsInOrder, HasRoom, arith, nat_tests}
+use Rattle.overlay_laws.proofs.EntryLaws.{list_told}
 use Rattle.overlay_laws.proofs.ShareLaws.{no_pair_once}
 use Rattle.overlay_laws.proofs.HolderLaws.{entries_pair}
-use Rattle.overlay_laws.proofs.OriginLaws.{cells_by_origins, said_mapped, resolved_says}
+use Rattle.overlay_laws.proofs.OriginLaws.{resolved_told}
 use Rattle.overlay_laws.proofs.HullLaws.{collective_done, sieving_done}
-
-list_told : (header : Header) (source : Source) (puts : Puts) (ess : List (List Owned)) (list : List Owned)
-    → IsGathered header source puts ess → HaveSame (flat_map (λ os. os) ess) list → IsOneValued (said_by_puts header puts)
-    → (x : ℕ) → said_at (said_by (map (λ o. cell_of source o) list)) x ≡ said_at (said_by_puts header puts) x
-list_told header source puts ess list h same once x = grind (arith, nat_tests, gathered_says, cells_moved)
-
-resolved_told : (header : Header) (source : Source) (puts : Puts) (ess : List (List Owned)) (list result : List Owned)
-    → IsGathered header source puts ess → HaveSame (flat_map (λ os. os) ess) list → IsInOrder (flat_map (λ os. os) ess) → IsOnceEach (origins (flat_map (λ os. os) ess))
-    → IsResolved list result → AreFound source (flat_map (λ os. os) ess) → AreFound source result
-    → (x : ℕ) → said_at (said_by (map (λ o. cell_of source o) result)) x ≡ said_at (said_by_puts header puts) x
-resolved_told header source puts ess list result h same order once resolved found found_result x =
-    ap (λ ps. said_at ps x) (cells_by_origins source result found_result)
-    ∙ said_mapped (byte_at source) (origins result) x
-    ∙ ap (λ o. option_map (byte_at source) o) (resolved_says (flat_map (λ os. os) ess) list result same order once resolved x)
-    ∙ sym (said_mapped (byte_at source) (origins (flat_map (λ os. os) ess)) x)
-    ∙ ap (λ ps. said_at ps x) (sym (cells_by_origins source (flat_map (λ os. os) ess) found))
-    ∙ ap (λ ps. said_at ps x) (gathered_says header source puts ess h)
 
 -- a collective step without a pair
 pub collective_step : (hints : Hints) (s : Setting) (source : Source) (puts : Puts) (ess : List (List Owned)) (list : List Owned) (file : List ℕ)

@@ -1,16 +1,12 @@
 -- How many windows a length has, and their stores.
-use Rattle.overlay_laws.proofs.Words.{◌≡◌, ℕ, ◌+◌, ◌-◌, ◌*◌, ◌/◌, ◌%◌, ◌<◌, ◌≤◌, min, List, [], ◌∷◌, ◌++◌, length, arith, range_with_len, mul-le-mul_right, div_ceil_times, map-append, div-add-mod', div-mul-add, mod_below, range_append, DiskCall, Store, window_count, nat_tests}
-use Rattle.std.proofs.Common.{map}
+use Rattle.overlay_laws.proofs.Words.{◌≡◌, ℕ, ◌+◌, ◌-◌, ◌*◌, ◌/◌, ◌%◌, ◌<◌, ◌≤◌, min, List, [], ◌∷◌, ◌++◌, length, arith, range_with_len, mul-le-mul_right, div_ceil_times, map-append, div-add-mod', div-mul-add, mod_below, range_append, DiskCall, Store, window_count, nat_tests, map}
 
 -- the count that the code takes
 abbrev pub windows_of : ℕ → ℕ → ℕ
 windows_of z len = len / z + min 1 (len % z)
 
-count_by_rest : (z len q r : ℕ) → 0 < z → r < z → q * z + r ≡ len → q + min 1 r ≡ (len + (z - 1)) / z
-count_by_rest z len q r h l e = grind (arith, nat_tests, div-mul-add)
-
 pub count_is : (z len : ℕ) → 0 < z → windows_of z len ≡ window_count z len
-count_is z len h = count_by_rest z len (len / z) (len % z) h (mod_below len z h) (div-add-mod' len z)
+count_is z len h = grind (arith, nat_tests, div-mul-add, mod_below len z h, div-add-mod' len z)
 
 pub window_inside : (z len j count : ℕ) → 0 < z → count ≡ windows_of z len → j < count → j * z < len
 window_inside z len j count h e l = grind (arith, nat_tests, div_ceil_times, mul-le-mul_right)

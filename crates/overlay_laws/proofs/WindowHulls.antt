@@ -1,13 +1,10 @@
 -- No window's hull is longer than its buffer.
 use Rattle.overlay_laws.proofs.Words.{ℕ, ◌+◌, ◌-◌, ◌/◌, ◌<◌, ◌≤◌, inl, refl, List, [], ◌∷◌, not, arith, mod_below, div-add-mod', filter, map, ◌==◌, range_with_len, first_of, hull_len, last_of, windows, is_empty, In, IsAscending, filter_in, nat_tests}
-use Rattle.overlay_laws.proofs.HullLaws.{first_least, last_below}
-use Rattle.overlay_laws.proofs.Members.{map_in}
+use Rattle.overlay_laws.proofs.HullLaws.{first_least, last_below, map_in}
 
 hull_short : (w : List ℕ) (n : ℕ) → 1 ≤ n → ((x y : ℕ) → In w x → In w y → x < y + n) → hull_len w ≤ n
 hull_short [] n l h = omega arith
-hull_short (a ∷ w) n l h =
-    let last : last_of (a ∷ w) + 1 ≤ a + n = last_below (a ∷ w) (a + n) (omega arith) (λ x k. h x a k (inl refl)) in
-    omega arith
+hull_short (a ∷ w) n l h = omega (arith, last_below (a ∷ w) (a + n) (omega arith) (λ x k. h x a k (inl refl)))
 
 abbrev window_at : ℕ → List ℕ → ℕ → List ℕ
 window_at buffer bytes j = filter (λ x. (x - first_of bytes) / buffer == j) bytes

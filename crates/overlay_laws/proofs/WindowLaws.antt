@@ -1,6 +1,6 @@
 -- Windows that are read, overlaid and written are cells that are written; windows that have every cell are the cells.
-use Rattle.overlay_laws.proofs.Words.{◌≡◌, ℕ, ◌+◌, ◌-◌, ◌<◌, ◌≤◌, refl, sym, ◌∙◌, ap, inl, inr, ◌⊎◌, List, [], ◌∷◌, ◌++◌, length, drop, get_or, Some, None, arith, common_steps, flat_map-append, fold-append, get_or-take, get_or-drop, fold, flat_map, nat_lt, map, enumerate_from, at-written_before, at-written_after, length-written_inside, said_below, said_past, said_inside, at-written_inside, said_append, cells_said, no_none_some, neither_some, second_counts, first_counts, at, written, option_or, said_at, byte_or, Cell, write_cells, said_by, IsWithin, IsFrom, moved_down, IsPart, AreParts, SomeSays, clip, clips, IsInOne, HasEach, nat_tests, cond, some_or_none, leb_tells, ltb-true, ltb-false}
-use Rattle.overlay_laws.proofs.SaidLaws.{cells_long, same_file, same_said}
+use Rattle.overlay_laws.proofs.Words.{◌≡◌, ℕ, ◌+◌, ◌-◌, ◌<◌, ◌≤◌, refl, ◌∙◌, ap, List, [], ◌∷◌, ◌++◌, length, Some, None, arith, common_steps, flat_map-append, fold-append, fold, flat_map, nat_lt, map, enumerate_from, at-written_before, at-written_after, length-written_inside, said_below, said_past, said_inside, at-written_inside, said_append, cells_said, no_none_some, neither_some, second_counts, first_counts, at, written, option_or, said_at, Cell, write_cells, said_by, IsWithin, IsFrom, moved_down, IsPart, AreParts, SomeSays, clip, clips, IsInOne, HasEach, nat_tests, cond, some_or_none, leb_tells, ltb-true, ltb-false}
+use Rattle.overlay_laws.proofs.SaidLaws.{cells_long, same_file, same_said, same_told}
 
 -- ---- cells seen from a place on
 
@@ -31,31 +31,14 @@ none_past n (c ∷ cells) x h k = grind (arith, nat_tests, none_past n cells x h
 
 -- ---- one window
 
-window_by : (file buf inner : List ℕ) (lo : ℕ) (pieces : List Cell) → length inner ≡ length buf
-    → ((x : ℕ) → at inner (x - lo) ≡ byte_or (said_at (said_by (moved_down lo pieces)) (x - lo)) (at buf (x - lo)))
-    → lo + length buf ≤ length file → IsFrom lo pieces → IsWithin pieces (lo + length buf)
-    → ((x : ℕ) → lo ≤ x → x < lo + length buf → said_at (said_by pieces) x ≡ None → at buf (x - lo) ≡ at file x)
-    → written file lo inner ≡ write_cells file pieces
-window_by file buf inner lo pieces long inside room low high kept =
-    same_file (written file lo inner) (write_cells file pieces)
-    (length-written_inside file lo inner (omega arith) ∙ sym (cells_long pieces file (within_more pieces (lo + length buf) (length file) room high)))
-    each
-  where
-    -- the window's bytes, and those before and behind it
-    here : (x : ℕ) → lo ≤ x → x < lo + length buf → at (written file lo inner) x ≡ byte_or (said_at (said_by pieces) x) (at file x)
-    here x g l = grind (arith, nat_tests, at-written_inside, inside x, moved_said lo pieces x low g, kept x g l)
-
-    beside : (x : ℕ) → (x < lo) ⊎ (lo + length buf ≤ x) → at (written file lo inner) x ≡ byte_or (said_at (said_by pieces) x) (at file x)
-    beside x w = grind (arith, nat_tests, at-written_before, at-written_after, none_below lo pieces x low, none_past (lo + length buf) pieces x high)
-
-    each : (x : ℕ) → at (written file lo inner) x ≡ at (write_cells file pieces) x
-    each x = grind (arith, nat_tests, cells_said pieces file x, here x, beside x)
-
 -- A buffer that has the file's bytes wherever no piece has the place, overlaid and written, writes the pieces.
 pub window_done : (file buf : List ℕ) (lo : ℕ) (pieces : List Cell) → lo + length buf ≤ length file → IsFrom lo pieces → IsWithin pieces (lo + length buf)
     → ((x : ℕ) → lo ≤ x → x < lo + length buf → said_at (said_by pieces) x ≡ None → at buf (x - lo) ≡ at file x)
     → written file lo (write_cells buf (moved_down lo pieces)) ≡ write_cells file pieces
-window_done file buf lo pieces room low high kept = grind (arith, nat_tests, window_by, cells_long, within_lowered, cells_said)
+window_done file buf lo pieces room low high kept =
+    let long = cells_long (moved_down lo pieces) buf (within_lowered lo (length buf) pieces low high) in
+    same_file _ _ (grind (arith, nat_tests, long, length-written_inside, cells_long pieces file, within_more pieces (lo + length buf)))
+    (λ x. grind (arith, nat_tests, long, cells_said pieces file x, cells_said (moved_down lo pieces) buf (x - lo), at-written_inside, moved_said lo pieces x low, kept x, at-written_before, at-written_after, none_below lo pieces x low, none_past (lo + length buf) pieces x high))
 
 -- ---- one window after another
 
@@ -74,58 +57,30 @@ parts_only : (whole : List (ℕ × ℕ)) (lists : List (List Cell)) → AreParts
 parts_only whole [] h x v e = no_none_some v e
 parts_only whole (cells ∷ lists) h x v e = grind (arith, nat_tests, parts_only whole lists h.1 x v, said_joined)
 
-some_joined : (lists : List (List Cell)) (x v : ℕ) → SomeSays lists x v → (w : ℕ) × (said_at (said_by (flat_map (λ cells. cells) lists)) x ≡ Some w)
-some_joined [] x v h = absurd h
-some_joined (cells ∷ lists) x v (inr h) = grind (arith, nat_tests, some_joined lists x v h, said_joined, first_counts)
-some_joined (cells ∷ lists) x v (inl h) = elim (some_or_none (said_at (said_by (flat_map (λ c. c) lists)) x)) [
-  | inl n ↦ (v, grind (arith, nat_tests, said_joined, second_counts))
-  | inr s ↦ (s.0, grind (arith, nat_tests, said_joined, first_counts))
-]
+joined_says : (whole : List (ℕ × ℕ)) (lists : List (List Cell)) → AreParts whole lists → (x v : ℕ) → said_at whole x ≡ Some v → SomeSays lists x v
+    → said_at (said_by (flat_map (λ cells. cells) lists)) x ≡ Some v
+joined_says whole [] are x v e h = absurd h
+joined_says whole (cells ∷ lists) are x v e h =
+    grind (arith, nat_tests, joined_says whole lists are.1 x v e, said_joined, some_or_none (said_at (said_by (flat_map (λ cells. cells) lists)) x), parts_only whole lists are.1 x, first_counts, second_counts)
 
 -- parts that say nothing else, and everything between them, say together what the whole says
 pub parts_said : (whole : List (ℕ × ℕ)) (lists : List (List Cell)) → AreParts whole lists → ((x v : ℕ) → said_at whole x ≡ Some v → SomeSays lists x v)
     → (x : ℕ) → said_at (said_by (flat_map (λ cells. cells) lists)) x ≡ said_at whole x
-parts_said whole lists are each x = elim (some_or_none (said_at whole x)) [
-  | inl n ↦ elim (some_or_none (said_at (said_by (flat_map (λ cells. cells) lists)) x)) [ inl e ↦ e ∙ sym n | inr s ↦ no_none_some s.0 (sym n ∙ parts_only whole lists are x s.0 s.1) ]
-  | inr w ↦ (let s = some_joined lists x w.0 (each x w.0 w.1) in s.1 ∙ sym (parts_only whole lists are x s.0 s.1))
-]
+parts_said whole lists are each x = same_told _ _ (parts_only whole lists are x) (λ v e. joined_says whole lists are x v e (each x v e))
 
 -- ---- the part of a cell in a window
 
-clip_long : (lo hi : ℕ) (c : Cell) → lo ≤ hi → (clip lo hi c).0 + length (clip lo hi c).1 ≤ hi
-clip_long lo hi c h = grind (arith, common_steps)
-
-clip_low : (lo hi : ℕ) (c : Cell) → lo ≤ hi → lo ≤ (clip lo hi c).0
-clip_low lo hi c h = omega arith
-
 pub clips_within : (lo hi : ℕ) (cells : List Cell) → lo ≤ hi → IsWithin (clips lo hi cells) hi
 clips_within lo hi [] h = tt
-clips_within lo hi (c ∷ cells) h = (clip_long lo hi c h, clips_within lo hi cells h)
+clips_within lo hi (c ∷ cells) h = grind (arith, common_steps, clips_within lo hi cells h)
 
 pub clips_from : (lo hi : ℕ) (cells : List Cell) → lo ≤ hi → IsFrom lo (clips lo hi cells)
 clips_from lo hi [] h = tt
-clips_from lo hi (c ∷ cells) h = (clip_low lo hi c h, clips_from lo hi cells h)
-
--- what of a cell lies in the window
-clip_past : (lo hi : ℕ) (c : Cell) (x : ℕ) → lo ≤ x → c.0 + length c.1 ≤ x → (clip lo hi c).0 + length (clip lo hi c).1 ≤ x
-clip_past lo hi c x h l = grind (arith, common_steps)
-
-clip_reach : (lo hi : ℕ) (c : Cell) (x : ℕ) → lo ≤ x → x < hi → c.0 ≤ x → x < c.0 + length c.1 → x < (clip lo hi c).0 + length (clip lo hi c).1
-clip_reach lo hi c x h k g l = grind (arith, common_steps)
+clips_from lo hi (c ∷ cells) h = (omega arith, clips_from lo hi cells h)
 
 clip_in : (lo hi : ℕ) (c : Cell) (x : ℕ) → lo ≤ x → x < hi → said_at (enumerate_from (clip lo hi c).0 (clip lo hi c).1) x ≡ said_at (enumerate_from c.0 c.1) x
-clip_in lo hi c x h k = elim (leb_tells c.0 x) [
-  | inr e ↦ said_below (clip lo hi c).0 (clip lo hi c).1 x (omega (arith, e.1)) ∙ sym (said_below c.0 c.1 x e.1)
-  | inl e ↦ elim (leb_tells (c.0 + length c.1) x) [
-    | inl f ↦ said_past (clip lo hi c).0 (clip lo hi c).1 x (clip_past lo hi c x h f.1) ∙ sym (said_past c.0 c.1 x f.1)
-    | inr f ↦
-        (let same : (lo - c.0) + (x - (clip lo hi c).0) ≡ x - c.0 = omega (arith, e.1) in
-        said_inside (clip lo hi c).0 (clip lo hi c).1 x 0 (omega (arith, e.1)) (clip_reach lo hi c x h k e.1 f.1)
-        ∙ ap Some (get_or-take (hi - (clip lo hi c).0) (drop (lo - c.0) c.1) (x - (clip lo hi c).0) 0 (omega (arith, e.1))
-        ∙ get_or-drop (lo - c.0) c.1 (x - (clip lo hi c).0) 0 ∙ ap (λ (n : ℕ). get_or c.1 n 0) same)
-        ∙ sym (said_inside c.0 c.1 x 0 e.1 f.1))
-  ]
-]
+clip_in lo hi c x h k =
+    grind (arith, common_steps, leb_tells c.0 x, said_below (clip lo hi c).0 (clip lo hi c).1 x, said_below c.0 c.1 x, said_past (clip lo hi c).0 (clip lo hi c).1 x, said_past c.0 c.1 x, said_inside (clip lo hi c).0 (clip lo hi c).1 x 0, said_inside c.0 c.1 x 0)
 
 pub clips_in : (lo hi : ℕ) (cells : List Cell) (x : ℕ) → lo ≤ x → x < hi → said_at (said_by (clips lo hi cells)) x ≡ said_at (said_by cells) x
 clips_in lo hi [] x h k = refl
@@ -144,8 +99,7 @@ windows_are_parts cells (w ∷ windows) n h = (clips_part w.0 w.1 cells h.0, win
 window_says : (cells : List Cell) (windows : List (ℕ × ℕ)) (x v : ℕ) → HasEach windows x → said_at (said_by cells) x ≡ Some v
     → SomeSays (map (λ w. clips w.0 w.1 cells) windows) x v
 window_says cells [] x v h e = h
-window_says cells (w ∷ windows) x v (inl h) e = inl (clips_in w.0 w.1 cells x h.0 h.1 ∙ e)
-window_says cells (w ∷ windows) x v (inr h) e = inr (window_says cells windows x v h e)
+window_says cells (w ∷ windows) x v xs e = grind (arith, nat_tests, clips_in, window_says cells windows x v, clips)
 
 pub append_within : (a b : List Cell) (n : ℕ) → IsWithin a n → IsWithin b n → IsWithin (a ++ b) n
 append_within [] b n h k = k
@@ -153,8 +107,7 @@ append_within (c ∷ a) b n h k = (h.0, append_within a b n h.1 k)
 
 windows_within : (cells : List Cell) (windows : List (ℕ × ℕ)) (n : ℕ) → IsInOne windows n → IsWithin (flat_map (λ c. c) (map (λ w. clips w.0 w.1 cells) windows)) n
 windows_within cells [] n h = tt
-windows_within cells (w ∷ windows) n h =
-    append_within (clips w.0 w.1 cells) _ n (within_more (clips w.0 w.1 cells) w.1 n h.1 (clips_within w.0 w.1 cells h.0)) (windows_within cells windows n h.2)
+windows_within cells (w ∷ windows) n h = grind (arith, nat_tests, append_within, within_more (clips w.0 w.1 cells) w.1, clips_within, windows_within cells windows n h.2)
 
 pub windows_done : (file : List ℕ) (cells : List Cell) (windows : List (ℕ × ℕ)) → IsWithin cells (length file) → IsInOne windows (length file)
     → ((x v : ℕ) → said_at (said_by cells) x ≡ Some v → HasEach windows x)
