@@ -1,5 +1,5 @@
 -- A run of the owner: its first strange arrival, and its order by the arrivals before that one.
-use Rattle.owner_laws.proofs.Words.{◌≡◌, ℕ, ◌<◌, refl, sym, ◌∙◌, ap, List, [], ◌∷◌, ◌++◌, replicate, max, true, ◌&&◌, Option, None, arith, length-replicate, list_all-append, nat_lt, list_all, entry_below, and_first, and_second, Mark, Owner, event, first_owner, free_client, is_strange, needed_now, served, Counted, Setting, Arrival, done, served_on, stranger_on, none_marked, entry_replicate, done_is, IsCutByArrivals, IsDoneByArrivals, before_stranger, before_stranger_from, first_stranger, first_stranger_from, is_strange_after, puts_brought, inl, inr, ltb-true, nat_tests}
+use Rattle.owner_laws.proofs.Words.{◌≡◌, ℕ, ◌<◌, refl, ◌∙◌, List, [], ◌∷◌, ◌++◌, replicate, max, true, Option, None, arith, nat_lt, list_all, entry_below, and_first, and_second, Mark, Owner, event, first_owner, free_client, is_strange, needed_now, served, Counted, Setting, Arrival, done, served_on, stranger_on, none_marked, entry_replicate, done_is, IsCutByArrivals, IsDoneByArrivals, before_stranger, before_stranger_from, first_stranger, first_stranger_from, puts_brought, ltb-true, nat_tests, common_steps}
 use Rattle.list_laws.proofs.Truth.{holds_or_not}
 use Rattle.owner_laws.proofs.HeldClients.{Kept}
 use Rattle.owner_laws.proofs.StrangerLaws.{event_next, not_taken, same_strange}
@@ -23,36 +23,12 @@ found s ranks reached before d ((r, i) ∷ rest) n kept e =
     let low = and_first (nat_lt r ranks) _ n in
     let below : r < ranks = ltb-true r ranks low in
     let client = entry_below d.clients r (omega arith) in
-    let told_so = same_strange s ranks before d kept r client.0 client.1 i ∙ ap (λ (m : ℕ). is_strange_after s ranks m before (r, i)) e in
-    elim (holds_or_not (is_strange s d (r, i))) [
-      | inl f ↦
-          (let told = sym told_so ∙ f in
-          record { stranger = rw (told, first_stranger_from) (stranger_on s d (r, i) rest f); front = rw (told, before_stranger_from) (record { none_strange = refl; marks = sym (none_marked s d (r, i) rest f); numbers = refl }) })
-      | inr f ↦
-          (let told = sym told_so ∙ f in
-          let reached_now = max reached (needed_now s (puts_brought ranks before (r, i))) in
-          let next = event_next s ranks before d kept r client.0 client.1 i (not_taken s ranks before d kept r client.0 client.1 i f) in
-          let later = found s ranks reached_now (before ++ (r, i) ∷ []) (event s d (r, i)).owner rest (and_second (nat_lt r ranks) _ n) next.kept
-          (next.reached ∙ ap (λ (m : ℕ). max m (needed_now s (puts_brought ranks before (r, i)))) e) in
-          let on = served_on s d (r, i) (before_stranger_from s ranks reached_now (before ++ (r, i) ∷ []) rest) f in
-          let numbers = later.front.numbers in
-          record {
-            stranger = rw (told, first_stranger_from) ((served_on s d (r, i) rest f).stranger ∙ later.stranger);
-            front = rw (told, before_stranger_from) (record {
-              none_strange = on.stranger ∙ later.front.none_strange;
-              marks = on.marks ∙ ap (λ (ms : List Mark). (event s d (r, i)).marks ++ ms) later.front.marks ∙ sym (served_on s d (r, i) rest f).marks;
-              numbers = λ j. (low j && numbers j);
-            });
-          })
-    ]
+    grind (arith, common_steps, same_strange s ranks before d kept r client.0 client.1 i, holds_or_not (is_strange s d (r, i)), stranger_on s d (r, i) rest, none_marked s d (r, i) rest, event_next s ranks before d kept r client.0 client.1 i, not_taken s ranks before d kept r client.0 client.1 i, found s ranks (max reached (needed_now s (puts_brought ranks before (r, i)))) (before ++ (r, i) ∷ []) (event s d (r, i)).owner rest, and_second (nat_lt r ranks), served_on s d (r, i) (before_stranger_from s ranks (max reached (needed_now s (puts_brought ranks before (r, i)))) (before ++ (r, i) ∷ []) rest), served_on s d (r, i) rest)
 
 -- ---- from the opening
 
 first_kept : (ranks r : ℕ) (c : Counted) → r < ranks → Kept ranks [] (first_owner (replicate ranks free_client) c)
-first_kept ranks r c l =
-    let long = length-replicate ranks free_client in
-    let own = entry_below (replicate ranks free_client) r (omega arith) in
-    grind (arith, nat_tests, entry_replicate)
+first_kept ranks r c l = grind (arith, common_steps, entry_below (replicate ranks free_client) r, entry_replicate)
 
 found_first : (s : Setting) (ranks : ℕ) (c : Counted) (arrivals : List Arrival) → list_all (λ a. nat_lt a.0 ranks) arrivals ≡ true
     → Found s ranks c.records [] (first_owner (replicate ranks free_client) c) arrivals
@@ -79,6 +55,4 @@ pub cut_by_arrivals : (s : Setting) (ranks : ℕ) (c : Counted) (arrivals first 
     → arrivals ≡ first ++ later → (served s (first_owner (replicate ranks free_client) c) first).stranger ≡ None
     → marks ≡ (served s (first_owner (replicate ranks free_client) c) first).marks → IsCutByArrivals s ranks c.records arrivals marks
 cut_by_arrivals s ranks c arrivals first later marks h all none e =
-    let low : list_all (λ a. nat_lt a.0 ranks) first ≡ true = and_first (list_all (λ a. nat_lt a.0 ranks) first) _
-    (sym (list_all-append (λ (a : Arrival). nat_lt a.0 ranks) first later) ∙ sym (ap (λ (xs : List Arrival). list_all (λ a. nat_lt a.0 ranks) xs) all) ∙ h) in
-    record { first = first; later = later; all = all; none_strange = sym (stranger_found s ranks c first low) ∙ none; order = e ∙ done_is s ranks c first low none }
+    grind (arith, common_steps, and_first (list_all (λ a. nat_lt a.0 ranks) first), stranger_found s ranks c first, done_is s ranks c first)

@@ -1,5 +1,5 @@
 -- The words of this crate's proofs, from where they stand.
-pub use Rattle.list_laws.proofs.Std.{Bool, List, None, Option, Some, [], ap, append-nil, arith, cond, eqb-false, eqb_tells, false, filter-append, filter_map, filter_map-append, inl, inr, is_some, length, length-map, length-replicate, length-set, list_all, list_all-append, list_any, map, max, nat_lt, nat_tests, option_and_then, option_or, range_with_len, refl, replicate, same_Some, set, slice_get, slice_get_within, subst, suc, sym, true, zero, ℕ, ◌&&◌, ◌++◌, ◌+◌, ◌<◌, ◌==◌, ◌∙◌, ◌∷◌, ◌≡◌, ◌⊎◌, ltb-true}
+pub use Rattle.list_laws.proofs.Std.{Bool, List, None, Option, Some, [], ap, append-nil, arith, cond, eqb-false, eqb_tells, false, filter-append, filter_map, filter_map-append, inl, inr, is_some, length, length-map, length-replicate, length-set, list_all, list_all-append, list_any, map, max, nat_lt, nat_tests, option_and_then, option_or, range_with_len, refl, replicate, same_Some, set, slice_get, slice_get_within, subst, suc, sym, true, zero, ℕ, ◌&&◌, ◌++◌, ◌+◌, ◌<◌, ◌==◌, ◌∙◌, ◌∷◌, ◌≡◌, ◌⊎◌, ltb-true, common_steps}
 pub use Rattle.std.proofs.lemmas.List.{length-append}
 pub use Rattle.std.specs.Option.{option_map}
 pub use Rattle.join_laws.proofs.ClientTurns.{client_ended, client_held}
