@@ -1,5 +1,5 @@
 -- A part whose windows are overlaid with the entries, one after another.
-use Rattle.put_exchange.proofs.Words.{◌≡◌, ℕ, ◌+◌, ◌≤◌, inl, refl, sym, ap, subst, List, [], ◌∷◌, length, Option, flat_map, IfSome, Owned, DiskCall, with_end-nil, after, with_end, BothTold, said_by, IsOneValued, store_calls, IsBetween, In, Source, cell_of, IsPast, covered_place, TurnWalk, ArePieces, put_part, cells_in, put_window, IsFilledBy, Told, turns_ahead, IsTurnWalk, HaveWindows, IsTurn, LieOnPart, AreInFront, AreServed, IsAt, at_next, served_are, served_covered, served_now, map, arith, nat_tests}
+use Rattle.put_exchange.proofs.Words.{◌≡◌, ℕ, ◌+◌, ◌≤◌, inl, refl, sym, subst, List, [], ◌∷◌, length, Option, flat_map, IfSome, Owned, DiskCall, with_end-nil, after, with_end, BothTold, said_by, IsOneValued, store_calls, IsBetween, In, Source, cell_of, IsPast, covered_place, TurnWalk, ArePieces, put_part, cells_in, put_window, IsFilledBy, Told, turns_ahead, IsTurnWalk, HaveWindows, IsTurn, LieOnPart, AreInFront, AreServed, IsAt, at_next, served_are, served_covered, served_now, map, arith, nat_tests, common_steps}
 use Rattle.put_exchange.proofs.PieceLaws.{pieces_found, served_picked}
 use Rattle.put_exchange.proofs.PutLaws.{IsPutSoFar, told_begin, told_between, told_end, told_more, told_next}
 use Rattle.put_exchange.proofs.ServeLaws.{calls_more}
@@ -21,13 +21,12 @@ pub record IsInTurn (source : Source) (from len room : ℕ) (list : List Owned) 
 pub in_turn_begin : (source : Source) (from len room : ℕ) (list : List Owned) (all : List Told) (w : TurnWalk) (held : Option (List ℕ)) (calls : Option (List DiskCall))
     → IsTurnWalk w → IsAt list room (turns_ahead w.windows) w.entries.now → turns_ahead w.windows ≡ all → LieOnPart from len all → HaveWindows from len list all
     → IfSome held (λ file. length file ≡ len) → IsInTurn source from len room list all w held held calls calls
-in_turn_begin source from len room list all w held calls ready at ahead on windows told = record {
-  ready = ready;
-  here = at;
-  on_part = subst (λ (ts : List Told). LieOnPart from len ts) (sym ahead) on;
-  bytes = told_begin source list from len (turns_ahead w.windows) held told (subst (λ (ts : List Told). HaveWindows from len list ts) (sym ahead) windows);
-  device = ap (λ (ts : List Told). with_end calls (flat_map store_calls ts)) ahead;
-}
+in_turn_begin source from len room list all w held calls ready at ahead on windows told =
+    grind (
+      arith,
+      common_steps,
+      told_begin source list from len (turns_ahead w.windows) held told (subst (λ (ts : List Told). HaveWindows from len list ts) (sym ahead) windows),
+    )
 
 ahead_on : (from len : ℕ) (w v : TurnWalk) (t : Told) → LieOnPart from len (turns_ahead w.windows) → turns_ahead w.windows ≡ t ∷ turns_ahead v.windows → (from ≤ t.0) × (t.0 + t.1 ≤ from + len)
 ahead_on from len w v t on e = on t (subst (λ (ts : List Told). In ts t) (sym e) (inl refl))

@@ -1,5 +1,5 @@
 -- The messages of a domain, window after window.
-use Rattle.put_exchange.proofs.Words.{◌≡◌, ℕ, ◌+◌, ◌^◌, ◌<◌, ◌≤◌, inl, refl, subst, arith, sym, ◌∙◌, ap, List, [], ◌∷◌, ◌++◌, length, append_assoc, append-nil, flat_map-append, Extent, Owned, In, Source, IsByPlace, IsDomainOf, LieOnPart, AreTurns, at_begin, past_extents, past_sorted, past_twice, extents, EndBelow, IsPast, AreInFront, AreServed, IsAt, ArePieces, Told, turns_ahead, IsTurnWalk, TurnWalk, Window, told_window, map-append, counts_due, turns_due, Due, at_next, served_are, served_ends, served_in, served_now, turn_limit, sent_in, message_counts, messages_in, messages_of, Sent, Round, nat_tests}
+use Rattle.put_exchange.proofs.Words.{◌≡◌, ℕ, ◌+◌, ◌^◌, ◌<◌, ◌≤◌, inl, refl, subst, arith, sym, List, [], ◌∷◌, ◌++◌, length, append-nil, flat_map-append, Extent, Owned, In, Source, IsByPlace, IsDomainOf, LieOnPart, AreTurns, at_begin, past_extents, past_sorted, past_twice, extents, EndBelow, IsPast, AreInFront, AreServed, IsAt, ArePieces, Told, turns_ahead, IsTurnWalk, TurnWalk, Window, told_window, counts_due, turns_due, Due, at_next, served_are, served_ends, served_in, served_now, turn_limit, sent_in, message_counts, messages_in, messages_of, Round, nat_tests, common_steps}
 use Rattle.put_exchange.proofs.SentLaws.{messages_served}
 
 -- what was packed and what is left of the windows are the whole
@@ -55,37 +55,14 @@ pub packing_next : (source : Source) (ranks room : ℕ) (list begun : List Owned
     → round.messages.items ≡ messages_in source ranks begun (told_window window) → more ≡ dues ++ due ∷ [] → due.window ≡ window → due.count ≡ length round.messages.items
     → IsPacking source ranks room list all v now more
 packing_next source ranks room list begun all w v window rounds now round dues more due p e ready front past pushed packed counted of many =
-    let t = told_window window in
-    let served = served_now list w.entries.now begun room (turns_ahead w.windows) (turns_ahead v.windows) t p.here e front in
-    let here : round.messages.items ≡ messages_in source ranks list t = packed ∙ messages_served source ranks list begun t served in
-    let rest = messages_of source ranks list (turns_ahead v.windows) in
-    let left = message_counts source ranks list (turns_ahead v.windows) in
-    let last : sent_in (rounds ++ round ∷ []) ≡ sent_in rounds ++ messages_in source ranks list t
-    = flat_map-append (λ (r : Round). r.messages.items) rounds (round ∷ []) ∙ ap (λ (ms : List Sent). sent_in rounds ++ ms) (append-nil round.messages.items ∙ here) in
-    record {
-      ready = ready;
-      here = at_next list w.entries.now v.entries.now room (turns_ahead w.windows) (turns_ahead v.windows) t p.here e past;
-      messages =
-          ap (λ (rs : List Round). sent_in rs ++ rest) pushed
-          ∙ ap (λ (ms : List Sent). ms ++ rest) last
-          ∙ append_assoc (sent_in rounds) (messages_in source ranks list t) rest
-          ∙ ap (λ (ts : List Told). sent_in rounds ++ messages_of source ranks list ts) (sym e)
-          ∙ p.messages;
-      windows =
-          ap (λ (ds : List Due). turns_due ds ++ turns_ahead v.windows) counted
-          ∙ ap (λ (ts : List Told). ts ++ turns_ahead v.windows) (map-append (λ (d : Due). told_window d.window) dues (due ∷ []))
-          ∙ append_assoc (turns_due dues) (told_window due.window ∷ []) (turns_ahead v.windows)
-          ∙ ap (λ (u : Window). turns_due dues ++ told_window u ∷ turns_ahead v.windows) of
-          ∙ ap (λ (ts : List Told). turns_due dues ++ ts) (sym e)
-          ∙ p.windows;
-      many =
-          ap (λ (ds : List Due). counts_due ds ++ left) counted
-          ∙ ap (λ (ns : List ℕ). ns ++ left) (map-append (λ (d : Due). d.count) dues (due ∷ []))
-          ∙ append_assoc (counts_due dues) (due.count ∷ []) left
-          ∙ ap (λ (n : ℕ). counts_due dues ++ n ∷ left) (many ∙ ap (λ (ms : List Sent). length ms) here)
-          ∙ ap (λ (ts : List Told). counts_due dues ++ message_counts source ranks list ts) (sym e)
-          ∙ p.many;
-    }
+    grind (
+      arith,
+      common_steps,
+      served_now list w.entries.now begun room (turns_ahead w.windows) (turns_ahead v.windows) (told_window window) p.here e front,
+      messages_served source ranks list begun (told_window window) (served_now list w.entries.now begun room (turns_ahead w.windows) (turns_ahead v.windows) (told_window window) p.here e front),
+      flat_map-append (λ (r : Round). r.messages.items) rounds (round ∷ []),
+      at_next list w.entries.now v.entries.now room (turns_ahead w.windows) (turns_ahead v.windows) (told_window window) p.here e past,
+    )
 
 -- what was packed of a domain
 pub record IsPacked (source : Source) (ranks : ℕ) (list : List Owned) (all : List Told) (rounds : List Round) (dues : List Due) : Type 0 where

@@ -1,5 +1,5 @@
 -- Cuts of a message, one after another.
-use Rattle.put_exchange.proofs.Words.{◌≡◌, ℕ, ◌+◌, ◌-◌, ◌<◌, sym, ◌∙◌, ap, List, [], ◌∷◌, ◌++◌, length, get_or, take, map-append, take_more, written, Cell, write_cells, moved_down, bytes_of, cells_of, Cut, Post}
+use Rattle.put_exchange.proofs.Words.{◌≡◌, ℕ, ◌+◌, ◌-◌, ◌<◌, List, [], ◌∷◌, ◌++◌, length, get_or, take, map-append, written, write_cells, moved_down, bytes_of, cells_of, Cut, Post, arith, common_steps}
 use Rattle.put_exchange.proofs.TakenLaws.{written_more}
 
 cells_push : (posts : List Post) (cuts : List Cut) (c : Cut) → cells_of posts (cuts ++ c ∷ []) ≡ cells_of posts cuts ++ (c.at, bytes_of posts c) ∷ []
@@ -10,8 +10,4 @@ pub laid_cut : (lo i : ℕ) (posts : List Post) (cuts : List Cut) (d : Cut) (old
     → new ≡ written buf ((get_or cuts i d).at - lo) (bytes_of posts (get_or cuts i d)) → new ≡ write_cells old (moved_down lo (cells_of posts (take (i + 1) cuts)))
 laid_cut lo i posts cuts d old buf new l e f =
     let c = get_or cuts i d in
-    f
-    ∙ ap (λ (b : List ℕ). written b (c.at - lo) (bytes_of posts c)) e
-    ∙ written_more lo (cells_of posts (take i cuts)) ((c.at, bytes_of posts c) ∷ []) old
-    ∙ sym (ap (λ (cs : List Cut). write_cells old (moved_down lo (cells_of posts cs))) (take_more cuts i d l)
-    ∙ ap (λ (cells : List Cell). write_cells old (moved_down lo cells)) (cells_push posts (take i cuts) c))
+    grind (arith, common_steps, written, written_more lo (cells_of posts (take i cuts)) ((c.at, bytes_of posts c) ∷ []) old, cells_push posts (take i cuts) c)

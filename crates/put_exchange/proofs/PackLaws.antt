@@ -1,4 +1,5 @@
 -- Packing: one entry more goes into the list of its rank, and one list more into a message.
+use Rattle.std.proofs.lemmas.Grind.{common_steps}
 use Rattle.std.proofs.lemmas.List.{map-set}
 use Rattle.std.proofs.lemmas.List.FromFn.{get_or-map-range_with_len, length-map-range_with_len, map-range_with_len_more}
 use Rattle.std.proofs.lemmas.Option.{get_or_from_slice_get}
@@ -27,7 +28,7 @@ pub record IsOfRank (list : List Owned) (lo hi r : ℕ) (o : Owned) : Type 0 whe
 of_rank_in : (list : List Owned) (lo hi r : ℕ) (o : Owned) → In (of_rank lo hi r list) o → IsOfRank list lo hi r o
 of_rank_in list lo hi r o m = grind (arith, nat_tests, filter_in, eqb-true, and_parts)
 
-pub cuts_cells : (batches : List Batch) (t : Told) (r : ℕ) (list : List Owned)
+cuts_cells : (batches : List Batch) (t : Told) (r : ℕ) (list : List Owned)
     → cells_of (posts_of batches r) (cuts_by t list r) ≡ cells_in (source_of batches) t (of_rank t.0 (t.0 + t.1) r list)
 cuts_cells batches t r list = cut_cells batches t r (of_rank t.0 (t.0 + t.1) r list) (λ o m. (of_rank_in list t.0 (t.0 + t.1) r o m).rank)
 
@@ -92,9 +93,7 @@ pub entry_binned : (n i : ℕ) (list : List Owned) (e : Owned) (t : Told) (bins 
     → binned now ≡ map (λ r. cuts_by t (take (i + 1) list) r) (range_with_len 0 n)
 entry_binned n i list e t bins now bin d cut l below meet is of pushed put =
     let o = get_or list i e in
-    ap (λ (bs : List (Vec Cut Global)). binned bs) put
-    ∙ binned_more n (take i list) o t bins bin d below meet is (pushed ∙ ap (λ (c : Cut). (get_or bins o.rank d).items ++ c ∷ []) of)
-    ∙ ap (λ (os : List Owned). map (λ r. cuts_by t os r) (range_with_len 0 n)) (sym (take_more list i e l))
+    grind (arith, common_steps, binned_more n (take i list) o t bins bin d below meet is (pushed ∙ ap (λ (c : Cut). (get_or bins o.rank d).items ++ c ∷ []) of))
 
 pub entry_kept : (n i : ℕ) (list : List Owned) (e : Owned) (t : Told) (bins : List (List Cut)) → i < length list → meets t.0 (t.0 + t.1) (get_or list i e) ≡ false
     → bins ≡ map (λ r. cuts_by t (take i list) r) (range_with_len 0 n) → bins ≡ map (λ r. cuts_by t (take (i + 1) list) r) (range_with_len 0 n)

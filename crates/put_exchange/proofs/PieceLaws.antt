@@ -1,5 +1,5 @@
 -- The pieces of a window are those of the entries that a walk gives with it, and have each covered byte of it.
-use Rattle.put_exchange.proofs.Words.{◌≡◌, ℕ, ◌+◌, ◌<◌, ◌≤◌, inl, inr, refl, sym, ◌∙◌, ap, List, [], ◌∷◌, ◌++◌, Bool, false, ◌&&◌, arith, append-nil, filter, nat_lt, ◌==◌, and_right, le-ltb, filter-append, Owned, In, Source, AreFound, in_flat, flat_in, in_range, equal_true, in_filter, filter_in, filter_none, IsCovered, past_same, meets, of_rank, pieces_in, ArePieces, Told, AreServed, in_served, served_in, nat_tests}
+use Rattle.put_exchange.proofs.Words.{◌≡◌, ℕ, ◌+◌, ◌<◌, ◌≤◌, inl, inr, refl, sym, ap, List, [], ◌∷◌, Bool, false, ◌&&◌, arith, nat_lt, ◌==◌, and_right, le-ltb, Owned, In, Source, AreFound, in_flat, flat_in, in_range, equal_true, in_filter, filter_in, filter_none, IsCovered, past_same, meets, of_rank, pieces_in, ArePieces, Told, AreServed, in_served, served_in, nat_tests, common_steps}
 use Rattle.put_exchange.proofs.PutLaws.{ArePicked}
 
 -- ---- tests
@@ -15,16 +15,12 @@ later_out lo hi o h = ap (λ (t : Bool). t && nat_lt lo (o.extent.at + o.extent.
 
 pub rank_served : (list begun : List Owned) (lo hi r : ℕ) → AreServed list begun lo hi → of_rank lo hi r begun ≡ of_rank lo hi r list
 rank_served list begun lo hi r s =
-    sym (past_same t lo list s.left (λ o e. and_right (o.rank == r) (meets lo hi o) (ended_out lo hi o e)) s.past
-    ∙ ap (λ (es : List Owned). filter t es) s.front.joined
-    ∙ filter-append t begun s.front.rest
-    ∙ ap (λ (es : List Owned). filter t begun ++ es) (filter_none t s.front.rest (λ o m. and_right (o.rank == r) (meets lo hi o) (later_out lo hi o (s.front.later o m))))
-    ∙ append-nil (filter t begun))
+    sym (grind (arith, common_steps, past_same t lo list s.left (λ o e. and_right (o.rank == r) (meets lo hi o) (ended_out lo hi o e)) s.past, ended_out lo hi, filter_none t s.front.rest (λ o m. and_right (o.rank == r) (meets lo hi o) (later_out lo hi o (s.front.later o m))), later_out lo hi))
   where
     t : Owned → Bool
     t o = o.rank == r && meets lo hi o
 
-pub piece_from : (ranks : ℕ) (list : List Owned) (t : Told) (o : Owned) → In (pieces_in ranks list t) o → In list o
+piece_from : (ranks : ℕ) (list : List Owned) (t : Told) (o : Owned) → In (pieces_in ranks list t) o → In list o
 piece_from ranks list t o m = grind (arith, nat_tests, flat_in, filter_in)
 
 pub pieces_are : (source : Source) (ranks : ℕ) (list : List Owned) (t : Told) → ArePieces source list → ArePieces source (pieces_in ranks list t)
@@ -34,7 +30,7 @@ pub pieces_found : (source : Source) (list : List Owned) → ArePieces source li
 pieces_found source [] h = tt
 pieces_found source (o ∷ list) h = ((h o (inl refl)).found, pieces_found source list (λ p m. h p (inr m)))
 
-pub in_pieces : (ranks : ℕ) (list : List Owned) (t : Told) (o : Owned) → In list o → o.rank < ranks → o.extent.at < t.0 + t.1 → t.0 < o.extent.at + o.extent.len
+in_pieces : (ranks : ℕ) (list : List Owned) (t : Told) (o : Owned) → In list o → o.rank < ranks → o.extent.at < t.0 + t.1 → t.0 < o.extent.at + o.extent.len
     → In (pieces_in ranks list t) o
 in_pieces ranks list t o m r b e = grind (arith, nat_tests, in_flat, in_range 0 ranks o.rank, in_filter, equal_true o.rank o.rank)
 

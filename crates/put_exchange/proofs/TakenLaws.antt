@@ -1,5 +1,5 @@
 -- Messages that were taken off a line, and laid one after another.
-use Rattle.put_exchange.proofs.Words.{◌≡◌, ℕ, arith, ◌+◌, ◌<◌, refl, sym, ◌∙◌, ap, List, [], ◌∷◌, ◌++◌, length, take, get_or, append_assoc, fold-append, drop-append_seam, take-append_seam, append-nil, length-append, map-append, take_more, flat_map-append, Extent, Owned, Cell, write_cells, moved_down, Source, cell_of, clip, clips, in_left, in_right, Sent, pieces_in_all, HasLaid, nat_tests, map}
+use Rattle.put_exchange.proofs.Words.{◌≡◌, ℕ, arith, ◌+◌, ◌<◌, refl, sym, ◌∙◌, ap, List, [], ◌∷◌, ◌++◌, length, take, get_or, append_assoc, fold-append, drop-append_seam, take-append_seam, append-nil, length-append, map-append, flat_map-append, Extent, Owned, Cell, write_cells, moved_down, Source, cell_of, clip, clips, in_left, in_right, Sent, pieces_in_all, HasLaid, nat_tests, map, common_steps}
 
 -- ---- lists of what was taken
 
@@ -38,5 +38,4 @@ entries_more source lo hi i list o old buf new l e f =
     f
     ∙ ap (λ (b : List ℕ). write_cells b (moved_down lo (clip lo hi (cell_of source (get_or list i o)) ∷ []))) e
     ∙ written_more lo (clips lo hi (map (λ p. cell_of source p) (take i list))) (clip lo hi (cell_of source (get_or list i o)) ∷ []) old
-    ∙ sym (ap (λ (os : List Owned). write_cells old (moved_down lo (clips lo hi (map (λ p. cell_of source p) os)))) (take_more list i o l)
-    ∙ ap (λ (cells : List Cell). write_cells old (moved_down lo cells)) (cells_more source lo hi (take i list) (get_or list i o)))
+    ∙ sym (grind (arith, common_steps, cells_more source lo hi (take i list) (get_or list i o)))
