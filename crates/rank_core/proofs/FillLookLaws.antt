@@ -1,5 +1,5 @@
 -- The posts that fill a share of a record are puts that a step takes, and hold no byte twice.
-use Rattle.rank_core.proofs.Words.{nat_tests, map_map, ◌≡◌, ℕ, zero, suc, ◌+◌, ◌-◌, ◌*◌, ◌<◌, ◌≤◌, refl, sym, ap, subst, ◌∙◌, List, [], ◌∷◌, length, map, replicate, true, false, ltb, leb, eqb, ◌||◌, Option, None, Some, arith, flat_map, slice_get, list_any, range_with_len, and_left, and_parts, and_right, eqb-true, leb-true, lt-leb, or_parts, length-map, length-replicate, each_in, map_in, passes_at, pieces_long, Header, Var, Post, Put, Part, Region, boxes_few, In, size_of, boxes, fill_bytes, share_begin, is_sound, inner_lengths, is_record, lengths, length_of, product, starts_with_zero, without_record, most_elements, box_post, box_region, fills, find_var, is_record_past, look_fill, bad_edge, bound, bounds, check_var, asks_too_much, other_shape, some_edge, some_start, end_grows, Look, as_look, posts_of, ArePuts, IsSmall, found_long}
+use Rattle.rank_core.proofs.Words.{nat_tests, map_map, ◌≡◌, ℕ, zero, suc, ◌+◌, ◌-◌, ◌*◌, ◌<◌, ◌≤◌, refl, sym, ap, subst, ◌∙◌, List, [], ◌∷◌, length, map, replicate, true, false, ltb, leb, eqb, ◌||◌, Option, None, Some, arith, flat_map, slice_get, list_any, range_with_len, and_left, and_parts, and_right, eqb-true, leb-true, lt-leb, or_parts, length-map, each_in, map_in, passes_at, pieces_long, Header, Var, Post, Put, Part, Region, boxes_few, In, size_of, boxes, fill_bytes, share_begin, is_sound, inner_lengths, is_record, lengths, product, starts_with_zero, without_record, most_elements, box_post, box_region, fills, find_var, is_record_past, look_fill, bad_edge, bound, bounds, check_var, asks_too_much, other_shape, some_edge, some_start, end_grows, Look, as_look, posts_of, ArePuts, IsSmall, found_long, common_steps}
 use Rattle.nc_base.specs.declared.answer.Code.TheVariants as code
 use Rattle.serial_spec.specs.Looks as looks
 use Rattle.serial_spec.specs.RankMachine as machine
@@ -38,8 +38,7 @@ record_lengths (suc n ∷ ns) h = absurd (let e = eqb-true (suc n) 0 h in omega 
 -- ---- the check of a box of one record
 
 dims_long : (header : Header) (v : Var) → is_record header v ≡ true → length v.dims ≡ suc (length (inner_lengths header v))
-dims_long header v is =
-    sym (length-map v.dims (λ id. length_of (slice_get header.dims id))) ∙ ap (λ (l : List ℕ). length l) (record_lengths (lengths header v) is)
+dims_long header v is = grind (arith, common_steps, record_lengths (lengths header v) is)
 
 module _ (header : Header) (v : Var) (number : ℕ) (is : is_record header v ≡ true) (past : is_record_past header number ≡ false) (p : Part)
     (fits : FitsPart (inner_lengths header v) p) (few : product p.count ≤ most_elements) where
@@ -50,10 +49,7 @@ module _ (header : Header) (v : Var) (number : ℕ) (is : is_record header v ≡
   within = all_within (inner_lengths header v) p.start p.count fits
 
   shape : other_shape (length v.dims) region ≡ false
-  shape =
-      let dims = dims_long header v is in
-      let strides = length-replicate {A = ℕ} (length p.count + 1) 1 in
-      grind (arith, nat_tests, within.starts_long, within.counts_long, p.start, v.dims, p.count)
+  shape = grind (arith, common_steps, dims_long header v is, p.count, within.starts_long, within.counts_long, p.start, v.dims, region)
 
   starts : some_start (bounds header v 0 Put) region.start region.count ≡ false
   starts = ap (λ (ns : List ℕ). some_start (map (bound Put 0) ns) region.start region.count) (record_lengths (lengths header v) is) ∙ within.start

@@ -1,5 +1,5 @@
 -- The boxes of a share of a record are regions of the variable, no two of which share an element.
-use Rattle.rank_core.proofs.Words.{◌≡◌, ℕ, zero, suc, ◌+◌, ◌-◌, ◌*◌, ◌/◌, ◌%◌, ◌<◌, ◌≤◌, refl, sym, ap, subst, ◌∙◌, inl, inr, ◌⊎◌, List, [], ◌∷◌, ◌++◌, length, map, take, drop, replicate, Bool, true, false, ltb, eqb, ◌||◌, Some, add-one, arith, flat_map, slice_get, range_with_len, AllByRecursion, mul-div_cancel, cases_lt, length-append, length-take, length-map, div-add-mod', mod_below, slice_get_within, in_map, each_in, map_in, same_len, each_append, some_factor, Header, Part, no_boxes, In, div_grows, flat_in, in_flat, coordinate_row, box_indices, boxes, in_row, shifted, whole_rows, product, most_elements, row, IsIndex, box_region, is_record_past, coordinates, elements, index_at, coordinates_all, boxes_right, length-coordinates, IsSmall, get_left, get_right, in_at, nat_tests}
+use Rattle.rank_core.proofs.Words.{◌≡◌, ℕ, zero, suc, ◌+◌, ◌-◌, ◌*◌, ◌/◌, ◌%◌, ◌<◌, ◌≤◌, refl, sym, ap, subst, ◌∙◌, inl, inr, ◌⊎◌, List, [], ◌∷◌, ◌++◌, length, map, take, drop, replicate, Bool, true, false, ltb, eqb, ◌||◌, Some, add-one, arith, flat_map, slice_get, range_with_len, AllByRecursion, mul-div_cancel, cases_lt, length-append, length-map, div-add-mod', mod_below, slice_get_within, in_map, each_in, map_in, same_len, each_append, some_factor, Header, Part, no_boxes, In, div_grows, flat_in, in_flat, coordinate_row, box_indices, boxes, in_row, shifted, whole_rows, product, most_elements, row, IsIndex, box_region, is_record_past, coordinates, elements, index_at, coordinates_all, boxes_right, length-coordinates, IsSmall, get_left, get_right, in_at, nat_tests, common_steps}
 use Rattle.rank_core.proofs.SeparateLaws.{AreSeparate}
 
 -- ---- how many elements they have
@@ -12,10 +12,7 @@ all_small n [] h l = tt
 all_small n (p ∷ parts) h l = grind (arith, nat_tests, length-append, length-box_indices, all_small n parts)
 
 pub few_small : (lengths : List ℕ) (from to : ℕ) → from ≤ to → to ≤ product lengths → to - from ≤ most_elements → AllByRecursion IsSmall (boxes lengths from to)
-few_small lengths from to h k few =
-    let all = ap (λ (l : List (List ℕ)). length l) (boxes_right lengths from to h k) in
-    let taken = length-take (to - from) (drop from (coordinates lengths)) in
-    all_small (to - from) (boxes lengths from to) (omega (arith, all, taken)) few
+few_small lengths from to h k few = grind (arith, common_steps, boxes_right lengths from to h k, all_small (to - from) (boxes lengths from to))
 
 pub boxes_small : (header : Header) (number : ℕ) (lengths : List ℕ) (from to : ℕ) → from ≤ to → to ≤ product lengths
     → (ltb most_elements (to - from) || is_record_past header number) ≡ false → AllByRecursion IsSmall (boxes lengths from to)
@@ -75,12 +72,8 @@ rows_of n lengths from to ih l k =
     (whole_rows lengths (from / size) (to / size) ++ in_row (to / size) (boxes lengths 0 (to % size)))
     (in_row (from / size) (boxes lengths (from % size) size) ++ whole_rows lengths (from / size + 1) (to / size) ++ in_row (to / size) (boxes lengths 0 (to % size)))
     (λ e. grind (arith, nat_tests, row_fits))
-    (each_append (FitsPart (n ∷ lengths)) (whole_rows lengths (from / size) (to / size)) (in_row (to / size) (boxes lengths 0 (to % size)))
-    (rows_fit n lengths (from / size) (to / size) whole) last)
-    (each_append (FitsPart (n ∷ lengths)) (in_row (from / size) (boxes lengths (from % size) size) ++ whole_rows lengths (from / size + 1) (to / size)) (in_row (to / size) (boxes lengths 0 (to % size)))
-    (each_append (FitsPart (n ∷ lengths)) (in_row (from / size) (boxes lengths (from % size) size)) (whole_rows lengths (from / size + 1) (to / size))
-    (row_fits n lengths (from / size) (boxes lengths (from % size) size) first (ih (from % size) size (omega (arith, low)) (omega arith)))
-    (rows_fit n lengths (from / size + 1) (to / size) whole)) last)
+    (grind (arith, common_steps, each_append (FitsPart (n ∷ lengths)) (whole_rows lengths (from / size) (to / size)) (in_row (to / size) (boxes lengths 0 (to % size))) (rows_fit n lengths (from / size) (to / size) whole), in_row (to / size) (boxes lengths 0 (to % size)), rows_fit n lengths (from / size) (to / size) whole))
+    (grind (arith, common_steps, each_append (FitsPart (n ∷ lengths)) (in_row (from / size) (boxes lengths (from % size) size) ++ whole_rows lengths (from / size + 1) (to / size)), in_row (from / size) (boxes lengths (from % size) size), in_row (to / size) (boxes lengths 0 (to % size)), each_append (FitsPart (n ∷ lengths)) (in_row (from / size) (boxes lengths (from % size) size)) (whole_rows lengths (from / size + 1) (to / size)), row_fits n lengths (from / size) (boxes lengths (from % size) size) first, rows_fit n lengths (from / size + 1) (to / size) whole))
 
 pub boxes_fit : (lengths : List ℕ) → Fitting lengths
 boxes_fit [] from to h k = grind (arith, nat_tests)
@@ -152,7 +145,6 @@ pub separate_boxes : (number : ℕ) (parts : List Part) → StandOnce (flat_map 
 separate_boxes number [] once = tt
 separate_boxes number (p ∷ parts) once = (
   λ h i a j k.
-      let q = map_in (box_region number) parts h i in
-      grind (arith, nat_tests, box_element number p a j, box_element number q.0 a, not_in_both (box_indices p) (flat_map box_indices parts) (box_element number p a j).index once, in_flat box_indices parts q.0 (box_element number p a j).index q.1),
+      grind (arith, common_steps, map_in (box_region number) parts h i, box_element number p a j, box_element number (map_in (box_region number) parts h i).0 a, not_in_both (box_indices p) (flat_map box_indices parts) (box_element number p a j).index once, in_flat box_indices parts (map_in (box_region number) parts h i).0 (box_element number p a j).index (map_in (box_region number) parts h i).1),
   separate_boxes number parts (later_once (box_indices p) (flat_map box_indices parts) once),
 )

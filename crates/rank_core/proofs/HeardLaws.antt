@@ -1,6 +1,7 @@
 -- The values of the gets, added one after another by the ids of their requests.
+use Rattle.std.proofs.lemmas.Grind.{common_steps}
 use Rattle.std.specs.Prelude.{if◌then◌else◌, max}
-use Rattle.rank_core.proofs.Words.{◌≡◌, ℕ, ◌+◌, ◌<◌, ◌∙◌, ap, sym, refl, List, [], ◌∷◌, map, length, get_or, drop, zip, Bool, true, false, cond, eqb, Option, Some, None, arith, holds_or_not, option_map, slice_get, cons_option, append_assoc, drop_more, get_or-map, length-map, Header, Var, NcType, Item, Post, Values, Numbers, Text, Bits, Value, In, Class, class_of, got_values, values_for, with_more, kind_at, spread, gathered, is_ok_code, AreOnce, filled_by, joined, as_open, OpenOffer, nat_tests}
+use Rattle.rank_core.proofs.Words.{◌≡◌, ℕ, ◌+◌, ◌<◌, ◌∙◌, ap, sym, refl, List, [], ◌∷◌, map, length, get_or, drop, zip, Bool, true, false, cond, eqb, Option, Some, None, arith, holds_or_not, option_map, slice_get, cons_option, append_assoc, get_or-map, length-map, Header, Var, NcType, Item, Post, Values, Numbers, Text, Bits, Value, In, Class, class_of, got_values, values_for, with_more, kind_at, spread, gathered, is_ok_code, AreOnce, filled_by, joined, as_open, OpenOffer, nat_tests}
 use Rattle.nc_base.specs.declared.step.Reply.{Reply}
 use Rattle.serial_spec.specs.ExternalForm as form
 use Rattle.serial_spec.specs.RankMachine as machine
@@ -109,13 +110,7 @@ shapes_next header gets m g v here one h e q w p f k i = grind (arith, nat_tests
 
 pub zip_next : (gets : List Post) (got : List (List ℕ)) (i : ℕ) (g : Post) (b : List ℕ) → i < length gets → i < length got → g ≡ get_or gets i g → b ≡ get_or got i b
     → zip (drop i gets) (drop i got) ≡ (g, b) ∷ zip (drop (i + 1) gets) (drop (i + 1) got)
-zip_next gets got i g b l k e f = λ j. zip (first j) (second j)
-  where
-    first : drop i gets ≡ g ∷ drop (i + 1) gets
-    first = drop_more gets i g l ∙ ap (λ (x : Post). x ∷ drop (i + 1) gets) (sym e)
-
-    second : drop i got ≡ b ∷ drop (i + 1) got
-    second = drop_more got i b k ∙ ap (λ (x : List ℕ). x ∷ drop (i + 1) got) (sym f)
+zip_next gets got i g b l k e f = grind (arith, common_steps, zip)
 
 pub same_at : {A B : Type 0} (f : A → ℕ) (g : B → ℕ) (xs : List A) (ys : List B) (i : ℕ) (x : A) (y : B) → map f xs ≡ map g ys → i < length xs → i < length ys
     → x ≡ get_or xs i x → y ≡ get_or ys i y → f x ≡ g y

@@ -1,5 +1,5 @@
 -- The posts that a call comes to are those of one request, of accepted regions of one variable; those of a put have their bytes, and hold none twice.
-use Rattle.rank_core.proofs.Words.{◌≡◌, ℕ, suc, ◌+◌, ◌*◌, ◌<◌, ◌≤◌, refl, sym, ap, subst, ◌∙◌, inl, inr, List, [], ◌∷◌, length, map, Bool, true, false, cond, ltb, ◌&&◌, Option, Some, None, arith, filter, slice_get, ltb-true, length-map, sum_by-cons, filter_at_most, ok_both, Code, Header, NcType, Var, Post, Direction, Get, Put, Given, Region, Values, In, filter_in, size_of, is_sound, product, most_elements, data_bytes, data_code, direction_of, find_var, is_varn, look_at, look_parts, look_region, part_posts, parts_code, values_bytes, check_parts, check_some, check_var, elements_of_all, first_refusal, has_element, is_ok_code, is_put, part_region, part_regions, share_element, widen, check, refusal_of, Look, Asks, as_look, posts_of, HasValues, IsPut, ArePuts, AreTowards, HaveId, IsSomeLook, most_of, not, nat_tests}
+use Rattle.rank_core.proofs.Words.{◌≡◌, ℕ, suc, ◌+◌, ◌*◌, ◌<◌, ◌≤◌, refl, sym, ap, subst, ◌∙◌, inl, inr, List, [], ◌∷◌, length, map, Bool, true, false, cond, ltb, ◌&&◌, Option, Some, None, arith, filter, slice_get, ltb-true, length-map, sum_by-cons, filter_at_most, ok_both, Code, Header, NcType, Var, Post, Direction, Get, Put, Given, Region, Values, In, filter_in, size_of, is_sound, product, most_elements, data_bytes, data_code, direction_of, find_var, is_varn, look_at, look_parts, look_region, part_posts, parts_code, values_bytes, check_parts, check_some, check_var, elements_of_all, first_refusal, has_element, is_ok_code, is_put, part_region, part_regions, share_element, widen, check, refusal_of, Look, Asks, as_look, posts_of, HasValues, IsPut, ArePuts, AreTowards, HaveId, IsSomeLook, most_of, not, nat_tests, common_steps}
 use Rattle.nc_base.specs.declared.answer.Code.TheVariants as code
 use Rattle.serial_spec.specs.Looks as looks
 use Rattle.rank_core.proofs.OutcomeLaws.{outcome}
@@ -48,9 +48,7 @@ part_in id var kind values k all (g ∷ regions) p h (inl e) =
     let one = sum_by-cons (λ (r : Region). product r.count) g regions in
     subst (IsPartPost id var kind values all (g ∷ regions)) e
     (record { id_is = refl; var_is = refl; is_one = inl refl; before = k; within = omega (arith, one, h); bytes_are = refl })
-part_in id var kind values k all (g ∷ regions) p h (inr i) =
-    let one = sum_by-cons (λ (r : Region). product r.count) g regions in
-    grind (arith, nat_tests, part_in id var kind values (k + product g.count) all regions p)
+part_in id var kind values k all (g ∷ regions) p h (inr i) = grind (arith, common_steps, part_in id var kind values (k + product g.count) all regions p)
 
 regions_of_parts : (id var : ℕ) (kind : NcType) (values : Option Values) (k : ℕ) (regions : List Region) → map (λ p. p.region) (part_posts id var kind values k regions) ≡ regions
 regions_of_parts id var kind values k [] = refl
@@ -62,10 +60,7 @@ length-part_posts id var kind values k (g ∷ regions) = ap suc (length-part_pos
 
 sum_by-filter-le : (gs : List Region) → elements_of_all (filter has_element gs) ≤ elements_of_all gs
 sum_by-filter-le [] = omega arith
-sum_by-filter-le (g ∷ gs) =
-    let one = sum_by-cons (λ (r : Region). product r.count) g gs in
-    let other = sum_by-cons (λ (r : Region). product r.count) g (filter has_element gs) in
-    grind (arith, nat_tests, sum_by-filter-le gs)
+sum_by-filter-le (g ∷ gs) = grind (arith, common_steps, sum_by-filter-le gs)
 
 pub asked_few : (header : Header) (v : Var) (parts : List Region) (known : ℕ) (direction : Direction) → check_parts header v parts known direction ≡ code.Ok
     → elements_of_all (filter has_element parts) ≤ most_elements

@@ -1,16 +1,12 @@
 -- A region that a check accepts has its positions in memory within the limits.
-use Rattle.rank_core.proofs.Words.{◌≡◌, ℕ, zero, suc, ◌+◌, ◌-◌, ◌*◌, ◌<◌, ◌≤◌, sym, ap, subst, ◌∙◌, inl, inr, List, [], ◌∷◌, length, map, zip, Bool, true, false, not, cond, ltb, leb, ◌&&◌, arith, range_with_len, AllByRecursion, cases_lt, sum_by-cons, mul-le-mul_left, Header, Var, Direction, Region, greatest, product, most_elements, IsIndex, check_var, last_position, other_shape, coordinates, position_at, reach, coordinates_all, IsMapped, no_coordinates, range_below, nat_tests}
+use Rattle.rank_core.proofs.Words.{◌≡◌, ℕ, zero, suc, ◌+◌, ◌-◌, ◌*◌, ◌<◌, ◌≤◌, sym, ap, ◌∙◌, List, [], ◌∷◌, length, map, zip, Bool, true, false, not, cond, ltb, leb, ◌&&◌, arith, range_with_len, AllByRecursion, Header, Var, Direction, Region, greatest, product, most_elements, IsIndex, check_var, last_position, other_shape, coordinates, position_at, reach, coordinates_all, IsMapped, no_coordinates, range_below, nat_tests, common_steps}
 use Rattle.nc_base.specs.declared.answer.Code.TheVariants as code
 
 -- ---- positions
 
 times_below : (i n s : ℕ) → i < n → s * i ≤ (n - 1) * s
 times_below i zero s h = absurd (omega arith)
-times_below i (suc n) s h =
-    let e : suc n - 1 ≡ n = omega arith in
-    let l : i ≤ n = omega arith in
-    let m : s * i ≤ n * s = omega (arith, mul-le-mul_left s l) in
-    subst (λ (k : ℕ). s * i ≤ k * s) (sym e) m
+times_below i (suc n) s h = grind (arith, common_steps)
 
 position_below : (counts imap c : List ℕ) → IsIndex counts c → position_at imap c ≤ last_position counts imap
 position_below [] [] [] h = omega arith
@@ -18,10 +14,7 @@ position_below [] (s ∷ imap) [] h = omega arith
 position_below [] imap (i ∷ c) h = absurd h
 position_below (n ∷ counts) imap [] h = absurd h
 position_below (n ∷ counts) [] (i ∷ c) h = omega arith
-position_below (n ∷ counts) (s ∷ imap) (i ∷ c) h =
-    let one = sum_by-cons (λ (p : ℕ × ℕ). p.1 * p.0) (s, i) (zip imap c) in
-    let other = sum_by-cons (λ (p : ℕ × ℕ). (p.0 - 1) * p.1) (n, s) (zip counts imap) in
-    grind (arith, nat_tests, position_below counts imap c h.1, times_below i n s h.0)
+position_below (n ∷ counts) (s ∷ imap) (i ∷ c) h = grind (arith, common_steps, zip imap c, zip counts imap, position_below counts imap c h.1, times_below i n s h.0)
 
 all_positions : (counts imap : List ℕ) (cs : List (List ℕ)) → AllByRecursion (IsIndex counts) cs
     → greatest (map (λ m. m + 1) (map (λ c. position_at imap c) cs)) ≤ last_position counts imap + 1
@@ -48,11 +41,8 @@ within packed some far e f h = sym (ap (λ (b : Bool). not b && some && far) e �
 
 near_of : (g : Region) → IsSmall g → (b : Bool) → g.packed ≡ b → reach g ≤ most_elements
 near_of g s true e = let below = range_below 0 (product g.count) in omega (arith, s.few, in_order g e, below)
-near_of g s false e = elim (cases_lt 0 (product g.count)) [
-  | inl some ↦
-      grind (arith, nat_tests, all_positions g.count g.imap (coordinates g.count) (coordinates_all g.count), coordinates_all g.count, by_map g e)
-  | inr none ↦ omega (arith, reach_none g e (omega arith))
-]
+near_of g s false e =
+    grind (arith, common_steps, all_positions g.count g.imap (coordinates g.count) (coordinates_all g.count), coordinates_all g.count, by_map g e, reach_none g e)
 
 shape_of : (dims : ℕ) (g : Region) → other_shape dims g ≡ false → g.packed ≡ false → length g.imap ≡ length g.count
 shape_of dims g h e = grind (arith, nat_tests)

@@ -28,7 +28,7 @@ pub no_element : (checked : Code) (some : Bool) (asked : List Post) (last : Code
     → looks.Empty ≡ outcome checked some asked last
 no_element checked some asked last e f = grind (arith, nat_tests)
 
-pub data_refused : (checked : Code) (some : Bool) (asked : List Post) (last c : Code) → checked ≡ code.Ok → some ≡ true → c ≡ last → (c ≡ code.Ok → ⊥)
+data_refused : (checked : Code) (some : Bool) (asked : List Post) (last c : Code) → checked ≡ code.Ok → some ≡ true → c ≡ last → (c ≡ code.Ok → ⊥)
     → looks.Refused c ≡ outcome checked some asked last
 data_refused checked some asked last c e f g n = grind (arith, nat_tests, outcome)
 

@@ -1,5 +1,5 @@
 -- What is kept of the requests of a rank.
-use Rattle.rank_core.proofs.Words.{◌≡◌, ℕ, ◌+◌, ◌≤◌, ◌∙◌, ap, sym, refl, subst, inl, inr, List, [], ◌∷◌, ◌++◌, map, sum, length, Bool, true, false, cond, either, holds_or_not, eqb, None, arith, filter, flat_map, or_parts, eqb-false, length-append, sum-map, sum_by-cons, Header, Post, Item, Choice, Iput, Iget, Bput, Direction, In, filter_in, flat_in, Posted, Status, Waiting, Gone, named, puts_in, gets_in, status_of, items_from, items_of, has_id, is_ok_code, IsOwnOnce, not_posted, has_posted, status_of-push, IsPut, IsGet, posts_of_status, AreGets, ArePuts, AreTowards, IsRequest, AreRequests, AreOnce, direction_of_kind, nat_tests}
+use Rattle.rank_core.proofs.Words.{◌≡◌, ℕ, ◌+◌, ◌≤◌, ◌∙◌, ap, sym, refl, subst, inl, inr, List, [], ◌∷◌, ◌++◌, map, sum, length, Bool, true, false, cond, either, holds_or_not, eqb, None, arith, filter, flat_map, or_parts, eqb-false, length-append, Header, Post, Item, Choice, Iput, Iget, Bput, Direction, In, filter_in, flat_in, Posted, Status, Waiting, Gone, named, puts_in, gets_in, status_of, items_from, items_of, has_id, is_ok_code, IsOwnOnce, not_posted, has_posted, status_of-push, IsPut, IsGet, posts_of_status, AreGets, ArePuts, AreTowards, IsRequest, AreRequests, AreOnce, direction_of_kind, nat_tests, common_steps}
 use Rattle.nc_base.specs.declared.request.Direction.TheVariants as way
 use Rattle.serial_spec.specs.RankMachine as machine
 use Rattle.rank_core.proofs.KnownLaws.{check_more}
@@ -7,7 +7,7 @@ use Rattle.rank_core.proofs.OwnLaws.{own_append, own_none, held_by, held_append,
 
 -- ---- the rank knows of more records
 
-pub gets_more : (header : Header) (known more : ℕ) (posts : List Post) → known ≤ more → AreGets header known posts → AreGets header more posts
+gets_more : (header : Header) (known more : ℕ) (posts : List Post) → known ≤ more → AreGets header known posts → AreGets header more posts
 gets_more header known more posts le h = record { each = λ p m. check_more header p.var p.region known more way.Get le (h.each p m); var = h.var }
 
 pub puts_more : (header : Header) (known more : ℕ) (posts : List Post) → known ≤ more → ArePuts header known posts → ArePuts header more posts
@@ -118,8 +118,7 @@ own_where header known rank f (p ∷ ps) h =
     (λ t. subst IsOwnOnce (sym (held_append header rank (puts_in p.status) (puts_where f ps)))
     (own_append (held_by header rank (puts_in p.status)) (held_by header rank (puts_where f ps)) (own_puts header known p.id rank p.status h.0) rest
     (keys_apart header rank (puts_in p.status) (puts_where f ps) (λ a b m n e.
-    let r = of_request header known f ps h.2 puts_in b n in
-    grind (arith, nat_tests, id_in ps r.posted p.id h.1 r.here, put_in header known r.posted.id r.posted.status b r.right r.is_one, put_in header known p.id p.status a h.0 m)))))
+    grind (arith, common_steps, of_request header known f ps h.2 puts_in b n, id_in ps (of_request header known f ps h.2 puts_in b n).posted p.id h.1 (of_request header known f ps h.2 puts_in b n).here, put_in header known (of_request header known f ps h.2 puts_in b n).posted.id (of_request header known f ps h.2 puts_in b n).posted.status b, put_in header known p.id p.status a h.0 m)))))
     (λ t. rest)
 
 pub puts_taken : (header : Header) (known : ℕ) (f : Posted → Bool) (ps : List Posted) → AreRequests header known ps → ArePuts header known (puts_where f ps)
@@ -140,8 +139,7 @@ abbrev pub held_posts : List Posted → ℕ
 held_posts ps = sum (map (λ (p : Posted). posts_of_status p.status) ps)
 
 first_held : (p : Posted) (ps : List Posted) → held_posts (p ∷ ps) ≡ posts_of_status p.status + held_posts ps
-first_held p ps = sum-map (λ (q : Posted). posts_of_status q.status) (p ∷ ps) ∙ sum_by-cons (λ (q : Posted). posts_of_status q.status) p ps
-    ∙ ap (λ (n : ℕ). posts_of_status p.status + n) (sym (sum-map (λ (q : Posted). posts_of_status q.status) ps))
+first_held p ps = grind (arith, common_steps)
 
 pub held_without : (f : Posted → Bool) (ps : List Posted) → held_posts (map (gone_where f) ps) ≤ held_posts ps
 held_without f [] = omega arith

@@ -1,5 +1,5 @@
 -- The values of a put and their bytes, one after another and part by part.
-use Rattle.rank_core.proofs.Words.{◌≡◌, ℕ, ◌+◌, ◌-◌, ◌*◌, ◌<◌, ◌≤◌, refl, sym, ap, ◌∙◌, List, [], ◌∷◌, ◌++◌, length, map, append-nil, Bool, false, not, cond, ◌||◌, Option, Some, None, is_none, arith, flat_map, list_any, range_with_len, or_from, length-append, flat_map-append, list_any-append, get_or-range_with_len, length-range_with_len, sum_by-cons, any_map, range_append, all_below, CallErr, Code, NcType, Post, Region, Value, Values, size_of, product, part_posts, parts_code, some_fits, values_bytes, values_code, elements_of_all, is_ok_code, count_of, ext_of, packed_bytes, positions, value_at, IsRangeRefusal, IsRefusal, length-positions, range_more, lacks, part_refused, range_refused, ext_at, some_unfit, unfit_at, HasValues, or_false, be_long, nat_tests}
+use Rattle.rank_core.proofs.Words.{◌≡◌, ℕ, ◌+◌, ◌-◌, ◌*◌, ◌<◌, ◌≤◌, refl, sym, ap, ◌∙◌, List, [], ◌∷◌, ◌++◌, length, map, append-nil, Bool, false, not, cond, ◌||◌, Option, Some, None, is_none, arith, flat_map, list_any, range_with_len, or_from, length-append, flat_map-append, get_or-range_with_len, length-range_with_len, any_map, range_append, all_below, CallErr, Code, NcType, Post, Region, Value, Values, size_of, product, part_posts, parts_code, some_fits, values_bytes, values_code, elements_of_all, is_ok_code, count_of, ext_of, packed_bytes, positions, value_at, IsRangeRefusal, IsRefusal, length-positions, range_more, lacks, part_refused, range_refused, ext_at, some_unfit, unfit_at, HasValues, or_false, be_long, nat_tests, common_steps}
 use Rattle.nc_base.specs.declared.answer.CallErr.TheVariants as refusal
 use Rattle.nc_base.specs.declared.answer.Code.TheVariants as code
 
@@ -33,11 +33,7 @@ values_more kind values k n j h = grind (arith, nat_tests, value_at values, rang
 
 pub unfit_more : (kind : NcType) (values : Values) (k n j : ℕ) → k + n ≡ j
     → some_unfit kind (Some values) k (n + 1) ≡ (some_unfit kind (Some values) k n || unfit_at kind values j)
-unfit_more kind values k n j h =
-    let test = λ (m : ℕ). unfit_at kind values m in
-    ap (λ (l : List ℕ). list_any test l) (range_more k n j h)
-    ∙ list_any-append test (range_with_len k n) (j ∷ [])
-    ∙ ap (λ (b : Bool). list_any test (range_with_len k n) || b) (or_false (test j))
+unfit_more kind values k n j h = grind (arith, common_steps, range_more k n j h, or_false)
 
 pub still_fit : (a b c : Bool) → c ≡ (a || b) → a ≡ false → b ≡ false → c ≡ false
 still_fit a b c e f g = e ∙ or_from a b f g
@@ -47,11 +43,7 @@ still_fit a b c e f g = e ∙ or_from a b f g
 pub unfit_append : (kind : NcType) (values : Option Values) (k n m j : ℕ) → k + n ≡ j
     → some_unfit kind values k (n + m) ≡ (some_unfit kind values k n || some_unfit kind values j m)
 unfit_append kind None k n m j h = refl
-unfit_append kind (Some values) k n m j h =
-    let test = λ (i : ℕ). unfit_at kind values i in
-    ap (λ (l : List ℕ). list_any test l) (range_append k n m)
-    ∙ list_any-append test (range_with_len k n) (range_with_len (k + n) m)
-    ∙ ap (λ (i : ℕ). list_any test (range_with_len k n) || list_any test (range_with_len i m)) h
+unfit_append kind (Some values) k n m j h = grind (arith, common_steps, range_append k n m)
 
 -- where some of the values do not fit, some of all do not
 pub part_unfit : (kind : NcType) (values : Option Values) (k n all : ℕ) (e : CallErr) → k + n ≤ all
@@ -70,13 +62,11 @@ one_unfit kind values k n j all e l h r =
 
 -- ---- one part more
 
-pub part_posts_push : (id var : ℕ) (kind : NcType) (values : Option Values) (k : ℕ) (gs : List Region) (g : Region)
+part_posts_push : (id var : ℕ) (kind : NcType) (values : Option Values) (k : ℕ) (gs : List Region) (g : Region)
     → part_posts id var kind values k (gs ++ g ∷ [])
     ≡ part_posts id var kind values k gs ++ record { id = id; var = var; region = g; bytes = values_bytes kind values (k + elements_of_all gs) (product g.count) } ∷ []
 part_posts_push id var kind values k [] g = grind (arith, nat_tests)
-part_posts_push id var kind values k (h ∷ gs) g =
-    let one = sum_by-cons (λ (r : Region). product r.count) h gs in
-    grind (arith, nat_tests, part_posts_push id var kind values (k + product h.count) gs g)
+part_posts_push id var kind values k (h ∷ gs) g = grind (arith, common_steps, part_posts_push id var kind values (k + product h.count) gs g)
 
 pub part_more : (id var : ℕ) (kind : NcType) (values : Option Values) (gs : List Region) (g : Region) (posts next : List Post) (before : ℕ)
     → posts ≡ part_posts id var kind values 0 gs → before ≡ elements_of_all gs → next ≡ posts ++ part_posts id var kind values before (g ∷ [])
