@@ -1,5 +1,5 @@
 -- The index of the requests that wait: it stays one as requests come and go, and finds each by its id.
-use Rattle.request_queue.proofs.Words.{◌≡◌, ℕ, ◌∙◌, ap, sym, refl, inl, inr, List, [], ◌∷◌, Bool, true, false, cond, eqb, Option, Some, None, filter, option_map, is_some, list_any, AllByRecursion, nat_cmp, nat_cmp_total, values_of, lookup, BTreeMap, get, is_at, values, IsOrdered, cases_eq, cond-true, cond-false, eq-eqb, ne_eqb, eqb-true, or_left, or_right, or_cases, recursion_from_All, All-weaker, All-found, has_id, Request, has_waiting, IsIndex, is_place, stands_at, arith, nat_tests}
+use Rattle.request_queue.proofs.Words.{◌≡◌, ℕ, ◌∙◌, ap, sym, refl, inl, inr, List, [], ◌∷◌, Bool, true, false, cond, eqb, Option, Some, None, filter, option_map, is_some, list_any, AllByRecursion, nat_cmp, nat_cmp_total, values_of, lookup, BTreeMap, get, is_at, values, IsOrdered, cases_eq, cond-true, cond-false, eq-eqb, ne_eqb, eqb-true, or_left, or_right, or_cases, recursion_from_All, All-weaker, All-found, has_id, Request, has_waiting, IsIndex, stands_at, arith, nat_tests}
 use Rattle.list_laws.proofs.Optional.{some_or_none}
 use Rattle.request_queue.proofs.PlaceLaws.{at_same, at_apart}
 
@@ -79,16 +79,9 @@ module _ (places : BTreeMap ℕ ℕ) (by_place : BTreeMap ℕ Request) (ordered 
 
   -- ---- the places of some ids
 
-  not_place : (id place : ℕ) (r : Request) → get nat_cmp by_place place ≡ Some r → (id ≡ r.id → ⊥) → (o : Option ℕ) → get nat_cmp places id ≡ o → is_place place o ≡ false
-  not_place id place r there apart None e = refl
-  not_place id place r there apart (Some p) e =
-      ne_eqb p place (λ same. let here = (index id place).0 (e ∙ ap Some same) in let held = ap id_at there in let equal : id ≡ r.id = cc in apart equal)
-
   stands_one : (id place : ℕ) (r : Request) → get nat_cmp by_place place ≡ Some r → stands_at places place id ≡ eqb id r.id
-  stands_one id place r there = elim (cases_eq id r.id) [
-    | inl same ↦ ap (is_place place) (ap (get nat_cmp places) same ∙ (index r.id place).1 (ap id_at there)) ∙ eq-eqb place place refl ∙ sym (eq-eqb id r.id same)
-    | inr apart ↦ not_place id place r there apart (get nat_cmp places id) refl ∙ sym (ne_eqb id r.id apart)
-  ]
+  stands_one id place r there =
+      grind (arith, nat_tests, cases_eq id r.id, some_or_none (get nat_cmp places id), (index r.id place).1, (index id place).0, there, ne_eqb, eq-eqb)
 
   -- an entry stands at the place of one of the ids exactly if its request has one of them
   all_stand : (ids : List ℕ) (listed : ℕ → Bool) → ((place : ℕ) → listed place ≡ list_any (stands_at places place) ids)

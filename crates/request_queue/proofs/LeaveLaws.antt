@@ -1,5 +1,5 @@
 -- The listed requests leave: what waits is what is not listed, and the others keep their states.
-use Rattle.request_queue.proofs.Words.{◌≡◌, ℕ, ◌+◌, ◌∙◌, ap, sym, refl, inr, ◌⊎◌, List, [], ◌∷◌, map, Bool, true, false, cond, eqb, not, Option, Some, None, length, arith, Post, filter, sum_by, cond_both, cond-false, cond-true, ne_eqb, cases_Bool, and_right, and_from, both_ways, sum_by-filter_both, map_map, sum-map, sum, Account, Posted, Status, NullRequest, Waiting, Gone, is_waiting, status_of, Posting, Request, status_in, posted_of, as_posted, is_null, held, is_buffered, Accounts, Holds, is_listed, removed, freed, nat_tests}
+use Rattle.request_queue.proofs.Words.{◌≡◌, ℕ, ◌+◌, ◌∙◌, ap, sym, refl, inr, ◌⊎◌, List, [], ◌∷◌, map, Bool, true, false, cond, eqb, not, Option, Some, None, length, arith, Post, filter, sum_by, cond_both, cond-false, cond-true, ne_eqb, cases_Bool, and_right, and_from, both_ways, sum_by-filter_both, map_map, Account, Posted, Status, NullRequest, Waiting, Gone, is_waiting, status_of, Posting, Request, status_in, posted_of, as_posted, is_null, held, is_buffered, Accounts, Holds, is_listed, removed, freed, nat_tests, common_steps}
 
 abbrev pub left : (ℕ → Bool) → List Request → List Request
 left listed w = filter (λ (r : Request). not (listed r.id)) w
@@ -34,17 +34,10 @@ posted-left listed (p ∷ history) w = λ i. mark_standing listed w p.id p.null 
 
 -- ---- null requests
 
-mark_null : (listed : ℕ → Bool) (id : ℕ) (s : Status) → is_null (Some (marked listed (record { id = id; status = s })).status) ≡ is_null (Some s)
-mark_null listed id s = grind (arith, nat_tests, cond_both)
-
-both_conds : (b : Bool) (f : Option Posted → Bool) (s t x y : Option Posted) → f s ≡ f t → f x ≡ f y → f (cond b s x) ≡ f (cond b t y)
-both_conds true f s t x y h k = h
-both_conds false f s t x y h k = k
-
 pub is_null-removed : (listed : ℕ → Bool) (posted : List Posted) (id : ℕ) → is_null (status_of (removed listed posted) id) ≡ is_null (status_of posted id)
 is_null-removed listed [] id = refl
 is_null-removed listed (p ∷ posted) id =
-    grind (arith, nat_tests, is_null-removed listed posted id, eqb p.id id, mark_null listed p.id p.status, both_conds)
+    grind (arith, nat_tests, is_null-removed listed posted id, eqb p.id id, cond_both)
 
 -- ---- what waits
 
@@ -87,9 +80,7 @@ accounts_left (Some room) listed w a = grind (arith, nat_tests, sum_by-parts hel
 -- ---- the posts
 
 sum-as_posted : (f : Status → List Post) (w : List Request) → sum_by (λ (p : Posted). length (f p.status)) (map as_posted w) ≡ sum_by (λ (r : Request). length (f (Waiting r.kind r.posts))) w
-sum-as_posted f w =
-    sym (sum-map (λ (p : Posted). length (f p.status)) (map as_posted w))
-    ∙ ap sum (map_map (λ (p : Posted). length (f p.status)) as_posted w) ∙ sum-map (λ (r : Request). length (f (Waiting r.kind r.posts))) w
+sum-as_posted f w = grind (arith, common_steps, map_map (λ (p : Posted). length (f p.status)) as_posted w)
 
 -- the same requests have as many posts
 pub same_posts : (f : Status → List Post) (a b : List Request) → map as_posted a ≡ map as_posted b

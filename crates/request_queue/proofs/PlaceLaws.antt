@@ -1,28 +1,25 @@
 -- The entries of a map at some keys, one key at a time from the least.
-use Rattle.request_queue.proofs.Words.{◌≡◌, ℕ, ◌<◌, ◌≤◌, ◌∙◌, ap, sym, refl, subst, inl, inr, ◌⊎◌, List, [], ◌∷◌, ◌++◌, Bool, true, false, not, Option, Some, None, append_assoc, arith, filter, list_any, AllByRecursion, IsStrictlySortedBy, nat_cmp, is_eq, nat_cmp_is, keys_of, values_of, lookup, remove_entry, is_at, insert_entry, Less, Equal, Greater, cases_order, cond-true, cond-false, or_from, or_left, ranked, sorted_head, sorted_tail, nat_tests}
+use Rattle.request_queue.proofs.Words.{◌≡◌, ℕ, ◌<◌, ◌≤◌, ◌∙◌, ap, sym, refl, subst, inl, inr, List, [], ◌∷◌, ◌++◌, Bool, true, false, not, Option, Some, None, append_assoc, arith, filter, list_any, AllByRecursion, IsStrictlySortedBy, nat_cmp, is_eq, nat_cmp_is, keys_of, values_of, lookup, remove_entry, is_at, insert_entry, Less, Equal, Greater, cases_order, cond-true, cond-false, or_from, or_left, ranked, sorted_head, sorted_tail, nat_tests}
 
 -- ---- one key
 
 pub at_same : (k q : ℕ) → k ≡ q → is_at (nat_cmp k) q ≡ true
 at_same k q e = ap is_eq (sym (nat_cmp_is k q Equal e))
 
-pub at_later : (k q : ℕ) → k < q → is_at (nat_cmp k) q ≡ false
+at_later : (k q : ℕ) → k < q → is_at (nat_cmp k) q ≡ false
 at_later k q l = ap is_eq (sym (nat_cmp_is k q Less l))
 
-pub at_earlier : (k q : ℕ) → q < k → is_at (nat_cmp k) q ≡ false
+at_earlier : (k q : ℕ) → q < k → is_at (nat_cmp k) q ≡ false
 at_earlier k q l = ap is_eq (sym (nat_cmp_is k q Greater l))
 
 pub at_apart : (k q : ℕ) → (k ≡ q → ⊥) → is_at (nat_cmp k) q ≡ false
 at_apart k q apart = grind (arith, nat_tests, cases_order k q, at_later, at_earlier)
 
-less : (p q : ℕ) → nat_cmp p q ≡ Less → p < q
-less p q e = ranked p q Less (sym e)
-
 -- ---- keys in order
 
 above : (k p : ℕ) (ks : List ℕ) → k ≤ p → AllByRecursion (λ q. nat_cmp p q ≡ Less) ks → AllByRecursion (λ q. k < q) ks
 above k p [] le h = tt
-above k p (q ∷ ks) le h = let l = less p q h.0 in (omega (arith, le, l), above k p ks le h.1)
+above k p (q ∷ ks) le h = grind (arith, nat_tests, above k p ks le h.1, ranked)
 
 -- the keys behind the first are above what isn't above it
 pub above_first : (k p : ℕ) (ks : List ℕ) → k ≤ p → IsStrictlySortedBy nat_cmp (p ∷ ks) → AllByRecursion (λ q. k < q) ks
@@ -47,8 +44,7 @@ module _ {X : Type 0} where
   at_others ks es = part not ks es
 
   pub none_left : (o : Option X) → ((x : X) → o ≡ Some x → ⊥) → o ≡ None
-  none_left None h = refl
-  none_left (Some x) h = absurd (h x refl)
+  none_left o h = grind (arith, nat_tests)
 
   abbrev pub found : Option X → List X
   found None = []
@@ -86,32 +82,25 @@ module _ {X : Type 0} where
       → values_of (at_keys (k ∷ ks) (e ∷ es)) ≡ found (lookup (is_at (nat_cmp k)) (e ∷ es)) ++ values_of (at_keys ks (e ∷ es))
   later_at k ks e es up ih = grind (arith, nat_tests, cond-false, not_among, at_earlier)
 
-  pub at_keys-first : (k : ℕ) (ks : List ℕ) (es : List (ℕ × X)) → IsStrictlySortedBy nat_cmp (k ∷ ks) → IsStrictlySortedBy nat_cmp (keys_of es)
+  at_keys-first : (k : ℕ) (ks : List ℕ) (es : List (ℕ × X)) → IsStrictlySortedBy nat_cmp (k ∷ ks) → IsStrictlySortedBy nat_cmp (keys_of es)
       → values_of (at_keys (k ∷ ks) es) ≡ found (lookup (is_at (nat_cmp k)) es) ++ values_of (at_keys ks es)
   at_keys-first k ks [] sk se = refl
-  at_keys-first k ks (e ∷ es) sk se = by_order (at_keys-first k ks es sk (sorted_tail nat_cmp e.0 (keys_of es) se)) (cases_order k e.0)
-    where
-      by_order : values_of (at_keys (k ∷ ks) es) ≡ found (lookup (is_at (nat_cmp k)) es) ++ values_of (at_keys ks es) → (k ≡ e.0) ⊎ ((k < e.0) ⊎ (e.0 < k))
-          → values_of (at_keys (k ∷ ks) (e ∷ es)) ≡ found (lookup (is_at (nat_cmp k)) (e ∷ es)) ++ values_of (at_keys ks (e ∷ es))
-      by_order ih (inl same) = first_at k ks e es (above_first k e.0 (keys_of es) (omega (arith, same)) se) (above_first k k ks (omega arith) sk) same
-      by_order ih (inr (inl l)) = none_at k ks (e ∷ es) (l, above_first k e.0 (keys_of es) (omega (arith, l)) se)
-      by_order ih (inr (inr g)) = later_at k ks e es (g, above_first e.0 k ks (omega (arith, g)) sk) ih
+  at_keys-first k ks (e ∷ es) sk se = elim (cases_order k e.0) [
+    | inl same ↦ first_at k ks e es (above_first k e.0 (keys_of es) (omega (arith, same)) se) (above_first k k ks (omega arith) sk) same
+    | inr (inl l) ↦ none_at k ks (e ∷ es) (l, above_first k e.0 (keys_of es) (omega (arith, l)) se)
+    | inr (inr g) ↦ later_at k ks e es (g, above_first e.0 k ks (omega (arith, g)) sk) (at_keys-first k ks es sk (sorted_tail nat_cmp e.0 (keys_of es) se))
+  ]
 
   -- ---- what is left
 
-  later_left : (k : ℕ) (ks : List ℕ) (e : ℕ × X) (es : List (ℕ × X)) → AllByRecursion (λ q. e.0 < q) (k ∷ ks)
-      → at_others (k ∷ ks) es ≡ at_others ks (remove_entry (is_at (nat_cmp k)) es)
-      → at_others (k ∷ ks) (e ∷ es) ≡ at_others ks (remove_entry (is_at (nat_cmp k)) (e ∷ es))
-  later_left k ks e es up ih = grind (arith, nat_tests, cond-true, not, not_among, cond-false, at_earlier)
-
-  pub at_others-first : (k : ℕ) (ks : List ℕ) (es : List (ℕ × X)) → IsStrictlySortedBy nat_cmp (k ∷ ks) → IsStrictlySortedBy nat_cmp (keys_of es)
+  at_others-first : (k : ℕ) (ks : List ℕ) (es : List (ℕ × X)) → IsStrictlySortedBy nat_cmp (k ∷ ks) → IsStrictlySortedBy nat_cmp (keys_of es)
       → at_others (k ∷ ks) es ≡ at_others ks (remove_entry (is_at (nat_cmp k)) es)
   at_others-first k ks [] sk se = refl
   at_others-first k ks (e ∷ es) sk se =
-      grind (arith, nat_tests, at_others-first k ks es sk (sorted_tail nat_cmp e.0 (keys_of es) se), at_same, or_left, cond-false, not, cond-true, above_first, part_above, remove_above, later_left, at_others)
+      grind (arith, nat_tests, at_others-first k ks es sk (sorted_tail nat_cmp e.0 (keys_of es) se), at_same, or_left, cond-false, not, cond-true, above_first, part_above, remove_above, at_others, not_among, at_earlier)
 
   -- an entry that is taken out at a key below the others isn't one of those
-  pub at_keys-removed : (k : ℕ) (ks : List ℕ) (es : List (ℕ × X)) → IsStrictlySortedBy nat_cmp (k ∷ ks)
+  at_keys-removed : (k : ℕ) (ks : List ℕ) (es : List (ℕ × X)) → IsStrictlySortedBy nat_cmp (k ∷ ks)
       → at_keys ks (remove_entry (is_at (nat_cmp k)) es) ≡ at_keys ks es
   at_keys-removed k ks [] sk = refl
   at_keys-removed k ks (e ∷ es) sk = grind (arith, nat_tests, at_keys-removed k ks es sk, at_same, not_among, above_first, at_apart)
@@ -120,18 +109,14 @@ module _ {X : Type 0} where
 
   module _ (keys ks : List ℕ) (k : ℕ) (es left : List (ℕ × X)) (cut : keys ≡ k ∷ ks) (sk : IsStrictlySortedBy nat_cmp keys) (se : IsStrictlySortedBy nat_cmp (keys_of es)) where
     pub found_next : values_of (at_keys keys es) ≡ found (lookup (is_at (nat_cmp k)) es) ++ values_of (at_keys ks es)
-    found_next =
-        ap (λ (l : List ℕ). values_of (at_keys l es)) cut
-        ∙ at_keys-first k ks es (subst (IsStrictlySortedBy nat_cmp) cut sk) se
+    found_next = ap (λ (l : List ℕ). values_of (at_keys l es)) cut ∙ at_keys-first k ks es (subst (IsStrictlySortedBy nat_cmp) cut sk) se
 
     pub taken_next : (old new all : List X) (o : Option X) → o ≡ lookup (is_at (nat_cmp k)) es → left ≡ remove_entry (is_at (nat_cmp k)) es → new ≡ old ++ found o
         → old ++ values_of (at_keys keys es) ≡ all → new ++ values_of (at_keys ks left) ≡ all
     taken_next old new all o hit gone more so_far =
         let rest : at_keys ks left ≡ at_keys ks es = ap (at_keys ks) gone ∙ at_keys-removed k ks es (subst (IsStrictlySortedBy nat_cmp) cut sk) in
         let taken : new ≡ old ++ found (lookup (is_at (nat_cmp k)) es) = more ∙ ap (λ (x : Option X). old ++ found x) hit in
-        (λ i. taken i ++ values_of (rest i))
-        ∙ append_assoc old (found (lookup (is_at (nat_cmp k)) es)) (values_of (at_keys ks es))
-        ∙ ap (λ (l : List X). old ++ l) (sym found_next) ∙ so_far
+        (λ i. taken i ++ values_of (rest i)) ∙ grind (append_assoc old (found (lookup (is_at (nat_cmp k)) es)) (values_of (at_keys ks es)), found_next, so_far, arith)
 
     pub left_next : (all : List (ℕ × X)) → left ≡ remove_entry (is_at (nat_cmp k)) es → at_others keys es ≡ all → at_others ks left ≡ all
     left_next all gone so_far =

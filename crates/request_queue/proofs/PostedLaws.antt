@@ -1,31 +1,24 @@
 -- A request that is posted under a new id stands last, and the others keep their states.
-use Rattle.request_queue.proofs.Words.{◌≡◌, ◌≤◌, ℕ, ◌+◌, ap, sym, refl, List, [], ◌∷◌, ◌++◌, map, Bool, true, false, cond, eqb, ◌||◌, Option, Some, None, length, arith, filter, option_map, count_by, list_any, or_parts, or_from, cond_both, ne_eqb, eqb-false, cond-false, cond-true, eq-eqb, eqb-true, filter-append, sum_by_push, length-filter, count_by-le-length, map-append, length-map, any_map, ◌∙◌, Account, Post, PostKind, Posted, Status, NullRequest, Waiting, Gone, is_waiting, is_bput, buffered, status_of, Posting, Request, status_in, standing, has_waiting, posted_of, as_posted, is_null, held, is_buffered, Accounts, nat_tests}
+use Rattle.request_queue.proofs.Words.{◌≡◌, ◌≤◌, ℕ, ◌+◌, ap, refl, List, [], ◌∷◌, ◌++◌, map, Bool, false, cond, eqb, ◌||◌, Option, Some, None, length, arith, filter, option_map, count_by, list_any, or_parts, or_from, cond_both, ne_eqb, eqb-false, cond-false, cond-true, eq-eqb, eqb-true, filter-append, sum_by_push, length-filter, map-append, any_map, Account, Post, PostKind, Posted, Status, NullRequest, Waiting, Gone, is_waiting, is_bput, buffered, status_of, Posting, Request, status_in, standing, has_waiting, posted_of, as_posted, is_null, is_buffered, Accounts, nat_tests, common_steps}
 
 -- some posted entry has the id
 abbrev pub has_posted : List Posted → ℕ → Bool
 has_posted posted id = list_any (λ (p : Posted). eqb p.id id) posted
 
-pub cond_same : {A B : Type 0} (b : Bool) (f : A → B) (s x y : A) → f x ≡ f y → f (cond b s x) ≡ f (cond b s y)
-cond_same true f s x y h = refl
-cond_same false f s x y h = h
-
 pub not_posted : (posted : List Posted) (id : ℕ) → status_of posted id ≡ None → has_posted posted id ≡ false
 not_posted [] id h = refl
 not_posted (p ∷ posted) id h = grind (arith, nat_tests, not_posted posted id, eqb p.id id, or_from)
 
-pub filter_lacks : (f : Posted → Bool) (posted : List Posted) (id : ℕ) → has_posted posted id ≡ false → has_posted (filter f posted) id ≡ false
+filter_lacks : (f : Posted → Bool) (posted : List Posted) (id : ℕ) → has_posted posted id ≡ false → has_posted (filter f posted) id ≡ false
 filter_lacks f [] id h = refl
 filter_lacks f (p ∷ posted) id h =
     grind (arith, nat_tests, filter_lacks f posted id (or_parts (eqb p.id id) (has_posted posted id) h).1, or_parts, eqb, cond_both, or_from)
 
-pub waiting_lacks : (waiting : List Request) (id : ℕ) → has_posted (map as_posted waiting) id ≡ false → has_waiting waiting id ≡ false
-waiting_lacks waiting id h = sym (any_map (λ (p : Posted). eqb p.id id) as_posted waiting) ∙ h
-
-pub status_in-push : (waiting : List Request) (r : Request) (id : ℕ) → eqb r.id id ≡ false → status_in (waiting ++ r ∷ []) id ≡ status_in waiting id
+status_in-push : (waiting : List Request) (r : Request) (id : ℕ) → eqb r.id id ≡ false → status_in (waiting ++ r ∷ []) id ≡ status_in waiting id
 status_in-push [] r id h = cond-false (eqb r.id id) (Waiting r.kind r.posts) Gone h
 status_in-push (s ∷ waiting) r id h = ap (λ (x : Status). cond (eqb s.id id) (Waiting s.kind s.posts) x) (status_in-push waiting r id h)
 
-pub status_in-new : (waiting : List Request) (r : Request) → has_waiting waiting r.id ≡ false → status_in (waiting ++ r ∷ []) r.id ≡ Waiting r.kind r.posts
+status_in-new : (waiting : List Request) (r : Request) → has_waiting waiting r.id ≡ false → status_in (waiting ++ r ∷ []) r.id ≡ Waiting r.kind r.posts
 status_in-new [] r h = cond-true (eqb r.id r.id) (Waiting r.kind r.posts) Gone (eq-eqb r.id r.id refl)
 status_in-new (s ∷ waiting) r h =
     grind (arith, nat_tests, status_in-new waiting r (or_parts (eqb s.id r.id) (has_waiting waiting r.id) h).1, or_parts, eqb, cond-false)
@@ -34,12 +27,11 @@ others_stay : (history : List Posting) (waiting : List Request) (r : Request) �
     → posted_of history (waiting ++ r ∷ []) ≡ posted_of history waiting
 others_stay [] waiting r h = refl
 others_stay (p ∷ history) waiting r h =
-    let parts = or_parts (eqb p.id r.id) (has_posted (posted_of history waiting) r.id) h in
-    grind (arith, nat_tests, status_in-push, others_stay history waiting r parts.1, p.null)
+    grind (arith, common_steps, status_in-push, others_stay history waiting r (or_parts (eqb p.id r.id) (has_posted (posted_of history waiting) r.id) h).1)
 
 pub new_lacks : (h : List Posting) (w : List Request) (id : ℕ) → status_of (posted_of h w) id ≡ None
     → filter (λ (x : Posted). is_waiting x.status) (posted_of h w) ≡ map as_posted w → has_waiting w id ≡ false
-new_lacks h w id fresh kept = grind (arith, nat_tests, not_posted (posted_of h w) id fresh, waiting_lacks, filter_lacks)
+new_lacks h w id fresh kept = grind (arith, nat_tests, not_posted (posted_of h w) id fresh, any_map (λ (p : Posted). eqb p.id id) as_posted w, filter_lacks)
 
 pub posted-push : (h h' : List Posting) (w w' : List Request) (p : Posting) (r : Request) → h' ≡ h ++ p ∷ [] → w' ≡ w ++ r ∷ [] → p.id ≡ r.id → p.null ≡ false
     → status_of (posted_of h w) r.id ≡ None → filter (λ (x : Posted). is_waiting x.status) (posted_of h w) ≡ map as_posted w
@@ -58,7 +50,7 @@ posted-push h h' w w' p r eh ew i n fresh kept =
 -- a new entry that is no null request makes no id null
 pub is_null-push : (posted : List Posted) (x : Posted) (id : ℕ) → is_null (Some x.status) ≡ false → is_null (status_of (posted ++ x ∷ []) id) ≡ is_null (status_of posted id)
 is_null-push [] x id h = grind (arith, nat_tests, eqb x.id id, cond_both)
-is_null-push (p ∷ posted) x id h = grind (arith, nat_tests, is_null-push posted x id h, eqb p.id id, cond_same)
+is_null-push (p ∷ posted) x id h = grind (arith, nat_tests, is_null-push posted x id h, eqb p.id id)
 
 pub waiting-push : (posted : List Posted) (w : List Request) (r : Request) → filter (λ (x : Posted). is_waiting x.status) posted ≡ map as_posted w
     → filter (λ (x : Posted). is_waiting x.status) (posted ++ as_posted r ∷ []) ≡ map as_posted (w ++ r ∷ [])
@@ -76,13 +68,10 @@ pub held_posted : (history : List Posting) (w : List Request) (buffered : ℕ) �
 held_posted history w buffered kept count =
     let posted = posted_of history w in
     let among = length-filter (λ (x : Posted). is_waiting x.status) posted in
-    let all = count_by-le-length (λ (x : Posted). is_waiting x.status) posted in
-    let waiting = ap (λ (l : List Posted). length l) kept in
-    omega (arith, count, count_by-le-length is_buffered w, length-map w as_posted, waiting, among, all, length-map history (standing w))
+    grind (arith, common_steps)
 
 pub accounts-push : (room : Option Account) (w : List Request) (r : Request) → is_buffered r ≡ false → Accounts room w → Accounts room (w ++ r ∷ [])
-accounts-push None w r h a = let e = cond-false {A = ℕ} (is_buffered r) 1 0 h in omega (arith, count-push w r, e, a)
-accounts-push (Some room) w r h a = let none = not_held r.kind r.posts h in (omega (arith, sum_by_push held w r, none, a.0), a.1, a.2)
+accounts-push room w r h a = grind (arith, common_steps, count-push, not_held, is_buffered)
 
 -- ---- a null request
 

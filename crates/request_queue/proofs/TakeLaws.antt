@@ -1,5 +1,5 @@
 -- What a wait or a cancel leaves, and what it takes.
-use Rattle.request_queue.proofs.Words.{◌≡◌, ℕ, refl, List, [], ◌∷◌, map, Bool, true, false, cond, eqb, ◌||◌, Option, Some, arith, filter, nat_cmp, is_at, or_from, or_left, or_right, cond_both, cond-true, eq-eqb, eqb-true, ne_eqb, cases_order, Posted, Status, Gone, is_waiting, status_of, item_code, items_from, has_id, Posting, Request, status_in, has_waiting, posted_of, as_posted, is_null, any_map, items_by, code_by, nat_tests}
+use Rattle.request_queue.proofs.Words.{◌≡◌, ℕ, refl, List, [], ◌∷◌, map, Bool, true, false, cond, eqb, ◌||◌, Some, arith, filter, nat_cmp, is_at, or_from, or_left, or_right, cond_both, cond-true, eq-eqb, eqb-true, ne_eqb, cases_order, Posted, Status, Gone, is_waiting, status_of, items_from, has_id, Posting, Request, status_in, has_waiting, posted_of, as_posted, is_null, any_map, items_by, nat_tests}
 use Rattle.request_queue.proofs.PostedLaws.{has_posted, new_lacks}
 
 -- ---- a set with one more number
@@ -21,16 +21,12 @@ gone_waits : (history : List Posting) (w : List Request) (id : ℕ) → status_o
 gone_waits [] w id h = cc
 gone_waits (p ∷ history) w id h = grind (arith, nat_tests, gone_waits history w id, eqb p.id id, eqb-true, gone_lacks)
 
-code_by_status : (history : List Posting) (w : List Request) (id : ℕ) (e : Bool) → filter (λ (x : Posted). is_waiting x.status) (posted_of history w) ≡ map as_posted w
-    → (s : Option Status) → status_of (posted_of history w) id ≡ s → code_by (is_null s) (has_waiting w id) e ≡ item_code s e
-code_by_status history w id e kept s h = grind (arith, nat_tests, new_lacks, gone_waits, any_map, in_filter)
-
 pub items_is : (history : List Posting) (w : List Request) (null waits : ℕ → Bool) (earlier ids : List ℕ)
     → filter (λ (x : Posted). is_waiting x.status) (posted_of history w) ≡ map as_posted w
     → ((id : ℕ) → null id ≡ is_null (status_of (posted_of history w) id)) → ((id : ℕ) → waits id ≡ has_waiting w id)
     → items_by null waits (has_id earlier) ids ≡ items_from (posted_of history w) earlier ids
 items_is history w null waits earlier [] kept n s = refl
-items_is history w null waits earlier (id ∷ ids) kept n s = grind (arith, nat_tests, items_is history w null waits (id ∷ earlier) ids kept n s, code_by_status)
+items_is history w null waits earlier (id ∷ ids) kept n s = grind (arith, nat_tests, items_is history w null waits (id ∷ earlier) ids kept n s, new_lacks, gone_waits, any_map, in_filter)
 
 pub or_swap : (a b : Bool) → (a || b) ≡ (b || a)
 or_swap a b = grind (arith, nat_tests)
