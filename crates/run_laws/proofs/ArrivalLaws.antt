@@ -1,19 +1,11 @@
 -- A run of ranks at their next offers is that of ranks which wait where they heard their last reply.
-use Rattle.run_laws.proofs.Words.{◌≡◌, ℕ, suc, refl, sym, ◌∙◌, ap, List, [], ◌∷◌, ◌++◌, map, set, Option, Some, None, slice_get, fold, map_map, Header, Call, Hints, Script, Mark, Offer, run_calls, Setting, Counted, Going, advance, solo_of, after_mark, first_state, setting_of, closed, serial_from, calls_so_far, Arrived, Stand, solo_to, step_to, step_calls, calls_over, ended_from, all_calls_over, first_stand, map-set, arith, nat_tests, append_assoc, DiskCall}
+use Rattle.run_laws.proofs.Words.{◌≡◌, ℕ, refl, List, [], ◌∷◌, ◌++◌, map, set, Option, Some, None, fold, map_map, Header, Call, Hints, Script, Mark, Offer, run_calls, Setting, Counted, Going, advance, solo_of, after_mark, first_state, setting_of, closed, serial_from, calls_so_far, Arrived, Stand, solo_to, step_to, calls_over, ended_from, all_calls_over, first_stand, map-set, arith, nat_tests, append_assoc, slice_get-map}
 use Rattle.run_laws.proofs.OrderLaws.{calls_close}
 use Rattle.run_laws.proofs.StandingLaws.{calls_at}
 
 -- each rank goes up to its next offer
 abbrev pub gone_up : Setting → Counted × List Going → Stand
 gone_up s state = (state.0, map (advance s.header) state.1)
-
-abbrev up : Setting → Option Going → Option Arrived
-up s None = None
-up s (Some g) = Some (advance s.header g)
-
-get_up : (s : Setting) (goings : List Going) (r : ℕ) → slice_get (map (advance s.header) goings) r ≡ up s (slice_get goings r)
-get_up s (g ∷ goings) (suc r) = get_up s goings r
-get_up s xs r = refl
 
 -- ---- one step
 
@@ -27,7 +19,7 @@ state_at s r c goings m = elim m [
 ]
 
 pub arrival_step : (s : Setting) (state : Counted × List Going) (m : Mark) → step_to s (gone_up s state) m ≡ gone_up s (after_mark s state m)
-arrival_step s state m = grind (arith, nat_tests, map_map, get_up, map-set)
+arrival_step s state m = grind (arith, nat_tests, map_map, slice_get-map, map-set)
 
 abbrev pub offer_of : Option Arrived → Option Offer
 offer_of m = elim m [ None ↦ None | Some a ↦ a.1 ]
@@ -42,14 +34,12 @@ arrival_steps s state (m ∷ order) = grind (arith, nat_tests, arrival_steps s (
 pub arrival_calls : (hints : Hints) (s : Setting) (state : Counted × List Going) (order : List Mark)
     → calls_over hints s (gone_up s state) order ≡ calls_so_far hints s state order
 arrival_calls hints s state [] = refl
-arrival_calls hints s state (m ∷ order) = grind (arith, nat_tests, arrival_calls hints s (after_mark s state m) order, calls_at, get_up, arrival_step)
+arrival_calls hints s state (m ∷ order) = grind (arith, nat_tests, arrival_calls hints s (after_mark s state m) order, calls_at, slice_get-map, arrival_step)
 
 pub calls_split : (hints : Hints) (s : Setting) (stand : Stand) (marks more : List Mark)
     → calls_over hints s stand (marks ++ more) ≡ calls_over hints s stand marks ++ calls_over hints s (fold (step_to s) stand marks) more
 calls_split hints s stand [] more = refl
-calls_split hints s stand (m ∷ marks) more =
-    ap (λ (cs : List DiskCall). step_calls hints s stand m ++ cs) (calls_split hints s (step_to s stand m) marks more)
-    ∙ sym (append_assoc (step_calls hints s stand m) (calls_over hints s (step_to s stand m) marks) (calls_over hints s (fold (step_to s) (step_to s stand m) marks) more))
+calls_split hints s stand (m ∷ marks) more = grind (arith, nat_tests, calls_split hints s (step_to s stand m) marks more, append_assoc)
 
 arrival_end : (s : Setting) (state : Counted × List Going) (order : List Mark)
     → ended_from s (gone_up s state) order ≡ closed s (fold (after_mark s) state order)

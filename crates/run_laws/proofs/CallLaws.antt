@@ -68,29 +68,19 @@ Says r c (r', want.Answered a) = Alone r c r'
 Says r c (r', want.Meet o) = Meeting r c r' o
 Says r c (r', want.Solo o) = AloneAsking r c r' o
 
-with_true : (b t : Bool) → b ≡ t → (b && true) ≡ t
-with_true b t e = grind (arith, nat_tests)
-
 answered_alone : (r : Rank) (c : Call) (r' : Rank) → r'.independent ≡ r.independent → r'.known ≡ r.known → r'.«open» ≡ r.«open» → is_data c ≡ false
     → is_collective c ≡ false → kind_of_call c ≡ None → Frees r c r' → Alone r c r'
 answered_alone r c r' mode known still of_data alone kind frees = grind (arith, nat_tests, and-false)
 
-refused_alone : (r : Rank) (c : Call) → r.independent ≡ false → is_data c ≡ true → is_collective c ≡ false → kind_of_call c ≡ None → Alone r c r
-refused_alone r c e of_data alone kind = grind (arith, nat_tests, with_true)
-
-asks_with : (r : Rank) (c : Call) (k : OfferKind) (b : Batch) (o : Open) → o.independent ≡ mode_after r.independent c → o.gets ≡ b.gets
-    → Asking r c (record r { «open» = Some o }) (record { kind = k; known = r.known; batch = b })
-asks_with r c k b o e f = record { known = refl; told = refl; open_with = o; is_open = refl; mode = e; gets = f; kept = refl; frees = λ id h g. g }
-
 meets_with : (r : Rank) (c : Call) (k : MeetKind) (b : Batch) (o : Open) → o.independent ≡ mode_after r.independent c → o.gets ≡ b.gets
     → kind_of_call c ≡ Some k → is_collective c ≡ true
     → Meeting r c (record r { «open» = Some o }) (record { kind = offer.Meet k; known = r.known; batch = b })
-meets_with r c k b o e f kind together = record { asking = asks_with r c (offer.Meet k) b o e f; of_kind = k; kind = kind; meets = refl; together = together }
+meets_with r c k b o e f kind together = grind (arith, nat_tests)
 
 solo_with : (r : Rank) (c : Call) (b : Batch) (o : Open) → o.independent ≡ mode_after r.independent c → o.gets ≡ b.gets
     → kind_of_call c ≡ None → is_collective c ≡ false → is_data c ≡ true → r.independent ≡ true
     → AloneAsking r c (record r { «open» = Some o }) (record { kind = offer.Solo; known = r.known; batch = b })
-solo_with r c b o e f kind alone of_data mode = grind (arith, nat_tests, asks_with, with_true)
+solo_with r c b o e f kind alone of_data mode = grind (arith, nat_tests)
 
 -- after those of the chosen are gone
 gone_asks : (r : Rank) (c : Call) (choice : Choice) (k : OfferKind) (b : Batch) (o : Open) → o.independent ≡ mode_after r.independent c → o.gets ≡ b.gets
@@ -98,23 +88,14 @@ gone_asks : (r : Rank) (c : Call) (choice : Choice) (k : OfferKind) (b : Batch) 
 gone_asks r c choice k b o e f = grind (arith, nat_tests, free_gone (is_chosen (named r choice)) r.posted, named r choice)
 
 pub step_says : (header : Header) (r : Rank) (c : Call) → Says r c (step header r c)
-step_says header r (call.Put true name given values) = grind (arith, nat_tests, either, meets_with)
-step_says header r (call.Put false name given values) = grind (arith, nat_tests, either, solo_with, refused_alone)
-step_says header r (call.Get true name given) = grind (arith, nat_tests, either, meets_with)
-step_says header r (call.Get false name given) = grind (arith, nat_tests, either, solo_with, refused_alone)
+step_says header r (call.Put t name given values) = grind (arith, nat_tests, either, meets_with, solo_with)
+step_says header r (call.Get t name given) = grind (arith, nat_tests, either, meets_with, solo_with)
 step_says header r (call.Post id kind name given values) =
     grind (arith, nat_tests, answered_alone r (call.Post id kind name given values) r, free_after)
-step_says header r (call.Wait true choice) = grind (arith, nat_tests, meets_with r, gone_asks r (call.Wait true choice) choice)
-step_says header r (call.Wait false choice) = grind (arith, nat_tests, gone_asks r (call.Wait false choice) choice, with_true r.independent true, refused_alone r)
+step_says header r (call.Wait t choice) = grind (arith, nat_tests, meets_with r, gone_asks r (call.Wait t choice) choice)
 step_says header r (call.Cancel choice) =
-    answered_alone r (call.Cancel choice) (without_chosen r choice) refl refl refl refl refl refl (λ id h f. free_gone (is_chosen (named r choice)) r.posted id f)
-step_says header r (call.Attach size) = grind (arith, nat_tests, either, answered_alone)
-step_says header r call.Detach = grind (arith, nat_tests, either, answered_alone)
-step_says header r call.BeginIndep = meets_with r call.BeginIndep meets.Begin _ _ refl refl refl refl
-step_says header r call.EndIndep = meets_with r call.EndIndep meets.End _ _ refl refl refl refl
-step_says header r call.SyncRecords = meets_with r call.SyncRecords meets.Sync _ _ refl refl refl refl
-step_says header r (call.InqDim name) = answered_alone r (call.InqDim name) r refl refl refl refl refl refl (λ n h f. f)
-step_says header r (call.FillRec name number share ranks) = grind (arith, nat_tests, either, meets_with)
+    grind (arith, nat_tests, answered_alone r (call.Cancel choice) (without_chosen r choice), free_gone (is_chosen (named r choice)) r.posted)
+step_says header r c = grind (arith, nat_tests, either, answered_alone, meets_with)
 
 -- what is known where the step is
 pub says_at : (header : Header) (r : Rank) (c : Call) (p : Rank × Want) → p ≡ step header r c → Says r c p
@@ -129,16 +110,13 @@ alone_keeps header rank next c a e = let w = says_at header rank c (next, want.A
 abbrev pub Keeps : Option Open → Offer → Type 0
 Keeps m o = (is_some m ≡ true) × IfSome m (λ x. x.gets ≡ o.batch.gets)
 
-keeps_gets : (m : Option Open) (o : Offer) (w : Open) → m ≡ Some w → w.gets ≡ o.batch.gets → Keeps m o
-keeps_gets m o w e f = grind (arith, nat_tests)
-
 pub meets_keeps : (header : Header) (rank next : Rank) (c : Call) (o : Offer) → (next, want.Meet o) ≡ step header rank c
     → (next.known ≡ rank.known) × ((o.known ≡ rank.known) × Keeps next.«open» o)
-meets_keeps header rank next c o e = grind (arith, nat_tests, says_at header rank c (next, want.Meet o) e, keeps_gets)
+meets_keeps header rank next c o e = grind (arith, nat_tests, says_at header rank c (next, want.Meet o) e)
 
 pub solo_keeps : (header : Header) (rank next : Rank) (c : Call) (o : Offer) → (next, want.Solo o) ≡ step header rank c
     → (o.kind ≡ offer.Solo) × ((next.known ≡ rank.known) × ((o.known ≡ rank.known) × Keeps next.«open» o))
-solo_keeps header rank next c o e = grind (arith, nat_tests, says_at header rank c (next, want.Solo o) e, keeps_gets)
+solo_keeps header rank next c o e = grind (arith, nat_tests, says_at header rank c (next, want.Solo o) e)
 
 -- ---- hearing
 

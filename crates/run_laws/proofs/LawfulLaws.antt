@@ -46,23 +46,14 @@ pub record Ranks (script : Script) : Type 0 where
   pub kinds_few : length (kinds_of script) ≤ most_calls
 
 own_few : (script : Script) (r : ℕ) (own : List Call) → IsLawful script → slice_get script.calls r ≡ Some own → length own ≤ most_calls
-own_few script r own t e =
-    let h = sum_has 0 (map (λ o. length o) script.calls) r (length own) (entry_map (λ o. length o) script.calls r own e) in
-    le_two (length own) _ most_calls (from_zero _ _ h) t.few_calls
-  where
-    from_zero : (a b : ℕ) → 0 + a ≤ b → a ≤ b
-    from_zero a b h = omega arith
+own_few script r own t e = omega (arith, sum_has 0 (map (λ o. length o) script.calls) r (length own) (entry_map (λ o. length o) script.calls r own e), t.few_calls)
 
 pub own_lawful : (script : Script) (r : ℕ) (own : List Call) → is_lawful script ≡ true → slice_get script.calls r ≡ Some own → Own script r own
 own_lawful script r own h e =
     let t = lawful_parts script h in
-    record {
-      lawful = passes_at (λ o. list_all (is_lawful_call script.ranks o.0) o.1) (enumerate_from 0 script.calls) t.each_call r (r, own)
-          (get_enumerate script.calls 0 r r own e (omega arith));
-      different = passes_at (λ o. are_different (posted_ids o)) script.calls t.ids_once r own e;
-      few = own_few script r own t e;
-      agreed = one_list script.calls r own t.agreed e;
-    }
+    let each = passes_at (λ o. list_all (is_lawful_call script.ranks o.0) o.1) (enumerate_from 0 script.calls) t.each_call r (r, own) (get_enumerate script.calls 0 r r own e (omega arith)) in
+    let ids = passes_at (λ o. are_different (posted_ids o)) script.calls t.ids_once r own e in
+    record { lawful = each; different = ids; few = own_few script r own t e; agreed = one_list script.calls r own t.agreed e }
 
 pub ranks_lawful : (script : Script) → is_lawful script ≡ true → Ranks script
 ranks_lawful script h = grind (arith, nat_tests, lawful_parts script h, kinds_few, own_few script 0, le_two, script.calls)

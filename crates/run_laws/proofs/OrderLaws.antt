@@ -1,5 +1,5 @@
 -- Longer orders: their states and device calls, and the solo steps of one rank in a row.
-use Rattle.run_laws.proofs.Words.{◌≡◌, ℕ, refl, sym, ◌∙◌, ap, List, [], ◌∷◌, ◌++◌, set, true, Some, append_assoc, set-set, fold-append, slice_get, ◌==◌, nat_lt, fold, list_all, eqb-true, and_first, and_second, Header, Hints, Script, Mark, Meet, Solo, Setting, Counted, store_records, calls_from, Going, setting_of, first_state, state_after, after_mark, after_solo, solo_of, advance, closed, is_solo_of, own_step, own_calls, calls_so_far, entry_set, set_own, arith, nat_tests}
+use Rattle.run_laws.proofs.Words.{◌≡◌, ℕ, refl, sym, List, [], ◌∷◌, ◌++◌, set, true, Some, append_assoc, set-set, fold-append, slice_get, ◌==◌, nat_lt, fold, list_all, eqb-true, and_first, and_second, Header, Hints, Script, Mark, Meet, Solo, Setting, Counted, store_records, calls_from, Going, setting_of, first_state, state_after, after_mark, solo_of, advance, closed, is_solo_of, own_step, own_calls, calls_so_far, entry_set, set_own, arith, nat_tests}
 use Rattle.run_laws.proofs.StandingLaws.{solo_goes, solo_calls_go}
 
 -- ---- states
@@ -35,9 +35,7 @@ own_solos s r c goings g (Solo q n ∷ more) e h =
     let done = solo_of s r c (advance s.header g) in
     let q_is = eqb-true q r (and_first (q == r) _ h) in
     let others = own_solos s r done.0 (set goings r done.1) done.1 more (entry_set goings r g done.1 e) (and_second (q == r) _ h) in
-    ap (λ (j : ℕ). fold (after_mark s) (after_solo s j c goings) more) q_is
-    ∙ ap (λ (state : Counted × List Going). fold (after_mark s) state more) (solo_goes s r c goings g e) ∙ others
-    ∙ ap (λ (gs : List Going). ((fold (own_step s r) done more).0, gs)) (set-set goings r done.1 (fold (own_step s r) done more).1)
+    grind (arith, nat_tests, q_is, solo_goes s r c goings g e, others, set-set)
 
 pub own_solo_calls : (hints : Hints) (s : Setting) (r : ℕ) (c : Counted) (goings : List Going) (g : Going) (more : List Mark) → slice_get goings r ≡ Some g
     → list_all (is_solo_of r) more ≡ true → calls_so_far hints s (c, goings) more ≡ own_calls hints s r (c, g) more

@@ -1,32 +1,21 @@
 -- A rank that answers alone, and the steps of ranks that stand at their offers.
-use Rattle.run_laws.proofs.Words.{◌≡◌, ℕ, suc, refl, sym, ◌∙◌, ap, List, [], ◌∷◌, ◌++◌, length, map, set, Option, Some, None, arith, slice_get, zip, Header, Call, Answer, Hints, Solo, Offer, Reply, DiskCall, Want, Setting, Counted, mark_calls, solo_calls, step, Going, go, advance, hears, offers_of, after_solo, solo_of, answered, asking, HasCome, AreAt, AreEnded, all_hear, nat_tests}
+use Rattle.run_laws.proofs.Words.{◌≡◌, ℕ, suc, refl, ap, List, [], ◌∷◌, length, map, set, Option, Some, None, arith, slice_get, zip, Header, Call, Answer, Hints, Solo, Offer, Reply, DiskCall, Setting, Counted, mark_calls, solo_calls, step, Going, advance, hears, offers_of, after_solo, solo_of, answered, asking, HasCome, AreAt, AreEnded, all_hear, nat_tests}
 use Rattle.nc_base.specs.declared.step.Want.TheVariants as want
 use Rattle.serial_spec.specs.RankMachine as machine
 
 -- ---- one rank
 
--- the next offer, from what the rank wants at its next call
-abbrev went_by : Header → List Answer → List Call → machine.Rank × Want → Going × Option Offer
-went_by header answers calls p = elim p.1 [
-  | want.Answered a ↦ go header p.0 (answers ++ a ∷ []) calls
-  | want.Meet o ↦ (record { rank = p.0; answers = answers; calls = calls }, Some o)
-  | want.Solo o ↦ (record { rank = p.0; answers = answers; calls = calls }, Some o)
-]
-
-next_call : (header : Header) (s : Going) (c : Call) (calls : List Call) → s.calls ≡ c ∷ calls → advance header s ≡ went_by header s.answers calls (step header s.rank c)
-next_call header s c calls e = ap (λ (cs : List Call). go header s.rank s.answers cs) e
-
 pub comes_on : (header : Header) (g s : Going) (next : machine.Rank) (a : Answer) (c : Call) (calls : List Call)
     → HasCome header g s → s.calls ≡ c ∷ calls → (next, want.Answered a) ≡ step header s.rank c → HasCome header g (answered s next a calls)
-comes_on header g s next a c calls h e f = ap (went_by header s.answers calls) f ∙ sym (next_call header s c calls e) ∙ h
+comes_on header g s next a c calls h e f = grind (arith, nat_tests)
 
 pub comes_to_meeting : (header : Header) (g s : Going) (next : machine.Rank) (o : Offer) (c : Call) (calls : List Call)
     → HasCome header g s → s.calls ≡ c ∷ calls → (next, want.Meet o) ≡ step header s.rank c → advance header g ≡ (asking s next calls, Some o)
-comes_to_meeting header g s next o c calls h e f = sym (ap (went_by header s.answers calls) f ∙ sym (next_call header s c calls e) ∙ h)
+comes_to_meeting header g s next o c calls h e f = grind (arith, nat_tests)
 
 pub comes_to_solo : (header : Header) (g s : Going) (next : machine.Rank) (o : Offer) (c : Call) (calls : List Call)
     → HasCome header g s → s.calls ≡ c ∷ calls → (next, want.Solo o) ≡ step header s.rank c → advance header g ≡ (asking s next calls, Some o)
-comes_to_solo header g s next o c calls h e f = sym (ap (went_by header s.answers calls) f ∙ sym (next_call header s c calls e) ∙ h)
+comes_to_solo header g s next o c calls h e f = grind (arith, nat_tests)
 
 pub comes_to_end : (header : Header) (g s : Going) → HasCome header g s → s.calls ≡ [] → advance header g ≡ (s, None)
 comes_to_end header g s h e = grind (arith, nat_tests)
@@ -39,13 +28,8 @@ at_offers ss offers = map (λ p. (p.0, Some p.1)) (zip ss offers)
 pub arrived : (header : Header) (goings ss : List Going) (offers : List Offer) → AreAt header goings ss offers → map (advance header) goings ≡ at_offers ss offers
 arrived header [] [] [] w = refl
 arrived header (g ∷ goings) (s ∷ ss) (o ∷ offers) w =
-    let first = w.each 0 g s o refl refl refl in
-    let others = arrived header goings ss offers (record {
-      long = let h = w.long in omega arith;
-      all = let h = w.all in omega arith;
-      each = λ r g' s' o' a b c. w.each (suc r) g' s' o' a b c;
-    }) in
-    λ i. first i ∷ others i
+    let rest : AreAt header goings ss offers = record { long = omega (arith, w.long); all = omega (arith, w.all); each = λ r g' s' o' a b c. w.each (suc r) g' s' o' a b c } in
+    grind (arith, nat_tests, w.each 0 g s o refl refl refl, arrived header goings ss offers rest)
 arrived header goings ss offers w = absurd (omega (arith, w.all, w.long))
 
 pub offers_at : (ss : List Going) (offers : List Offer) → length ss ≡ length offers → offers_of (at_offers ss offers) ≡ offers
@@ -55,7 +39,6 @@ offers_at ss offers e = absurd (omega arith)
 
 pub hears_at : (header : Header) (ss : List Going) (offers : List Offer) (replies : List Reply) → length ss ≡ length offers
     → map (λ p. hears header p.0.0 p.1) (zip (at_offers ss offers) replies) ≡ all_hear header ss replies
-hears_at header [] (o ∷ offers) replies e = absurd (omega arith)
 hears_at header (s ∷ ss) [] replies e = absurd (omega arith)
 hears_at header (s ∷ ss) (o ∷ offers) (y ∷ replies) e = ap (λ (gs : List Going). hears header s y ∷ gs) (hears_at header ss offers replies (omega arith))
 hears_at header xs ys replies e = refl
@@ -81,7 +64,6 @@ solo_calls_go hints s r n c goings g e = grind (arith, nat_tests)
 pub ended : (header : Header) (goings ss : List Going) → AreEnded header goings ss → map (λ g. (advance header g).0) goings ≡ ss
 ended header [] [] w = refl
 ended header (g ∷ goings) (s ∷ ss) w =
-    let first = w.each 0 g s refl refl in
-    let others = ended header goings ss (record { long = let h = w.long in omega arith; each = λ r g' s' a b. w.each (suc r) g' s' a b }) in
-    λ i. (first i).0 ∷ others i
+    let others = ended header goings ss (record { long = omega (arith, w.long); each = λ r g' s' a b. w.each (suc r) g' s' a b }) in
+    grind (arith, nat_tests, w.each 0 g s refl refl, others)
 ended header goings ss w = absurd (omega (arith, w.long))

@@ -1,5 +1,5 @@
 -- What a rank on its way has at its next call, and that all ranks meet and end together.
-use Rattle.run_laws.proofs.Words.{◌≡◌, ℕ, suc, ◌+◌, ◌*◌, ◌^◌, ◌<◌, ◌≤◌, ◌≢◌, refl, ◌∙◌, List, [], ◌∷◌, ◌++◌, length, drop, true, Option, Some, None, arith, length-drop, append-nil, list_all-append, nat_tests, slice_get, filter, list_all, and_from, eqb-true, entry_below, first_same, none_of_test, and_first, and_second, Call, Script, Mark, Meet, MeetKind, Offer, Open, Going, kinds, marks, concerns, is_of_rank_below, IsLegal, is_lawful, is_lawful_call, most_calls, most_parts, IsFresh, IsShare, posts_held, meetings, kinds_of, Waits, IsOnWay}
+use Rattle.run_laws.proofs.Words.{◌≡◌, ℕ, ◌+◌, ◌^◌, ◌<◌, ◌≤◌, ◌≢◌, refl, ◌∙◌, List, [], ◌∷◌, ◌++◌, length, drop, true, Option, Some, None, arith, length-drop, append-nil, list_all-append, nat_tests, slice_get, filter, list_all, and_from, eqb-true, entry_below, first_same, none_of_test, and_first, and_second, Call, Script, Mark, Meet, MeetKind, Offer, Open, Going, kinds, marks, concerns, is_of_rank_below, IsLegal, is_lawful, is_lawful_call, most_calls, most_parts, IsFresh, IsShare, posts_held, meetings, kinds_of, Waits, IsOnWay}
 use Rattle.nc_base.specs.declared.request.Call.TheVariants as call
 use Rattle.nc_base.specs.declared.step.OfferKind.TheVariants as offer
 use Rattle.serial_spec.specs.RankMachine as machine
@@ -20,26 +20,18 @@ pub call_lawful : (script : Script) (order : List Mark) (r : ℕ) (s : Going) (c
     → is_lawful_call script.ranks r c ≡ true
 call_lawful script order r s c calls w e = grind (arith, nat_tests, and_first)
 
-share_of : (ranks r : ℕ) (c : Call) → r < ranks → ranks ≤ 64 → is_lawful_call ranks r c ≡ true → IsShare c
-share_of ranks r c l m h = grind (arith, nat_tests, eqb-true, and_second, and_first)
-
 pub call_share : (script : Script) (order : List Mark) (r : ℕ) (s : Going) (c : Call) (calls : List Call) → is_lawful script ≡ true → r < script.ranks
     → IsOnWay script order r s None → s.calls ≡ c ∷ calls → IsShare c
-call_share script order r s c calls h l w e = share_of script.ranks r c l (ranks_lawful script h).most (call_lawful script order r s c calls w e)
-
-below_most : (a b n : ℕ) → b ≡ suc n → a + b ≤ most_calls → a < most_calls
-below_most a b n e h = omega arith
-
-room_left : (held a : ℕ) → held ≤ most_parts * a → a < most_calls → held + most_parts ≤ 2 ^ 30
-room_left held a h l = omega arith
+call_share script order r s c calls h l w e =
+    grind (arith, nat_tests, ranks_lawful script h, call_lawful script order r s c calls w e, eqb-true, and_second, and_first)
 
 pub call_number : (script : Script) (order : List Mark) (r : ℕ) (s : Going) (c : Call) (calls : List Call) → IsOnWay script order r s None → s.calls ≡ c ∷ calls
     → length s.answers < most_calls
-call_number script order r s c calls w e = below_most _ _ _ (calls_long s c calls e) w.few
+call_number script order r s c calls w e = grind (arith, nat_tests, calls_long, w.few)
 
 pub call_posts : (script : Script) (order : List Mark) (r : ℕ) (s : Going) (c : Call) (calls : List Call) → IsOnWay script order r s None → s.calls ≡ c ∷ calls
     → posts_held s.rank + most_parts ≤ 2 ^ 30
-call_posts script order r s c calls w e = room_left _ _ w.posts (call_number script order r s c calls w e)
+call_posts script order r s c calls w e = grind (arith, nat_tests, call_number, w.posts, posts_held)
 
 pub call_waits : (script : Script) (order : List Mark) (r : ℕ) (s : Going) (o : Offer) → IsOnWay script order r s (Some o) → Keeps s.rank.«open» o
 call_waits script order r s o w = grind (arith, nat_tests)
@@ -82,7 +74,4 @@ at_end script order r s w e = grind (arith, nat_tests, append-nil)
 
 pub order_legal : (script : Script) (order : List Mark) (ss : List Going) → length ss ≡ script.ranks → list_all (is_of_rank_below script.ranks) order ≡ true
     → ((r : ℕ) (s : Going) → slice_get ss r ≡ Some s → IsOnWay script order r s None × (s.calls ≡ [])) → IsLegal script order
-order_legal script order ss e known f = record { known_ranks = known; each_rank = each }
-  where
-    each : (r : ℕ) → r < script.ranks → filter (concerns r) order ≡ marks script.calls r
-    each r l = grind (arith, nat_tests, entry_below ss r, at_end script order r)
+order_legal script order ss e known f = record { known_ranks = known; each_rank = λ r l. grind (arith, nat_tests, entry_below ss r, at_end script order r) }

@@ -1,5 +1,5 @@
 -- A rank on its way: how it begins, how its calls and its replies change what is left to it, and what others leave as it was.
-use Rattle.run_laws.proofs.Words.{◌≡◌, ℕ, suc, ◌+◌, ◌*◌, ◌≤◌, ◌≢◌, refl, sym, ◌∙◌, ap, subst, List, [], ◌∷◌, ◌++◌, length, drop, Bool, true, false, not, cond, ◌&&◌, ◌||◌, Option, Some, None, arith, true≢false, append_assoc, append-nil, sum_by-append, filter-append, eq-eqb, and_from, eqb-true, eqb_tells, slice_get, ◌==◌, filter, is_some, list_all, list_any, cons_option, and_first, and_second, Header, Call, Answer, Script, Mark, Meet, Solo, MeetKind, Offer, Reply, Open, Posted, step, hear, Going, first_going, kinds, marks_from, concerns, kind_of_call, kind_of_meeting, mode_after, is_collective, is_data, is_meeting, is_lawful, is_lawful_call, most_calls, most_parts, are_different, posted_ids, id_posted, posts_held, answered, asking, is_solo_of, meetings, mode_heard, kind_of_offer, kinds_of, Waits, AreNew, IsOnWay, long_push, nat_tests}
+use Rattle.run_laws.proofs.Words.{◌≡◌, ℕ, suc, ◌+◌, ◌≤◌, ◌≢◌, refl, sym, ◌∙◌, ap, subst, List, [], ◌∷◌, ◌++◌, length, drop, Bool, true, false, not, cond, ◌&&◌, Option, Some, None, arith, append_assoc, append-nil, sum_by-append, filter-append, eq-eqb, and_from, eqb-true, eqb_tells, slice_get, ◌==◌, filter, is_some, list_all, list_any, cons_option, and_first, and_second, Header, Call, Answer, Script, Mark, Meet, Solo, MeetKind, Offer, Reply, Open, Posted, step, hear, Going, first_going, kinds, marks_from, concerns, kind_of_call, kind_of_meeting, mode_after, is_collective, is_data, is_meeting, is_lawful, most_parts, are_different, posted_ids, id_posted, posts_held, answered, asking, is_solo_of, meetings, mode_heard, kind_of_offer, kinds_of, AreNew, IsOnWay, long_push, nat_tests}
 use Rattle.nc_base.specs.declared.step.OfferKind.TheVariants as offer
 use Rattle.nc_base.specs.declared.step.Want.TheVariants as want
 use Rattle.serial_spec.specs.RankMachine as machine
@@ -10,9 +10,6 @@ use Rattle.run_laws.proofs.LawfulLaws.{own_lawful}
 
 filter_one : (r : ℕ) (order : List Mark) (m : Mark) → concerns r m ≡ true → filter (concerns r) (order ++ m ∷ []) ≡ filter (concerns r) order ++ m ∷ []
 filter_one r order m e = grind (arith, nat_tests, filter-append)
-
-filter_none : (r : ℕ) (order more : List Mark) → filter (concerns r) more ≡ [] → filter (concerns r) (order ++ more) ≡ filter (concerns r) order
-filter_none r order more e = grind (arith, nat_tests, filter-append, append-nil)
 
 meetings_more : (order more : List Mark) (n : ℕ) → meetings more ≡ n → meetings (order ++ more) ≡ meetings order + n
 meetings_more order more n e = sum_by-append (λ (m : Mark). cond (is_meeting m) 1 0) order more ∙ ap (λ (k : ℕ). meetings order + k) e
@@ -48,9 +45,6 @@ mode_alone ind c e = grind (arith, nat_tests)
 
 -- ---- ids of its own
 
-neither : (a b : Bool) → not (a || b) ≡ true → (a ≡ false) × (not b ≡ true)
-neither a b e = grind (arith, nat_tests)
-
 still_free : (r r' : machine.Rank) (n : Option ℕ) (ids : List ℕ) → ((id : ℕ) → is_other n id ≡ true → is_free r.posted id ≡ true → is_free r'.posted id ≡ true)
     → list_all (is_other n) ids ≡ true → list_all (is_free r.posted) ids ≡ true → list_all (is_free r'.posted) ids ≡ true
 still_free r r' n [] f o h = refl
@@ -59,18 +53,18 @@ still_free r r' n (id ∷ ids) f o h =
 
 all_other : (n : ℕ) (ids : List ℕ) → not (list_any (λ m. m == n) ids) ≡ true → list_all (is_other (Some n)) ids ≡ true
 all_other n [] h = refl
-all_other n (m ∷ ids) h = grind (arith, nat_tests, all_other n ids (neither (m == n) _ h).1, neither, and_from, eqb_tells, not, true≢false, eq-eqb)
+all_other n (m ∷ ids) h = grind (arith, nat_tests, all_other n ids)
 
-none_other : (ids : List ℕ) → list_all (is_other None) ids ≡ true
-none_other [] = refl
-none_other (id ∷ ids) = none_other ids
+none_other : (test : ℕ → Bool) → ((id : ℕ) → test id ≡ true) → (ids : List ℕ) → list_all test ids ≡ true
+none_other test f [] = refl
+none_other test f (id ∷ ids) = and_from _ _ (f id) (none_other test f ids)
 
 abbrev New : machine.Rank → List ℕ → Type 0
 New r ids = (are_different ids ≡ true) × (list_all (is_free r.posted) ids ≡ true)
 
 new_next : (r r' : machine.Rank) (n : Option ℕ) (ids : List ℕ) → ((id : ℕ) → is_other n id ≡ true → is_free r.posted id ≡ true → is_free r'.posted id ≡ true)
     → New r (cons_option n ids) → New r' ids
-new_next r r' None ids f w = (w.0, still_free r r' None ids f (none_other ids) w.1)
+new_next r r' None ids f w = (w.0, still_free r r' None ids f (none_other (is_other None) (λ id. refl) ids) w.1)
 new_next r r' (Some n) ids f w = grind (arith, nat_tests, still_free r r' (Some n) ids f, all_other n ids, and_first, and_second (is_free r.posted n))
 
 are_new : (s : Going) (r' : machine.Rank) (c : Call) (calls : List Call) → AreNew s → s.calls ≡ c ∷ calls → Frees s.rank c r' → New r' (posted_ids calls)
@@ -79,17 +73,7 @@ are_new s r' c calls w e f = grind (arith, nat_tests, new_next s.rank r' (id_pos
 new_as : (r r' : machine.Rank) (ids : List ℕ) → r'.posted ≡ r.posted → New r ids → New r' ids
 new_as r r' ids e w = (w.0, subst (λ (ps : List Posted). list_all (is_free ps) ids ≡ true) (sym e) w.1)
 
-all_free : (ids : List ℕ) → list_all (is_free []) ids ≡ true
-all_free [] = refl
-all_free (id ∷ ids) = all_free ids
-
 -- ---- counts
-
-moved : (a b c d most : ℕ) → a ≡ suc b → c ≡ suc d → b + c ≤ most → a + d ≤ most
-moved a b c d most e f h = omega arith
-
-held_more : (a b n m : ℕ) → m ≡ suc n → a ≤ b + most_parts → b ≤ most_parts * n → a ≤ most_parts * m
-held_more a b n m e h k = omega arith
 
 pub calls_long : (s : Going) (c : Call) (calls : List Call) → s.calls ≡ c ∷ calls → length s.calls ≡ suc (length calls)
 calls_long s c calls e = ap (λ (cs : List Call). length cs) e ∙ (omega arith)
@@ -99,7 +83,7 @@ calls_long s c calls e = ap (λ (cs : List Call). length cs) e ∙ (omega arith)
 pub way_begins : (script : Script) (header : Header) (r : ℕ) (own : List Call) → is_lawful script ≡ true → slice_get script.calls r ≡ Some own
     → IsOnWay script [] r (first_going header own) None
 way_begins script header r own h e =
-    grind (arith, nat_tests, own_lawful script r own h e, all_free (posted_ids own))
+    grind (arith, nat_tests, own_lawful script r own h e, none_other (is_free []) (λ id. refl) (posted_ids own))
 
 -- ---- its own calls
 
@@ -107,19 +91,8 @@ pub way_answers : (script : Script) (order : List Mark) (r : ℕ) (header : Head
     → IsOnWay script order r s None → s.calls ≡ c ∷ calls → (next, want.Answered a) ≡ step header s.rank c → posts_held next ≤ posts_held s.rank + most_parts
     → IsOnWay script order r (answered s next a calls) None
 way_answers script order r header s next a c calls w e f p =
-    grind (
-      arith,
-      nat_tests,
-      says_at header s.rank c (next, want.Answered a) f,
-      are_new s next c calls w.new e (says_at header s.rank c (next, want.Answered a) f).frees,
-      long_push s.answers a,
-      kinds_skip c calls (says_at header s.rank c (next, want.Answered a) f).kind,
-      moved _ _ _ _ most_calls (long_push s.answers a) (calls_long s c calls e) w.few,
-      held_more _ _ _ _ (long_push s.answers a) p w.posts,
-      marks_alone,
-      and_second,
-      calls_long,
-    )
+    let says = says_at header s.rank c (next, want.Answered a) f in
+    grind (arith, nat_tests, says, are_new s next c calls w.new e says.frees, long_push s.answers a, kinds_skip c calls says.kind, w.few, w.posts, p, marks_alone, and_second, calls_long s c calls e)
 
 mode_with : (r : machine.Rank) (w : Open) → r.«open» ≡ Some w → mode_heard r ≡ w.independent
 mode_with r w e = ap (λ (m : Option Open). elim m [ None ↦ r.independent | Some o ↦ o.independent ]) e
@@ -128,7 +101,8 @@ pub way_meets : (script : Script) (order : List Mark) (r : ℕ) (header : Header
     → IsOnWay script order r s None → s.calls ≡ c ∷ calls → (next, want.Meet o) ≡ step header s.rank c → posts_held next ≤ posts_held s.rank + most_parts
     → IsOnWay script order r (asking s next calls) (Some o)
 way_meets script order r header s next o c calls w e f p =
-    grind (arith, nat_tests, says_at header s.rank c (next, want.Meet o) f, are_new s next c calls w.new e ((says_at header s.rank c (next, want.Meet o) f).asking).frees, moved _ _ _ _ most_calls refl (calls_long s c calls e) w.few, held_more _ _ _ _ refl p w.posts, mode_with, marks_meet, kinds_take, and_second, calls_long)
+    let says = says_at header s.rank c (next, want.Meet o) f in
+    grind (arith, nat_tests, says, are_new s next c calls w.new e (says.asking).frees, w.few, w.posts, p, mode_with, marks_meet, kinds_take, and_second, calls_long s c calls e)
 
 -- ---- replies
 
@@ -141,30 +115,14 @@ pub way_solo : (script : Script) (order : List Mark) (r : ℕ) (header : Header)
     → IsOnWay script (order ++ Solo r (length s.answers) ∷ []) r (answered s heard a calls) None
 way_solo script order r header s next heard o reply a c calls w e f p g =
     let says = says_at header s.rank c (next, want.Solo o) f in
-    let asks = says.asking in
-    let hears = heard_at header next heard reply a asks.open_with asks.is_open g in
-    let new = new_as next heard (posted_ids calls) hears.posted (are_new s next c calls w.new e asks.frees) in
+    let hears = heard_at header next heard reply a says.asking.open_with says.asking.is_open g in
+    let new = new_as next heard (posted_ids calls) hears.posted (are_new s next c calls w.new e says.asking.frees) in
     let long = long_push s.answers a in
-    let n = length s.answers in
-    let k = meetings order in
-    let mode = hears.mode ∙ asks.mode ∙ mode_alone s.rank.independent c says.kind in
-    let same = meetings_same order (Solo r n ∷ []) refl in
-    let left = ap (λ (ms : List Mark). Solo r n ∷ ms) (λ i. marks_from r (long i) (same i) (mode i) calls)
-    ∙ sym (marks_solo r n k s.rank.independent c calls says.alone says.solo)
-    ∙ ap (λ (cs : List Call). marks_from r n k s.rank.independent cs) (sym e) in
-    let done = filter_one r order (Solo r n) (eq-eqb r r refl) in
-    record {
-      marks = ap (λ (ms : List Mark). ms ++ marks_from r (length (s.answers ++ a ∷ [])) (meetings (order ++ Solo r n ∷ [])) heard.independent calls) done
-          ∙ append_assoc (filter (concerns r) order) (Solo r n ∷ []) _
-          ∙ ap (λ (ms : List Mark). filter (concerns r) order ++ ms) left ∙ w.marks;
-      kinds = sym (kinds_skip c calls says.kind) ∙ sym (ap (λ (cs : List Call). kinds cs) e) ∙ w.kinds ∙ ap (λ (j : ℕ). drop j (kinds_of script)) (sym same);
-      waits = subst (λ (m : Option Open). Waits m None) (sym hears.closed) tt;
-      meets = tt;
-      lawful = and_second (is_lawful_call script.ranks r c) _ (sym (ap (λ (cs : List Call). list_all (is_lawful_call script.ranks r) cs) e) ∙ w.lawful);
-      new = record { different = new.0; fresh = new.1 };
-      few = moved _ _ _ _ most_calls long (calls_long s c calls e) w.few;
-      posts = held_same next heard _ hears.posted (held_more _ _ _ _ long p w.posts);
-    }
+    let mode : heard.independent ≡ s.rank.independent = hears.mode ∙ says.asking.mode ∙ mode_alone s.rank.independent c says.kind in
+    let same = meetings_same order (Solo r (length s.answers) ∷ []) refl in
+    let done = filter_one r order (Solo r (length s.answers)) (eq-eqb r r refl) in
+    let left = marks_solo r (length s.answers) (meetings order) s.rank.independent c calls says.alone says.solo in
+    grind (arith, nat_tests, long, mode, same, done, left, append_assoc, e, w.marks, kinds_skip c calls says.kind, w.kinds, hears, and_second, w.lawful, new, calls_long s c calls e, w.few, p, w.posts, held_same next heard)
 
 drop_next : {X : Type 0} (k : ℕ) (xs ys : List X) (x : X) → x ∷ xs ≡ drop k ys → xs ≡ drop (suc k) ys
 drop_next (suc k) xs (y ∷ ys) x e = drop_next k xs ys x e
@@ -174,42 +132,21 @@ drop_next n xs m x e = cc
 pub kind_some : (o : Offer) → is_some (kind_of_meeting o.kind) ≡ true → (kind : MeetKind) × ((o.kind ≡ offer.Meet kind) × (kind_of_offer o ≡ kind ∷ []))
 kind_some o e = grind (arith, nat_tests)
 
-waits_open : (m : Option Open) (o : Offer) → Waits m (Some o) → (w : Open) × ((m ≡ Some w) × (w.gets ≡ o.batch.gets))
-waits_open None o h = absurd h
-waits_open (Some w) o h = (w, (refl, h))
-
 pub way_hears : (script : Script) (order : List Mark) (r : ℕ) (header : Header) (s : Going) (heard : machine.Rank) (o : Offer) (reply : Reply) (a : Answer)
     → IsOnWay script order r s (Some o) → (heard, a) ≡ hear header s.rank reply
     → IsOnWay script (order ++ Meet (meetings order) ∷ []) r (answered s heard a s.calls) None
 way_hears script order r header s heard o reply a w g =
-    let was = waits_open s.rank.«open» o w.waits in
-    let hears = heard_at header s.rank heard reply a was.0 was.1.0 g in
+    let was : (v : Open) × (s.rank.«open» ≡ Some v) = grind (arith, nat_tests, w.waits) in
+    let hears = heard_at header s.rank heard reply a was.0 was.1 g in
     let new = new_as s.rank heard (posted_ids s.calls) hears.posted (w.new.different, w.new.fresh) in
     let long = long_push s.answers a in
-    let k = meetings order in
-    let mode = hears.mode ∙ sym (mode_with s.rank was.0 was.1.0) in
-    let next = meetings_met order k in
+    let mode : heard.independent ≡ mode_heard s.rank = hears.mode ∙ sym (mode_with s.rank was.0 was.1) in
+    let next = meetings_met order (meetings order) in
     let kind = kind_some o w.meets in
-    let left = ap (λ (ms : List Mark). Meet k ∷ ms) (λ i. marks_from r (long i) (next i) (mode i) s.calls) in
-    let done = filter_one r order (Meet k) refl in
-    record {
-      marks = ap (λ (ms : List Mark). ms ++ marks_from r (length (s.answers ++ a ∷ [])) (meetings (order ++ Meet k ∷ [])) heard.independent s.calls) done
-          ∙ append_assoc (filter (concerns r) order) (Meet k ∷ []) _
-          ∙ ap (λ (ms : List Mark). filter (concerns r) order ++ ms) left ∙ w.marks;
-      kinds = grind (arith, nat_tests, drop_next, kind.1.1, w.kinds, drop, kinds_of);
-      waits = subst (λ (m : Option Open). Waits m None) (sym hears.closed) tt;
-      meets = tt;
-      lawful = w.lawful;
-      new = record { different = new.0; fresh = new.1 };
-      few = subst (λ (j : ℕ). j + length s.calls ≤ most_calls) (sym long) w.few;
-      posts = held_same s.rank heard _ hears.posted (subst (λ (j : ℕ). posts_held s.rank ≤ most_parts * j) (sym long) w.posts);
-    }
+    let done = filter_one r order (Meet (meetings order)) refl in
+    grind (arith, nat_tests, long, mode, next, done, append_assoc, w, hears, new, drop_next, kind.1.1, drop, kinds_of, held_same s.rank heard)
 
 -- ---- the solo steps of others
-
-way_same : (script : Script) (order order' : List Mark) (r : ℕ) (s : Going) (held : Option Offer) → filter (concerns r) order' ≡ filter (concerns r) order
-    → meetings order' ≡ meetings order → IsOnWay script order r s held → IsOnWay script order' r s held
-way_same script order order' r s held e f w = grind (arith, nat_tests)
 
 pub one_of : (q n : ℕ) → list_all (is_solo_of q) (Solo q n ∷ []) ≡ true
 one_of q n = and_from (q == q) true (eq-eqb q q refl) refl
@@ -227,8 +164,7 @@ others_meetings q (Solo p m ∷ more) h = others_meetings q more (and_second (p 
 pub way_others : (script : Script) (order more : List Mark) (r q : ℕ) (s : Going) (held : Option Offer) → q ≢ r → list_all (is_solo_of q) more ≡ true
     → IsOnWay script order r s held → IsOnWay script (order ++ more) r s held
 way_others script order more r q s held n h w =
-    way_same script order (order ++ more) r s held (filter_none r order more (others_filter q r more n h))
-    (meetings_same order more (others_meetings q more h)) w
+    grind (arith, nat_tests, others_filter q r more n h, meetings_same order more (others_meetings q more h), others_meetings q more h, filter-append, append-nil)
 
 pub way_beside : (script : Script) (order : List Mark) (r q n : ℕ) (s : Going) (held : Option Offer) → q ≢ r → IsOnWay script order r s held
     → IsOnWay script (order ++ Solo q n ∷ []) r s held

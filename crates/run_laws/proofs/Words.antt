@@ -1,5 +1,5 @@
 -- The words of this crate's proofs, from where they stand.
-pub use Rattle.list_laws.proofs.Std.{Bool, IfSome, List, None, Option, Some, [], and-false, and_from, ap, append-nil, append_assoc, arith, bytes_eq-Decides, cond, cons_option, drop, enumerate_from, eq-eqb, eqb-true, eqb_tells, false, filter, filter-append, fold, fold-append, if◌then◌else◌, is_none, is_some, length, list_all, list_all-append, list_any, map, map-set, max, nat_lt, nat_tests, not, refl, same_Some, set, set-set, slice_get, subst, suc, sum_by-append, sym, true, true≢false, zero, zip, ℕ, ◌&&◌, ◌*◌, ◌++◌, ◌+◌, ◌<◌, ◌==◌, ◌^◌, ◌||◌, ◌∙◌, ◌∷◌, ◌≡◌, ◌≢◌, ◌≤◌}
+pub use Rattle.list_laws.proofs.Std.{Bool, IfSome, List, None, Option, Some, [], and-false, and_from, ap, append-nil, append_assoc, arith, bytes_eq-Decides, cond, cons_option, drop, enumerate_from, eq-eqb, eqb-true, eqb_tells, false, filter, filter-append, fold, fold-append, if◌then◌else◌, is_none, is_some, length, list_all, list_all-append, list_any, map, map-set, max, nat_lt, nat_tests, not, refl, same_Some, set, set-set, slice_get, subst, suc, sum_by-append, sym, true, true≢false, zero, zip, ℕ, ◌&&◌, ◌*◌, ◌++◌, ◌+◌, ◌<◌, ◌==◌, ◌^◌, ◌||◌, ◌∙◌, ◌∷◌, ◌≡◌, ◌≢◌, ◌≤◌, slice_get-map}
 pub use Rattle.std.proofs.Common.{length-drop}
 pub use Rattle.list_laws.proofs.Common.{and_first, and_second, either, entry_below, entry_map, entry_numbered, entry_set, first_same, le_two, long_push, map_map, none_of_test, passes_at, set_own, value_of_some}
 pub use Rattle.list_laws.proofs.Types.{Answer, Batch, Call, Choice, Code, DiskCall, Header, Hints, Mark, Meet, MeetKind, Offer, OfferKind, Post, Reply, Script, Solo, Want}
