@@ -9,8 +9,6 @@ use Rattle.script_spec.specs.ScriptWords.{Word, number_of_text}
 use Rattle.script_spec.specs.ScriptValues.{may_have, number_for, within_limits, each_value}
 use Rattle.script_words.specs.Given.{first_for}
 
--- ---- steps that end well
-
 -- ---- the first word
 
 module _ {A : Type 0} (f : List ℕ → Option A) where
