@@ -1,5 +1,5 @@
 -- The boxes of a range of row-major numbers have just the indices with these numbers, in order.
-use Rattle.serial_spec.proofs.Words.{◌≡◌, ℕ, zero, suc, ◌+◌, ◌-◌, ◌*◌, ◌/◌, ◌%◌, ◌<◌, ◌≤◌, refl, sym, ◌∙◌, ap, List, [], ◌∷◌, ◌++◌, length, map, take, drop, replicate, append_assoc, arith, add-mul, le_of_mul-le-mul_right, mul-le-mul_right, drop-append-add, take-append-add, div-add-mod', mod_below, drop-drop, drop-append-le, take-append-le, length-drop, map-append, append-nil, length-map, flat_map-append, flat_map, ◌==◌, range_with_len, some_factor, map_map, flat_same, Part, product, coordinates, boxes, in_row, whole_rows, shifted, box_indices, AreBoxes, part, part_joined, part_none, part_map, nat_tests, leb_tells, inl, inr, holds_or_not, ltb-true, ltb-false}
+use Rattle.serial_spec.proofs.Words.{◌≡◌, ℕ, zero, suc, ◌+◌, ◌-◌, ◌*◌, ◌/◌, ◌%◌, ◌<◌, ◌≤◌, refl, sym, ◌∙◌, ap, List, [], ◌∷◌, ◌++◌, length, map, take, drop, replicate, arith, add-mul, le_of_mul-le-mul_right, mul-le-mul_right, drop-append-add, take-append-add, mod_below, drop-drop, drop-append-le, take-append-le, length-drop, map-append, append-nil, length-map, flat_map-append, flat_map, ◌==◌, range_with_len, some_factor, map_map, flat_same, Part, product, coordinates, boxes, in_row, whole_rows, shifted, box_indices, AreBoxes, part, part_joined, part_none, part_map, nat_tests, leb_tells, inl, inr, holds_or_not, ltb-true, ltb-false, common_steps}
 use Rattle.serial_spec.proofs.ElementLaws.{length-coordinates}
 
 -- ---- rows of one length
@@ -26,20 +26,9 @@ part_rows f p l n q d from to h e g = grind (arith, nat_tests, drop_rows, take_r
 part_within : {A : Type 0} (f : ℕ → List A) (p : ℕ) → ((x : ℕ) → length (f x) ≡ p) → (n q lo hi base from to : ℕ) → q < n → lo ≤ hi → hi ≤ p
     → base ≡ q * p → from ≡ base + lo → to ≡ base + hi → part from to (flat_map f (range_with_len 0 n)) ≡ part lo hi (f q)
 part_within f p l n q lo hi base from to h k m b e g =
-    let many : to - from ≡ hi - lo = omega arith in
-    let left = length-drop lo (f q) in
-    ap (λ ys. take (to - from) ys)
-    (ap (λ (i : ℕ). drop i (flat_map f (range_with_len 0 n))) e ∙ sym (drop-drop lo base (flat_map f (range_with_len 0 n))) ∙ ap (λ ys. drop lo ys) (at_row ∙ first_row (n - q) (omega arith))
-    ∙ drop-append-le lo (f q) (flat_map f (range_with_len (q + 1) (n - q - 1))) (omega arith))
-    ∙ take-append-le (to - from) (drop lo (f q)) (flat_map f (range_with_len (q + 1) (n - q - 1))) (omega arith)
-    ∙ ap (λ (i : ℕ). take i (drop lo (f q))) many
-  where
-    at_row : drop base (flat_map f (range_with_len 0 n)) ≡ flat_map f (range_with_len q (n - q))
-    at_row = grind (arith, nat_tests, drop_rows f p l q 0 n base)
-
-    first_row : (k : ℕ) → 0 < k → flat_map f (range_with_len q k) ≡ f q ++ flat_map f (range_with_len (q + 1) (k - 1))
-    first_row zero h = absurd (omega arith)
-    first_row (suc k) h = let less : k ≡ suc k - 1 = omega arith in ap (λ (i : ℕ). f q ++ flat_map f (range_with_len (q + 1) i)) less
+    let one : n - q ≡ suc (n - q - 1) = omega (arith, h) in
+    let row : drop base (flat_map f (range_with_len 0 n)) ≡ flat_map f (range_with_len q (suc (n - q - 1))) = grind (arith, nat_tests, drop_rows f p l q 0 n base, one) in
+    grind (arith, common_steps, row, drop-drop lo base (flat_map f (range_with_len 0 n)), drop-append-le lo (f q), length-drop lo (f q), take-append-le (to - from) (drop lo (f q)))
 
 -- ---- the indices of boxes
 
@@ -52,7 +41,7 @@ slice_long lengths i = length-map (coordinates lengths) (λ c. i ∷ c) ∙ leng
 
 map_flat : {A B C : Type 0} (f : B → C) (g : A → List B) (xs : List A) → map f (flat_map g xs) ≡ flat_map (λ x. map f (g x)) xs
 map_flat f g [] = refl
-map_flat f g (x ∷ xs) = map-append f (g x) (flat_map g xs) ∙ ap (λ ys. map f (g x) ++ ys) (map_flat f g xs)
+map_flat f g (x ∷ xs) = grind (arith, nat_tests, map-append, map_flat f g xs)
 
 rows_from : {B : Type 0} (f : ℕ → List B) (first a n : ℕ) → flat_map (λ i. f (first + i)) (range_with_len a n) ≡ flat_map f (range_with_len (first + a) n)
 rows_from f first a zero = refl
@@ -64,39 +53,22 @@ row_indices i p = grind (arith, nat_tests, append-nil, map_map)
 
 in_row_indices : (i : ℕ) (parts : List Part) → flat_map box_indices (in_row i parts) ≡ map (λ c. i ∷ c) (flat_map box_indices parts)
 in_row_indices i [] = refl
-in_row_indices i (p ∷ parts) =
-    (λ t. row_indices i p t ++ in_row_indices i parts t) ∙ sym (map-append (λ c. i ∷ c) (box_indices p) (flat_map box_indices parts))
+in_row_indices i (p ∷ parts) = grind (arith, common_steps, row_indices i p, in_row_indices i parts)
+
+-- a box of whole rows
+shifted_rows : (lengths : List ℕ) (first count : ℕ) → map (λ c. shifted (replicate (length lengths) 0) c) (coordinates lengths) ≡ coordinates lengths
+    → map (λ c. shifted (first ∷ replicate (length lengths) 0) c) (coordinates (count ∷ lengths)) ≡ flat_map (slice lengths) (range_with_len first count)
+shifted_rows lengths first count same =
+    let plain : first + 0 ≡ first = omega arith in
+    let each : (i : ℕ) → map (λ c. shifted (first ∷ replicate (length lengths) 0) c) (slice lengths i) ≡ slice lengths (first + i) = λ i. grind (arith, nat_tests, map_map) in
+    grind (arith, common_steps, map_flat (λ c. shifted (first ∷ replicate (length lengths) 0) c) (slice lengths) (range_with_len 0 count), flat_same (λ i. map (λ c. shifted (first ∷ replicate (length lengths) 0) c) (slice lengths i)) (λ i. slice lengths (first + i)) each (range_with_len 0 count), rows_from (slice lengths) first 0 count)
 
 unshifted : (lengths : List ℕ) → map (λ c. shifted (replicate (length lengths) 0) c) (coordinates lengths) ≡ coordinates lengths
 unshifted [] = refl
-unshifted (n ∷ lengths) =
-    map_flat (λ c. shifted (0 ∷ replicate (length lengths) 0) c) (slice lengths) (range_with_len 0 n)
-    ∙ flat_same (λ i. map (λ c. shifted (0 ∷ replicate (length lengths) 0) c) (slice lengths i)) (slice lengths) (each (unshifted lengths)) (range_with_len 0 n)
-  where
-    each : map (λ c. shifted (replicate (length lengths) 0) c) (coordinates lengths) ≡ coordinates lengths
-        → (i : ℕ) → map (λ c. shifted (0 ∷ replicate (length lengths) 0) c) (slice lengths i) ≡ slice lengths i
-    each same i =
-        let plain : 0 + i ≡ i = omega arith in
-        map_map (λ c. shifted (0 ∷ replicate (length lengths) 0) c) (λ c. i ∷ c) (coordinates lengths)
-        ∙ ap (λ (k : ℕ). map (λ c. k ∷ shifted (replicate (length lengths) 0) c) (coordinates lengths)) plain
-        ∙ sym (map_map (λ c. i ∷ c) (λ c. shifted (replicate (length lengths) 0) c) (coordinates lengths))
-        ∙ ap (λ ys. map (λ c. i ∷ c) ys) same
-
--- a box of whole rows
-whole_box : (lengths : List ℕ) (first count : ℕ)
-    → box_indices (record { start = first ∷ replicate (length lengths) 0; count = count ∷ lengths }) ≡ flat_map (slice lengths) (range_with_len first count)
-whole_box lengths first count =
-    let plain : first + 0 ≡ first = omega arith in
-    map_flat (λ c. shifted (first ∷ replicate (length lengths) 0) c) (slice lengths) (range_with_len 0 count)
-    ∙ flat_same (λ i. map (λ c. shifted (first ∷ replicate (length lengths) 0) c) (slice lengths i)) (λ i. slice lengths (first + i)) each (range_with_len 0 count)
-    ∙ rows_from (slice lengths) first 0 count
-    ∙ ap (λ (k : ℕ). flat_map (slice lengths) (range_with_len k count)) plain
-  where
-    each : (i : ℕ) → map (λ c. shifted (first ∷ replicate (length lengths) 0) c) (slice lengths i) ≡ slice lengths (first + i)
-    each i = grind (arith, nat_tests, map_map, unshifted lengths)
+unshifted (n ∷ lengths) = shifted_rows lengths 0 n (unshifted lengths)
 
 whole_indices : (lengths : List ℕ) (first last : ℕ) → flat_map box_indices (whole_rows lengths first last) ≡ flat_map (slice lengths) (range_with_len first (last - first))
-whole_indices lengths first last = grind (arith, nat_tests, append-nil, whole_box, ltb-false)
+whole_indices lengths first last = grind (arith, nat_tests, append-nil, shifted_rows lengths first (last - first) (unshifted lengths), ltb-false)
 
 -- ---- the law
 
@@ -104,16 +76,10 @@ whole_indices lengths first last = grind (arith, nat_tests, append-nil, whole_bo
 abbrev Right : List ℕ → Type 0
 Right lengths = (from to : ℕ) → from ≤ to → to ≤ product lengths → AreBoxes lengths from to (boxes lengths from to)
 
-scalar_boxes : Right []
-scalar_boxes from to h k = grind (arith, nat_tests, ltb-true, part_none, ltb-false)
-
 -- the row of a number, and its place there
 record InRow (size x q r : ℕ) : Type 0 where
   whole : q * size + r ≡ x
   less : r < size
-
-in_row_of : (size x : ℕ) → 0 < size → InRow size x (x / size) (x % size)
-in_row_of size x h = record { whole = div-add-mod' x size; less = mod_below x size h }
 
 row_less : (n size q x : ℕ) → q * size ≤ x → x < n * size → q < n
 row_less n size q x h k = grind (arith, nat_tests)
@@ -136,56 +102,30 @@ row_part n lengths q lo hi from to ih h k there e f =
 from_front : (n : ℕ) (lengths : List ℕ) (p q r to : ℕ) → Right lengths → InRow (product lengths) to q r → to ≤ n * product lengths → p ≤ q
     → flat_map box_indices (whole_rows lengths p q ++ in_row q (boxes lengths 0 r)) ≡ part (p * product lengths) to (coordinates (n ∷ lengths))
 from_front n lengths p q r to ih w h k =
-    let sum = w.whole in
     let upto : q * product lengths ≤ n * product lengths = omega arith in
     let few : q ≤ n = le_of_mul-le-mul_right upto (omega arith) in
     let over : p * product lengths ≤ q * product lengths = mul-le-mul_right (product lengths) k in
-    let there : p + (q - p) ≡ q = omega arith in
-    let far : p * product lengths + (q - p) * product lengths ≡ q * product lengths = sym (add-mul p (q - p) (product lengths)) ∙ ap (λ (k : ℕ). k * product lengths) there in
+    let far : p * product lengths + (q - p) * product lengths ≡ q * product lengths = grind (arith, nat_tests, add-mul p (q - p) (product lengths)) in
     flat_map-append box_indices (whole_rows lengths p q) (in_row q (boxes lengths 0 r))
-    ∙ (λ t. (whole_indices lengths p q ∙ sym (part_rows (slice lengths) (product lengths) (slice_long lengths) n p (q - p) (p * product lengths) (q * product lengths) (omega arith) refl (sym far))) t
-    ++ row_part n lengths q 0 r (q * product lengths) to ih (omega arith) (omega arith) (λ l. row_less n (product lengths) q (q * product lengths) (omega arith) (omega (arith, l)))
-    (omega arith) (sym sum) t)
+    ∙ (grind (arith, nat_tests, whole_indices, part_rows, slice_long, row_part, row_less, product))
     ∙ sym (part_joined (coordinates (n ∷ lengths)) (p * product lengths) (q * product lengths) to over (omega arith))
-
-same_row : (n : ℕ) (lengths : List ℕ) (from to : ℕ) → Right lengths → from ≤ to → to ≤ n * product lengths → from / product lengths ≡ to / product lengths
-    → flat_map box_indices (in_row (from / product lengths) (boxes lengths (from % product lengths) (to % product lengths))) ≡ part from to (coordinates (n ∷ lengths))
-same_row n lengths from to ih h k e = grind (arith, nat_tests, row_part, mod_below, row_less, flat_map, box_indices, in_row, product, boxes)
 
 -- from within one row to a later one
 first_part : (n : ℕ) (lengths : List ℕ) (p q r s from to : ℕ) → Right lengths → InRow (product lengths) from p r → InRow (product lengths) to q s
     → to ≤ n * product lengths → p < q
     → flat_map box_indices (in_row p (boxes lengths r (product lengths)) ++ whole_rows lengths (p + 1) q ++ in_row q (boxes lengths 0 s)) ≡ part from to (coordinates (n ∷ lengths))
 first_part n lengths p q r s from to ih v w h k =
-    let a = v.whole in
-    let l = v.less in
-    let m = w.less in
     let next : p + 1 ≤ q = omega arith in
     let far : (p + 1) * product lengths ≤ q * product lengths = mul-le-mul_right (product lengths) next in
     let one : (p + 1) * product lengths ≡ p * product lengths + product lengths = omega arith in
     let upto : q * product lengths ≤ n * product lengths = omega arith in
     let few : q ≤ n = le_of_mul-le-mul_right upto (omega arith) in
-    ap (λ parts. flat_map box_indices parts) (append_assoc (in_row p (boxes lengths r (product lengths))) (whole_rows lengths (p + 1) q) (in_row q (boxes lengths 0 s)))
-    ∙ flat_map-append box_indices (in_row p (boxes lengths r (product lengths))) (whole_rows lengths (p + 1) q ++ in_row q (boxes lengths 0 s))
-    ∙ (λ t. row_part n lengths p r (product lengths) from ((p + 1) * product lengths) ih (omega arith) (omega arith) (λ z. omega arith) (sym a) one t
-    ++ from_front n lengths (p + 1) q s to ih w h next t)
-    ∙ sym (part_joined (coordinates (n ∷ lengths)) from ((p + 1) * product lengths) to (omega arith) (omega arith))
+    grind (arith, common_steps, row_part, from_front, part_joined (coordinates (n ∷ lengths)) from ((p + 1) * product lengths) to)
 
 rows_right : (n : ℕ) (lengths : List ℕ) → Right lengths → Right (n ∷ lengths)
 rows_right n lengths ih from to h k =
-    grind (
-      arith,
-      nat_tests,
-      holds_or_not (from / product lengths == to / product lengths),
-      same_row n lengths from to ih h k,
-      some_factor n (product lengths) from,
-      in_row_of (product lengths) to,
-      holds_or_not (from % product lengths == 0),
-      from_front n lengths (from / product lengths) (to / product lengths) (to % product lengths) to ih,
-      first_part n lengths (from / product lengths) (to / product lengths) (from % product lengths),
-      in_row_of (product lengths) from,
-    )
+    grind (arith, nat_tests, holds_or_not (from / product lengths == to / product lengths), row_part, row_less, mod_below, flat_map, box_indices, in_row, product, boxes, some_factor n (product lengths) from, holds_or_not (from % product lengths == 0), from_front n lengths (from / product lengths) (to / product lengths) (to % product lengths) to ih, first_part n lengths (from / product lengths) (to / product lengths) (from % product lengths))
 
 pub boxes_right : (lengths : List ℕ) (from to : ℕ) → from ≤ to → to ≤ product lengths → AreBoxes lengths from to (boxes lengths from to)
-boxes_right [] = scalar_boxes
+boxes_right [] = grind (arith, nat_tests, part_none, ltb-true, ltb-false)
 boxes_right (n ∷ lengths) = rows_right n lengths (boxes_right lengths)

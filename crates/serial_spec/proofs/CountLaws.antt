@@ -1,7 +1,5 @@
 -- Record counts: their limit, what a kind leaves known, and a count that is raised.
 use Rattle.serial_spec.proofs.Words.{◌≡◌, ℕ, ◌+◌, ◌<◌, ◌≤◌, List, [], ◌∷◌, ◌++◌, max, cond, arith, nat_tests, nat_lt, OfferKind, needed_now, Counted, Setting, known_by, raised, greatest, record_limit, with_records}
-use Rattle.nc_base.specs.declared.step.MeetKind.TheVariants as kind
-use Rattle.nc_base.specs.declared.step.OfferKind.TheVariants as offer
 
 pub some_limit : (version : ℕ) → 0 < record_limit version
 some_limit version = grind (arith, nat_tests)

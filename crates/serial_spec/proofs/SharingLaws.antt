@@ -1,5 +1,5 @@
 -- The pair of variables that is computed is the least pair that shares a byte, and there is none where none is computed.
-use Rattle.serial_spec.proofs.Words.{◌≡◌, ℕ, zero, suc, ◌+◌, ◌<◌, ◌≤◌, refl, sym, ◌∙◌, ap, subst, inl, inr, ◌⊎◌, List, [], ◌∷◌, true, false, Option, Some, None, arith, slice_get, nat_lt, IsTrue, told_else, both_none, Header, Var, share, sharing, sharing_with, sharing_from, Shares, IsSharing, nat_tests, some_or_none, first_counts, second_counts, holds_or_not, ltb-false}
+use Rattle.serial_spec.proofs.Words.{◌≡◌, ℕ, zero, suc, ◌+◌, ◌<◌, ◌≤◌, refl, ◌∙◌, ap, inl, inr, ◌⊎◌, List, [], ◌∷◌, true, false, Some, None, arith, slice_get, nat_lt, IsTrue, told_else, both_none, Header, Var, share, sharing, sharing_with, sharing_from, Shares, IsSharing, nat_tests, some_or_none, first_counts, second_counts, holds_or_not, ltb-false}
 use Rattle.serial_spec.proofs.ApartLaws.{none_with}
 
 -- the variable shares bytes with the one that stands there
@@ -21,12 +21,10 @@ SharesIn header first (v ∷ vs) (suc i) (suc j) = SharesIn header first vs i j
 
 shares_in : (header : Header) (first : ℕ) (vs : List Var) (i j : ℕ) → SharesOf header first vs i j → SharesIn header first vs i j
 shares_in header first [] i j (x, g, s) = absurd cc
-shares_in header first (v ∷ vs) zero zero (x, g, inl (e, l)) = let same : x ≡ v = cc in subst (λ (y : Var). y.begin < first) same l
-shares_in header first (v ∷ vs) zero zero (x, g, inr (l, w, f, s)) = absurd (omega arith)
+shares_in header first (v ∷ vs) zero zero s = grind (arith, nat_tests)
 shares_in header first (v ∷ vs) zero (suc j) (x, g, inl (e, l)) = absurd (omega arith)
-shares_in header first (v ∷ vs) zero (suc j) (x, g, inr (l, w, f, s)) = let same : x ≡ v = cc in (w, f, subst (λ (y : Var). share header y w ≡ true) same s)
-shares_in header first (v ∷ vs) (suc i) zero (x, g, inl (e, l)) = absurd (omega arith)
-shares_in header first (v ∷ vs) (suc i) zero (x, g, inr (l, w, f, s)) = absurd (omega arith)
+shares_in header first (v ∷ vs) zero (suc j) (x, g, inr (l, w, f, s)) = (w, f, grind (arith, nat_tests))
+shares_in header first (v ∷ vs) (suc i) zero s = grind (arith, nat_tests)
 shares_in header first (v ∷ vs) (suc i) (suc j) (x, g, inl (e, l)) = shares_in header first vs i j (x, g, inl (omega arith, l))
 shares_in header first (v ∷ vs) (suc i) (suc j) (x, g, inr (l, w, f, s)) = shares_in header first vs i j (x, g, inr (omega arith, w, f, s))
 
@@ -52,8 +50,7 @@ first_partner header v k m (w ∷ ws) p h = elim (holds_or_not (share header v w
       (grind (arith, nat_tests))
   | inr e ↦
       (let found = first_partner header v k (suc m) ws p (rw e at h) in
-      let on : suc m + found.0 ≡ m + suc found.0 = omega arith in
-      (suc found.0, found.1 ∙ ap (λ (n : ℕ). (k, n)) on, found.2, later found.0 found.3 e))
+      (suc found.0, grind (arith, nat_tests, found.1), found.2, later found.0 found.3 e))
 ]
   where
     later : (j : ℕ) → ((b : ℕ) → Partner header v ws b → j ≤ b) → share header v w ≡ false → (b : ℕ) → Partner header v (w ∷ ws) b → suc j ≤ b
@@ -65,8 +62,7 @@ first_partner header v k m (w ∷ ws) p h = elim (holds_or_not (share header v w
 -- a variable that neither begins in the header nor has a partner stands first in no pair
 stands_alone : (header : Header) (first k m : ℕ) (v : Var) (vs : List Var) → nat_lt v.begin first ≡ false → sharing_with header v k m vs ≡ None
     → (b : ℕ) → SharesIn header first (v ∷ vs) zero b → ⊥
-stands_alone header first k m v vs e none zero l = absurd (omega (arith, l, ltb-false v.begin first e))
-stands_alone header first k m v vs e none (suc b) (w, f, s) = let no : share header v w ≡ false = none_with header v k m vs b w none f in absurd cc
+stands_alone header first k m v vs e none b l = grind (arith, nat_tests, none_with)
 
 abbrev Found : Header → ℕ → ℕ → List Var → ℕ × ℕ → Type 0
 Found header first k vs p = (i : ℕ) × (j : ℕ) × (p ≡ (k + i, k + j)) × IsLeast header first vs i j
@@ -78,9 +74,7 @@ with_partner : (header : Header) (first k : ℕ) (v : Var) (vs : List Var) (p : 
     → sharing_with header v k (suc k) vs ≡ Some p → Found header first k (v ∷ vs) p
 with_partner header first k v vs p e h =
     let found = first_partner header v k (suc k) vs p h in
-    let back : k ≡ k + 0 = omega arith in
-    let on : suc k + found.0 ≡ k + suc found.0 = omega arith in
-    (0, suc found.0, found.1 ∙ (λ i. (back i, on i)), record { pair = found.2; least_first = λ a b s. omega arith; least_second = second found.0 found.3 })
+    (0, suc found.0, grind (arith, nat_tests, found.1), record { pair = found.2; least_first = λ a b s. omega arith; least_second = second found.0 found.3 })
   where
     second : (j : ℕ) → ((b : ℕ) → Partner header v vs b → j ≤ b) → (b : ℕ) → SharesIn header first (v ∷ vs) zero b → suc j ≤ b
     second j low zero l = absurd (omega (arith, l, ltb-false v.begin first e))
@@ -88,43 +82,26 @@ with_partner header first k v vs p e h =
 
 further : (header : Header) (first k : ℕ) (v : Var) (vs : List Var) (p : ℕ × ℕ) → nat_lt v.begin first ≡ false
     → sharing_with header v k (suc k) vs ≡ None → Found header first (suc k) vs p → Found header first k (v ∷ vs) p
-further header first k v vs p e none found =
-    let one : suc k + found.0 ≡ k + suc found.0 = omega arith in
-    let two : suc k + found.1 ≡ k + suc found.1 = omega arith in
-    (suc found.0, suc found.1, found.2 ∙ (λ t. (one t, two t)), record { pair = found.3.pair; least_first = lower found.0 found.1 found.3; least_second = second found.0 found.1 found.3 })
-  where
-    lower : (i j : ℕ) → IsLeast header first vs i j → (a b : ℕ) → SharesIn header first (v ∷ vs) a b → suc i ≤ a
-    lower i j l zero b s = absurd (stands_alone header first k (suc k) v vs e none b s)
-    lower i j l (suc a) zero s = absurd s
-    lower i j l (suc a) (suc b) s = let m = l.least_first a b s in omega arith
-
-    second : (i j : ℕ) → IsLeast header first vs i j → (b : ℕ) → SharesIn header first (v ∷ vs) (suc i) b → suc j ≤ b
-    second i j l zero s = absurd s
-    second i j l (suc b) s = let m = l.least_second b s in omega arith
+further header first k v vs p e none (i, j, f, least) =
+    let alone = stands_alone header first k (suc k) v vs e none in
+    (suc i, suc j, grind (arith, nat_tests), record { pair = least.pair; least_first = λ a b s. grind (arith, nat_tests, alone, least.least_first); least_second = λ b s. grind (arith, nat_tests, least.least_second) })
 
 least_of : (header : Header) (first k : ℕ) (vs : List Var) (p : ℕ × ℕ) → sharing_from header first k vs ≡ Some p → Found header first k vs p
 least_of header first k [] p h = absurd cc
-least_of header first k (v ∷ vs) p h = elim (holds_or_not (nat_lt v.begin first)) [
-  | inl e ↦
-      (grind (arith, nat_tests, in_header header first k v vs e))
-  | inr e ↦
-      (grind (arith, nat_tests, some_or_none (sharing_with header v k (suc k) vs), with_partner header first k v vs p e, first_counts, further header first k v vs p e, least_of header first (suc k) vs p, second_counts))
-]
+least_of header first k (v ∷ vs) p h =
+    grind (arith, nat_tests, holds_or_not (nat_lt v.begin first), in_header header first k v vs, some_or_none (sharing_with header v k (suc k) vs), with_partner header first k v vs p, first_counts, further header first k v vs p, least_of header first (suc k) vs p, second_counts)
 
 no_pair : (header : Header) (first k : ℕ) (vs : List Var) → sharing_from header first k vs ≡ None → (a b : ℕ) → SharesIn header first vs a b → ⊥
 no_pair header first k [] h a b s = absurd s
 no_pair header first k (v ∷ vs) h zero b s = grind (arith, nat_tests, told_else, stands_alone, both_none)
-no_pair header first k (v ∷ vs) h (suc a) zero s = absurd s
-no_pair header first k (v ∷ vs) h (suc a) (suc b) s = grind (arith, nat_tests, told_else, no_pair header first (suc k) vs, both_none)
+no_pair header first k (v ∷ vs) h (suc a) b s = grind (arith, nat_tests, told_else, no_pair header first (suc k) vs, both_none)
 
 -- ---- the law
 
 pub sharing_found : (header : Header) (first k m : ℕ) → sharing header first ≡ Some (k, m) → IsSharing header first k m
 sharing_found header first k m h =
     let found = least_of header first 0 header.vars (k, m) h in
-    let i : found.0 ≡ k = omega (arith, ap (λ (p : ℕ × ℕ). p.0) found.2) in
-    let j : found.1 ≡ m = omega (arith, ap (λ (p : ℕ × ℕ). p.1) found.2) in
-    let there = subst (λ (n : ℕ). IsLeast header first header.vars n m) i (subst (λ (n : ℕ). IsLeast header first header.vars found.0 n) j found.3) in
+    let there : IsLeast header first header.vars k m = grind (arith, nat_tests, found.2, found.3) in
     record {
       pair = shares_of header first header.vars k m there.pair;
       least_first = λ a b s. there.least_first a b (shares_in header first header.vars a b s);
@@ -135,17 +112,10 @@ pub sharing_none : (header : Header) (first : ℕ) → sharing header first ≡ 
 sharing_none header first h k m s = no_pair header first 0 header.vars h k m (shares_in header first header.vars k m s)
 
 same_least : (header : Header) (first : ℕ) (p q : ℕ × ℕ) → IsSharing header first p.0 p.1 → IsSharing header first q.0 q.1 → p ≡ q
-same_least header first p q a b =
-    let low = a.least_first q.0 q.1 b.pair in
-    let high = b.least_first p.0 p.1 a.pair in
-    let one : p.0 ≡ q.0 = omega arith in
-    let left = a.least_second q.1 (subst (λ (n : ℕ). Shares header first n q.1) (sym one) b.pair) in
-    let right = b.least_second p.1 (subst (λ (n : ℕ). Shares header first n p.1) one a.pair) in
-    grind (arith, nat_tests)
+same_least header first p q a b = grind (arith, nat_tests, a.least_first q.0 q.1 b.pair, b.least_first p.0 p.1 a.pair, a.least_second q.1, b.least_second p.1, a.pair, b.pair)
 
 pub sharing_only : (header : Header) (first k m : ℕ) → IsSharing header first k m → sharing header first ≡ Some (k, m)
-sharing_only header first k m s = by_answer (k, m) s (sharing header first) refl
-  where
-    by_answer : (q : ℕ × ℕ) → IsSharing header first q.0 q.1 → (o : Option (ℕ × ℕ)) → sharing header first ≡ o → o ≡ Some q
-    by_answer q t None e = absurd (sharing_none header first e q.0 q.1 t.pair)
-    by_answer q t (Some p) e = ap (λ (r : ℕ × ℕ). Some r) (same_least header first p q (sharing_found header first p.0 p.1 e) t)
+sharing_only header first k m s = elim (some_or_none (sharing header first)) [
+  | inl n ↦ absurd (sharing_none header first n k m s.pair)
+  | inr o ↦ o.1 ∙ ap Some (same_least header first o.0 (k, m) (sharing_found header first o.0.0 o.0.1 o.1) s)
+]

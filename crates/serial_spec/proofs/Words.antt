@@ -1,7 +1,7 @@
 -- The words of this crate's proofs, from where they stand.
 pub use Rattle.list_laws.proofs.Std.{AllByRecursion, Bool, IsTrue, List, MatchBool, None, Option, Some, Width, [], add-mul, and_from, ap, append-nil, append_assoc, arith, byte_len, cases_eq, cast_signed, cast_unsigned, common_steps, cond, div-add-mod', drop, drop-append-add, drop-append-le, drop-drop, enumerate_from, eq-eqb, eqb-false, eqb-true, false, filter, find, flat_map, flat_map-append, fold, fold-append, from_be_bytes, from_be_bytes-to_be_bytes_2, from_be_bytes-to_be_bytes_4, from_be_bytes-to_be_bytes_8, get_or, get_or-append_right, get_or-drop, get_or-take, get_or_append_left, if◌then◌else◌, inl, inr, le-div, le-leb, le_of_mul-le-mul_right, leb-false, leb-true, leb_tells, length, length-append, length-drop, length-map, length-range_with_len, length-replicate, length-take, list_all, list_any, list_any-append, lit<, lt-ltb, map, map-append, max, min, mod_below, mul-add-lt, mul-le, mul-le-mul_right, nat_le, nat_lt, nat_tests, negsuc, not, not-false, not-true, not_from_false, option_map, option_or, or_cases, or_left, or_right, pos, position, position_from, position_from-zero, range_with_len, refl, replicate, row_fits, same_from_place, same_number_lists, set, slice_get, slice_index, subst, suc, sum_by, sym, take, take-append-add, take-append-drop, take-append-le, to_be_bytes, to_z-of_z, true, w128, w16, w32, w64, w8, zero, zip, ℕ, ℤ, ◌%◌, ◌&&◌, ◌*◌, ◌++◌, ◌+◌, ◌-◌, ◌/◌, ◌<◌, ◌==◌, ◌^◌, ◌||◌, ◌∙◌, ◌∷◌, ◌≡◌, ◌≤◌, ◌⊎◌, ltb-false, ltb-true}
 pub use Rattle.std.specs.Prelude.{FitsSigned, bytes_eq, sum}
-pub use Rattle.list_laws.proofs.Common.{and_first, and_second, append_parts, both_none, each_append, each_flat_map, each_map, each_weaker, either, entry_map, entry_numbered, equal_above, equal_below, equal_suc, equal_zero, fails_each, first_counts, flat_same, get_left, get_right, holds_or_not, if_some_at, le_two, map_map, neither_some, no_false, no_none_some, none_before_map, none_last, none_of_test, option_or_assoc, or_first_false, or_second_false, part, part_joined, part_map, part_none, pieces_long, second_counts, some_factor, some_or_none, take_at_most, told_else}
+pub use Rattle.list_laws.proofs.Common.{and_first, and_second, append_parts, both_none, each_append, each_flat_map, each_map, each_weaker, either, entry_map, entry_numbered, entry_zip, equal_above, equal_below, equal_suc, equal_zero, fails_each, first_counts, flat_same, get_left, get_right, holds_or_not, if_some_at, le_two, map_map, neither_some, no_false, no_none_some, none_before_map, none_last, none_of_test, option_or_assoc, or_first_false, or_second_false, part, part_joined, part_map, part_none, pieces_long, second_counts, some_factor, some_or_none, take_at_most, told_else}
 pub use Rattle.list_laws.proofs.Types.{Answer, Att, Attr, Byte, Char, Code, Dim, Direction, Disk, Double, Extra, Float, Get, Header, HeaderErr, Int, Int64, Mark, Meet, NcType, Offer, OfferKind, Ok, Pair, Part, Post, Put, Region, Script, Short, Solo, Truncated, UByte, UInt, UInt64, UShort, Value, Var}
 pub use Rattle.serial_spec.specs.EdgeExamples.{dataset_a_at, file_a, met_by_the_last, two_fixed_at, var_at, whole_then_ends}
 pub use Rattle.serial_spec.specs.Examples.{dataset_a, dataset_aq, dim, file_halves, header_a, header_a_with, int_bytes, more_var, odd_header_a, title, two_alone, var, word}
