@@ -1,16 +1,14 @@
 -- One domain more is planned, and the windows of all are those of the model.
-use Rattle.step_plan.proofs.Words.{◌≡◌, ℕ, ◌+◌, ◌-◌, ◌^◌, ◌<◌, ◌≤◌, refl, sym, ◌∙◌, ap, List, [], ◌∷◌, ◌++◌, length, map, take, Option, Some, get_or, append_assoc, arith, flat_map-append, append-nil, map-append, take_more, take_all, length_push, flat_map-map, same_Some, flat_map, IfOk, Result, range_with_len, no_none_some, Extent, Owned, Hints, DiskCall, collective_windows, in_order, loads, overlays, sieving_windows, spans, load_calls, store_calls, ranges, HaveSame, told_of, IsCover, cover_in_order, in_either, turns_of, Told, AreDomains, loads_are, stores_are, get_calls, put_calls, told_plan, AreShared, WindowPlan, in_one_range, last_end, reach_of, windows_in, AreDivided, AreDomainPlans, AreSievedPlans, IsDomainPlan, DomainPlan, min, slice_get, nat_tests}
+use Rattle.step_plan.proofs.Words.{◌≡◌, ℕ, ◌+◌, ◌-◌, ◌^◌, ◌<◌, ◌≤◌, refl, ap, List, [], ◌∷◌, ◌++◌, length, map, take, Option, Some, get_or, append_assoc, arith, flat_map-append, append-nil, map-append, take_more, take_all, length_push, flat_map-map, same_Some, flat_map, IfOk, Result, range_with_len, no_none_some, Extent, Owned, Hints, DiskCall, collective_windows, in_order, loads, overlays, sieving_windows, spans, load_calls, store_calls, ranges, HaveSame, told_of, IsCover, cover_in_order, in_either, turns_of, AreDomains, loads_are, stores_are, get_calls, put_calls, told_plan, AreShared, WindowPlan, in_one_range, last_end, reach_of, windows_in, AreDivided, AreDomainPlans, AreSievedPlans, IsDomainPlan, DomainPlan, min, slice_get, nat_tests}
 use Rattle.list_laws.proofs.Ranges.{range_next}
 
 -- ---- the calls of windows that are told
 
 pub stores_told : (plans : List WindowPlan) (ws : List (List ℕ)) → map told_plan plans ≡ map told_of ws → flat_map put_calls plans ≡ flat_map overlays ws
-stores_told plans ws told =
-    sym (flat_map-map store_calls told_plan plans) ∙ ap (λ (ts : List Told). flat_map store_calls ts) told ∙ stores_are ws
+stores_told plans ws told = rw (← flat_map-map store_calls told_plan plans, told) (stores_are ws)
 
 pub loads_told : (plans : List WindowPlan) (ws : List (List ℕ)) → map told_plan plans ≡ map told_of ws → flat_map get_calls plans ≡ flat_map loads ws
-loads_told plans ws told =
-    sym (flat_map-map load_calls told_plan plans) ∙ ap (λ (ts : List Told). flat_map load_calls ts) told ∙ loads_are ws
+loads_told plans ws told = rw (← flat_map-map load_calls told_plan plans, told) (loads_are ws)
 
 -- ---- domains
 
@@ -25,9 +23,9 @@ pub divided_more : (hints : Hints) (list : List Owned) (cover domains : List Ext
     → IsDomainPlan hints list cover plan → AreDivided hints list cover domains count plans
     → AreDivided hints list cover domains (count + 1) (plans ++ plan ∷ [])
 divided_more hints list cover domains count none plans plan l extent number here h = record {
-  many = (let long = length_push plans plan in let many = h.many in omega arith);
-  extents = rw (map-append (λ (d : DomainPlan). d.extent) plans (plan ∷ []), h.extents, extent, next);
-  numbered = rw (map-append (λ (d : DomainPlan). d.aggregator) plans (plan ∷ []), h.numbered, number, range_next count, map-append Some (range_with_len 0 count) (count ∷ []));
+  many = grind (arith, length_push plans plan, h.many);
+  extents = rw (map-append (λ (d : DomainPlan). d.extent) plans (plan ∷ []), h.extents, extent, take_more domains count none l) refl;
+  numbered = rw (map-append (λ (d : DomainPlan). d.aggregator) plans (plan ∷ []), h.numbered, number, range_next count, map-append Some (range_with_len 0 count) (count ∷ [])) refl;
   each = grind (arith, nat_tests, in_either, h.each);
   told = rw (
     flat_map-append (λ (d : DomainPlan). d.windows) plans (plan ∷ []),
@@ -36,17 +34,11 @@ divided_more hints list cover domains count none plans plan l extent number here
     one_plan plan,
     here.windows,
     extent,
-    next,
-    flat_map-append turns (take count domains) (get_or domains count none ∷ []),
-    append-nil (turns (get_or domains count none)),
-  );
+    take_more domains count none l,
+    flat_map-append (λ d. turns_of hints.cb_buffer d cover) (take count domains) (get_or domains count none ∷ []),
+    append-nil (turns_of hints.cb_buffer (get_or domains count none) cover),
+  ) refl;
 }
-  where
-    turns : Extent → List Told
-    turns d = turns_of hints.cb_buffer d cover
-
-    next : take (count + 1) domains ≡ take count domains ++ get_or domains count none ∷ []
-    next = take_more domains count none l
 
 pub all_divided : (hints : Hints) (list : List Owned) (cover domains : List Extent) (plans : List DomainPlan)
     → IsCover cover → HaveSame (spans cover) (ranges list) → AreDomains cover domains

@@ -1,5 +1,5 @@
 -- The calls of a step's puts and gets are those of the model.
-use Rattle.step_plan.proofs.Words.{◌≡◌, ℕ, ◌≤◌, refl, sym, ◌∙◌, ap, List, [], ◌∷◌, ◌++◌, max, Option, Some, None, arith, append-nil, flat_map, Pair, Header, Batch, Owned, Post, Hints, collective_windows, get_bytes, grow_to, in_order, loads, overlays, sieving_windows, end_for, told, Setting, needed_now, needed_by, bytes_of, Puts, ranges, source_of, AreLaid, gets_in, puts_in, puts_of_batch, setting, order_by, laid_calls_by, laid_needs, none_windows, same_order, shared_calls, shared_needs, get_calls, put_calls, HaveGetDomains, HaveGetWindows, grow_call, windows_in, AreDomainPlans, AreSievedPlans, DomainPlan}
+use Rattle.step_plan.proofs.Words.{◌≡◌, ℕ, ◌≤◌, refl, sym, ◌∙◌, ap, List, [], ◌∷◌, ◌++◌, max, Option, Some, None, arith, append-nil, flat_map, Pair, Header, Batch, Owned, Hints, collective_windows, get_bytes, grow_to, in_order, loads, overlays, sieving_windows, end_for, told, Setting, needed_now, needed_by, bytes_of, Puts, ranges, source_of, AreLaid, gets_in, puts_in, puts_of_batch, setting, order_by, laid_calls_by, laid_needs, none_windows, same_order, shared_calls, shared_needs, get_calls, put_calls, HaveGetDomains, HaveGetWindows, grow_call, windows_in, AreDomainPlans, AreSievedPlans, DomainPlan}
 use Rattle.serial_spec.specs.DeviceCalls as device
 use Rattle.step_plan.proofs.DomainLaws.{loads_told, stores_told}
 
@@ -47,13 +47,9 @@ sieved_calls header hints rank batch size n grow list domains none long is laid 
 pub collective_gets : (header : Header) (hints : Hints) (batches : List Batch) (domains : List DomainPlan) → HaveGetDomains header hints batches domains
     → flat_map get_calls (windows_in domains) ≡ flat_map loads (collective_windows hints (get_bytes (setting header hints) (gets_in batches)))
 collective_gets header hints batches domains h =
-    loads_told (windows_in domains) (collective_windows hints (in_order (ranges h.list))) h.plans.windows
-    ∙ ap (λ (xs : List ℕ). flat_map loads (collective_windows hints xs)) (order_by (setting header hints) batches batches h.list refl h.got)
+    grind (arith, loads_told (windows_in domains) (collective_windows hints (in_order (ranges h.list))) h.plans.windows, order_by (setting header hints) batches batches h.list refl h.got)
 
 pub sieved_gets : (header : Header) (hints : Hints) (rank : ℕ) (batch : Batch) (domains : List DomainPlan) → HaveGetWindows header hints rank batch domains
     → flat_map get_calls (windows_in domains) ≡ flat_map loads (sieving_windows hints.rd_buffer (get_bytes (setting header hints) batch.gets))
 sieved_gets header hints rank batch domains h =
-    loads_told (windows_in domains) (sieving_windows hints.rd_buffer (in_order (ranges h.list))) h.plans.windows
-    ∙ ap (λ (xs : List ℕ). flat_map loads (sieving_windows hints.rd_buffer xs))
-    (same_order (ranges h.list) (flat_map (λ p. bytes_of header p) (flat_map (λ (b : Batch). b.gets) (batch ∷ []))) h.got.bytes
-    ∙ ap (λ (ps : List Post). get_bytes (setting header hints) ps) (append-nil batch.gets))
+    grind (arith, loads_told (windows_in domains) (sieving_windows hints.rd_buffer (in_order (ranges h.list))) h.plans.windows, same_order (ranges h.list) (flat_map (λ p. bytes_of header p) (flat_map (λ (b : Batch). b.gets) (batch ∷ []))) h.got.bytes, append-nil batch.gets)
