@@ -1,8 +1,8 @@
 -- A rank that goes from one offer to the next by itself.
-use Rattle.turn_run.proofs.Words.{◌≡◌, ℕ, refl, sym, ◌∙◌, ap, subst, List, [], ◌∷◌, ◌++◌, length, map, set, drop, true, max, Option, Some, None, append_assoc, append-nil, set-set, slice_get, is_some, IfSome, Header, Call, Answer, Post, Hints, Script, Mark, Solo, DiskCall, Offer, Reply, after, with_end, Setting, Counted, puts_of, solo, told, needed_now, solo_calls, Open, wanted, Going, advance, hears, counted, is_solo_of, IsOnWay, AsksAlone, hears_keeps, solo_keeps, IsAsked, asking, between, calls_of, going_of, HasHeard, IsPlaced, IsRunner, solo_to, step_calls, step_to, Arrived, IsLike, gots_long, solo_like, arrived, stage, HasGone, IsGrownBy, Leads, LeadsAlike, rank_stage, Runner, entry_set, set_own, one_of, all_joined, offer_of, calls_at, arith, nat_tests}
+use Rattle.turn_run.proofs.Words.{◌≡◌, ℕ, sym, ◌∙◌, ap, subst, List, [], ◌∷◌, ◌++◌, length, map, set, drop, true, max, Option, Some, None, append_assoc, set-set, slice_get, is_some, IfSome, Header, Call, Answer, Post, Hints, Script, Mark, Solo, DiskCall, Offer, Reply, after, with_end, Setting, Counted, puts_of, solo, told, needed_now, solo_calls, Open, wanted, Going, advance, hears, counted, is_solo_of, IsOnWay, AsksAlone, hears_keeps, solo_keeps, IsAsked, asking, between, calls_of, going_of, HasHeard, IsPlaced, IsRunner, solo_to, step_calls, step_to, Arrived, IsLike, gots_long, solo_like, arrived, stage, HasGone, IsGrownBy, Leads, LeadsAlike, rank_stage, Runner, entry_set, set_own, one_of, all_joined, offer_of, calls_at, arith, nat_tests, common_steps}
 use Rattle.nc_base.specs.declared.step.OfferKind.TheVariants as offer
 use Rattle.turn_run.proofs.RunnerLaws.{advance_ended}
-use Rattle.turn_run.proofs.StageLaws.{alike_then, led_none, led_then}
+use Rattle.turn_run.proofs.StageLaws.{led_none, led_then}
 use Rattle.list_laws.proofs.Common.{some_or_none}
 
 -- ---- a runner, by the offer that it holds
@@ -41,13 +41,7 @@ pub alone_led : (hints : Hints) (s : Setting) (r n : ℕ) (held left : Option (L
     → Leads hints s (Solo r n ∷ []) (stage held calls records ranks) (stage left made records (set ranks r to))
 alone_led hints s r n None left calls made t o reply to heard bytes over up records ranks e = tt
 alone_led hints s r n (Some file) left calls made t o reply to heard bytes over up records ranks e =
-    let c = counted file records in let at = up ∙ ap (λ (y : Reply). advance s.header (hears s.header t y)) heard in
-    record {
-      left = (solo s r o c).0.file;
-      told = bytes;
-      state = step_at s r n c ranks t o e ∙ (λ i. ((solo s r o c).0, set ranks r (sym at i)));
-      calls = over ∙ ap (λ (cs : List DiskCall). with_end calls cs) (sym (call_alone hints s r n c ranks t o e) ∙ sym (append-nil (step_calls hints s (c, ranks) (Solo r n))));
-    }
+    grind (arith, common_steps, told, step_at s r n (counted file records) ranks t o e, call_alone hints s r n (counted file records) ranks t o e)
 
 -- over any file
 pub alone_alike : (s : Setting) (r n : ℕ) (t : Going) (o : Offer) (reply : Reply) (to : Arrived) → reply.pair ≡ told s (puts_of (r, o))
@@ -61,13 +55,7 @@ alone_alike s r n t o reply to pair count fits up records ranks e stand w = subs
 
 pub gone_same : (hints : Hints) (s : Setting) (r : ℕ) (order : List Mark) (held : Option (List ℕ)) (calls : Option (List DiskCall)) (from to : Arrived) → from ≡ to
     → HasGone hints s r (rank_stage order held calls from) (rank_stage order held calls to)
-gone_same hints s r order held calls from to e = record {
-  more = [];
-  grown = sym (append-nil order);
-  own = refl;
-  led = grind (arith, nat_tests, set_own, led_none, stage);
-  alike = λ records ranks g stand w. subst (λ (others : List Arrived). IsLike stand records others) (sym (set_own ranks r to (g ∙ ap (λ (a : Arrived). Some a) e))) w;
-}
+gone_same hints s r order held calls from to e = grind (arith, common_steps, set_own, led_none)
 
 pub gone_then : (now : List Mark) {hints : Hints} {s : Setting} {r : ℕ} {before later : List Mark} {held left last : Option (List ℕ)} {calls made done : Option (List DiskCall)} {from mid to : Arrived}
     → HasGone hints s r (rank_stage before held calls from) (rank_stage now left made mid) → HasGone hints s r (rank_stage now left made mid) (rank_stage later last done to)
@@ -79,16 +67,11 @@ gone_then now {hints} {s} {r} {before} {held} {left} {last} {calls} {made} {done
   led = λ records ranks g. led_then hints s first.more second.more (stage held calls records ranks) (stage left made records (set ranks r mid)) (stage last done records (set ranks r to)) (first.led records ranks g)
       (subst (λ (others : List Arrived). Leads hints s second.more (stage left made records (set ranks r mid)) (stage last done records others)) (set-set ranks r mid to) (second.led records (set ranks r mid) (entry_set ranks r from mid g)));
   alike = λ records ranks g. subst (λ (others : List Arrived). LeadsAlike s (first.more ++ second.more) records ranks records others) (set-set ranks r mid to)
-      (alike_then s first.more second.more records records records ranks (set ranks r mid) (set (set ranks r mid) r to) (first.alike records ranks g)
-      (second.alike records (set ranks r mid) (entry_set ranks r from mid g)));
+      (λ stand w. grind (arith, common_steps, first.alike records ranks g stand w, second.alike records (set ranks r mid) (entry_set ranks r from mid g)));
 }
 
 pub grown_then : (r : ℕ) (before now later : List Mark) → IsGrownBy r before now → IsGrownBy r now later → IsGrownBy r before later
-grown_then r before now later first second = record {
-  more = first.more ++ second.more;
-  grown = second.grown ∙ ap (λ (ms : List Mark). ms ++ second.more) first.grown ∙ append_assoc before first.more second.more;
-  own = all_joined (is_solo_of r) first.more second.more first.own second.own;
-}
+grown_then r before now later first second = grind (arith, common_steps, all_joined (is_solo_of r) first.more second.more first.own second.own)
 
 pub grown_one : (r n : ℕ) (before now : List Mark) → now ≡ before ++ Solo r n ∷ [] → IsGrownBy r before now
 grown_one r n before now e = record { more = Solo r n ∷ []; grown = e; own = one_of r n }
@@ -105,8 +88,7 @@ alone_waits script header order r s o asks = (solo_keeps header asks.before s.ra
 
 pub fits_open : (m : Option Open) (header same : Header) (gets : List Post) (got : List (List ℕ)) → same ≡ header → IfSome m (λ w. w.gets ≡ gets)
     → map (λ (blob : List ℕ). length blob) got ≡ map (wanted header) gets → IfSome m (λ w. map (λ (blob : List ℕ). length blob) got ≡ map (wanted same) w.gets)
-fits_open None header same gets got e h f = tt
-fits_open (Some w) header same gets got e h f = f ∙ (λ i. map (wanted (sym e i)) (sym h i))
+fits_open m header same gets got e h f = grind (arith, nat_tests)
 
 pub heard_known : (before now : Runner) (reply : Reply) → is_some before.rank.state.«open» ≡ true → HasHeard before now reply
     → now.rank.state.known ≡ max before.rank.state.known reply.records

@@ -1,13 +1,12 @@
 -- Record counts that a header can have.
-use Rattle.turn_run.proofs.Words.{◌≡◌, ℕ, ◌^◌, ◌<◌, ◌≤◌, sym, subst, true, max, inl, inr, arith, Header, Post, header_len, is_sound, end_of, record_limit, needed, end_grows, sound_end, canon_len, sound_small, IsPut, counted_sound, put_needed, IsCount, IsRise, some_limit, nat_tests}
+use Rattle.turn_run.proofs.Words.{◌≡◌, ℕ, ◌<◌, ◌≤◌, sym, subst, true, max, arith, Header, Post, header_len, is_sound, end_of, record_limit, needed, end_grows, sound_end, canon_len, sound_small, IsPut, counted_sound, put_needed, IsCount, IsRise, some_limit, nat_tests}
 use Rattle.list_laws.proofs.Std.{cases_lt}
 
 pub count_small : (header : Header) (len n : ℕ) → IsCount header len n → n < record_limit header.version
 count_small header len n h = sound_small (record header { records = n }) h.sound
 
 pub rise_small : (header : Header) (len n : ℕ) → IsRise header len n → n < record_limit header.version
-rise_small header len n (inl e) = let h = some_limit header.version in omega arith
-rise_small header len n (inr h) = count_small header len n h
+rise_small header len n h = grind (arith, nat_tests, some_limit header.version, count_small header len n, h)
 
 pub count_longer : (header : Header) (len more n : ℕ) → len ≤ more → IsCount header len n → IsCount header more n
 count_longer header len more n l h = let long = h.long in record { sound = h.sound; long = omega arith }
@@ -16,29 +15,20 @@ count_longer header len more n l h = let long = h.long in record { sound = h.sou
 pub count_still : (header : Header) (len more n m : ℕ) → IsCount header len n → len ≤ more → m ≡ n → IsCount header more m
 count_still header len more n m h l e = subst (λ (k : ℕ). IsCount header more k) (sym e) (count_longer header len more n l h)
 
-counted_end : (header : Header) (n m : ℕ) → is_sound (record header { records = n }) ≡ true → m ≤ n → end_of header (header_len header) m < 2 ^ 62
-counted_end header n m h l = grind (arith, nat_tests, canon_len (record header { records = n }), canon_len header, sound_end (record header { records = n }) m h l)
-
 -- a smaller count
 pub count_less : (header : Header) (len n m : ℕ) → is_sound header ≡ true → IsCount header len n → m ≤ n → IsCount header len m
 count_less header len n m sound h l =
-    grind (arith, nat_tests, counted_end header n m h.sound l, count_small header len n h, end_grows header (header_len header) m n l, counted_sound header m sound)
+    grind (arith, nat_tests, canon_len (record header { records = n }), canon_len header, sound_end (record header { records = n }) m h.sound l, count_small header len n h, end_grows header (header_len header) m n l, counted_sound header m sound)
 
 pub rise_longer : (header : Header) (len more n : ℕ) → len ≤ more → IsRise header len n → IsRise header more n
-rise_longer header len more n l (inl e) = inl e
-rise_longer header len more n l (inr h) = inr (count_longer header len more n l h)
+rise_longer header len more n l h = grind (arith, nat_tests, count_longer header len more n l, h)
 
 -- the greater of a count and a count, or 0
 pub count_max : (header : Header) (len a n : ℕ) → IsCount header len a → IsRise header len n → IsCount header len (max a n)
-count_max header len a n h (inl e) = let f : a ≡ max a n = omega arith in subst (λ (m : ℕ). IsCount header len m) f h
-count_max header len a n h (inr k) = elim (cases_lt a n) [
-  | inl l ↦ let f : n ≡ max a n = omega arith in subst (λ (m : ℕ). IsCount header len m) f k
-  | inr l ↦ let f : a ≡ max a n = omega arith in subst (λ (m : ℕ). IsCount header len m) f h
-]
+count_max header len a n h k = grind (arith, nat_tests, cases_lt a n, h, k)
 
 pub rise_max : (header : Header) (len a n : ℕ) → IsRise header len a → IsRise header len n → IsRise header len (max a n)
-rise_max header len a n (inl e) k = let f : n ≡ max a n = omega arith in subst (λ (m : ℕ). IsRise header len m) f k
-rise_max header len a n (inr h) k = inr (count_max header len a n h k)
+rise_max header len a n h k = grind (arith, nat_tests, cases_lt a n, h, k, count_max header len a n)
 
 -- the file of a count has at least the header and the fixed variables
 pub count_begins : (header : Header) (len n : ℕ) → IsCount header len n → end_of header (header_len header) 0 ≤ len

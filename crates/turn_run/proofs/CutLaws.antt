@@ -1,5 +1,5 @@
 -- A run that was cut off, step by step.
-use Rattle.turn_run.proofs.Words.{IfSome_then, ◌≡◌, ℕ, ◌<◌, refl, sym, ◌∙◌, ap, subst, inl, List, [], ◌∷◌, ◌++◌, set, true, Option, Some, Result, Err, append-nil, slice_get, fold, byte_len, Hints, Script, Mark, Solo, Offer, StepErr, Memory, after, BothTold, Setting, Counted, puts_of, solo, count_width, Going, covered, IsTorn, IsLeft, counted, torn_wider, Header, DiskCall, is_lawful, completed_by, point, AreRunners, Arrived, Stand, step_to, solo_to, HasGone, IsGrownBy, rank_stage, StopsAt, HasStopped, MayFollow, IsNext, bytes_at, Runner, in_step, entry_set, offer_of, IsErrAnd, Ok, None, arith, nat_tests}
+use Rattle.turn_run.proofs.Words.{IfSome_then, ◌≡◌, ℕ, ◌<◌, refl, sym, ◌∙◌, List, [], ◌∷◌, ◌++◌, set, true, Option, Some, Result, Err, append-nil, slice_get, byte_len, Hints, Script, Mark, Solo, Offer, StepErr, Memory, after, BothTold, Setting, Counted, puts_of, solo, count_width, Going, covered, IsTorn, counted, torn_wider, Header, DiskCall, is_lawful, completed_by, point, AreRunners, Arrived, step_to, HasGone, IsGrownBy, rank_stage, HasStopped, MayFollow, IsNext, bytes_at, Runner, in_step, entry_set, IsErrAnd, arith, nat_tests, common_steps}
 use Rattle.turn_run.proofs.AloneLaws.{grown_then}
 use Rattle.turn_run.proofs.TurnSteps.{step_begun}
 use Rattle.turn_run.specs.Cuts.StopsAt.{between}
@@ -15,12 +15,8 @@ pub stopped_as : {F G : Mark → Type 0} {s : Setting} {fault : StepErr} {before
 stopped_as {F} {G} {s} {fault} {held} {records} {count} {ranks} f h = record {
   more = h.more;
   grown = h.grown;
-  ends = IfSome_then held h.ends (λ file k. (k.0, k.1, by_stop (fold (step_to s) (counted file records, ranks) h.more) k.0 k.2));
+  ends = IfSome_then held h.ends (λ file k. (k.0, k.1, elim k.2 [ in_step m next l ↦ in_step m (f m next) l | between e b l ↦ between e b l ]));
 }
-  where
-    by_stop : (stand : Stand) (bytes : List ℕ) → StopsAt F s fault stand bytes count → StopsAt G s fault stand bytes count
-    by_stop stand bytes (in_step m k l) = in_step m (f m k) l
-    by_stop stand bytes (between e k l) = between e k l
 
 -- want of memory where nothing was begun
 pub stopped_between : {F : Mark → Type 0} {s : Setting} {fault : StepErr} {before now : List Mark} {held left : Option (List ℕ)} {records count : ℕ} {ranks : List Arrived}
@@ -29,17 +25,9 @@ stopped_between {before} {held} e o l k = record { more = []; grown = o ∙ sym 
 
 -- ---- a solo step
 
-abbrev bytes_some : Setting → ℕ → Option Offer → List ℕ
-bytes_some s r None = []
-bytes_some s r (Some o) = covered s.header (puts_of (r, o))
-
-bytes_solo : (s : Setting) (r n : ℕ) (ranks : List Arrived) (t : Going) (o : Offer) → slice_get ranks r ≡ Some (t, Some o)
-    → covered s.header (puts_of (r, o)) ≡ bytes_at s ranks (Solo r n)
-bytes_solo s r n ranks t o e = sym (ap (λ (m : Option Arrived). bytes_some s r (offer_of m)) e)
-
 pub solo_at : (s : Setting) (r n : ℕ) (c : Counted) (ranks : List Arrived) (t : Going) (o : Offer) → slice_get ranks r ≡ Some (t, Some o)
     → (solo s r o c).0 ≡ (step_to s (c, ranks) (Solo r n)).0
-solo_at s r n c ranks t o e = sym (ap (λ (m : Option Arrived). (elim m as (λ m. Stand) [ None ↦ (c, ranks) | Some a ↦ solo_to s r c ranks a ]).0) e)
+solo_at s r n c ranks t o e = grind (arith, nat_tests, step_to)
 
 -- in which the disk was refused, or memory after it
 pub stopped_solo : (F : Mark → Type 0) (r n : ℕ) (t : Going) (o : Offer) {s : Setting} {fault : StepErr} {before now : List Mark} {held left : Option (List ℕ)} → F (Solo r n) → now ≡ before
@@ -53,9 +41,7 @@ stopped_solo F r n t o {s} {before} {held} f same torn records ranks e = record 
         b.0,
         b.1,
         in_step (Solo r n) f
-            (subst (λ (held : List ℕ). IsLeft s.header held (counted file records) (step_to s (counted file records, ranks) (Solo r n)).0 b.0 records) (bytes_solo s r n ranks t o e)
-            (subst (λ (new : Counted). IsLeft s.header (covered s.header (puts_of (r, o))) (counted file records) new b.0 records) (solo_at s r n (counted file records) ranks t o e)
-            (torn_wider (covered s.header (puts_of (r, o))) (byte_len (count_width s.header.version)) file (solo s r o (counted file records)).0.file b.0 b.2, inl refl))),
+            (grind (arith, common_steps, bytes_at s ranks (Solo r n), e, solo_at s r n (counted file records) ranks t o e, torn_wider (covered s.header (puts_of (r, o))) (byte_len (count_width s.header.version)) file (solo s r o (counted file records)).0.file b.0 b.2)),
       ));
 }
 
@@ -63,13 +49,11 @@ stopped_solo F r n t o {s} {before} {held} f same torn records ranks e = record 
 
 -- want of memory that is handed on
 pub memory_of : {T : Type 0} (r : Result T StepErr) (e : StepErr) → IsErrAnd r (λ y. y ≡ Memory) → r ≡ Err e → e ≡ Memory
-memory_of (Ok x) e h is = absurd h
-memory_of (Err y) e h is = let same : y ≡ e = cc in sym same ∙ h
+memory_of r e h is = grind (arith, nat_tests)
 
 -- an error that is handed on
 pub same_err : {T U : Type 0} {x : StepErr} (r : Result T StepErr) (e : StepErr) → IsErrAnd r (λ y. y ≡ x) → r ≡ Err e → ◌≡◌ {A = Result U StepErr} (Err x) (Err e)
-same_err (Ok x) e h is = absurd h
-same_err (Err y) e h is = let same : y ≡ e = cc in ap (λ (z : StepErr). Err z) (sym h ∙ same)
+same_err r e h is = grind (arith, nat_tests)
 
 -- ---- one rank's steps
 

@@ -1,5 +1,5 @@
 -- A meeting that was cut off.
-use Rattle.turn_run.proofs.Words.{◌≡◌, ℕ, ◌+◌, ◌<◌, ◌≤◌, refl, sym, ◌∙◌, ap, subst, inl, inr, ◌⊎◌, List, [], ◌∷◌, ◌++◌, length, max, Bool, true, false, cond, Option, Some, None, arith, append-nil, flat_map, nat_lt, ◌==◌, if◌then◌else◌, list_any, byte_len, Batch, Call, Mark, Meet, StepErr, Memory, after, BothTold, needed_now, at, Setting, Counted, after_puts, raised, told, count, count_width, with_records, Puts, covered, IsTorn, IsLeft, at-written_before, after_keeps, after_round, counted, puts_in, counted_past, torn_by, torn_sides, round_grows, told_as, Header, Script, is_lawful, meetings, completed_by, point, AreRunners, HaveArrived, HaveMet, HasStopped, IsNext, bytes_at, in_step, step_to, arrived_all, held_offers, met, Runner, after_grows, raised_grows, ext_get_or, may_change, nat_tests}
+use Rattle.turn_run.proofs.Words.{◌≡◌, ℕ, ◌+◌, ◌<◌, ◌≤◌, sym, ◌∙◌, ap, subst, inl, inr, ◌⊎◌, List, [], ◌∷◌, ◌++◌, length, max, true, false, Option, Some, None, arith, append-nil, nat_lt, ◌==◌, if◌then◌else◌, list_any, byte_len, Batch, Call, Mark, Meet, StepErr, Memory, after, BothTold, needed_now, at, Setting, Counted, after_puts, raised, told, count, count_width, with_records, Puts, covered, IsTorn, at-written_before, after_keeps, after_round, counted, puts_in, counted_past, torn_by, torn_sides, round_grows, told_as, Header, Script, is_lawful, meetings, completed_by, point, AreRunners, HaveArrived, HaveMet, HasStopped, IsNext, bytes_at, in_step, arrived_all, met, Runner, after_grows, raised_grows, ext_get_or, may_change, nat_tests}
 use Rattle.turn_run.proofs.MeetDone.{begun_after}
 use Rattle.turn_run.specs.Cuts.StopsAt.{between}
 use Rattle.turn_run.proofs.HalfLaws.{needed_of_none}
@@ -40,26 +40,19 @@ either (inr p) q = p ∙ q
 -- what is torn of the puts' own count is torn of the meeting
 pub round_met : (s : Setting) (batches : List Batch) (r known : ℕ) (held left : Option (List ℕ)) → BothTold (RoundTorn s batches r) held left
     → (known ≡ 0) ⊎ (puts_in batches ≡ []) → BothTold (MetTorn s batches r known) held left
-round_met s batches r known held left b one = told_as (RoundTorn s batches r) (MetTorn s batches r known) held left (λ old bytes t. by_one old bytes t one) b
-  where
-    by_one : (old bytes : List ℕ) → RoundTorn s batches r old bytes → (known ≡ 0) ⊎ (puts_in batches ≡ []) → MetTorn s batches r known old bytes
-    by_one old bytes t (inl e) = grind (arith, nat_tests, raised s (laid s (puts_in batches) old r))
-    by_one old bytes t (inr e) =
-        let u = torn_sides _ _ _ _ _ t in let keep = keeps_none s (puts_in batches) r old e in
-        let short = t.short in let wide = ap (λ (f : List ℕ). length f) (round_none s (puts_in batches) r old e) in
-        let grown = raised_grows s (laid s (puts_in batches) old r) (max (needed_now s (puts_in batches)) known) in
-        torn_by _ _ old _ bytes t.long (omega arith) (λ x h. cc (none_covered s (puts_in batches) e x)) (λ x h l k. inl (either (u.beside x l k) (keep x))) u.outside
+round_met s batches r known held left b one = told_as (RoundTorn s batches r) (MetTorn s batches r known) held left (λ old bytes t. elim one [
+  | inl e ↦ grind (arith, nat_tests, raised s (laid s (puts_in batches) old r))
+  | inr e ↦
+      let u = torn_sides _ _ _ _ _ t in let keep = keeps_none s (puts_in batches) r old e in
+      let short = t.short in let wide = ap (λ (f : List ℕ). length f) (round_none s (puts_in batches) r old e) in
+      let grown = raised_grows s (laid s (puts_in batches) old r) (max (needed_now s (puts_in batches)) known) in
+      torn_by _ _ old _ bytes t.long (omega arith) (λ x h. cc (none_covered s (puts_in batches) e x)) (λ x h l k. inl (either (u.beside x l k) (keep x))) u.outside
+]) b
 
 -- ---- the count that the ranks know
 
 pub raised_kept : (s : Setting) (c : Counted) (n x : ℕ) → (x < 4) ⊎ (4 + byte_len (count_width s.header.version) ≤ x) → at (raised s c n).file x ≡ at c.file x
-raised_kept s c n x h = by_test (nat_lt c.records n) h
-  where
-    by_test : (t : Bool) → (x < 4) ⊎ (4 + byte_len (count_width s.header.version) ≤ x)
-        → at (cond t (record { file = with_records s.header.version c.file n; records = n }) c).file x ≡ at c.file x
-    by_test false k = refl
-    by_test true (inl l) = at-written_before c.file (count s.header.version n) 4 x l
-    by_test true (inr l) = counted_past s.header.version n c.file x l
+raised_kept s c n x h = grind (arith, nat_tests, at-written_before c.file (count s.header.version n) 4 x, counted_past s.header.version n c.file x, h)
 
 pub met_torn : (s : Setting) (batches : List Batch) (r known : ℕ) (old : List ℕ) → MetTorn s batches r known old (met s batches known (counted old r)).file
 met_torn s batches r known old =
@@ -70,7 +63,7 @@ met_torn s batches r known old =
 pub met_done : (s : Setting) (batches : List Batch) (r known : ℕ) (held now : Option (List ℕ)) → now ≡ after (λ file. (met s batches known (counted file r)).file) held
     → BothTold (MetTorn s batches r known) held now
 met_done s batches r known None now e = e
-met_done s batches r known (Some old) now e = ((met s batches known (counted old r)).file, e, met_torn s batches r known old)
+met_done s batches r known (Some old) now e = (_, e, met_torn s batches r known old)
 
 pub met_done_of : (s : Setting) (batches : List Batch) (r known : ℕ) (held now : Option (List ℕ)) → now ≡ after (λ file. (met s batches known (counted file r)).file) held
     → (known ≡ 0) ⊎ (puts_in batches ≡ []) → BothTold (MetTorn s batches r known) held now
@@ -78,12 +71,7 @@ met_done_of s batches r known held now e one = met_done s batches r known held n
 
 -- what is torn between a file and itself is that file
 pub torn_same : (bytes : List ℕ) (field : ℕ) (old left : List ℕ) → IsTorn bytes field old old left → left ≡ old
-torn_same bytes field old left t =
-    ext_get_or 0 left old (omega arith) (λ x l. by_test x l (may_change bytes field x) refl)
-  where
-    by_test : (x : ℕ) → x < length left → (b : Bool) → may_change bytes field x ≡ b → at left x ≡ at old x
-    by_test x l true h = either (t.changed x l h) refl
-    by_test x l false h = t.kept x l h
+torn_same bytes field old left t = ext_get_or 0 left old (omega arith) (λ x l. grind (arith, nat_tests, t.changed x l, t.kept x l, may_change bytes field x))
 
 -- the write of the count that the ranks know was refused
 pub count_met : (s : Setting) (batches : List Batch) (r n known : ℕ) (held mid now : Option (List ℕ))
@@ -95,26 +83,20 @@ count_met s batches r n known (Some old) mid now e k b one =
     let t = rw e at b in (
       t.0,
       t.1,
-      by_one t.0 one (subst (λ (f : List ℕ). IsTorn [] (field_of s) (after_round s (puts_in batches) (counted old r)).file f t.0)
-          (twice_raised s (laid s (puts_in batches) old r) n (needed_now s (puts_in batches)) known k) t.2),
+      let torn : IsTorn [] (field_of s) (after_round s (puts_in batches) (counted old r)).file (met s batches known (counted old r)).file t.0 =
+          subst (λ (f : List ℕ). IsTorn [] (field_of s) (after_round s (puts_in batches) (counted old r)).file f t.0) (twice_raised s (laid s (puts_in batches) old r) n (needed_now s (puts_in batches)) known k) t.2 in
+          elim one [
+            | inl z ↦
+                let same : needed_now s (puts_in batches) ≡ max (needed_now s (puts_in batches)) known = omega arith in
+                let whole = ap (λ (m : ℕ). (raised s (laid s (puts_in batches) old r) m).file) same in
+                let is = torn_same [] (field_of s) (met s batches known (counted old r)).file t.0
+                (subst (λ (f : List ℕ). IsTorn [] (field_of s) f (met s batches known (counted old r)).file t.0) whole torn) in
+                subst (λ (f : List ℕ). MetTorn s batches r known old f) (sym is) (met_torn s batches r known old)
+            | inr z ↦ grind (arith, nat_tests, torn, torn_sides, round_grows s (puts_in batches) r old, keeps_none s (puts_in batches) r old z, torn_by, none_covered s (puts_in batches) z)
+          ],
     )
-  where
-    by_one : (left : List ℕ) → (known ≡ 0) ⊎ (puts_in batches ≡ [])
-        → IsTorn [] (field_of s) (after_round s (puts_in batches) (counted old r)).file (met s batches known (counted old r)).file left → MetTorn s batches r known old left
-    by_one left (inl z) t =
-        let same : needed_now s (puts_in batches) ≡ max (needed_now s (puts_in batches)) known = omega arith in
-        let whole = ap (λ (m : ℕ). (raised s (laid s (puts_in batches) old r) m).file) same in
-        let is = torn_same [] (field_of s) (met s batches known (counted old r)).file left
-        (subst (λ (f : List ℕ). IsTorn [] (field_of s) f (met s batches known (counted old r)).file left) whole t) in
-        subst (λ (f : List ℕ). MetTorn s batches r known old f) (sym is) (met_torn s batches r known old)
-    by_one left (inr z) t =
-        grind (arith, nat_tests, torn_sides, round_grows s (puts_in batches) r old, keeps_none s (puts_in batches) r old z, torn_by, none_covered s (puts_in batches) z)
 
 -- ---- the step of the runners
-
-bytes_meet : (s : Setting) {calls : List (List Call)} {runners : List Runner} {batches : List Batch} {known : ℕ} (k : ℕ) → IsTaken calls runners batches known
-    → covered s.header (puts_in batches) ≡ bytes_at s (arrived_all s.header calls runners) (Meet k)
-bytes_meet s {calls} {runners} k t = grind (arith, nat_tests, offers_are, puts_same, puts_in, bytes_at, arrived_all, flat_map, held_offers)
 
 pub stopped_meet : {F : Mark → Type 0} {s : Setting} {fault : StepErr} (k : ℕ) {before now : List Mark} {held left : Option (List ℕ)} {calls : List (List Call)} {runners : List Runner} {batches : List Batch}
     {known r n : ℕ} → IsTaken calls runners batches known → F (Meet k) → now ≡ before → BothTold (MetTorn s batches r known) held left
@@ -127,10 +109,7 @@ stopped_meet {F} {s} {fault} k {before} {now} {held} {left} {calls} {runners} {b
           let b = rw there at torn in (
             b.0,
             b.1,
-            in_step (Meet k) f
-                (subst (λ (own : List ℕ). IsLeft s.header own (counted file r) (step_to s (counted file r, arrived_all s.header calls runners) (Meet k)).0 b.0 n) (bytes_meet s k t)
-                (subst (λ (new : Counted). IsLeft s.header (covered s.header (puts_in batches)) (counted file r) new b.0 n) (meet_at s k (counted file r) t)
-                (b.2, subst (λ (m : ℕ). (n ≡ r) ⊎ (n ≡ m)) (sym (met_count s batches known file r)) count))),
+            in_step (Meet k) f (grind (arith, nat_tests, offers_are s.header calls runners t.long t.hold, puts_same, bytes_at, meet_at s k (counted file r) t, met_count s batches known file r)),
           ));
     }
 
@@ -147,8 +126,7 @@ stopped_deaf {F} {s} {fault} k {before} {now} {held} {left} {calls} {runners} {b
     }
 
 pub count_left : (s : Setting) (puts : Puts) (r n m known : ℕ) → n ≡ max r (needed_now s puts) → m ≡ n → (known ≡ 0) ⊎ (puts ≡ []) → (m ≡ r) ⊎ (m ≡ max r (max (needed_now s puts) known))
-count_left s puts r n m known e f (inl z) = inr (omega arith)
-count_left s puts r n m known e f (inr z) = let none = needed_of_none s puts z in inl (omega arith)
+count_left s puts r n m known e f one = grind (arith, nat_tests, needed_of_none s puts, one)
 
 pub count_all : (s : Setting) (puts : Puts) (r n m known : ℕ) → n ≡ max r (needed_now s puts) → m ≡ max n known → (known ≡ 0) ⊎ (puts ≡ []) → (m ≡ r) ⊎ (m ≡ max r (max (needed_now s puts) known))
 count_all s puts r n m known e f one = inr (omega arith)

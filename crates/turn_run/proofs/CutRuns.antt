@@ -1,5 +1,5 @@
 -- A run in turn that was cut off, from its first stage on.
-use Rattle.turn_run.proofs.Words.{IfSome_then, ◌≡◌, ℕ, refl, sym, ◌∙◌, ap, subst, inl, inr, ◌⊎◌, List, [], ◌++◌, length, map, true, Option, Some, None, arith, replicate, slice_get, fold, IfSome, length-replicate, byte_len, Answer, Header, Script, DiskCall, Mark, Meet, Solo, StepErr, after, BothTold, Setting, Counted, raised, count_width, IsLegal, is_lawful, greatest, Going, advance, after_mark, first_state, setting_of, state_after, close_by, IsTorn, IsLeft, StoodAt, IsCutRun, HasAnswers, HasAnswersOfEach, bytes_of_mark, as_setting, counted, torn_by, completed, point, HasBegun, StopsAt, HasStopped, IsNext, bytes_at, in_step, Arrived, Stand, step_to, HasLed, arrived_all, stage, all_between, HaveAnswers, first_runner, Runner, entry_map, map_map, entry_map_none, mapped_entry, raised_grows, gone_up, arrival_step, arrival_steps, raised_records, max, nat_tests}
+use Rattle.turn_run.proofs.Words.{IfSome_then, ◌≡◌, ℕ, refl, sym, ◌∙◌, ap, subst, inl, inr, ◌⊎◌, List, [], ◌++◌, length, map, true, Option, Some, None, arith, replicate, slice_get, fold, IfSome, length-replicate, byte_len, Answer, Header, Script, DiskCall, Mark, StepErr, after, BothTold, Setting, Counted, raised, count_width, IsLegal, is_lawful, Going, advance, after_mark, first_state, setting_of, state_after, IsTorn, StoodAt, IsCutRun, HasAnswers, HasAnswersOfEach, bytes_of_mark, as_setting, counted, torn_by, completed, point, HasBegun, StopsAt, HasStopped, IsNext, bytes_at, in_step, Stand, step_to, HasLed, arrived_all, stage, all_between, HaveAnswers, first_runner, Runner, entry_map, map_map, entry_map_none, mapped_entry, raised_grows, gone_up, arrival_step, arrival_steps, raised_records, max, nat_tests, common_steps}
 use Rattle.nc_base.specs.declared.step.StepErr.TheVariants as fault
 use Rattle.serial_spec.specs.RankMachine as machine
 use Rattle.serial_spec.specs.Torn.StoodAt.{in_step as stood_step, in_close as stood_close, between as stood_between}
@@ -13,33 +13,17 @@ use Rattle.list_laws.proofs.Common.{some_or_none}
 
 -- ---- the close
 
--- file and count after it
-abbrev closed_at : Setting → Stand → Counted
-closed_at s stand = let last = close_by s stand.0 (map (λ a. a.0) stand.1) in record { file = last.bytes; records = last.records }
-
-closing_at : (script : Script) (header : Header) (c : Counted) (runners : List Runner) → length script.calls ≡ length runners → AreOver script.calls runners
-    → raised (setting_of script header) c (most_known runners) ≡ closed_at (setting_of script header) (c, arrived_all header script.calls runners)
-closing_at script header c runners long over =
-    let known : greatest (map (λ g. g.rank.known) (map (λ (a : Arrived). a.0) (arrived_all header script.calls runners))) ≡ most_known runners =
-    ap greatest (map_ended (λ (rank : machine.Rank) (answers : List Answer). rank.known) header script.calls runners long over) in
-    sym (ap (λ (n : ℕ). raised (setting_of script header) c n) known)
-
 -- the close was done, and there was no memory for the end
 pub raised_torn : (header : Header) (held now : Option (List ℕ)) (count n : ℕ) → now ≡ after (λ file. (raised (as_setting header) (counted file count) n).file) held
     → BothTold (λ old bytes. IsTorn [] (byte_len (count_width header.version)) old (raised (as_setting header) (counted old count) n).file bytes) held now
 raised_torn header None now count n e = e
-raised_torn header (Some old) now count n e = (
-  (raised (as_setting header) (counted old count) n).file,
-  e,
-  torn_by [] (byte_len (count_width header.version)) old (raised (as_setting header) (counted old count) n).file (raised (as_setting header) (counted old count) n).file
-      (raised_grows (as_setting header) (counted old count) n) (omega arith) (λ x h. inr refl) (λ x h l k. inr refl) (λ x h k. raised_kept (as_setting header) (counted old count) n x k),
-)
+raised_torn header (Some old) now count n e =
+    (_, e, grind (arith, nat_tests, torn_by, raised_grows (as_setting header) (counted old count) n, raised_kept (as_setting header) (counted old count) n))
 
 -- ---- by the serial run
 
 bytes_up : (s : Setting) (goings : List Going) (m : Mark) → bytes_at s (map (advance s.header) goings) m ≡ bytes_of_mark s goings m
-bytes_up s goings (Meet k) = refl
-bytes_up s goings (Solo r n) = grind (arith, nat_tests, some_or_none, entry_map_none, entry_map, bytes_at)
+bytes_up s goings m = grind (arith, nat_tests, some_or_none, entry_map_none, entry_map, bytes_at)
 
 -- ---- where a whole run stood that was cut off
 
@@ -65,16 +49,14 @@ module _ (script : Script) (header : Header) (e : StepErr) (records : ℕ) (firs
   pub stood_before : {left : Option (List ℕ)} {count : ℕ} → HasStopped (IsNext script order) s e (point before held records) (arrived_all header script.calls first) (point order left count)
       → Stood script header e order held left count
   stood_before {count} h = IfSome_then held h.ends (λ file k.
-      (k.0, k.1, by_stop file k.0 (subst (λ (stand : Stand). StopsAt (IsNext script order) s e stand k.0 count) (up file h.more h.grown) k.2)))
-    where
-      by_stop : (file bytes : List ℕ) → StopsAt (IsNext script order) s e (gone_up s (state_after script header file order)) bytes count
-          → StoodAt script s e (state_after script header file order) order bytes count
-      by_stop file bytes (in_step m next l) =
-          let state = state_after script header file order in
-          stood_step m next.0 next.1
-          (subst (λ (own : List ℕ). IsLeft header own state.0 (after_mark s state m).0 bytes count) (bytes_up s state.1 m)
-          (subst (λ (new : Counted). IsLeft header (bytes_at s (map (advance header) state.1) m) state.0 new bytes count) (ap (λ (stand : Stand). stand.0) (arrival_step s state m)) l))
-      by_stop file bytes (between memory l k) = stood_between may_follow.0 may_follow.1 memory l k
+      let state = state_after script header file order in (
+        k.0,
+        k.1,
+        elim (subst (λ (stand : Stand). StopsAt (IsNext script order) s e stand k.0 count) (up file h.more h.grown) k.2) [
+          | in_step m next l ↦ stood_step m next.0 next.1 (grind (arith, nat_tests, bytes_up s state.1 m, arrival_step s state m))
+          | between memory l k ↦ stood_between may_follow.0 may_follow.1 memory l k
+        ],
+      ))
 
   -- no memory was left once all steps were done
   pub stood_led : (last : List Runner) {calls made : Option (List DiskCall)} {left : Option (List ℕ)} {count : ℕ} → e ≡ fault.Memory
@@ -90,16 +72,14 @@ module _ (script : Script) (header : Header) (e : StepErr) (records : ℕ) (firs
       → BothTold (λ old bytes. IsTorn [] (byte_len (count_width header.version)) old (raised (as_setting header) (counted old count) (most_known last)).file bytes) left now
       → (total ≡ count) ⊎ (total ≡ max count (most_known last)) → Stood script header e order held now total
   stood_closing last now {count} {total} long over legal h torn which = IfSome_then held h.led (λ file l.
-      let q = subst (λ (m : Option (List ℕ)). BothTold (λ old bytes. IsTorn [] (byte_len (count_width header.version)) old (raised (as_setting header) (counted old count) (most_known last)).file bytes) m now) l.told torn in
-      grind (arith, nat_tests, up file h.more h.grown, closing_at script header (counted l.left count) last long over, map_map, raised_records s (counted l.left count) (most_known last), l.state, q.0, q.1, q.2, s, counted))
+      grind (arith, common_steps, raised (as_setting header), up file h.more h.grown, map_ended (λ rank answers. rank.known) header script.calls last long over, map_map, raised_records s (counted l.left count) (most_known last)))
 
 -- want of memory may follow another fault
 pub stood_as : {script : Script} {s : Setting} {x e : StepErr} {state : Counted × List Going} {order : List Mark} {left : List ℕ} {records : ℕ} → (x ≡ e) ⊎ (e ≡ fault.Memory)
     → StoodAt script s x state order left records → StoodAt script s e state order left records
 stood_as which (stood_step m later legal l) = stood_step m later legal l
 stood_as which (stood_close legal l) = stood_close legal l
-stood_as (inl same) (stood_between later legal memory l k) = stood_between later legal (sym same ∙ memory) l k
-stood_as (inr wanted) (stood_between later legal memory l k) = stood_between later legal wanted l k
+stood_as which (stood_between later legal memory l k) = stood_between later legal (grind (arith, nat_tests, which, memory)) l k
 
 -- nothing was begun
 pub stood_first : (script : Script) (header : Header) (e : StepErr) (order : List Mark) (held left : Option (List ℕ)) (records count : ℕ) → is_lawful script ≡ true → e ≡ fault.Memory → order ≡ []
@@ -107,8 +87,8 @@ pub stood_first : (script : Script) (header : Header) (e : StepErr) (order : Lis
 stood_first script header e order held left records count lawful memory none l k first = some_each held (λ file there. (
   file,
   l ∙ there,
-  subst (λ (ms : List Mark). StoodAt script (setting_of script header) e (state_after script header file ms) ms file count) (sym none)
-      (let b = none_begun script in let c = completed script [] lawful b.known_ranks b.each_rank in stood_between c.0 c.1 memory refl (k ∙ first)),
+  let b = none_begun script in let c = completed script [] lawful b.known_ranks b.each_rank in
+      rw (none) (stood_between c.0 c.1 memory refl (k ∙ first)),
 ))
 
 pub no_answers : (script : Script) (header : Header) (e : StepErr) (order : List Mark) (file : List ℕ) (answers : List (List Answer)) → answers ≡ []
@@ -120,31 +100,21 @@ pub cut_answers : (script : Script) (header : Header) (e x : StepErr) (records :
     → is_lawful script ≡ true → records ≡ header.records → first ≡ replicate script.ranks (first_runner header records) → before ≡ [] → (e ≡ x) ⊎ (e ≡ fault.Memory)
     → HaveAnswers (setting_of script header) x (point before (Some file) records) (all_between script.calls first) order last → (answers ≡ map (λ runner. runner.answers) last) ⊎ (answers ≡ [])
     → (r : ℕ) (g : Going) (own : List Answer) → slice_get (state_after script header file order).1 r ≡ Some g → slice_get answers r ≡ Some own → HasAnswers header e g own
-cut_answers script header e x records first last before order file answers lawful count all none which h are r g own at is = by_answers are
-  where
-    s : Setting
-    s = setting_of script header
-
-    state : fold (after_mark s) (counted file records, all_between script.calls first) h.more ≡ state_after script header file order
-    state = grind (arith, nat_tests, first_goings script header records first lawful count all)
-
-    by_cause : (e ≡ x) ⊎ (e ≡ fault.Memory) → (runner : Runner) → HasAnswers header x g runner.answers → HasAnswers header e g runner.answers
-    by_cause (inl q) runner k = subst (λ (y : StepErr). HasAnswers header y g runner.answers) (sym q) k
-    by_cause (inr q) runner k = subst (λ (y : StepErr). HasAnswers header y g runner.answers) (sym q) (k.0, tt)
-
-    by_answers : (answers ≡ map (λ runner. runner.answers) last) ⊎ (answers ≡ []) → HasAnswers header e g own
-    by_answers (inl q) =
-        let runner = mapped_entry (λ (runner : Runner). runner.answers) last r own (ap (λ (table : List (List Answer)). slice_get table r) (sym q) ∙ is) in
-        subst (λ (xs : List Answer). HasAnswers header e g xs) runner.1.1
-        (by_cause which runner.0 (h.said r g runner.0 (ap (λ (st : Counted × List Going). slice_get st.1 r) state ∙ at) runner.1.0))
-    by_answers (inr q) = no_answers script header e order file answers q r g own at is
+cut_answers script header e x records first last before order file answers lawful count all none which h are r g own at is =
+    let state : fold (after_mark (setting_of script header)) (counted file records, all_between script.calls first) h.more ≡ state_after script header file order =
+    grind (arith, nat_tests, first_goings script header records first lawful count all) in
+    elim are [
+      | inl q ↦
+          let runner = mapped_entry (λ (runner : Runner). runner.answers) last r own (ap (λ (table : List (List Answer)). slice_get table r) (sym q) ∙ is) in
+          let said : HasAnswers header x g runner.0.answers = h.said r g runner.0 (ap (λ (st : Counted × List Going). slice_get st.1 r) state ∙ at) runner.1.0 in
+          grind (arith, nat_tests, which, said, runner.1.1)
+      | inr q ↦ no_answers script header e order file answers q r g own at is
+    ]
 
 -- as many rows as ranks
 pub cut_rows : (script : Script) (e : StepErr) (table answers : List (List Answer)) → length table ≡ length script.calls → (e ≡ fault.Disk → answers ≡ table) → (answers ≡ table) ⊎ (answers ≡ [])
     → HasAnswersOfEach e script answers
-cut_rows script fault.Disk table answers long disk are = let k = ap (λ (rows : List (List Answer)). length rows) (disk refl) in omega arith
-cut_rows script fault.Memory table answers long disk (inl q) = let k = ap (λ (rows : List (List Answer)). length rows) q in omega arith
-cut_rows script fault.Memory table answers long disk (inr q) = let k = ap (λ (rows : List (List Answer)). length rows) q in omega arith
+cut_rows script e table answers long disk are = grind (arith, nat_tests, disk, are)
 
 -- of a run that stood there, with these answers
 pub cut_run : (script : Script) (header : Header) (e : StepErr) (order : List Mark) (held left : Option (List ℕ)) (count : ℕ) (answers : List (List Answer)) → HasAnswersOfEach e script answers
@@ -158,5 +128,4 @@ pub first_long : (script : Script) → length script.calls ≡ script.ranks → 
 first_long script one header records runners last e l = l ∙ ap (λ (ss : List Runner). length ss) e ∙ length-replicate script.ranks (first_runner header records) ∙ sym one
 
 pub no_rows : (script : Script) (e : StepErr) (answers : List (List Answer)) → e ≡ fault.Memory → answers ≡ [] → HasAnswersOfEach e script answers
-no_rows script fault.Memory answers memory none = let k = ap (λ (table : List (List Answer)). length table) none in omega arith
-no_rows script fault.Disk answers memory none = absurd cc
+no_rows script e answers memory none = grind (arith, nat_tests)

@@ -1,5 +1,5 @@
 -- How a run ended, by the ends of its ranks.
-use Rattle.turn_run.proofs.Words.{◌≡◌, ℕ, ◌≤◌, sym, subst, inl, inr, ◌⊎◌, List, [], map, true, Option, Some, None, Result, Err, OnErr, byte_len, Header, RankEnd, RunEnd, ServeEnd, DiskCall, StepErr, Rose, BothTold, raised, count_width, is_sound, IsTorn, as_setting, counted, contents_of, EndedAt, HasClosed, NoneBroke, most_known_of, as_left, in_close, arith, nat_tests}
+use Rattle.turn_run.proofs.Words.{◌≡◌, ℕ, ◌≤◌, ◌⊎◌, List, [], map, true, Option, Some, None, Result, Err, OnErr, byte_len, Header, RankEnd, RunEnd, ServeEnd, DiskCall, StepErr, Rose, BothTold, raised, count_width, is_sound, IsTorn, as_setting, counted, contents_of, EndedAt, HasClosed, NoneBroke, most_known_of, as_left, in_close, arith, nat_tests}
 use Rattle.nc_base.specs.declared.step.StepErr.TheVariants as fault
 
 -- what the end of a run tells
@@ -27,9 +27,8 @@ pub record EndOfCut (header : Header) (ends : List RankEnd) (before : ServeEnd) 
 -- want of memory may follow it
 pub ended_as : (header : Header) (ends : List RankEnd) (before : Option StepErr) (x e : StepErr) (held left : Option (List ℕ)) (count records : ℕ) → (e ≡ x) ⊎ (e ≡ fault.Memory)
     → EndedAt header ends before x (contents_of held count) (contents_of left records) → EndedAt header ends before e (contents_of held count) (contents_of left records)
-ended_as header ends before x e held left count records (inl same) at = subst (λ (y : StepErr). EndedAt header ends before y (contents_of held count) (contents_of left records)) (sym same) at
-ended_as header ends before x e held left count records (inr memory) (as_left which l k) = as_left (inr memory) l k
-ended_as header ends before x e held left count records (inr memory) (in_close none whole torn k) = in_close none whole torn k
+ended_as header ends before x e held left count records which (as_left w l k) = as_left (grind (arith, nat_tests, which, w)) l k
+ended_as header ends before x e held left count records which (in_close none whole torn k) = in_close none whole torn k
 
 -- of an answer that handed on its error
 pub ended_err : {T : Type 0} (header : Header) (ends : List RankEnd) (before : Option StepErr) (r : Result T StepErr) (e : StepErr) (held left : Option (List ℕ)) (count records known : ℕ) → r ≡ Err e → before ≡ None → NoneBroke ends

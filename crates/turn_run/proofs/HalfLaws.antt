@@ -13,11 +13,8 @@ no_gets (b ∷ bs) h = grind (arith, nat_tests, empty_list b.gets, no_gets bs)
 
 -- rows without a blob are those of no gets
 rows_of_none : {X : Type 0} (f : Post → X) (slice batches : List Batch) → slice ≡ batches → have_no_gets slice → map (λ (b : Batch). []) slice ≡ map (λ b. map f b.gets) batches
-rows_of_none {X} f slice batches same none = each slice none ∙ ap (λ (bs : List Batch). map (λ b. map f b.gets) bs) same
-  where
-    each : (bs : List Batch) → have_no_gets bs → map (λ (b : Batch). []) bs ≡ map (λ b. map f b.gets) bs
-    each [] h = refl
-    each (b ∷ bs) h = grind (arith, nat_tests, each bs, empty_list b.gets)
+rows_of_none f slice [] same none = grind (arith, nat_tests)
+rows_of_none f slice (b ∷ batches) same none = grind (arith, nat_tests, rows_of_none f batches batches refl, empty_list b.gets)
 
 pub got_of_none : (s : Setting) (slice batches : List Batch) (table : List (List (List ℕ))) → slice ≡ batches → have_no_gets slice → table ≡ map (λ (b : Batch). []) slice
     → (held : Option (List ℕ)) → IfSome held (λ file. table ≡ map (λ b. map (get_post s file) b.gets) batches)
@@ -44,20 +41,17 @@ no_puts n (b ∷ bs) h = grind (arith, nat_tests, empty_list b.puts, no_puts (n 
 pub puts_of_none : (slice batches : List Batch) → slice ≡ batches → have_no_puts slice → puts_in batches ≡ []
 puts_of_none slice batches same none = ap puts_in (sym same) ∙ no_puts 0 slice none
 
-told_none : (s : Setting) → told s [] ≡ None
-told_none s = grind (arith, nat_tests)
-
 pub told_of_none : (s : Setting) (puts : Puts) → puts ≡ [] → None ≡ told s puts
-told_of_none s puts none = sym (ap (told s) none ∙ told_none s)
+told_of_none s puts none = grind (arith, nat_tests)
 
 pub bytes_of_none : (s : Setting) (r len : ℕ) (puts : Puts) (held : Option (List ℕ)) → puts ≡ [] → IfSome held (λ file. length file ≡ len) → end_for s 0 ≤ len
     → held ≡ after (λ file. (after_round s puts (counted file r)).file) held
 bytes_of_none s r len puts None none l h = refl
-bytes_of_none s r len puts (Some file) none l h = grind (arith, nat_tests, raised, told_none, longer-enough, raised_none, no_need, after_round, counted)
+bytes_of_none s r len puts (Some file) none l h = grind (arith, nat_tests, raised, longer-enough, raised_none, no_need, after_round, counted)
 
 pub needed_of_none : (s : Setting) (puts : Puts) → puts ≡ [] → needed_now s puts ≡ 0
 needed_of_none s puts none = ap (needed_now s) none ∙ no_need s
 
 pub put_calls_of_none : (s : Setting) (cut : List ℕ → List (List ℕ)) (puts : Puts) (len r : ℕ) (calls : Option (List DiskCall)) → puts ≡ []
     → calls ≡ with_end calls (put_calls s cut puts len ++ store_records s (nat_lt r r))
-put_calls_of_none s cut puts len r calls none = grind (arith, nat_tests, no_calls, not_below, told_none, with_end)
+put_calls_of_none s cut puts len r calls none = grind (arith, nat_tests, no_calls, not_below, with_end)

@@ -1,5 +1,5 @@
 -- The runners after a meeting.
-use Rattle.turn_run.proofs.Words.{◌≡◌, ℕ, ◌≤◌, refl, sym, ◌∙◌, ap, subst, List, [], ◌∷◌, ◌++◌, length, map, Option, Some, None, arith, slice_get, is_some, length-map, same_Some, slice_get_within, Pair, Header, Batch, Script, Mark, Meet, Offer, Reply, hear, wanted, meetings, IsOnWay, hears_keeps, call_waits, meeting_of_known, way_hears, HasBegun, IsCount, asking, between, calls_of, going_of, reply_of, AreFreed, AreHeard, AreRunners, HasHeard, HaveArrived, HaveMet, IsPlaced, IsRunner, IsToHear, batches_of, held_offers, known_of, is_lawful, ranks_lawful, true, Runner, entry_below, entry_map, nat_tests}
+use Rattle.turn_run.proofs.Words.{◌≡◌, ℕ, ◌≤◌, sym, ◌∙◌, subst, List, [], ◌∷◌, ◌++◌, length, map, Option, Some, None, arith, slice_get, is_some, slice_get_within, Pair, Header, Batch, Script, Mark, Meet, Reply, hear, wanted, meetings, hears_keeps, call_waits, meeting_of_known, way_hears, HasBegun, IsCount, asking, calls_of, reply_of, AreFreed, AreHeard, AreRunners, HasHeard, HaveArrived, HaveMet, IsRunner, IsToHear, batches_of, held_offers, known_of, is_lawful, ranks_lawful, true, Runner, entry_below, entry_map, nat_tests, common_steps}
 use Rattle.turn_run.proofs.AloneLaws.{fits_open}
 use Rattle.turn_run.proofs.CountLaws.{count_longer, count_max}
 use Rattle.turn_run.proofs.MeetOffers.{held_at, held_long, meets_at}
@@ -15,9 +15,7 @@ taken_by {script} lawful all met e f = record { long = (ranks_lawful script lawf
 
 pub table_long : (header : Header) (runners : List Runner) (batches : List Batch) (table : List (List (List ℕ))) → HaveMet runners → batches ≡ batches_of (held_offers runners)
     → FitsGets header batches table → length table ≡ length runners
-table_long header runners batches table met e f = sym (length-map table (λ (blobs : List (List ℕ)). map (λ blob. length blob) blobs)) ∙ ap (λ (xs : List (List ℕ)). length xs) f
-    ∙ length-map batches (λ (b : Batch). map (wanted header) b.gets) ∙ ap (λ (bs : List Batch). length bs) e
-    ∙ length-map (held_offers runners) (λ (o : Offer). o.batch) ∙ held_long runners met
+table_long header runners batches table met e f = grind (arith, common_steps, held_long runners met)
 
 pub to_hear : {script : Script} {header : Header} {len : ℕ} {order : List Mark} {runners mid : List Runner} {batches : List Batch} (table : List (List (List ℕ)))
     → AreRunners script header len order runners → HaveMet runners → HaveArrived script runners → AreFreed runners mid → batches ≡ batches_of (held_offers runners)
@@ -27,19 +25,13 @@ to_hear {script} {header} {order} {runners} {mid} {batches} table all met come f
     let m = meets_at all met come r a.0 a.1 in let o = m.0 in
     let keeps = call_waits script order r (asking (calls_of script r) a.0) o m.1.way in
     let own : slice_get batches r ≡ Some o.batch = grind (arith, nat_tests, entry_map, held_at runners met r a.0 o a.1 m.1.held, held_offers) in
-    let row : map (λ blob. length blob) blobs ≡ map (wanted header) o.batch.gets = same_Some _ _
-    (sym (entry_map (λ (bs : List (List ℕ)). map (λ blob. length blob) bs) table r blobs t) ∙ ap (λ (xs : List (List ℕ)). slice_get xs r) f
-    ∙ entry_map (λ (b : Batch). map (wanted header) b.gets) batches r o.batch own) in
+    let row : map (λ blob. length blob) blobs ≡ map (wanted header) o.batch.gets = grind (arith, common_steps, entry_map (λ (bs : List (List ℕ)). map (λ blob. length blob) bs) table r blobs t, entry_map (λ (b : Batch). map (wanted header) b.gets) batches r o.batch own) in
     grind (arith, nat_tests, fits_open, keeps.0, is_some)
 
 -- ---- one rank after the meeting
 
 pub heard_before : (m a b : Runner) (reply : Reply) → m.rank ≡ a.rank → m.answers ≡ a.answers → HasHeard m b reply → HasHeard a b reply
 heard_before m a b reply e f h = grind (arith, nat_tests)
-
-pub placed_free : (script : Script) (header : Header) (order : List Mark) (r : ℕ) (own : List _) (b : Runner) → b.held ≡ None → IsOnWay script order r (between own b) None
-    → IsPlaced script header order r (going_of own b) b.held
-placed_free script header order r own b e w = subst (λ (m : _). IsPlaced script header order r (elim m [ None ↦ between own b | Some o ↦ asking own b ]) m) (sym e) w
 
 module _ {script : Script} {header : Header} {before : ℕ} {order : List Mark} {runners mid now : List Runner} {pair : Option Pair} {n : ℕ} {table : List (List (List ℕ))}
     (all : AreRunners script header before order runners) (met : HaveMet runners) (come : HaveArrived script runners) (freed : AreFreed runners mid) (heard : AreHeard pair n table mid now) where
@@ -57,8 +49,7 @@ module _ {script : Script} {header : Header} {before : ℕ} {order : List Mark} 
       → IsRunner script header (order ++ Meet (meetings order) ∷ []) r b × IsCount header len b.rank.state.known
   one_after wide len longer count r b h =
       let l = slice_get_within now r b h in let p = heard.long in let a = entry_below runners r (omega arith) in let row = entry_below table r (omega arith) in
-      let d = are_done r a.0 b row.0 a.1 h row.1 in let o = meets_at all met come r a.0 a.1 in
-      grind (arith, nat_tests, call_waits script order r (asking (calls_of script r) a.0) o.0 o.1.way, hears_keeps header a.0.rank.state b.rank.state (reply_of pair n row.0) d.1.heard.answer, answered_is (calls_of script r) a.0.rank.state b.rank.state a.0.answers b.answers d.1.heard.answer, way_hears script order r header (asking (calls_of script r) a.0) b.rank.state o.0 (reply_of pair n row.0), placed_free script header (order ++ Meet (meetings order) ∷ []) r (calls_of script r) b d.1.free, count_max header len a.0.rank.state.known n, count_longer header before len a.0.rank.state.known longer o.1.known, d.1.heard.heard, d.1.of_header, d.1.heard.answers, d.1.same_header, b.rank.state.known, reply_of, meetings, calls_of, asking)
+      grind (arith, common_steps, are_done r a.0 b row.0 a.1 h row.1, meets_at all met come r a.0 a.1, call_waits script order r (asking (calls_of script r) a.0) (meets_at all met come r a.0 a.1).0 (meets_at all met come r a.0 a.1).1.way, hears_keeps header a.0.rank.state b.rank.state (reply_of pair n row.0) (are_done r a.0 b row.0 a.1 h row.1).1.heard.answer, answered_is (calls_of script r) a.0.rank.state b.rank.state a.0.answers b.answers (are_done r a.0 b row.0 a.1 h row.1).1.heard.answer, way_hears script order r header (asking (calls_of script r) a.0) b.rank.state (meets_at all met come r a.0 a.1).0 (reply_of pair n row.0), (are_done r a.0 b row.0 a.1 h row.1).1.free, count_max header len a.0.rank.state.known n, count_longer header before len a.0.rank.state.known longer (meets_at all met come r a.0 a.1).1.known)
 
   pub runners_after : {len : ℕ} {now_order : List Mark} → length table ≡ length runners → before ≤ len → IsCount header len n → now_order ≡ order ++ Meet (meetings order) ∷ []
       → AreRunners script header len now_order now
@@ -85,8 +76,7 @@ begun_after {script} {header} {order} {runners} all met come e = subst (λ (ms :
   each_rank = λ r l.
       let long = all.all in let a = entry_below runners r (omega arith) in
       let m = meets_at all met come r a.0 a.1 in let none = reply_of None 0 [] in
-      let said = hear header a.0.rank.state none in
-      way_rest script (order ++ Meet (meetings order) ∷ []) r _ None (way_hears script order r header (asking (calls_of script r) a.0) said.0 m.0 none said.1 m.1.way refl);
+      grind (arith, common_steps, way_rest script (order ++ Meet (meetings order) ∷ []) r, way_hears script order r header (asking (calls_of script r) a.0) (hear header a.0.rank.state none).0 m.0 none (hear header a.0.rank.state none).1 m.1.way);
 })
 
 pub begun_still : {script : Script} {header : Header} {len : ℕ} {order now_order : List Mark} {runners : List Runner} → AreRunners script header len order runners → now_order ≡ order → HasBegun script now_order

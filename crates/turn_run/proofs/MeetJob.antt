@@ -1,14 +1,12 @@
 -- The job of a meeting, taken from the runners one after another.
-use Rattle.turn_run.proofs.Words.{◌≡◌, ℕ, ◌+◌, sym, ◌∙◌, ap, List, [], ◌∷◌, ◌++◌, map, max, take, Some, append-nil, map-append, flat_map-append, slice_get, option_to_list, Batch, Offer, known_by, greatest, batches_of, held_offers, known_of, Runner, greatest_joined, take_next}
+use Rattle.turn_run.proofs.Words.{◌≡◌, ℕ, ◌+◌, sym, ◌∙◌, ap, List, ◌++◌, map, max, take, Some, map-append, slice_get, option_to_list, Batch, Offer, known_by, greatest, batches_of, held_offers, known_of, Runner, greatest_joined, take_next, arith, common_steps}
 
 held_next : (runners : List Runner) (i : ℕ) (runner : Runner) → slice_get runners i ≡ Some runner → held_offers (take (i + 1) runners) ≡ held_offers (take i runners) ++ option_to_list runner.held
-held_next runners i runner e = ap held_offers (take_next runners i runner e) ∙ flat_map-append (λ (s : Runner). option_to_list s.held) (take i runners) (runner ∷ [])
-    ∙ ap (λ (offers : List Offer). held_offers (take i runners) ++ offers) (append-nil (option_to_list runner.held))
+held_next runners i runner e = grind (arith, common_steps, take_next runners i runner e)
 
 pub batches_next : (runners : List Runner) (i : ℕ) (runner : Runner) (batches more : List Batch) → slice_get runners i ≡ Some runner → batches ≡ batches_of (held_offers (take i runners))
     → more ≡ batches ++ batches_of (option_to_list runner.held) → more ≡ batches_of (held_offers (take (i + 1) runners))
-batches_next runners i runner batches more e b m = m ∙ ap (λ (bs : List Batch). bs ++ batches_of (option_to_list runner.held)) b
-    ∙ sym (map-append (λ (o : Offer). o.batch) (held_offers (take i runners)) (option_to_list runner.held)) ∙ ap batches_of (sym (held_next runners i runner e))
+batches_next runners i runner batches more e b m = grind (arith, common_steps, held_next runners i runner e)
 
 pub known_next : (runners : List Runner) (i : ℕ) (runner : Runner) (known own more : ℕ) → slice_get runners i ≡ Some runner → known ≡ known_of (held_offers (take i runners))
     → own ≡ known_of (option_to_list runner.held) → more ≡ max known own → more ≡ known_of (held_offers (take (i + 1) runners))

@@ -1,5 +1,5 @@
 -- The offers of a meeting, as the runners hold them: together they are a job that a meeting takes.
-use Rattle.turn_run.proofs.Words.{nat_tests, ◌≡◌, ℕ, zero, suc, ◌+◌, ◌≤◌, refl, sym, ◌∙◌, ap, subst, List, [], ◌∷◌, ◌++◌, length, map, true, false, Option, Some, inl, inr, arith, map-append, length-map, slice_get, flat_map, is_some, enumerate_from, AllByRecursion, option_to_list, Header, Batch, Post, Script, Mark, Offer, OfferKind, In, known_by, is_lawful, bytes_of, holdings, Holding, IsOwnOnce, Puts, IsOnWay, ranks_lawful, together_kind, gets_in, posts_in, puts_of_batch, AreGets, ArePuts, raises, IsAsked, IsCount, IsFit, IsRise, asking, calls_of, AreRunners, HaveArrived, HaveMet, batches_of, held_offers, known_of, IsJob, IsOneRise, Runner, IsSingleOffer, value_of_some, if_some_at, mapped_entry}
+use Rattle.turn_run.proofs.Words.{nat_tests, ◌≡◌, ℕ, zero, suc, ◌+◌, ◌≤◌, refl, sym, ap, subst, List, [], ◌∷◌, ◌++◌, length, map, true, false, Option, Some, inl, inr, arith, map-append, length-map, slice_get, flat_map, is_some, enumerate_from, AllByRecursion, option_to_list, Header, Batch, Post, Script, Mark, Offer, OfferKind, In, known_by, is_lawful, bytes_of, holdings, Holding, IsOwnOnce, Puts, IsOnWay, ranks_lawful, together_kind, gets_in, posts_in, puts_of_batch, AreGets, ArePuts, raises, IsAsked, IsCount, IsFit, IsRise, asking, calls_of, AreRunners, HaveArrived, HaveMet, batches_of, held_offers, known_of, IsJob, IsOneRise, Runner, IsSingleOffer, value_of_some, if_some_at, mapped_entry}
 use Rattle.nc_base.specs.declared.step.MeetKind.TheVariants as kind
 use Rattle.nc_base.specs.declared.step.OfferKind.TheVariants as offer
 use Rattle.turn_run.proofs.CountLaws.{rise_max}
@@ -22,14 +22,11 @@ pub held_at : (runners : List Runner) → AllHold runners → (r : ℕ) (runner 
 held_at [] m r runner o e h = absurd cc
 held_at (x ∷ runners) m zero runner o e h = grind (arith, nat_tests, value_of_some, held_first, held_offers)
 held_at (x ∷ runners) m (suc r) runner o e h =
-    let p = value_of_some x.held (m 0 x refl) in
-    ap (λ (os : List Offer). slice_get os (suc r)) (held_first x runners p.0 p.1) ∙ held_at runners (λ q s g. m (suc q) s g) r runner o e h
+    grind (arith, nat_tests, value_of_some x.held (m 0 x refl), held_first x runners, held_at runners (λ q s g. m (suc q) s g) r runner o e h)
 
 pub held_long : (runners : List Runner) → AllHold runners → length (held_offers runners) ≡ length runners
 held_long [] m = refl
-held_long (x ∷ runners) m =
-    let p = value_of_some x.held (m 0 x refl) in
-    ap (λ (os : List Offer). length os) (held_first x runners p.0 p.1) ∙ ap (λ (n : ℕ). suc n) (held_long runners (λ q s g. m (suc q) s g))
+held_long (x ∷ runners) m = grind (arith, nat_tests, value_of_some x.held (m 0 x refl), held_first x runners, held_long runners (λ q s g. m (suc q) s g))
 
 held_all : (P : Offer → Type 0) (runners : List Runner) → ((r : ℕ) (runner : Runner) → slice_get runners r ≡ Some runner → (o : Offer) × ((runner.held ≡ Some o) × P o))
     → AllByRecursion P (held_offers runners)
@@ -66,9 +63,6 @@ meets_at {script} {header} {len} {order} {runners} all met come r runner e =
 pub asked_fit : (header : Header) (len known : ℕ) (o : Offer) → IsAsked header known o → IsCount header len known → IsFit header len o
 asked_fit header len known o asked count = grind (arith, nat_tests)
 
-brought : {script : Script} {header : Header} {len : ℕ} {order : List Mark} {r : ℕ} {runner : Runner} {o : Offer} → Meets script header len order r runner o → IsFit header len o
-brought {header} {len} {runner} {o} m = asked_fit header len runner.rank.state.known o m.asked m.known
-
 -- the puts of ranks from one on
 abbrev puts_from : ℕ → List Offer → Puts
 puts_from first offers = flat_map puts_of_batch (enumerate_from first (batches_of offers))
@@ -98,9 +92,6 @@ own_brought header len first (o ∷ offers) all =
 
 -- ---- what the ranks know
 
-unraised : (k : OfferKind) (n : ℕ) → raises k ≡ false → known_by k n ≡ 0
-unraised k n e = grind (arith, nat_tests)
-
 known_rise : (header : Header) (len : ℕ) (k : OfferKind) (n : ℕ) → IsCount header len n → IsRise header len (known_by k n)
 known_rise header len (offer.Meet kind.End) n h = inr h
 known_rise header len (offer.Meet kind.Sync) n h = inr h
@@ -113,7 +104,7 @@ rise_brought header len (o ∷ offers) all =
 
 none_known : (kind : OfferKind) (offers : List Offer) → AllByRecursion (λ o. o.kind ≡ kind) offers → raises kind ≡ false → known_of offers ≡ 0
 none_known kind [] all e = refl
-none_known kind (o ∷ offers) all e = let own = unraised o.kind o.known (ap raises all.0 ∙ e) in let others = none_known kind offers all.1 e in omega arith
+none_known kind (o ∷ offers) all e = grind (arith, nat_tests, raises, known_by, all.0, none_known kind offers all.1 e)
 
 none_put : (first : ℕ) (kind : OfferKind) (offers : List Offer) → AllByRecursion IsSingleOffer offers → AllByRecursion (λ o. o.kind ≡ kind) offers
     → raises kind ≡ true → puts_from first offers ≡ []
@@ -135,21 +126,18 @@ offers_job header len offers most own =
 all_brought : {script : Script} {header : Header} {len : ℕ} {order : List Mark} {runners : List Runner} → AreRunners script header len order runners → HaveMet runners → HaveArrived script runners
     → AllByRecursion (IsFit header len) (held_offers runners)
 all_brought {header} {len} {runners} all met come =
-    held_all (IsFit header len) runners (λ r runner e. let m = meets_at all met come r runner e in (m.0, (m.1.held, brought m.1)))
+    held_all (IsFit header len) runners (λ r runner e. let m = meets_at all met come r runner e in (m.0, (m.1.held, asked_fit header len runner.rank.state.known m.0 m.1.asked m.1.known)))
 
 one_kind : {script : Script} {header : Header} {len : ℕ} {order : List Mark} {runners : List Runner} → AreRunners script header len order runners → HaveMet runners → HaveArrived script runners
     → (kind : OfferKind) × AllByRecursion (λ o. o.kind ≡ kind) (held_offers runners)
-one_kind {script} {header} {len} {order} {runners} all met come = by_list runners refl
-  where
-    by_list : (ss : List Runner) → runners ≡ ss → (kind : OfferKind) × AllByRecursion (λ o. o.kind ≡ kind) (held_offers runners)
-    by_list [] e = (offer.Solo, subst (λ (ss : List Runner). AllByRecursion (λ o. o.kind ≡ offer.Solo) (held_offers ss)) (sym e) tt)
-    by_list (x ∷ xs) e =
-        let first = meets_at all met come 0 x (ap (λ (ss : List Runner). slice_get ss 0) e) in (
-          first.0.kind,
-          held_all (λ o. o.kind ≡ first.0.kind) runners (λ r runner f.
-              let m = meets_at all met come r runner f in
-              (m.0, (m.1.held, together_kind script order 0 r (asking (calls_of script 0) x) (asking (calls_of script r) runner) first.0 m.0 first.1.way m.1.way))),
-        )
+one_kind {runners = []} all met come = (offer.Solo, tt)
+one_kind {script} {header} {len} {order} {runners = x ∷ xs} all met come =
+    let first = meets_at all met come 0 x refl in (
+      first.0.kind,
+      held_all (λ o. o.kind ≡ first.0.kind) (x ∷ xs) (λ r runner f.
+          let m = meets_at all met come r runner f in
+          (m.0, (m.1.held, together_kind script order 0 r (asking (calls_of script 0) x) (asking (calls_of script r) runner) first.0 m.0 first.1.way m.1.way))),
+    )
 
 pub meets_job : {script : Script} {header : Header} {len : ℕ} {order : List Mark} {runners : List Runner} {batches : List Batch} → is_lawful script ≡ true
     → AreRunners script header len order runners → HaveMet runners → HaveArrived script runners → batches ≡ batches_of (held_offers runners) → IsJob header len batches
@@ -165,4 +153,4 @@ meets_once {runners} all met come e f =
 
 pub meets_rise : {script : Script} {header : Header} {len : ℕ} {order : List Mark} {runners : List Runner} {known : ℕ} → AreRunners script header len order runners → HaveMet runners → HaveArrived script runners
     → known ≡ known_of (held_offers runners) → IsRise header len known
-meets_rise {header} {len} {runners} all met come e = subst (λ (n : ℕ). IsRise header len n) (sym e) (rise_brought header len (held_offers runners) (all_brought all met come))
+meets_rise {header} {len} {runners} all met come e = rw (e) (rise_brought header len (held_offers runners) (all_brought all met come))

@@ -1,27 +1,24 @@
 -- What the posts of an offer are to a step, and what the puts of a step need.
-use Rattle.turn_run.proofs.Words.{◌≡◌, ℕ, zero, suc, ◌+◌, ◌-◌, ◌*◌, ◌≤◌, refl, sym, ◌∙◌, ap, subst, List, [], ◌∷◌, length, map, max, Bool, true, false, cond, not, ◌||◌, Option, Some, None, inl, inr, arith, nat_tests, slice_get, slice_index, ◌==◌, length-map, Header, Var, Post, Put, Get, Offer, In, needed_now, Setting, end_for, needs, puts_of, told, header_len, is_sound, end_of, greatest, lengths, product, starts_with_zero, needed, records_of_some, bound, check_some, some_edge, accepted, end_grows, pair_of, IsPut, ArePuts, AreGets, PutEnd, Done, Overlap, IsCount, IsRise, needed_after, equal_suc, equal_zero, or_first_false, map_map}
+use Rattle.turn_run.proofs.Words.{◌≡◌, ℕ, zero, suc, ◌+◌, ◌-◌, ◌*◌, ◌≤◌, refl, sym, ◌∙◌, subst, List, [], ◌∷◌, length, map, max, Bool, true, false, cond, not, ◌||◌, Option, Some, None, inl, inr, arith, nat_tests, slice_get, slice_index, ◌==◌, length-map, Header, Var, Post, Put, Get, Offer, In, needed_now, Setting, end_for, puts_of, told, header_len, is_sound, end_of, greatest, lengths, product, starts_with_zero, needed, records_of_some, bound, check_some, some_edge, accepted, end_grows, pair_of, IsPut, ArePuts, AreGets, PutEnd, Done, Overlap, IsCount, IsRise, needed_after, equal_suc, equal_zero, or_first_false, map_map}
 use Rattle.nc_base.specs.declared.answer.Code.TheVariants as code
 use Rattle.rank_core.specs.Offered as offered
+use Rattle.overlay_laws.proofs.Common.{map_in}
 use Rattle.turn_run.proofs.CountLaws.{count_longer, count_max, put_count, rise_max}
 
 -- ---- a get that is accepted asks for no record past those that are known
 
 some_need : (t : Bool) (m k : ℕ) → (t ≡ false → m ≤ k) → cond t 0 m ≤ k
-some_need true m k h = omega arith
-some_need false m k h = h refl
+some_need t m k h = grind (arith, nat_tests)
 
 record_within : (known : ℕ) (ls starts counts strides : List ℕ) → length starts ≡ length ls → length counts ≡ length ls → length strides ≡ length ls
     → some_edge (map (bound Get known) ls) starts counts strides ≡ false
     → cond (not (starts_with_zero ls) || product counts == 0) 0 (slice_index starts 0 + (slice_index counts 0 - 1) * slice_index strides 0 + 1) ≤ known
 record_within known [] starts counts strides a b d e = omega arith
 record_within known (suc m ∷ ls) starts counts strides a b d e = grind (arith, nat_tests, equal_suc)
-record_within known (zero ∷ ls) [] counts strides a b d e = absurd (omega arith)
-record_within known (zero ∷ ls) (s ∷ starts) [] strides a b d e = absurd (omega arith)
-record_within known (zero ∷ ls) (s ∷ starts) (n ∷ counts) [] a b d e = absurd (omega arith)
-record_within known (zero ∷ ls) (s ∷ starts) (zero ∷ counts) (t ∷ strides) a b d e = grind (arith, nat_tests, some_need, equal_zero)
-record_within known (zero ∷ ls) (s ∷ starts) (suc n ∷ counts) (t ∷ strides) a b d e = grind (arith, nat_tests, or_first_false, some_need)
+record_within known (zero ∷ ls) (s ∷ starts) (n ∷ counts) (t ∷ strides) a b d e = grind (arith, nat_tests, or_first_false, some_need, equal_zero)
+record_within known (zero ∷ ls) starts counts strides a b d e = absurd (omega arith)
 
-pub get_needed : (header : Header) (post : Post) (known : ℕ) → offered.IsGet header known post → needed header post ≤ known
+get_needed : (header : Header) (post : Post) (known : ℕ) → offered.IsGet header known post → needed header post ≤ known
 get_needed header post known h = by_var (slice_get header.vars post.var) h
   where
     by_var : (o : Option Var) → check_some header o post.region known Get ≡ code.Ok → records_of_some header o post.region ≤ known
@@ -41,9 +38,7 @@ get_of header len o h k p i =
     let q = h.gets p i in grind (arith, nat_tests, end_grows header (header_len header) (needed header p) o.known (get_needed header p o.known q), get_needed header p o.known q, accepted)
 
 pub ranked_puts : (header : Header) (r : ℕ) (posts : List Post) → ((p : Post) → In posts p → IsPut header p) → ArePuts header (map (λ p. (r, p)) posts)
-ranked_puts header r [] h p i = absurd i
-ranked_puts header r (q ∷ posts) h p (inl e) = subst (λ (x : ℕ × Post). IsPut header x.1) e (h q (inl refl))
-ranked_puts header r (q ∷ posts) h p (inr i) = ranked_puts header r posts (λ x j. h x (inr j)) p i
+ranked_puts header r posts h p i = grind (arith, nat_tests, map_in (λ (x : Post). (r, x)) posts p i, h)
 
 -- ---- what the puts of a rank need
 
@@ -59,10 +54,9 @@ needed_rise header len f (x ∷ xs) h puts l =
 
 pub needed_solo : (s : Setting) (r : ℕ) (posts : List Post) (end : PutEnd) → pair_of end ≡ told s (map (λ p. (r, p)) posts)
     → needed_after s.header posts end ≡ needed_now s (map (λ p. (r, p)) posts)
-needed_solo s r posts Done e = ap greatest (sym (map_map (λ (p : ℕ × Post). needed s.header p.1) (λ (p : Post). (r, p)) posts)) ∙ ap (needs s (map (λ p. (r, p)) posts)) e
-needed_solo s r posts (Overlap pair) e = ap (needs s (map (λ p. (r, p)) posts)) e
+needed_solo s r posts end e = grind (arith, nat_tests, map_map)
 
-pub needed_risen : (header : Header) (len : ℕ) (posts : List Post) (end : PutEnd) → is_sound header ≡ true → ((p : Post) → In posts p → IsPut header p)
+needed_risen : (header : Header) (len : ℕ) (posts : List Post) (end : PutEnd) → is_sound header ≡ true → ((p : Post) → In posts p → IsPut header p)
     → end_of header (header_len header) (needed_after header posts end) ≤ len → IsRise header len (needed_after header posts end)
 needed_risen header len posts Done h puts l = needed_rise header len (λ (p : Post). p) posts h puts l
 needed_risen header len posts (Overlap pair) h puts l = inl refl

@@ -1,9 +1,10 @@
 -- A meeting of the serial run, by the offers that the runners hold.
-use Rattle.turn_run.proofs.Words.{◌≡◌, ℕ, suc, ◌+◌, refl, sym, ◌∙◌, ap, List, [], ◌∷◌, ◌++◌, length, map, max, Option, Some, None, arith, append-nil, slice_get, flat_map, zip, IfSome, enumerate_from, Pair, Header, Batch, Post, Call, Hints, DiskCall, Mark, Meet, Offer, Reply, after, with_end, needed_now, gets_of, meeting_calls, Counted, Setting, after_puts, get_post, meeting, puts_of, raised, told, advance, offers_of, Puts, counted, gets_in, puts_in, puts_of_batch, reply_of, HasHeard, heard, step_to, Arrived, gots_long, meets_like, AllTell, wanted, arrived_all, stage, HasLed, Leads, LeadsAlike, batches_of, held_offers, known_of, met, met_calls, Runner, value_of_some, if_some_at, map_map, raised_records, all_between, entry_below, hears, slice_get_within, nat_tests}
+use Rattle.turn_run.proofs.Words.{◌≡◌, ℕ, suc, ◌+◌, refl, sym, ◌∙◌, ap, List, [], ◌∷◌, ◌++◌, length, map, max, Option, Some, None, arith, append-nil, slice_get, flat_map, zip, IfSome, enumerate_from, Pair, Header, Batch, Post, Call, Hints, DiskCall, Mark, Meet, Offer, Reply, after, with_end, needed_now, gets_of, meeting_calls, Counted, Setting, after_puts, get_post, meeting, puts_of, raised, told, advance, offers_of, Puts, counted, gets_in, puts_in, puts_of_batch, reply_of, HasHeard, heard, step_to, Arrived, gots_long, meets_like, AllTell, wanted, arrived_all, stage, HasLed, LeadsAlike, batches_of, held_offers, known_of, met, met_calls, Runner, value_of_some, if_some_at, map_map, raised_records, all_between, entry_below, hears, slice_get_within, nat_tests}
 use Rattle.turn_run.proofs.AloneLaws.{arrived_held}
 use Rattle.turn_run.proofs.MeetOffers.{held_first, AllHold}
 use Rattle.turn_run.proofs.RunnerLaws.{heard_runner}
 use Rattle.turn_run.proofs.SaidLaws.{between_up}
+use Rattle.turn_run.proofs.StageLaws.{some_each}
 
 -- ---- the puts and gets of the offers are those of their batches
 
@@ -11,7 +12,7 @@ pub puts_same : (first : ℕ) (offers : List Offer) → flat_map puts_of (enumer
 puts_same first [] = refl
 puts_same first (o ∷ offers) = ap (λ (puts : Puts). map (λ post. (first, post)) o.batch.puts ++ puts) (puts_same (first + 1) offers)
 
-pub gets_same : (offers : List Offer) → flat_map gets_of offers ≡ gets_in (batches_of offers)
+gets_same : (offers : List Offer) → flat_map gets_of offers ≡ gets_in (batches_of offers)
 gets_same [] = refl
 gets_same (o ∷ offers) = ap (λ (gets : List Post). o.batch.gets ++ gets) (gets_same offers)
 
@@ -60,7 +61,7 @@ pub record HaveDone (header : Header) (pair : Option Pair) (n : ℕ) (runners no
   pub each : AreDone header pair n runners now table
 
 -- those behind the first
-pub done_behind : {header : Header} {pair : Option Pair} {n : ℕ} {a b : Runner} {runners now : List Runner} {blobs : List (List ℕ)} {table : List (List (List ℕ))}
+done_behind : {header : Header} {pair : Option Pair} {n : ℕ} {a b : Runner} {runners now : List Runner} {blobs : List (List ℕ)} {table : List (List (List ℕ))}
     → HaveDone header pair n (a ∷ runners) (b ∷ now) (blobs ∷ table) → HaveDone header pair n runners now table
 done_behind d = record { long = omega arith; wide = omega arith; each = λ r x y z e f g. d.each (suc r) x y z e f g }
 
@@ -73,7 +74,7 @@ between_done header pair n [] runners now table d = refl
 between_done header pair n (own ∷ calls) [] [] table d = refl
 between_done header pair n calls runners now table d = absurd (omega arith)
 
-pub ranks_done : (header : Header) (pair : Option Pair) (n : ℕ) (calls : List (List Call)) (runners now : List Runner) (table : List (List (List ℕ))) → HaveDone header pair n runners now table
+ranks_done : (header : Header) (pair : Option Pair) (n : ℕ) (calls : List (List Call)) (runners now : List Runner) (table : List (List (List ℕ))) → HaveDone header pair n runners now table
     → map (heard header) (zip (arrived_all header calls runners) (map (reply_of pair n) table)) ≡ arrived_all header calls now
 ranks_done header pair n calls runners now table d =
     sym (map_map (advance header) (λ (p : Arrived × Reply). hears header p.0.0 p.1) (zip (arrived_all header calls runners) (map (reply_of pair n) table)))
@@ -121,7 +122,7 @@ replies_of {s} {calls} {runners} {batches} {known} {r} {n} {file} {left} {pair} 
     ∙ replies_are s (held_offers runners) batches known n (counted file r) pair table t.offered t.most h.shared (h.count ∙ sym (met_count s batches known file r))
     (if_some_at (λ x. table ≡ map (λ b. map (get_post s x) b.gets) batches) left (met s batches known (counted file r)).file h.bytes h.got)
 
-pub step_over : {s : Setting} {calls : List (List Call)} {runners now : List Runner} {batches : List Batch} {known r n : ℕ} {file : List ℕ} {left : Option (List ℕ)} {pair : Option Pair} {table : List (List (List ℕ))} (k : ℕ)
+step_over : {s : Setting} {calls : List (List Call)} {runners now : List Runner} {batches : List Batch} {known r n : ℕ} {file : List ℕ} {left : Option (List ℕ)} {pair : Option Pair} {table : List (List (List ℕ))} (k : ℕ)
     → IsTaken calls runners batches known → HaveDone s.header pair n runners now table → HasGiven s batches known r n (Some file) left pair table
     → step_to s (counted file r, arrived_all s.header calls runners) (Meet k) ≡ (counted (met s batches known (counted file r)).file n, arrived_all s.header calls now)
 step_over {s} {calls} {runners} {now} {batches} {known} {r} {n} {file} {left} {pair} {table} k t d h =
@@ -159,19 +160,19 @@ pub meeting_led : {hints : Hints} {s : Setting} {order now_order : List Mark} {c
     → IsTaken calls runners batches known → HaveDone s.header pair n runners now table → HasGiven s batches known r n held left pair table → FitsGets s.header batches table
     → IfSome held (λ file. made ≡ with_end before (met_calls hints s batches known (counted file r))) → now_order ≡ order ++ Meet k ∷ []
     → HasLed hints s order now_order (stage held before r (arrived_all s.header calls runners)) (stage left made n (arrived_all s.header calls now))
-meeting_led {hints} {s} {order} {now_order} {calls} {runners} {now} {batches} {known} {r} {n} k {held} {left} {before} {made} {pair} {table} t d h fits over grown =
-    record { more = Meet k ∷ []; grown = grown; led = led held h over; alike = meeting_alike s k t d h.shared h.count fits }
-  where
-    led : (held : Option (List ℕ)) → HasGiven s batches known r n held left pair table → IfSome held (λ file. made ≡ with_end before (met_calls hints s batches known (counted file r)))
-        → Leads hints s (Meet k ∷ []) (stage held before r (arrived_all s.header calls runners)) (stage left made n (arrived_all s.header calls now))
-    led None h v = tt
-    led (Some file) h v =
-        let c = counted file r in
-        record {
-          left = (met s batches known c).file;
-          told = h.bytes;
-          state = step_over k t d h;
-          calls = v ∙ ap (with_end before) (sym (met_calls_are hints s (held_offers runners) batches known c t.offered t.most)
-              ∙ ap (λ (os : List Offer). meeting_calls hints s os c) (sym (offers_are s.header calls runners t.long t.hold))
-              ∙ sym (append-nil (meeting_calls hints s (offers_of (arrived_all s.header calls runners)) c)));
-        }
+meeting_led {hints} {s} {order} {now_order} {calls} {runners} {now} {batches} {known} {r} {n} k {held} {left} {before} {made} {pair} {table} t d h fits over grown = record {
+  more = Meet k ∷ [];
+  grown = grown;
+  led = some_each held (λ file there.
+      let c = counted file r in let given : HasGiven s batches known r n (Some file) left pair table = rw there at h in
+      record {
+        left = (met s batches known c).file;
+        told = given.bytes;
+        state = step_over k t d given;
+        calls = if_some_at (λ (f : List ℕ). made ≡ with_end before (met_calls hints s batches known (counted f r))) held file there over
+            ∙ ap (with_end before) (sym (met_calls_are hints s (held_offers runners) batches known c t.offered t.most)
+            ∙ ap (λ (os : List Offer). meeting_calls hints s os c) (sym (offers_are s.header calls runners t.long t.hold))
+            ∙ sym (append-nil (meeting_calls hints s (offers_of (arrived_all s.header calls runners)) c)));
+      });
+  alike = meeting_alike s k t d h.shared h.count fits;
+}

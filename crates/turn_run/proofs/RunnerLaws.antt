@@ -1,5 +1,5 @@
 -- How the rank of a runner goes on.
-use Rattle.turn_run.proofs.Words.{◌≡◌, ℕ, suc, ◌+◌, ◌^◌, ◌<◌, ◌≤◌, refl, sym, ◌∙◌, ap, subst, List, [], ◌∷◌, ◌++◌, length, drop, get_or, Option, Some, None, length-append, append_assoc, arith, append-nil, slice_get, filter, Header, Call, Answer, Script, Mark, Offer, OfferKind, Reply, Want, concerns, marks, most_parts, step, hear, Going, go, advance, hears, posts_held, answered, IsOnWay, AsksAlone, posts_offered, IsSoundWant, meets_keeps, says_at, solo_keeps, comes_on, comes_to_meeting, comes_to_solo, way_answers, way_meets, way_solo, IsAsked, asking, between, HasHeard, IsPlaced, IsPlacedWith, Runner, meets_quiet, drop_at, entry_read, said_at, inl, inr, ◌⊎◌, nat_tests}
+use Rattle.turn_run.proofs.Words.{◌≡◌, ℕ, suc, ◌+◌, ◌^◌, ◌<◌, ◌≤◌, refl, sym, ◌∙◌, ap, subst, List, [], ◌∷◌, ◌++◌, length, drop, get_or, Option, Some, None, append_assoc, arith, append-nil, slice_get, filter, Header, Call, Answer, Script, Mark, Offer, OfferKind, Reply, Want, concerns, marks, most_parts, step, hear, Going, go, advance, hears, posts_held, answered, IsOnWay, AsksAlone, posts_offered, IsSoundWant, meets_keeps, says_at, solo_keeps, comes_on, comes_to_meeting, comes_to_solo, way_answers, way_meets, way_solo, IsAsked, asking, between, HasHeard, IsPlaced, IsPlacedWith, Runner, meets_quiet, drop_at, entry_read, said_at, inl, inr, ◌⊎◌, nat_tests, common_steps}
 use Rattle.nc_base.specs.declared.step.Mark.TheVariants as mark
 use Rattle.nc_base.specs.declared.step.OfferKind.TheVariants as offer
 use Rattle.nc_base.specs.declared.step.Want.TheVariants as want
@@ -15,9 +15,7 @@ at_call own rank answers = record { rank = rank; answers = answers; calls = drop
 
 pub answered_is : (own : List Call) (rank next : machine.Rank) (answers more : List Answer) (a : Answer) → more ≡ answers ++ a ∷ []
     → answered (at own rank answers) next a (drop (suc (length answers)) own) ≡ at own next more
-answered_is own rank next answers more a e =
-    let n : suc (length answers) ≡ length (answers ++ a ∷ []) = omega (arith, length-append answers (a ∷ [])) in
-    ap (λ (k : ℕ). record { rank = next; answers = answers ++ a ∷ []; calls = drop k own }) n ∙ ap (λ (as' : List Answer). at own next as') (sym e)
+answered_is own rank next answers more a e = grind (arith, common_steps)
 
 pub way_on : (script : Script) (order : List Mark) (r : ℕ) (header : Header) (own : List Call) (rank next : machine.Rank) (answers more : List Answer) (a : Answer) (c : Call)
     → IsOnWay script order r (at own rank answers) None → slice_get own (length answers) ≡ Some c → (next, want.Answered a) ≡ step header rank c
@@ -109,7 +107,7 @@ sound_at : (header same : Header) (w v : Want) → same ≡ header → w ≡ v �
 sound_at header same w v e f h = subst (λ (k : Header). IsSoundWant k v) e (subst (λ (x : Want). IsSoundWant same x) f h)
 
 few_at : (w v : Want) (held : ℕ) → w ≡ v → posts_offered w ≤ held + most_parts → held + most_parts ≤ 2 ^ 30 → posts_offered v ≤ 2 ^ 30
-few_at w v held e h l = let f = ap posts_offered e in omega arith
+few_at w v held e h l = grind (arith, nat_tests)
 
 pub makes_offer : (script : Script) (header same : Header) (r : ℕ) (own : List Call) (rank next : machine.Rank) (answers : List Answer) (o : Offer) (c : Call) (w : Want) → same ≡ header
     → (next, w) ≡ step same rank c → slice_get own (length answers) ≡ Some c → posts_held next ≤ posts_held rank + most_parts → IsSoundWant same w → posts_offered w ≤ posts_held rank + most_parts
@@ -125,14 +123,7 @@ makes_offer script header same r own rank next answers o c w e said g posts soun
       advanced = comes_to_meeting header (at own rank answers) (at own rank answers) next o c rest refl (drop_at own (length answers) c g) step;
     }
 makes_offer script header same r own rank next answers o c w e said g posts sound few room (inr is) =
-    grind (
-      arith,
-      nat_tests,
-      said_at header same rank next c w (want.Solo o) e said is,
-      solo_keeps header rank next c o (said_at header same rank next c w (want.Solo o) e said is),
-      says_at header rank c (next, want.Solo o) (said_at header same rank next c w (want.Solo o) e said is),
-      sound_at header same w (want.Solo o) e is sound,
-      few_at w (want.Solo o) (posts_held rank) is few room,
-      drop_at own (length answers) c g,
-      comes_to_solo header (at own rank answers) (at own rank answers) next o c (drop (suc (length answers)) own),
-    )
+    let step = said_at header same rank next c w (want.Solo o) e said is in let kept = solo_keeps header rank next c o step in
+    let says = says_at header rank c (next, want.Solo o) step in let rest = drop (suc (length answers)) own in
+    let fits = sound_at header same w (want.Solo o) e is sound in let less = few_at w (want.Solo o) (posts_held rank) is few room in
+    grind (arith, nat_tests, step, kept, says, fits, less, drop_at own (length answers) c g, comes_to_solo header (at own rank answers) (at own rank answers) next o c rest)

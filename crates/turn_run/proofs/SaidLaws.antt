@@ -1,5 +1,5 @@
 -- The answers of ranks that a fault cut off.
-use Rattle.turn_run.proofs.Words.{inl, inr, IfSome_then, ◌≡◌, ℕ, suc, ◌<◌, ◌≤◌, ◌≢◌, refl, sym, ◌∙◌, ap, subst, List, [], ◌∷◌, ◌++◌, length, map, set, Option, Some, None, length-append, append_assoc, arith, nat_tests, fold-append, append-nil, append_cancel_left, filter-append, same_Some, slice_get_within, slice_get, fold, filter, IfSome, Answer, Header, Call, Hints, Script, DiskCall, Mark, Meet, Solo, Offer, Reply, StepErr, Disk, Memory, Setting, Counted, solo, concerns, hear, Going, advance, after_mark, hears, solo_of, Begins, HasAnswers, counted, Arrived, Stand, step_to, point, HasSaid, SaysAt, AllSay, HasReached, AreAnswers, HaveAnswers, all_between, between, calls_of, AreFree, HasArrived, Stage, IsLed, HasGone, HasLed, IsGrownBy, arrived, arrived_all, stage, rank_stage, Runner, if_some_at, entry_set, entry_set_other, entry_map, stand_at, state_at, gone_up, arrival_steps}
+use Rattle.turn_run.proofs.Words.{inl, inr, IfSome_then, ◌≡◌, ℕ, suc, ◌<◌, ◌≤◌, ◌≢◌, refl, sym, ◌∙◌, ap, subst, List, [], ◌∷◌, ◌++◌, length, map, set, Option, Some, None, append_assoc, arith, nat_tests, append-nil, append_cancel_left, filter-append, same_Some, slice_get_within, slice_get, fold, filter, Answer, Header, Call, Hints, Script, DiskCall, Mark, Meet, Solo, Offer, Reply, StepErr, Memory, Setting, Counted, solo, concerns, Going, advance, after_mark, hears, Begins, HasAnswers, counted, Arrived, Stand, step_to, point, HasSaid, SaysAt, AllSay, HasReached, HaveAnswers, all_between, between, calls_of, AreFree, HasArrived, Stage, IsLed, HasGone, HasLed, IsGrownBy, arrived, arrived_all, stage, rank_stage, Runner, if_some_at, entry_set, entry_set_other, entry_map, gone_up, arrival_steps, common_steps}
 use Rattle.run_laws.proofs.WayLaws.{others_filter as solos_beside}
 use Rattle.turn_run.proofs.AloneLaws.{arrived_free, arrived_held, step_at}
 use Rattle.turn_run.proofs.RunnerLaws.{advance_ended, answers_begin}
@@ -22,22 +22,13 @@ pub begins_up : (header : Header) (g : Going) → Begins g.answers (advance head
 begins_up header g = answers_begin header g.rank g.answers g.calls
 
 pub begins_heard : (header : Header) (t : Going) (reply : Reply) → Begins t.answers (advance header (hears header t reply)).0.answers
-begins_heard header t reply =
-    let x = (hear header t.rank reply).1 in let b = begins_up header (hears header t reply) in
-    (x ∷ b.0, sym (append_assoc t.answers (x ∷ []) b.0) ∙ b.1)
+begins_heard header t reply = grind (arith, common_steps, begins_up header (hears header t reply))
 
 pub said_up : (header : Header) (fault : StepErr) (g : Going) (answers : List Answer) → HasSaid fault (advance header g) answers → HasAnswers header fault g answers
-said_up header Disk g answers h = (
-  h.begins,
-  (let b = begins_up header g in
-      let l = h.all refl in let k = length-append g.answers b.0 in
-      let m = ap (λ (xs : List Answer). length xs) b.1 in omega arith),
-)
-said_up header Memory g answers h = (h.begins, tt)
+said_up header fault g answers h = grind (arith, common_steps, begins_up header g, h.begins, h.all)
 
-pub said_between : (header : Header) (fault : StepErr) (g : Going) (answers : List Answer) → answers ≡ g.answers → HasAnswers header fault g answers
-said_between header Disk g answers e = grind (arith, nat_tests, begins_up header g)
-said_between header Memory g answers e = (subst (λ (xs : List Answer). Begins xs (advance header g).0.answers) (sym e) (begins_up header g), tt)
+said_between : (header : Header) (fault : StepErr) (g : Going) (answers : List Answer) → answers ≡ g.answers → HasAnswers header fault g answers
+said_between header fault g answers e = grind (arith, nat_tests, begins_up header g)
 
 pub arrived_said : (header : Header) (own : List Call) (runner : Runner) → HasArrived own runner → (arrived header own runner).0.answers ≡ runner.answers
 arrived_said header own runner h = grind (arith, nat_tests, some_or_none, arrived_free, advance_ended, arrived_held, arrived)
@@ -59,13 +50,8 @@ reached_here P s before now held records ranks e h = record { more = []; grown =
 
 pub reached_then : (P : Stand → Type 0) (mid : List Mark) {hints : Hints} {s : Setting} {before now : List Mark} {a b : Stage}
     → HasLed hints s before mid a b → HasReached P s (point mid b.held b.records) b.ranks now → HasReached P s (point before a.held a.records) a.ranks now
-reached_then P mid {hints} {s} {before} {now} {a} {b} led h = record {
-  more = led.more ++ h.more;
-  grown = h.grown ∙ ap (λ (ms : List Mark). ms ++ h.more) led.grown ∙ append_assoc before led.more h.more;
-  ends = IfSome_then a.held led.led (λ file l.
-      subst P (ap (λ (stand : Stand). fold (step_to s) stand h.more) (sym l.state) ∙ sym (fold-append (step_to s) (counted file a.records, a.ranks) led.more h.more))
-      (if_some_at (λ (f : List ℕ). P (fold (step_to s) (counted f b.records, b.ranks) h.more)) b.held l.left l.told h.ends));
-}
+reached_then P mid {hints} {s} {before} {now} {a} {b} led h =
+    grind (arith, common_steps, if_some_at (λ (f : List ℕ). P (fold (step_to s) (counted f b.records, b.ranks) h.more)) b.held)
 
 pub gone_reached : (P : Stand → Type 0) (mid : List Mark) {hints : Hints} {s : Setting} {r : ℕ} {before now : List Mark} {held left : Option (List ℕ)} {calls made : Option (List DiskCall)} {from to : Arrived}
     → HasGone hints s r (rank_stage before held calls from) (rank_stage mid left made to)
@@ -77,20 +63,17 @@ gone_reached P mid {r} {from} {to} g next records ranks e = reached_then P mid (
 pub reached_unheard : (s : Setting) (fault : StepErr) (r n : ℕ) (before now : List Mark) (held : Option (List ℕ)) (t : Going) (o : Offer) (answers : List Answer) → fault ≡ Memory
     → now ≡ before ++ Solo r n ∷ [] → answers ≡ t.answers
     → (records : ℕ) (ranks : List Arrived) → slice_get ranks r ≡ Some (t, Some o) → HasReached (SaysAt r fault answers) s (point before held records) ranks now
-reached_unheard s fault r n before now held t o answers memory grown e records ranks there = record { more = Solo r n ∷ []; grown = grown; ends = some_each held (λ file there. at (counted file records)) }
-  where
-    at : (c : Counted) → SaysAt r fault answers (step_to s (c, ranks) (Solo r n))
-    at c =
-        let reply = (solo s r o c).1 in let up = advance s.header (hears s.header t reply) in
-        subst (λ (stand : Stand). SaysAt r fault answers stand) (sym (step_at s r n c ranks t o there))
-        (says_here r fault answers up (solo s r o c).0 (set ranks r up) (entry_set ranks r (t, Some o) up there)
-        (said_part fault up answers memory (subst (λ (xs : List Answer). Begins xs up.0.answers) (sym e) (begins_heard s.header t reply))))
+reached_unheard s fault r n before now held t o answers memory grown e records ranks there = record {
+  more = Solo r n ∷ [];
+  grown = grown;
+  ends = some_each held (λ file is.
+      let c = counted file records in let reply = (solo s r o c).1 in let up = advance s.header (hears s.header t reply) in
+      let said = said_part fault up answers memory (subst (λ (xs : List Answer). Begins xs up.0.answers) (sym e) (begins_heard s.header t reply)) in
+      subst (λ (stand : Stand). SaysAt r fault answers stand) (sym (step_at s r n c ranks t o there))
+      (says_here r fault answers up (solo s r o c).0 (set ranks r up) (entry_set ranks r (t, Some o) up there) said));
+}
 
 -- ---- the ranks that no mark concerns
-
-solo_beside : (s : Setting) (q r : ℕ) (c : Counted) (ranks : List Arrived) (m : Option Arrived) → q ≢ r → slice_get (stand_at s q c ranks m).1 r ≡ slice_get ranks r
-solo_beside s q r c ranks None n = refl
-solo_beside s q r c ranks (Some a) n = entry_set_other ranks q r (advance s.header (solo_of s q c a).1) (λ e. n (sym e))
 
 -- of steps that leave what is seen of rank r, where they are of another one
 beside : {X G : Type 0} (step : X → Mark → X) (see : X → G) (r : ℕ) (more : List Mark) (x : X) → ((x : X) (q n : ℕ) → q ≢ r → see (step x (Solo q n)) ≡ see x) → filter (concerns r) more ≡ []
@@ -99,25 +82,19 @@ beside step see r [] x one e = refl
 beside step see r (Meet k ∷ more) x one e = absurd cc
 beside {X} step see r (Solo q n ∷ more) x one e = grind (arith, nat_tests, beside step see r more)
 
-pub marks_beside : (s : Setting) (r : ℕ) (more : List Mark) (stand : Stand) → filter (concerns r) more ≡ [] → slice_get (fold (step_to s) stand more).1 r ≡ slice_get stand.1 r
-marks_beside s r more stand e = beside (step_to s) (λ (x : Stand). slice_get x.1 r) r more stand (λ x q n ne. solo_beside s q r x.0 x.1 (slice_get x.1 q) ne) e
+marks_beside : (s : Setting) (r : ℕ) (more : List Mark) (stand : Stand) → filter (concerns r) more ≡ [] → slice_get (fold (step_to s) stand more).1 r ≡ slice_get stand.1 r
+marks_beside s r more stand e = beside (step_to s) (λ (x : Stand). slice_get x.1 r) r more stand (λ x q n ne. grind (arith, nat_tests, some_or_none (slice_get x.1 q), entry_set_other x.1 q r)) e
 
-going_beside : (s : Setting) (q r : ℕ) (c : Counted) (goings : List Going) (m : Option Going) → q ≢ r → slice_get (state_at s q c goings m).1 r ≡ slice_get goings r
-going_beside s q r c goings None n = refl
-going_beside s q r c goings (Some g) n = entry_set_other goings q r (solo_of s q c (advance s.header g)).1 (λ e. n (sym e))
-
-pub goings_beside : (s : Setting) (r : ℕ) (more : List Mark) (state : Counted × List Going) → filter (concerns r) more ≡ []
+goings_beside : (s : Setting) (r : ℕ) (more : List Mark) (state : Counted × List Going) → filter (concerns r) more ≡ []
     → slice_get (fold (after_mark s) state more).1 r ≡ slice_get state.1 r
 goings_beside s r more state e =
-    beside (after_mark s) (λ (x : Counted × List Going). slice_get x.1 r) r more state (λ x q n ne. going_beside s q r x.0 x.1 (slice_get x.1 q) ne) e
+    beside (after_mark s) (λ (x : Counted × List Going). slice_get x.1 r) r more state (λ x q n ne. grind (arith, nat_tests, some_or_none (slice_get x.1 q), entry_set_other x.1 q r)) e
 
 none_added : (r : ℕ) (before now more : List Mark) → now ≡ before ++ more → filter (concerns r) now ≡ filter (concerns r) before → filter (concerns r) more ≡ []
-none_added r before now more e f = append_cancel_left (filter (concerns r) before) (filter (concerns r) more) []
-    (sym (filter-append (concerns r) before more) ∙ sym (ap (λ (ms : List Mark). filter (concerns r) ms) e) ∙ f ∙ sym (append-nil (filter (concerns r) before)))
+none_added r before now more e f = grind (arith, nat_tests, append_cancel_left (filter (concerns r) before) (filter (concerns r) more) [], filter-append (concerns r) before more, append-nil (filter (concerns r) before))
 
 pub grown_beside : (q r : ℕ) (before now : List Mark) → q ≢ r → IsGrownBy q before now → filter (concerns r) now ≡ filter (concerns r) before
-grown_beside q r before now n g = ap (λ (ms : List Mark). filter (concerns r) ms) g.grown ∙ filter-append (concerns r) before g.more
-    ∙ ap (λ (ms : List Mark). filter (concerns r) before ++ ms) (solos_beside q r g.more n g.own) ∙ append-nil (filter (concerns r) before)
+grown_beside q r before now n g = grind (arith, common_steps, filter-append (concerns r) before g.more, solos_beside q r g.more n g.own)
 
 -- ---- the ranks of the serial run
 
@@ -125,27 +102,20 @@ pub up_after : (s : Setting) (c : Counted) (goings : List Going) (ranks : List A
     → gone_up s (fold (after_mark s) (c, goings) order) ≡ fold (step_to s) (c, ranks) order
 up_after s c goings ranks order e = sym (arrival_steps s (c, goings) order) ∙ ap (λ (rs : List Arrived). fold (step_to s) (c, rs) order) e
 
-pub answers_up : (header : Header) (fault : StepErr) (goings : List Going) (runners : List Runner) (stand : Stand) → map (advance header) goings ≡ stand.1 → AllSay fault runners stand
-    → AreAnswers header fault goings runners
-answers_up header fault goings runners stand e h r g runner f k =
-    said_up header fault g runner.answers (h r runner k (advance header g) (ap (λ (rs : List Arrived). slice_get rs r) (sym e) ∙ entry_map (advance header) goings r g f))
-
 pub have_reached : (s : Setting) (fault : StepErr) (before now : List Mark) (held : Option (List ℕ)) (records : ℕ) (goings : List Going) (ranks : List Arrived) (runners : List Runner)
     → map (advance s.header) goings ≡ ranks → HasReached (AllSay fault runners) s (point before held records) ranks now → HaveAnswers s fault (point before held records) goings now runners
 have_reached s fault before now held records goings ranks runners e h = record {
   more = h.more;
   grown = h.grown;
-  said = IfSome_then held h.ends (λ file k.
-      answers_up s.header fault (fold (after_mark s) (counted file records, goings) h.more).1 runners (fold (step_to s) (counted file records, ranks) h.more)
-      (ap (λ (stand : Stand). stand.1) (up_after s (counted file records) goings ranks h.more e)) k);
+  said = IfSome_then held h.ends (λ file k r g runner f there.
+      grind (arith, nat_tests, k r runner there, said_up s.header fault g runner.answers, up_after s (counted file records) goings ranks h.more e, entry_map (advance s.header) (fold (after_mark s) (counted file records, goings) h.more).1 r g f));
 }
 
 -- those that hold no offer wait where they heard their last reply
 pub between_up : (header : Header) (calls : List (List Call)) (runners : List Runner) → AreFree runners → map (advance header) (all_between calls runners) ≡ arrived_all header calls runners
 between_up header (own ∷ calls) (runner ∷ runners) f =
     let first : advance header (between own runner) ≡ arrived header own runner = sym (arrived_free header own runner (f 0 runner refl)) in
-    let others = between_up header calls runners (λ r s e. f (suc r) s e) in
-    λ i. first i ∷ others i
+    grind (arith, common_steps, between_up header calls runners (λ r s e. f (suc r) s e))
 between_up header calls runners f = refl
 
 -- ---- ranks that go on one after another
@@ -162,56 +132,28 @@ pub answers_cut : (script : Script) (fault : StepErr) (n : ℕ) (before mid now 
 answers_cut script fault n before mid now first runners was new s held left calls made records long free there led grown others come same reached = record {
   more = led.more ++ reached.more;
   grown = reached.grown ∙ ap (λ (ms : List Mark). ms ++ reached.more) led.grown ∙ append_assoc before led.more reached.more;
-  said = by_held held led.led;
+  said = some_each held (λ file is.
+      let goings = all_between script.calls first in let ranks = arrived_all s.header script.calls runners in let more = led.more ++ reached.more in
+      let l = if_some_at (λ (f : List ℕ). IsLed script.hints s led.more f (stage held calls records (arrived_all s.header script.calls first)) (stage left made records ranks)) held file is led.led in
+      let says = if_some_at (λ (f : List ℕ). SaysAt n fault new.answers (fold (step_to s) (counted f records, ranks) reached.more)) left l.left l.told reached.ends in
+      let last = (fold (after_mark s) (counted file records, goings) more).1 in let stand : Stand = fold (step_to s) (counted l.left records, ranks) reached.more in
+      let up : map (advance s.header) last ≡ stand.1 =
+      grind (arith, common_steps, up_after s (counted file records) goings (arrived_all s.header script.calls first) more (between_up s.header script.calls first free), l.state) in
+      let gets : (r : ℕ) (g : Going) → slice_get last r ≡ Some g → slice_get stand.1 r ≡ Some (advance s.header g) =
+      λ r g f. ap (λ (rs : List Arrived). slice_get rs r) (sym up) ∙ entry_map (advance s.header) last r g f in
+      let none : (r : ℕ) → n ≢ r → filter (concerns r) reached.more ≡ [] = λ r ne. none_added r mid now reached.more reached.grown (grown_beside n r mid now ne grown) in
+      let other : (r : ℕ) (x : Runner) → n ≢ r → slice_get runners r ≡ Some x → (g : Going) → slice_get last r ≡ Some g → HasAnswers s.header fault g x.answers =
+      λ r x ne here g f. elim (cases_lt r n) [
+        | inl below ↦
+            let beside = marks_beside s r reached.more (counted l.left records, ranks) (none r ne) in
+            said_up s.header fault g x.answers (said_here fault (advance s.header g) x.answers
+            (grind (arith, nat_tests, gets r g f, beside, arrived_at script s.header runners r x long here, arrived_said s.header (calls_of script r) x (come r x below here))))
+        | inr past ↦
+            let within = slice_get_within runners r x here in
+            let beside = goings_beside s r more (counted file records, goings) (grind (arith, common_steps, none r ne, none_added r before mid led.more led.grown (others r past))) in
+            let from = get_between script.calls first r (calls_of script r) x (calls_there script r (omega arith)) (sym (same r past) ∙ here) in
+            said_between s.header fault g x.answers (grind (arith, nat_tests, beside, from))
+      ] in
+      λ r g runner f k. set_each (λ (q : ℕ) (x : Runner). (h : Going) → slice_get last q ≡ Some h → HasAnswers s.header fault h x.answers) runners n was new there
+      (λ h e. said_up s.header fault h new.answers (says (advance s.header h) (gets n h e))) other r runner k g f);
 }
-  where
-    more : List Mark
-    more = led.more ++ reached.more
-
-    goings : List Going
-    goings = all_between script.calls first
-
-    ends_at : (file : List ℕ) → left ≡ Some file → SaysAt n fault new.answers (fold (step_to s) (counted file records, arrived_all s.header script.calls runners) reached.more)
-    ends_at file e = if_some_at (λ (f : List ℕ). SaysAt n fault new.answers (fold (step_to s) (counted f records, arrived_all s.header script.calls runners) reached.more)) left file e reached.ends
-
-    own_none : (r : ℕ) → n ≢ r → filter (concerns r) reached.more ≡ []
-    own_none r ne = none_added r mid now reached.more reached.grown (grown_beside n r mid now ne grown)
-
-    all_none : (r : ℕ) → n ≢ r → n ≤ r → filter (concerns r) more ≡ []
-    all_none r ne l = filter-append (concerns r) led.more reached.more
-        ∙ ap (λ (ms : List Mark). ms ++ filter (concerns r) reached.more) (none_added r before mid led.more led.grown (others r l)) ∙ own_none r ne
-
-    by_held : (m : Option (List ℕ)) → IfSome m (λ file. IsLed script.hints s led.more file (stage m calls records (arrived_all s.header script.calls first)) (stage left made records (arrived_all s.header script.calls runners)))
-        → IfSome m (λ file. AreAnswers s.header fault (fold (after_mark s) (counted file records, goings) more).1 (set runners n new))
-    by_held None l = tt
-    by_held (Some file) l = λ r g runner f k. set_each (λ (q : ℕ) (x : Runner). (h : Going) → slice_get last q ≡ Some h → HasAnswers s.header fault h x.answers) runners n was new there
-        (λ h e. said_up s.header fault h new.answers (ends_at l.left l.told (advance s.header h) (gets n h e))) at_other r runner k g f
-      where
-        last : List Going
-        last = (fold (after_mark s) (counted file records, goings) more).1
-
-        stand : Stand
-        stand = fold (step_to s) (counted l.left records, arrived_all s.header script.calls runners) reached.more
-
-        up : map (advance s.header) last ≡ stand.1
-        up =
-            ap (λ (x : Stand). x.1) (up_after s (counted file records) goings (arrived_all s.header script.calls first) more (between_up s.header script.calls first free)
-            ∙ fold-append (step_to s) (counted file records, arrived_all s.header script.calls first) led.more reached.more
-            ∙ ap (λ (x : Stand). fold (step_to s) x reached.more) l.state)
-
-        gets : (r : ℕ) (g : Going) → slice_get last r ≡ Some g → slice_get stand.1 r ≡ Some (advance s.header g)
-        gets r g f = ap (λ (rs : List Arrived). slice_get rs r) (sym up) ∙ entry_map (advance s.header) last r g f
-
-        at_other : (r : ℕ) (runner : Runner) → n ≢ r → slice_get runners r ≡ Some runner → (g : Going) → slice_get last r ≡ Some g → HasAnswers s.header fault g runner.answers
-        at_other r runner ne here g f = elim (cases_lt r n) [
-          | inl below ↦
-              let is : advance s.header g ≡ arrived s.header (calls_of script r) runner = same_Some _ _ (sym (gets r g f)
-              ∙ marks_beside s r reached.more (counted l.left records, arrived_all s.header script.calls runners) (own_none r ne) ∙ arrived_at script s.header runners r runner long here) in
-              said_up s.header fault g runner.answers (said_here fault (advance s.header g) runner.answers
-              (sym (ap (λ (a : Arrived). a.0.answers) is ∙ arrived_said s.header (calls_of script r) runner (come r runner below here))))
-          | inr past ↦
-              let within = slice_get_within runners r runner here in
-              let is : g ≡ between (calls_of script r) runner = same_Some _ _ (sym f ∙ goings_beside s r more (counted file records, goings) (all_none r ne past)
-              ∙ get_between script.calls first r (calls_of script r) runner (calls_there script r (omega arith)) (sym (same r past) ∙ here)) in
-              said_between s.header fault g runner.answers (sym (ap (λ (x : Going). x.answers) is))
-        ]

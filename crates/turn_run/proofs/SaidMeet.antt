@@ -1,14 +1,14 @@
 -- The answers of the ranks of a meeting, also where it was cut off.
-use Rattle.turn_run.proofs.Words.{◌≡◌, ℕ, zero, suc, ◌<◌, ◌≤◌, sym, ◌∙◌, ap, subst, inl, inr, ◌⊎◌, List, [], ◌∷◌, ◌++◌, length, map, set, true, Option, Some, append_assoc, arith, fold-append, append_cancel_left, same_Some, slice_get_within, slice_get, fold, zip, IfSome, Answer, Pair, Header, Batch, Call, Hints, Script, Mark, Meet, Offer, Reply, StepErr, Memory, Setting, Counted, meeting, Going, advance, after_mark, hears, offers_of, Begins, counted, Arrived, Stand, heard, step_to, point, HasSaid, AllSay, HasReached, AreAnswers, HaveAnswers, HaveHeardInPart, KeepAnswers, all_between, asking, between, calls_of, reply_of, AreFreed, HasHeard, HaveArrived, AreRunners, Stage, Leads, IsLed, HasLed, arrived, arrived_all, stand_of, Runner, if_some_at, entry_below, entry_map, gone_up, is_lawful, ranks_lawful, setting_of, nat_tests}
+use Rattle.turn_run.proofs.Words.{◌≡◌, ℕ, ◌<◌, ◌≤◌, sym, ◌∙◌, ap, subst, inl, inr, ◌⊎◌, List, [], ◌∷◌, ◌++◌, length, map, set, true, Option, Some, arith, append_cancel_left, same_Some, slice_get_within, slice_get, fold, zip, IfSome, Pair, Header, Batch, Call, Hints, Script, Mark, Meet, Offer, Reply, StepErr, Memory, Setting, Counted, meeting, Going, advance, after_mark, hears, offers_of, Begins, counted, Arrived, Stand, heard, point, HasSaid, AllSay, HasReached, AreAnswers, HaveAnswers, HaveHeardInPart, KeepAnswers, all_between, asking, between, calls_of, reply_of, AreFreed, HasHeard, HaveArrived, AreRunners, Stage, IsLed, HasLed, arrived, arrived_all, stand_of, Runner, if_some_at, entry_below, entry_map, gone_up, is_lawful, ranks_lawful, setting_of, nat_tests, common_steps}
 use Rattle.turn_run.proofs.AloneLaws.{arrived_held}
 use Rattle.turn_run.proofs.MeetDone.{heard_before}
 use Rattle.turn_run.proofs.MeetOffers.{meets_at}
 use Rattle.turn_run.proofs.MeetStep.{between_done, replies_of, HasGiven, HaveDone, IsTaken}
 use Rattle.turn_run.proofs.SaidLaws.{arrived_said, begins_heard, begins_up, reached_here, said_here, said_part, up_after}
 use Rattle.turn_run.proofs.RunnerLaws.{heard_runner}
-use Rattle.turn_run.proofs.StageLaws.{led_then, some_each}
+use Rattle.turn_run.proofs.StageLaws.{some_each}
 use Rattle.turn_run.proofs.TurnSteps.{arrived_at, set_each}
-use Rattle.list_laws.proofs.Std.{cases_lt}
+use Rattle.list_laws.proofs.Common.{entry_zip}
 
 -- ---- before its step is done
 
@@ -34,23 +34,12 @@ at_part : (P : ℕ → Runner → Runner → Type 0) (old now : List Runner) (i 
     → ((r : ℕ) (a b : Runner) → b.answers ≡ a.answers → P r a b) → (r : ℕ) (a b : Runner) → slice_get old r ≡ Some a → slice_get (set now i new) r ≡ Some b → P r a b
 at_part P old now i was new there before left same kept r a b g h =
     set_each (λ (q : ℕ) (x : Runner). (y : Runner) → slice_get old q ≡ Some y → P q y x) now i was new there
-    (λ y e. kept i y new (same ∙ ap (λ (x : Runner). x.answers) (same_Some was y (sym there ∙ left i (omega arith) ∙ e)))) (λ q x other f y e. elim (cases_lt q i) [
-      | inl l ↦ before q y x l e f
-      | inr l ↦ kept q y x (ap (λ (z : Runner). z.answers) (same_Some x y (sym f ∙ left q l ∙ e)))
-    ]) r b h a g
+    (λ y e. kept i y new (same ∙ ap (λ (x : Runner). x.answers) (same_Some was y (sym there ∙ left i (omega arith) ∙ e)))) (grind (arith, common_steps)) r b h a g
 
 pub keep_part : (old now : List Runner) (i : ℕ) (was new : Runner) → slice_get now i ≡ Some was
     → ((r : ℕ) (a b : Runner) → r < i → slice_get old r ≡ Some a → slice_get now r ≡ Some b → b.answers ≡ a.answers)
     → ((r : ℕ) → i ≤ r → slice_get now r ≡ slice_get old r) → new.answers ≡ was.answers → KeepAnswers old (set now i new)
 keep_part old now i was new there before left same = at_part (λ r a b. b.answers ≡ a.answers) old now i was new there before left same (λ r a b e. e)
-
--- ---- its step
-
-get_zip : {A B C : Type 0} (f : A × B → C) (xs : List A) (ys : List B) (r : ℕ) (x : A) (y : B) (z : C) → slice_get xs r ≡ Some x → slice_get ys r ≡ Some y
-    → slice_get (map f (zip xs ys)) r ≡ Some z → f (x, y) ≡ z
-get_zip f (a ∷ xs) (b ∷ ys) zero x y z e g h = let p = same_Some a x e in let q = same_Some b y g in (λ i. f (sym p i, sym q i)) ∙ same_Some (f (a, b)) z h
-get_zip f (a ∷ xs) (b ∷ ys) (suc r) x y z e g h = get_zip f xs ys r x y z e g h
-get_zip f xs ys r x y z e g h = absurd cc
 
 -- ---- some have heard
 
@@ -59,11 +48,10 @@ said_in_part : (header : Header) (fault : StepErr) (own : List Call) (a b : Runn
 said_in_part header fault own a b o reply memory held same part =
     let up : advance header (hears header (asking own a) reply) ≡ heard header (arrived header own a, reply) =
     ap (λ (x : Arrived). heard header (x, reply)) (sym (arrived_held header own a o held)) in
-    said_part fault (heard header (arrived header own a, reply)) b.answers memory (subst (λ (x : Arrived). Begins b.answers x.0.answers) up (by_part part))
-  where
-    by_part : (b.answers ≡ a.answers) ⊎ HasHeard a b reply → Begins b.answers (advance header (hears header (asking own a) reply)).0.answers
-    by_part (inl e) = subst (λ (xs : List Answer). Begins xs (advance header (hears header (asking own a) reply)).0.answers) (sym e) (begins_heard header (asking own a) reply)
-    by_part (inr h) = subst (λ (g : Going). Begins b.answers (advance header g).0.answers) (heard_runner header own a b reply same h) (begins_up header (between own b))
+    said_part fault (heard header (arrived header own a, reply)) b.answers memory (subst (λ (x : Arrived). Begins b.answers x.0.answers) up (elim part [
+      | inl e ↦ rw (e) (begins_heard header (asking own a) reply)
+      | inr h ↦ subst (λ (g : Going). Begins b.answers (advance header g).0.answers) (heard_runner header own a b reply same h) (begins_up header (between own b))
+    ]))
 
 pub heard_part : (pair : Option Pair) (n : ℕ) (table : List (List (List ℕ))) (old now : List Runner) (i : ℕ) (was new : Runner) → slice_get now i ≡ Some was
     → ((r : ℕ) (a b : Runner) (blobs : List (List ℕ)) → r < i → slice_get old r ≡ Some a → slice_get now r ≡ Some b → slice_get table r ≡ Some blobs → HasHeard a b (reply_of pair n blobs))
@@ -83,20 +71,21 @@ pub reached_deaf : {script : Script} {header : Header} {len : ℕ} {fault : Step
     → length now ≡ length runners → length table ≡ length runners → AreRunners script header len order runners → HaveArrived script runners
     → IsTaken script.calls runners batches known → HasGiven s batches known r n held left pair table → HaveHeardInPart pair n table runners now
     → HasReached (AllSay fault now) s (point order held r) (arrived_all s.header script.calls runners) now_order
-reached_deaf {script} {header} {fault} {runners} now {batches} {known} {r} {n} k {s} {held} {left} {pair} {table} of_header memory grown m w all come t given part =
-    record { more = Meet k ∷ []; grown = grown; ends = some_each held (λ file there. heard_at file (rw there at given)) }
-  where
-    heard_at : (file : List ℕ) → HasGiven s batches known r n (Some file) left pair table → AllSay fault now (step_to s (counted file r, arrived_all s.header script.calls runners) (Meet k))
-    heard_at file b = λ q x h a g.
-        let within : q < length runners = (let i = slice_get_within now q x h in omega arith) in
-        let was = entry_below runners q within in
-        let row = entry_below table q (omega arith) in let o = meets_at all t.hold come q was.0 was.1 in
-        let is : heard s.header (arrived s.header (calls_of script q) was.0, reply_of pair n row.0) ≡ a =
-        get_zip (heard s.header) (arrived_all s.header script.calls runners) (map (reply_of pair n) table) q (arrived s.header (calls_of script q) was.0) (reply_of pair n row.0) a
-        (arrived_at script s.header runners q was.0 t.long was.1) (entry_map (reply_of pair n) table q row.0 row.1)
-        (ap (λ (ys : List Reply). slice_get (map (heard s.header) (zip (arrived_all s.header script.calls runners) ys)) q) (sym (replies_of t b)) ∙ g) in
-        subst (λ (y : Arrived). HasSaid fault y x.answers) is
-        (said_in_part s.header fault (calls_of script q) was.0 x o.0 (reply_of pair n row.0) memory o.1.held (o.1.of_header ∙ sym of_header) (part q was.0 x row.0 was.1 h row.1))
+reached_deaf {script} {header} {fault} {runners} now {batches} {known} {r} {n} k {s} {held} {left} {pair} {table} of_header memory grown m w all come t given part = record {
+  more = Meet k ∷ [];
+  grown = grown;
+  ends = some_each held (λ file there q x h a g.
+      let b = rw there at given in
+      let within : q < length runners = (let i = slice_get_within now q x h in omega arith) in
+      let was = entry_below runners q within in
+      let row = entry_below table q (omega arith) in let o = meets_at all t.hold come q was.0 was.1 in
+      let is : heard s.header (arrived s.header (calls_of script q) was.0, reply_of pair n row.0) ≡ a =
+      same_Some _ a (sym (entry_map (heard s.header) _ q _ (entry_zip (arrived_all s.header script.calls runners) (map (reply_of pair n) table) q _ (reply_of pair n row.0)
+      (arrived_at script s.header runners q was.0 t.long was.1) (entry_map (reply_of pair n) table q row.0 row.1)))
+      ∙ ap (λ (ys : List Reply). slice_get (map (heard s.header) (zip (arrived_all s.header script.calls runners) ys)) q) (sym (replies_of t b)) ∙ g) in
+      subst (λ (y : Arrived). HasSaid fault y x.answers) is
+      (said_in_part s.header fault (calls_of script q) was.0 x o.0 (reply_of pair n row.0) memory o.1.held (o.1.of_header ∙ sym of_header) (part q was.0 x row.0 was.1 h row.1)));
+}
 
 -- ---- all have heard
 
@@ -111,44 +100,23 @@ meeting_between {s} {calls} {runners} {now} {r} {n} k {held} {pair} {table} t d 
 
 -- ---- steps before
 
--- the ranks of the serial run wait where these runners heard, after steps and a meeting
-between_led : (hints : Hints) (s : Setting) (before order now_order : List Mark) (k : ℕ) (a b c : Stage) (goings : List Going) (bs : List Going)
-    → (first : HasLed hints s before order a b) → (second : HasLed hints s order now_order b c) → now_order ≡ order ++ Meet k ∷ [] → map (advance s.header) goings ≡ a.ranks
-    → ((gs : List Going) → map (advance s.header) gs ≡ b.ranks → IfSome b.held (λ file. (after_mark s (counted file b.records, gs) (Meet k)).1 ≡ bs))
-    → IfSome a.held (λ file. (fold (after_mark s) (counted file a.records, goings) (first.more ++ second.more)).1 ≡ bs)
-between_led hints s before order now_order k a b c goings bs first second e up step = some_each a.held (λ file there.
-    let l = if_some_at (λ (f : List ℕ). IsLed hints s first.more f a b) a.held file there first.led in
-    let state = fold (after_mark s) (counted file a.records, goings) first.more in
-    let stand : gone_up s state ≡ stand_of l.left b = up_after s (counted file a.records) goings a.ranks first.more up ∙ l.state in
-    ap (λ (ms : List Mark). (fold (after_mark s) (counted file a.records, goings) (first.more ++ ms)).1) (append_cancel_left order second.more (Meet k ∷ []) (sym second.grown ∙ e))
-    ∙ ap (λ (x : Counted × List Going). x.1) (fold-append (after_mark s) (counted file a.records, goings) first.more (Meet k ∷ []))
-    ∙ ap (λ (x : Counted). (after_mark s (x, state.1) (Meet k)).1) (ap (λ (x : Stand). x.0) stand)
-    ∙ if_some_at (λ (f : List ℕ). (after_mark s (counted f b.records, state.1) (Meet k)).1 ≡ bs) b.held l.left l.told (step state.1 (ap (λ (x : Stand). x.1) stand)))
-
--- and then others go on
-answers_then : (hints : Hints) (s : Setting) (fault : StepErr) (before mid now more : List Mark) (a b : Stage) (goings bs : List Going) (runners : List Runner)
-    → Leads hints s more a b → mid ≡ before ++ more → map (advance s.header) goings ≡ a.ranks
-    → IfSome a.held (λ file. (fold (after_mark s) (counted file a.records, goings) more).1 ≡ bs) → HaveAnswers s fault (point mid b.held b.records) bs now runners
-    → HaveAnswers s fault (point before a.held a.records) goings now runners
-answers_then hints s fault before mid now more a b goings bs runners led grown up same h = record {
-  more = more ++ h.more;
-  grown = h.grown ∙ ap (λ (ms : List Mark). ms ++ h.more) grown ∙ append_assoc before more h.more;
-  said = some_each a.held (λ file there.
-      let l = if_some_at (λ (f : List ℕ). IsLed hints s more f a b) a.held file there led in
-      let e = if_some_at (λ (f : List ℕ). (fold (after_mark s) (counted f a.records, goings) more).1 ≡ bs) a.held file there same in
-      let state = fold (after_mark s) (counted file a.records, goings) more in
-      let count : state.0 ≡ counted l.left b.records = ap (λ (x : Stand). x.0) (up_after s (counted file a.records) goings a.ranks more up ∙ l.state) in
-      let there : (counted l.left b.records, bs) ≡ state = λ i. (sym count i, sym e i) in
-      subst (λ (gs : List Going). AreAnswers s.header fault gs runners) (ap (λ (x : Counted × List Going). (fold (after_mark s) x h.more).1) there
-      ∙ sym (ap (λ (x : Counted × List Going). x.1) (fold-append (after_mark s) (counted file a.records, goings) more h.more)))
-      (if_some_at (λ (f : List ℕ). AreAnswers s.header fault (fold (after_mark s) (counted f b.records, bs) h.more).1 runners) b.held l.left l.told h.said));
-}
-
 pub answers_after : (hints : Hints) (s : Setting) (fault : StepErr) (before order now_order later : List Mark) (k : ℕ) (a b c : Stage) (goings bs : List Going) (runners : List Runner)
     → HasLed hints s before order a b → HasLed hints s order now_order b c → now_order ≡ order ++ Meet k ∷ [] → map (advance s.header) goings ≡ a.ranks
     → ((gs : List Going) → map (advance s.header) gs ≡ b.ranks → IfSome b.held (λ file. (after_mark s (counted file b.records, gs) (Meet k)).1 ≡ bs))
     → HaveAnswers s fault (point now_order c.held c.records) bs later runners → HaveAnswers s fault (point before a.held a.records) goings later runners
-answers_after hints s fault before order now_order later k a b c goings bs runners first second e up step h =
-    answers_then hints s fault before now_order later (first.more ++ second.more) a c goings bs runners (led_then hints s first.more second.more a b c first.led second.led)
-    (second.grown ∙ ap (λ (ms : List Mark). ms ++ second.more) first.grown ∙ append_assoc before first.more second.more) up
-    (between_led hints s before order now_order k a b c goings bs first second e up step) h
+answers_after hints s fault before order now_order later k a b c goings bs runners first second e up step h = record {
+  more = (first.more ++ second.more) ++ h.more;
+  grown = grind (arith, common_steps, h.grown, second.grown, first.grown);
+  said = some_each a.held (λ file there.
+      let l = if_some_at (λ (f : List ℕ). IsLed hints s first.more f a b) a.held file there first.led in
+      let m = if_some_at (λ (f : List ℕ). IsLed hints s second.more f b c) b.held l.left l.told second.led in
+      let state = fold (after_mark s) (counted file a.records, goings) first.more in
+      let stand : gone_up s state ≡ stand_of l.left b = up_after s (counted file a.records) goings a.ranks first.more up ∙ l.state in
+      let one : second.more ≡ Meet k ∷ [] = append_cancel_left order second.more (Meet k ∷ []) (sym second.grown ∙ e) in
+      let same : (after_mark s (counted l.left b.records, state.1) (Meet k)).1 ≡ bs =
+      if_some_at (λ (f : List ℕ). (after_mark s (counted f b.records, state.1) (Meet k)).1 ≡ bs) b.held l.left l.told (step state.1 (ap (λ (x : Stand). x.1) stand)) in
+      let done : fold (after_mark s) state (Meet k ∷ []) ≡ (counted m.left c.records, bs) =
+      grind (arith, nat_tests, up_after s state.0 state.1 b.ranks (Meet k ∷ []), m.state) in
+      subst (λ (gs : List Going). AreAnswers s.header fault gs runners) (grind (arith, common_steps, done, one))
+      (if_some_at (λ (f : List ℕ). AreAnswers s.header fault (fold (after_mark s) (counted f c.records, bs) h.more).1 runners) c.held m.left m.told h.said));
+}

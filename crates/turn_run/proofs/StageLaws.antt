@@ -1,5 +1,5 @@
 -- Stages: steps one after another.
-use Rattle.turn_run.proofs.Words.{IfSome_then, ◌≡◌, ℕ, refl, sym, ◌∙◌, ap, subst, List, [], ◌++◌, Option, Some, None, append_assoc, append-nil, fold-append, fold, IfSome, Hints, Mark, DiskCall, with_end, Setting, calls_over, step_to, Arrived, Stand, IsLike, stage, stand_of, HasLed, IsLed, Leads, LeadsAlike, Stage, with_end-with_end, with_end-nil, if_some_at, HasGone, rank_stage, set, slice_get, arith, nat_tests}
+use Rattle.turn_run.proofs.Words.{◌≡◌, ℕ, refl, sym, ◌∙◌, ap, List, [], ◌++◌, Option, Some, None, append_assoc, append-nil, IfSome, Hints, Mark, DiskCall, Setting, Arrived, stage, HasLed, IsLed, Leads, Stage, with_end-with_end, with_end-nil, if_some_at, HasGone, rank_stage, set, slice_get, arith, common_steps}
 use Rattle.run_laws.proofs.ArrivalLaws.{calls_split}
 
 -- ---- steps one after another
@@ -12,19 +12,8 @@ pub led_none : (hints : Hints) (s : Setting) (a : Stage) → Leads hints s [] a 
 led_none hints s a = some_each a.held (λ file there. record { left = file; told = there; state = refl; calls = sym (with_end-nil a.calls) })
 
 pub led_then : (hints : Hints) (s : Setting) (marks more : List Mark) (a b c : Stage) → Leads hints s marks a b → Leads hints s more b c → Leads hints s (marks ++ more) a c
-led_then hints s marks more a b c first second = IfSome_then a.held first (λ file h.
-    let next = if_some_at (λ (x : List ℕ). IsLed hints s more x b c) b.held h.left h.told second in
-    record {
-      left = next.left;
-      told = next.told;
-      state = fold-append (step_to s) (stand_of file a) marks more ∙ ap (λ (stand : Stand). fold (step_to s) stand more) h.state ∙ next.state;
-      calls = grind (arith, nat_tests, with_end-with_end, calls_split, next.calls, h.left, h.calls, h.state, with_end, calls_over, stand_of);
-    })
-
-pub alike_then : (s : Setting) (marks more : List Mark) (n m k : ℕ) (from mid to : List Arrived) → LeadsAlike s marks n from m mid → LeadsAlike s more m mid k to
-    → LeadsAlike s (marks ++ more) n from k to
-alike_then s marks more n m k from mid to first second stand w =
-    subst (λ (x : Stand). IsLike x k to) (sym (fold-append (step_to s) stand marks more)) (second (fold (step_to s) stand marks) (first stand w))
+led_then hints s marks more a b c first second =
+    grind (arith, common_steps, if_some_at (λ (x : List ℕ). IsLed hints s more x b c) b.held, with_end-with_end, calls_split)
 
 pub has_led_none : (hints : Hints) (s : Setting) (order : List Mark) (a : Stage) → HasLed hints s order order a a
 has_led_none hints s order a = record { more = []; grown = sym (append-nil order); led = led_none hints s a; alike = λ stand w. w }
@@ -34,7 +23,7 @@ has_led_then hints s before now later a b c first second = record {
   more = first.more ++ second.more;
   grown = second.grown ∙ ap (λ (ms : List Mark). ms ++ second.more) first.grown ∙ append_assoc before first.more second.more;
   led = led_then hints s first.more second.more a b c first.led second.led;
-  alike = alike_then s first.more second.more a.records b.records c.records a.ranks b.ranks c.ranks first.alike second.alike;
+  alike = λ stand w. grind (arith, common_steps, first.alike stand w, second.alike);
 }
 
 -- those of one rank, whatever ranks stand beside it

@@ -1,5 +1,5 @@
 -- What is told of steps, one after another, and of a whole run.
-use Rattle.turn_run.proofs.Words.{IfSome_then, ◌≡◌, ◌+◌, ℕ, refl, sym, ◌∙◌, ap, subst, List, [], ◌∷◌, ◌++◌, length, map, max, replicate, set, take, true, Option, Some, None, append_assoc, length-append, arith, append-nil, append_cancel_left, map-append, fold-append, slice_get, fold, enumerate_from, Header, Batch, Call, Hints, Script, DiskCall, Mark, Meet, Solo, Offer, with_end, needed_now, Counted, Setting, is_lawful, told_of, Going, after_mark, first_state, setting_of, counted, puts_in, step_to, Arrived, Stand, point, arrived_all, stand_of, HasGone, HasLed, IsLed, Stage, rank_stage, first_runner, counts_along, told_marks, told_over, HasTold, HasToldMore, Runner, entry_set, with_end-with_end, with_end-nil, gone_up, arrival_step, if_some_at, take-append_seam, nat_tests}
+use Rattle.turn_run.proofs.Words.{IfSome_then, ◌≡◌, ◌+◌, ℕ, refl, sym, ◌∙◌, ap, subst, List, [], ◌∷◌, ◌++◌, length, map, max, replicate, set, take, true, Option, Some, append_assoc, length-append, arith, append_cancel_left, map-append, slice_get, fold, enumerate_from, Header, Batch, Call, Hints, Script, DiskCall, Mark, Meet, Solo, Offer, with_end, needed_now, Counted, Setting, is_lawful, told_of, Going, after_mark, first_state, setting_of, counted, puts_in, step_to, Arrived, Stand, point, arrived_all, stand_of, HasGone, HasLed, IsLed, Stage, rank_stage, first_runner, counts_along, told_marks, told_over, HasTold, HasToldMore, Runner, entry_set, with_end-with_end, with_end-nil, gone_up, arrival_step, if_some_at, take-append_seam, nat_tests, common_steps}
 use Rattle.turn_run.proofs.CutLaws.{solo_at}
 use Rattle.turn_run.proofs.StageLaws.{some_each, gone_beside}
 use Rattle.turn_run.proofs.MeetStep.{meet_at, met_count, IsTaken}
@@ -9,16 +9,11 @@ use Rattle.turn_run.proofs.TurnRuns.{first_stage}
 
 pub told_none : (s : Setting) (held : Option (List ℕ)) (records : ℕ) (ranks : List Arrived) (before now : List Mark) (told heard : Option (List (Mark × ℕ)))
     → now ≡ before → heard ≡ told → HasToldMore s (point before held records) ranks now told heard
-told_none s held records ranks before now told heard e f = record {
-  more = [];
-  grown = e ∙ sym (append-nil before);
-  marks = ap told_marks f ∙ sym (with_end-nil (told_marks told));
-  counts = some_each held (λ file there. f ∙ sym (with_end-nil told));
-}
+told_none s held records ranks before now told heard e f =
+    grind (arith, common_steps, with_end-nil (told_marks told), some_each held (λ file there. f ∙ sym (with_end-nil told)), with_end-nil told)
 
 pub marks_ended : (told : Option (List (Mark × ℕ))) (more : List (Mark × ℕ)) → told_marks (with_end told more) ≡ with_end (told_marks told) (map (λ t. t.0) more)
-marks_ended None more = refl
-marks_ended (Some front) more = ap (λ (ms : List Mark). Some ms) (map-append (λ t. t.0) front more)
+marks_ended told more = grind (arith, nat_tests, map-append)
 
 told_one : (s : Setting) (m : Mark) (count : ℕ) (held : Option (List ℕ)) (records : ℕ) (ranks : List Arrived) (before now : List Mark) (told heard : Option (List (Mark × ℕ)))
     → now ≡ before ++ m ∷ [] → heard ≡ with_end told ((m, count) ∷ []) → ((file : List ℕ) → (step_to s (counted file records, ranks) m).0.records ≡ count)
@@ -35,14 +30,13 @@ pub told_meeting : {s : Setting} (k : ℕ) {held : Option (List ℕ)} {calls : L
     {told heard : Option (List (Mark × ℕ))} → IsTaken calls runners batches known → now ≡ before ++ Meet k ∷ [] → heard ≡ with_end told ((Meet k, n) ∷ [])
     → n ≡ max r (max (needed_now s (puts_in batches)) known) → HasToldMore s (point before held r) (arrived_all s.header calls runners) now told heard
 told_meeting {s} k {held} {calls} {runners} {batches} {known} {r} {n} {before} {now} {told} {heard} t e f count =
-    told_one s (Meet k) n held r (arrived_all s.header calls runners) before now told heard e f
-    (λ file. sym (count ∙ sym (met_count s batches known file r) ∙ ap (λ (c : Counted). c.records) (meet_at s k (counted file r) t)))
+    told_one s (Meet k) n held r (arrived_all s.header calls runners) before now told heard e f (λ file. grind (arith, nat_tests, met_count s batches known file r, meet_at s k (counted file r) t))
 
 -- ---- steps one after another
 
 told_split : (s : Setting) (stand : Stand) (marks more : List Mark) → told_over s stand (marks ++ more) ≡ told_over s stand marks ++ told_over s (fold (step_to s) stand marks) more
 told_split s stand [] more = refl
-told_split s stand (m ∷ marks) more = ap (λ (ts : List (Mark × ℕ)). (m, (step_to s stand m).0.records) ∷ ts) (told_split s (step_to s stand m) marks more)
+told_split s stand (m ∷ marks) more = grind (arith, nat_tests, told_split s (step_to s stand m) marks more)
 
 pub told_then : (hints : Hints) (s : Setting) (before now later : List Mark) (a b : Stage) (told heard last : Option (List (Mark × ℕ)))
     → HasToldMore s (point before a.held a.records) a.ranks now told heard → HasLed hints s before now a b → HasToldMore s (point now b.held b.records) b.ranks later heard last
@@ -70,23 +64,11 @@ told_gone now {r} {records} {from} {to} gone first e second ranks at =
 
 -- ---- a whole run
 
-take_through : (first : List Mark) (m : Mark) (rest : List Mark) (k : ℕ) → k ≡ length first + 1 → take k (first ++ (m ∷ rest)) ≡ first ++ m ∷ []
-take_through first m rest k e = ap (take k) (sym (append_assoc first (m ∷ []) rest))
-    ∙ ap (λ (z : ℕ). take z ((first ++ m ∷ []) ++ rest)) (e ∙ sym (length-append first (m ∷ []))) ∙ take-append_seam (first ++ m ∷ []) rest
-
 -- each mark of a list with the count after it, by its place and by steps
 along : {U : Type 0} (step : U → Mark → U) (count : U → ℕ) (u : U) (first rest : List Mark) (n : ℕ) → n ≡ length first
     → map (λ (p : ℕ × Mark). (p.1, count (fold step u (take (p.0 + 1) (first ++ rest))))) (enumerate_from n rest) ≡ counts_along step count (fold step u first) rest
 along step count u first [] n e = refl
-along {U} step count u first (m ∷ rest) n e =
-    let on : fold step u (first ++ m ∷ []) ≡ step (fold step u first) m = fold-append step u first (m ∷ []) in
-    let head : take (n + 1) (first ++ (m ∷ rest)) ≡ first ++ m ∷ [] = take_through first m rest (n + 1) (omega (arith, e)) in
-    let here : count (fold step u (take (n + 1) (first ++ (m ∷ rest)))) ≡ count (step (fold step u first) m) = ap (λ (l : List Mark). count (fold step u l)) head ∙ ap count on in
-    let long : n + 1 ≡ length (first ++ m ∷ []) = omega (arith, e, length-append first (m ∷ [])) in
-    let later : map (λ (p : ℕ × Mark). (p.1, count (fold step u (take (p.0 + 1) (first ++ (m ∷ rest)))))) (enumerate_from (n + 1) rest) ≡ counts_along step count (step (fold step u first) m) rest =
-    ap (λ (l : List Mark). map (λ (p : ℕ × Mark). (p.1, count (fold step u (take (p.0 + 1) l)))) (enumerate_from (n + 1) rest)) (sym (append_assoc first (m ∷ []) rest))
-    ∙ along step count u (first ++ m ∷ []) rest (n + 1) long ∙ ap (λ (v : U). counts_along step count v rest) on in
-    λ i. (m, here i) ∷ later i
+along {U} step count u first (m ∷ rest) n e = grind (arith, common_steps, take-append_seam (first ++ m ∷ []) rest, append_assoc first (m ∷ []) rest, length-append first (m ∷ []), along step count u (first ++ m ∷ []) rest (n + 1))
 
 -- by the steps of the serial run
 pub told_along : (script : Script) (header : Header) (file : List ℕ) (order : List Mark)
@@ -97,13 +79,6 @@ counts_up : (s : Setting) (state : Counted × List Going) (order : List Mark) �
 counts_up s state [] = refl
 counts_up s state (m ∷ order) = grind (arith, nat_tests, arrival_step s state m, counts_up s (after_mark s state m) order)
 
-told_from_first : (script : Script) (header : Header) (file : List ℕ) (records : ℕ) (runners : List Runner) (order : List Mark) → is_lawful script ≡ true
-    → records ≡ header.records → runners ≡ replicate script.ranks (first_runner header records)
-    → told_over (setting_of script header) (counted file records, arrived_all header script.calls runners) order ≡ told_of script header file order
-told_from_first script header file records runners order lawful e first =
-    ap (λ (stand : Stand). told_over (setting_of script header) stand order) (first_stage script header records runners lawful e first file)
-    ∙ sym (told_along script header file order ∙ counts_up (setting_of script header) (first_state header file script.calls) order)
-
 -- before the first step
 pub told_nothing : (script : Script) (header : Header) (held : Option (List ℕ)) (told : Option (List (Mark × ℕ))) (order : List Mark) → order ≡ [] → HasTold script header held told told order
 told_nothing script header held told order e = grind (arith, nat_tests, with_end-nil, some_each, told_marks)
@@ -111,12 +86,9 @@ told_nothing script header held told order e = grind (arith, nat_tests, with_end
 pub told_whole : (script : Script) (header : Header) (held : Option (List ℕ)) (records : ℕ) (runners : List Runner) (none made order : List Mark) (told heard : Option (List (Mark × ℕ)))
     → is_lawful script ≡ true → records ≡ header.records → runners ≡ replicate script.ranks (first_runner header records) → none ≡ [] → order ≡ made
     → HasToldMore (setting_of script header) (point none held records) (arrived_all header script.calls runners) made told heard → HasTold script header held told heard order
-told_whole script header held records runners none made order told heard lawful e first n o h = record {
-  marks = h.marks ∙ ap (λ (ms : List Mark). with_end (told_marks told) ms) same;
-  counts = IfSome_then held h.counts (λ file k. k ∙ ap (λ (ts : List (Mark × ℕ)). with_end told ts)
-      (ap (λ (ms : List Mark). told_over (setting_of script header) (counted file records, arrived_all header script.calls runners) ms) same
-      ∙ told_from_first script header file records runners order lawful e first));
-}
-  where
-    same : h.more ≡ order
-    same = sym (o ∙ h.grown ∙ ap (λ (ms : List Mark). ms ++ h.more) n)
+told_whole script header held records runners none made order told heard lawful e first n o h =
+    let same : h.more ≡ order = grind (arith, nat_tests, h.grown) in record {
+      marks = h.marks ∙ ap (λ (ms : List Mark). with_end (told_marks told) ms) same;
+      counts = IfSome_then held h.counts (λ file k. k ∙ ap (λ (ts : List (Mark × ℕ)). with_end told ts)
+          (grind (arith, common_steps, first_stage script header records runners lawful e first file, told_along script header file order, counts_up (setting_of script header) (first_state header file script.calls) order)));
+    }

@@ -1,8 +1,8 @@
 -- The first and the last stage of a run.
-use Rattle.turn_run.proofs.Words.{IfSome_then, ◌≡◌, ℕ, ◌<◌, ◌≤◌, refl, sym, ◌∙◌, ap, subst, List, [], ◌∷◌, ◌++◌, length, map, replicate, max, true, Option, Some, None, arith, length-replicate, slice_get, fold, IfSome, Answer, Header, Call, Hints, Script, DiskCall, Mark, after, with_end, run_calls, Setting, raised, header_len, is_sound, marks, is_lawful, end_of, greatest, End, advance, first_going, first_state, serial_from, setting_of, close_by, counted, blank, AreAlikeEnds, IsLike, close_alike, IsOnWay, ranks_lawful, way_begins, contents_of, HasBegun, IsCount, all_between, between, calls_of, AreFree, AreRunners, HaveArrived, IsRunner, calls_over, step_to, Arrived, Stand, all_calls_over, ended_from, arrived_all, stage, HasLed, IsLed, Leads, HasClosed, first_runner, Runner, slice_get_within, raised_records, with_end-with_end, entry_replicate, gone_up, serial_of_arrivals, calls_of_arrivals, first_up, nat_tests}
+use Rattle.turn_run.proofs.Words.{IfSome_then, ◌≡◌, ℕ, ◌≤◌, refl, sym, ◌∙◌, ap, subst, List, [], ◌∷◌, ◌++◌, length, map, replicate, max, true, Option, Some, arith, length-replicate, fold, IfSome, Answer, Header, Call, Hints, Script, DiskCall, Mark, with_end, run_calls, Setting, raised, header_len, is_sound, marks, is_lawful, end_of, greatest, End, first_going, first_state, serial_from, setting_of, close_by, counted, blank, AreAlikeEnds, IsLike, close_alike, ranks_lawful, way_begins, contents_of, HasBegun, IsCount, all_between, calls_of, AreFree, AreRunners, HaveArrived, step_to, Arrived, Stand, all_calls_over, ended_from, arrived_all, stage, HasLed, Leads, HasClosed, first_runner, Runner, slice_get_within, raised_records, with_end-with_end, entry_replicate, gone_up, serial_of_arrivals, calls_of_arrivals, first_up, nat_tests, common_steps}
 use Rattle.serial_spec.specs.RankMachine as machine
 use Rattle.turn_run.proofs.TurnKnown.{most_known}
-use Rattle.turn_run.proofs.TurnEnds.{are_over, map_ended, AreOver}
+use Rattle.turn_run.proofs.TurnEnds.{are_over, map_ended}
 use Rattle.turn_run.proofs.TurnSteps.{calls_there}
 use Rattle.turn_run.proofs.SaidLaws.{between_up}
 
@@ -15,32 +15,17 @@ pub first_count : (header : Header) (len records : ℕ) → is_sound header ≡ 
     → IsCount header len records
 first_count header len records h e l = subst (λ (n : ℕ). IsCount header len n) (sym e) (record { sound = h; long = l })
 
-pub first_placed : (script : Script) (header : Header) (r records : ℕ) → is_lawful script ≡ true → r < script.ranks → records ≡ header.records
-    → IsOnWay script [] r (between (calls_of script r) (first_runner header records)) None
-first_placed script header r records lawful l e =
-    grind (arith, nat_tests, way_begins script header r (calls_of script r) lawful, calls_there script r, ranks_lawful script lawful)
-
 pub first_runners : (script : Script) (header : Header) (len records : ℕ) (runners : List Runner) → is_lawful script ≡ true → is_sound header ≡ true → records ≡ header.records
     → end_of header (header_len header) header.records ≤ len → runners ≡ replicate script.ranks (first_runner header records) → AreRunners script header len [] runners
 first_runners script header len records runners lawful sound e l s = subst (λ (ss : List Runner). AreRunners script header len [] ss) (sym s) (record {
   all = length-replicate script.ranks (first_runner header records);
   known_ranks = refl;
-  each = each;
+  each = λ r runner f.
+      let within = slice_get_within (replicate script.ranks (first_runner header records)) r runner f in
+      grind (arith, common_steps, entry_replicate script.ranks r (first_runner header records) runner f, length-replicate script.ranks (first_runner header records), way_begins script header r (calls_of script r) lawful, calls_there script r, ranks_lawful script lawful);
   known = λ r runner f.
-      let same : first_runner header records ≡ runner = sym (entry_replicate script.ranks r (first_runner header records) runner f) in
-      subst (λ (x : Runner). IsCount header len x.rank.state.known) same (first_count header len records sound e l);
+      grind (arith, common_steps, entry_replicate script.ranks r (first_runner header records) runner f, first_count header len records sound e l);
 })
-  where
-    each : (r : ℕ) (runner : Runner) → slice_get (replicate script.ranks (first_runner header records)) r ≡ Some runner → IsRunner script header [] r runner
-    each r runner f =
-        let same : first_runner header records ≡ runner = sym (entry_replicate script.ranks r (first_runner header records) runner f) in
-        let long = slice_get_within (replicate script.ranks (first_runner header records)) r runner f in
-        let all = length-replicate script.ranks (first_runner header records) in
-        subst (λ (x : Runner). IsRunner script header [] r x) same (record {
-          of_header = refl;
-          placed = first_placed script header r records lawful (omega arith) e;
-          asked = tt;
-        })
 
 pub first_free : (header : Header) (ranks records : ℕ) (runners : List Runner) → runners ≡ replicate ranks (first_runner header records) → AreFree runners
 first_free header ranks records runners s r runner f = grind (arith, nat_tests, entry_replicate, first_runner)
@@ -56,10 +41,7 @@ module _ (script : Script) (header : Header) (records : ℕ) (runners : List Run
   first_goings = grind (arith, nat_tests, ranks_lawful, goings_first, all_between, first_runner)
 
   pub first_stage : (file : List ℕ) → (counted file records, arrived_all header script.calls runners) ≡ gone_up (setting_of script header) (first_state header file script.calls)
-  first_stage file =
-      let ranks : arrived_all header script.calls runners ≡ map (advance header) (map (first_going header) script.calls) =
-      sym (between_up header script.calls runners (first_free header script.ranks records runners first)) ∙ ap (map (advance header)) first_goings in
-      λ i. (counted file (same_count i), ranks i)
+  first_stage file = grind (arith, nat_tests, between_up header script.calls runners (first_free header script.ranks records runners first), first_goings)
 
   -- the run is that of the script
   pub serial_from_first : (file : List ℕ) (order : List Mark) → ended_from (setting_of script header) (counted file records, arrived_all header script.calls runners) order ≡ serial_from script header file order
@@ -81,28 +63,6 @@ pub record IsClosed (hints : Hints) (s : Setting) (stand : Stand) (order : List 
   pub answers : map (λ runner. runner.answers) runners ≡ (ended_from s stand order).answers
   pub pending : map (λ runner. machine.pending runner.rank.state) runners ≡ (ended_from s stand order).pending
   pub calls : made ≡ with_end begun (all_calls_over hints s stand order)
-
-pub led_closed : (script : Script) (header : Header) (order : List Mark) (calls made later : Option (List DiskCall)) (left held : Option (List ℕ)) (count records from : ℕ)
-    (runners : List Runner) (ranks : List Arrived) (file : List ℕ) (told : Option (List ℕ)) → length script.calls ≡ length runners → AreOver script.calls runners
-    → HasClosed header (most_known runners) (contents_of left count) (contents_of held records) made later
-    → IsLed script.hints (setting_of script header) order file (stage told calls from ranks) (stage left made count (arrived_all header script.calls runners))
-    → IsClosed script.hints (setting_of script header) (counted file from, ranks) order calls held later records runners
-led_closed script header order calls made later left held count records from runners ranks file told long over r led =
-    let s = setting_of script header in let stand : Stand = (counted file from, ranks) in
-    let ends = map (λ (a : Arrived). a.0) (arrived_all header script.calls runners) in
-    let known : greatest (map (λ g. g.rank.known) ends) ≡ most_known runners =
-    ap greatest (map_ended (λ (rank : machine.Rank) (answers : List Answer). rank.known) header _ _ long over) in
-    let last : ended_from s stand order ≡ close_by s (counted led.left count) ends = ap (λ (t : Stand). close_by s t.0 (map (λ a. a.0) t.1)) led.state in
-    let count_is : (close_by s (counted led.left count) ends).records ≡ max count (most_known runners) =
-    ap (λ (n : ℕ). (raised s (counted led.left count) n).records) known ∙ raised_records s (counted led.left count) (most_known runners) in
-    let records_are : records ≡ (ended_from s stand order).records = r.count ∙ sym count_is ∙ sym (ap (λ (e : End). e.records) last) in
-    record {
-      bytes = grind (arith, nat_tests, raised, r.bytes, led.told, after, counted);
-      records = records_are;
-      answers = sym (map_ended (λ (rank : machine.Rank) (answers : List Answer). answers) header _ _ long over) ∙ sym (ap (λ (e : End). e.answers) last);
-      pending = sym (map_ended (λ (rank : machine.Rank) (answers : List Answer). machine.pending rank) header _ _ long over) ∙ sym (ap (λ (e : End). e.pending) last);
-      calls = grind (arith, nat_tests, with_end-with_end, r.device, led.calls, with_end, calls_over);
-    }
 
 -- what the runners of a run that was closed have, for an end over any file
 abbrev pub told_end : ℕ → List Runner → End
@@ -126,26 +86,31 @@ module _ {script : Script} {header : Header} {len : ℕ} {before order : List Ma
   all : t.led.more ≡ order
   all = sym (t.led.grown ∙ ap (λ (ms : List Mark). ms ++ t.led.more) none)
 
+  ends_have : {X : Type 0} (f : machine.Rank → List Answer → X)
+      → map (λ g. f g.rank g.answers) (map (λ a. a.0) (arrived_all header script.calls last)) ≡ map (λ runner. f runner.rank.state runner.answers) last
+  ends_have f = map_ended f header script.calls last long (are_over script last t.free t.arrived)
+
+  known_last : greatest (map (λ g. g.rank.known) (map (λ (a : Arrived). a.0) (arrived_all header script.calls last))) ≡ most_known last
+  known_last = ap greatest (ends_have (λ (rank : machine.Rank) (answers : List Answer). rank.known))
+
   -- and the file was closed
   pub run_ended : IfSome held (λ file. IsClosed script.hints (setting_of script header) (counted file records, arrived_all header script.calls first) order calls now later total last)
   run_ended =
       let a = stage held calls records (arrived_all header script.calls first) in let b = stage left made count (arrived_all header script.calls last) in
-      IfSome_then held (subst (λ (ms : List Mark). Leads script.hints (setting_of script header) ms a b) all t.led.led)
-      (λ file led. led_closed script header order calls made later left now count total records last (arrived_all header script.calls first) file held long (are_over script last t.free t.arrived) r led)
+      IfSome_then held (subst (λ (ms : List Mark). Leads script.hints (setting_of script header) ms a b) all t.led.led) (λ file led.
+      let s = setting_of script header in
+      grind (arith, common_steps, raised s (counted led.left count), raised_records s (counted led.left count) (most_known last), known_last, ends_have (λ (rank : machine.Rank) (answers : List Answer). answers), ends_have (λ (rank : machine.Rank) (answers : List Answer). machine.pending rank), with_end-with_end))
 
   pub alike_ended : (stand : Stand) → IsLike stand records (arrived_all header script.calls first) → AreAlikeEnds (told_end total last) (ended_from (setting_of script header) stand order)
   alike_ended stand like =
-      let s = setting_of script header in let over = are_over script last t.free t.arrived in
-      let ends = map (λ (x : Arrived). x.0) (arrived_all header script.calls last) in
+      let s = setting_of script header in let ends = map (λ (x : Arrived). x.0) (arrived_all header script.calls last) in
       let near : IsLike (fold (step_to s) stand order) count (arrived_all header script.calls last) =
       subst (λ (ms : List Mark). IsLike (fold (step_to s) stand ms) count (arrived_all header script.calls last)) all (t.led.alike stand like) in
       let alike = close_alike s (fold (step_to s) stand order) (counted [] count) (arrived_all header script.calls last) near in
-      let known : greatest (map (λ g. g.rank.known) ends) ≡ most_known last =
-      ap greatest (map_ended (λ (rank : machine.Rank) (answers : List Answer). rank.known) header script.calls last long over) in
       let count_is : (close_by s (counted [] count) ends).records ≡ max count (most_known last) =
-      ap (λ (n : ℕ). (raised s (counted [] count) n).records) known ∙ raised_records s (counted [] count) (most_known last) in
+      ap (λ (n : ℕ). (raised s (counted [] count) n).records) known_last ∙ raised_records s (counted [] count) (most_known last) in
       record {
         records = r.count ∙ sym count_is ∙ sym alike.records;
-        answers = ap (map (map blank)) (sym (map_ended (λ (rank : machine.Rank) (answers : List Answer). answers) header script.calls last long over)) ∙ sym alike.answers;
-        pending = sym (map_ended (λ (rank : machine.Rank) (answers : List Answer). machine.pending rank) header script.calls last long over) ∙ sym alike.pending;
+        answers = ap (map (map blank)) (sym (ends_have (λ rank answers. answers))) ∙ sym alike.answers;
+        pending = sym (ends_have (λ rank answers. machine.pending rank)) ∙ sym alike.pending;
       }

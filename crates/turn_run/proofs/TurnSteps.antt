@@ -1,5 +1,5 @@
 -- One rank goes on while the others stand.
-use Rattle.turn_run.proofs.Words.{◌≡◌, ℕ, zero, suc, ◌+◌, ◌<◌, ◌≤◌, ◌≢◌, refl, sym, ◌∙◌, ap, subst, inl, inr, List, [], ◌∷◌, ◌++◌, length, set, true, cond, Option, Some, None, arith, sum_by-append, list_all-append, cases_eq, nat_tests, slice_get, slice_index_or, list_all, and_from, slice_get_within, and_first, and_second, Header, Call, Script, DiskCall, Mark, Meet, Solo, Offer, OfferKind, is_of_rank_below, is_meeting, is_lawful, Going, setting_of, is_solo_of, meetings, ranks_lawful, way_others, others_meetings, HasBegun, IsCount, calls_of, going_of, AreRunners, IsPlaced, IsPlacedWith, IsRunner, Arrived, arrived, arrived_all, stage, HasGone, HasLed, IsGrownBy, rank_stage, Runner, entry_below, entry_set, entry_set_other, length-set}
+use Rattle.turn_run.proofs.Words.{◌≡◌, ℕ, zero, suc, ◌+◌, ◌<◌, ◌≤◌, ◌≢◌, refl, sym, ◌∙◌, ap, List, [], ◌∷◌, ◌++◌, length, set, true, Option, Some, None, arith, cases_eq, nat_tests, slice_get, slice_index_or, list_all, slice_get_within, and_first, and_second, Header, Call, Script, DiskCall, Mark, Meet, Solo, Offer, OfferKind, is_of_rank_below, is_lawful, Going, setting_of, is_solo_of, meetings, ranks_lawful, way_others, others_meetings, HasBegun, IsCount, calls_of, going_of, AreRunners, IsPlaced, IsPlacedWith, IsRunner, arrived, arrived_all, stage, HasGone, HasLed, IsGrownBy, rank_stage, Runner, entry_below, entry_set, entry_set_other, length-set, common_steps}
 use Rattle.nc_base.specs.declared.step.OfferKind.TheVariants as offer
 use Rattle.turn_run.proofs.CountLaws.{count_longer}
 use Rattle.turn_run.proofs.RunnerLaws.{placed_rest, HasRest}
@@ -7,24 +7,16 @@ use Rattle.turn_run.proofs.StageLaws.{gone_beside}
 
 -- ---- solo steps that are added to an order
 
-pub solos_known : (ranks n : ℕ) (more : List Mark) → n < ranks → list_all (is_solo_of n) more ≡ true → list_all (is_of_rank_below ranks) more ≡ true
+solos_known : (ranks n : ℕ) (more : List Mark) → n < ranks → list_all (is_solo_of n) more ≡ true → list_all (is_of_rank_below ranks) more ≡ true
 solos_known ranks n [] l h = refl
-solos_known ranks n (Meet k ∷ more) l h = absurd cc
-solos_known ranks n (Solo q c ∷ more) l h = grind (arith, nat_tests, and_first, solos_known ranks n more l, and_second, list_all)
-
-pub grown_known : (ranks n : ℕ) (before now : List Mark) → n < ranks → IsGrownBy n before now → list_all (is_of_rank_below ranks) before ≡ true
-    → list_all (is_of_rank_below ranks) now ≡ true
-grown_known ranks n before now l g h = ap (λ (ms : List Mark). list_all (is_of_rank_below ranks) ms) g.grown
-    ∙ list_all-append (is_of_rank_below ranks) before g.more ∙ and_from _ _ h (solos_known ranks n g.more l g.own)
+solos_known ranks n (m ∷ more) l h = grind (arith, nat_tests, and_first, solos_known ranks n more l, and_second, list_all, is_of_rank_below)
 
 pub grown_meetings : (n : ℕ) (before now : List Mark) → IsGrownBy n before now → meetings now ≡ meetings before
-grown_meetings n before now g =
-    let split = sum_by-append (λ (m : Mark). cond (is_meeting m) 1 0) before g.more in
-    grind (arith, nat_tests, others_meetings n g.more g.own, g.grown, meetings)
+grown_meetings n before now g = grind (arith, common_steps, others_meetings n g.more g.own)
 
 -- ---- where the others are placed
 
-pub placed_with_more : (script : Script) (header : Header) (order more : List Mark) (r q : ℕ) (s : Going) (o : Offer) (kind : OfferKind) → q ≢ r
+placed_with_more : (script : Script) (header : Header) (order more : List Mark) (r q : ℕ) (s : Going) (o : Offer) (kind : OfferKind) → q ≢ r
     → list_all (is_solo_of q) more ≡ true → IsPlacedWith script header order r (s, o) kind → IsPlacedWith script header (order ++ more) r (s, o) kind
 placed_with_more script header order more r q s o offer.Solo n h w = record {
   before = w.before;
@@ -40,15 +32,12 @@ pub placed_more : (script : Script) (header : Header) (order more : List Mark) (
 placed_more script header order more r q s None n h w = way_others script order more r q s None n h w
 placed_more script header order more r q s (Some o) n h w = placed_with_more script header order more r q s o o.kind n h w
 
-pub runner_beside : (script : Script) (header : Header) (before now : List Mark) (r q : ℕ) (runner : Runner) → q ≢ r → IsGrownBy q before now
+runner_beside : (script : Script) (header : Header) (before now : List Mark) (r q : ℕ) (runner : Runner) → q ≢ r → IsGrownBy q before now
     → IsRunner script header before r runner → IsRunner script header now r runner
 runner_beside script header before now r q runner n g h =
     grind (arith, nat_tests, placed_more script header before g.more r q (going_of (calls_of script r) runner) runner.held n g.own h.placed)
 
 -- ---- all ranks
-
-pub own_or_other : (P : Type 0) (q r : ℕ) → (q ≡ r → P) → (q ≢ r → P) → P
-own_or_other P q r own other = elim (cases_eq q r) [ inl e ↦ own e | inr n ↦ other n ]
 
 pub below_other : (q n : ℕ) → n ≢ q → q < n + 1 → q < n
 below_other q n f l = omega arith
@@ -61,20 +50,18 @@ get_at xs n d l = absurd (omega arith)
 -- what holds of the new element and held of the others holds of all
 pub set_each : {X : Type 0} (P : ℕ → X → Type 0) (xs : List X) (n : ℕ) (was x : X) → slice_get xs n ≡ Some was → P n x
     → ((r : ℕ) (y : X) → n ≢ r → slice_get xs r ≡ Some y → P r y) → (r : ℕ) (y : X) → slice_get (set xs n x) r ≡ Some y → P r y
-set_each P xs n was x e own others r y f = grind (arith, nat_tests, own_or_other, entry_set, entry_set_other)
+set_each P xs n was x e own others r y f = grind (arith, nat_tests, cases_eq n r, entry_set, entry_set_other)
 
 pub runners_step : (script : Script) (header : Header) (len later : ℕ) (before now : List Mark) (runners : List Runner) (n : ℕ) (was runner : Runner)
     → AreRunners script header len before runners → slice_get runners n ≡ Some was → IsGrownBy n before now → len ≤ later
     → IsRunner script header now n runner → IsCount header later runner.rank.state.known → AreRunners script header later now (set runners n runner)
 runners_step script header len later before now runners n was runner a e g l own count = record {
   all = length-set runners n runner ∙ a.all;
-  known_ranks = grown_known _ _ _ _ (number runners n was e a.all) g a.known_ranks;
+  known_ranks =
+      let k = slice_get_within runners n was e in let all = a.all in grind (arith, common_steps, solos_known script.ranks n g.more (omega arith) g.own, a.known_ranks, g.grown);
   each = set_each _ _ _ _ _ e own (λ r s other f. runner_beside _ _ _ _ _ _ _ other g (a.each r s f));
   known = set_each _ _ _ _ _ e count (λ r s other f. count_longer _ _ _ _ l (a.known r s f));
 }
-  where
-    number : (xs : List Runner) (r : ℕ) (x : Runner) → slice_get xs r ≡ Some x → length xs ≡ script.ranks → r < script.ranks
-    number xs r x e h = let k = slice_get_within xs r x e in omega arith
 
 -- ---- beginnings of the marks
 
@@ -90,25 +77,22 @@ runners_begun script header len order runners a = record {
 pub step_begun : (script : Script) (header : Header) (len : ℕ) (before now : List Mark) (runners : List Runner) (n : ℕ) → AreRunners script header len before runners
     → n < script.ranks → IsGrownBy n before now → HasRest script now n → HasBegun script now
 step_begun script header len before now runners n a l g own = record {
-  known_ranks = grown_known script.ranks n before now l g a.known_ranks;
-  each_rank = λ r m. own_or_other (HasRest script now r) n r (λ same. subst (λ (k : ℕ). HasRest script now k) same own) (λ other. let s = entry_below runners r (omega arith) in
-      grind (arith, nat_tests, runner_beside script header before now r n s.0 other g (a.each r s.0 s.1), placed_rest script header now r (going_of (calls_of script r) s.0) s.0.held));
+  known_ranks = grind (arith, common_steps, solos_known script.ranks n g.more l g.own, a.known_ranks, g.grown);
+  each_rank = λ r m. let s = entry_below runners r (omega arith) in
+      grind (arith, nat_tests, cases_eq n r, own, runner_beside script header before now r n s.0, a.each r s.0 s.1, placed_rest script header now r (going_of (calls_of script r) s.0) s.0.held);
 }
 
 -- ---- the stage after it
 
 pub get_arrived : (header : Header) (calls : List (List Call)) (runners : List Runner) (r : ℕ) (own : List Call) (runner : Runner) → slice_get calls r ≡ Some own
     → slice_get runners r ≡ Some runner → slice_get (arrived_all header calls runners) r ≡ Some (arrived header own runner)
-get_arrived header (c ∷ calls) (s ∷ runners) zero own runner e f = grind (arith, nat_tests)
-get_arrived header (c ∷ calls) (s ∷ runners) (suc r) own runner e f = get_arrived header calls runners r own runner e f
+get_arrived header (c ∷ calls) (s ∷ runners) r own runner e f = grind (arith, nat_tests, get_arrived header calls runners)
 get_arrived header calls runners r own runner e f = absurd cc
 
 pub set_arrived : (header : Header) (calls : List (List Call)) (runners : List Runner) (r : ℕ) (own : List Call) (runner : Runner) → slice_get calls r ≡ Some own
     → arrived_all header calls (set runners r runner) ≡ set (arrived_all header calls runners) r (arrived header own runner)
-set_arrived header [] runners r own runner e = absurd cc
-set_arrived header (c ∷ calls) [] r own runner e = refl
-set_arrived header (c ∷ calls) (s ∷ runners) zero own runner e = grind (arith, nat_tests)
-set_arrived header (c ∷ calls) (s ∷ runners) (suc r) own runner e = ap (λ (ranks : List Arrived). arrived header c s ∷ ranks) (set_arrived header calls runners r own runner e)
+set_arrived header (c ∷ calls) (s ∷ runners) r own runner e = grind (arith, nat_tests, set_arrived header calls runners)
+set_arrived header calls runners r own runner e = cc
 
 pub calls_there : (script : Script) (r : ℕ) → r < length script.calls → slice_get script.calls r ≡ Some (calls_of script r)
 calls_there script r l = let h = entry_below script.calls r l in h.1 ∙ ap (λ (own : Option (List Call)). Some (elim own [ None ↦ [] | Some cs ↦ cs ])) (sym h.1)

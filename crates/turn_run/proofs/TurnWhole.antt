@@ -1,5 +1,5 @@
 -- A run in turn as a whole: its meetings, and then the end by the ends of its ranks.
-use Rattle.turn_run.proofs.Words.{IfSome_then, ◌≡◌, ℕ, ◌≤◌, refl, sym, ◌∙◌, ap, subst, inl, inr, ◌⊎◌, List, [], length, map, max, replicate, true, Option, Some, None, Result, Ok, Err, length-map, IfSome, OnOk, result_err, byte_len, map_map, Header, RankEnd, RankStop, RunEnd, ServeEnd, Script, DiskCall, Mark, StepErr, Rose, with_end, BothTold, rose_before, run_calls, raised, count_width, IsLegal, is_lawful, is_sound, End, serial_from, setting_of, IsCutRun, IsTorn, as_setting, counted, all_calls_over, ended_from, ranks_lawful, point, contents_of, seen, HasBegun, IsCount, HasStopped, IsNext, most_known_of, runner_end, EndedAt, HasClosed, IsRun, AreRunners, all_between, AllSay, HaveAnswers, arrived_all, first_runner, Runner, blank, AreAlikeEnds, same_beside, le_two, arith, nat_tests}
+use Rattle.turn_run.proofs.Words.{IfSome_then, ◌≡◌, ℕ, ◌≤◌, refl, sym, ◌∙◌, ap, subst, inl, inr, ◌⊎◌, List, [], length, map, max, replicate, true, Option, Some, None, Result, Ok, Err, length-map, IfSome, OnOk, result_err, byte_len, map_map, Header, RankEnd, RankStop, RunEnd, ServeEnd, Script, DiskCall, Mark, StepErr, Rose, with_end, BothTold, rose_before, run_calls, raised, count_width, IsLegal, is_lawful, is_sound, End, serial_from, setting_of, IsCutRun, IsTorn, as_setting, counted, all_calls_over, ended_from, ranks_lawful, point, contents_of, seen, HasBegun, IsCount, HasStopped, IsNext, most_known_of, runner_end, EndedAt, HasClosed, IsRun, AreRunners, all_between, AllSay, HaveAnswers, arrived_all, first_runner, Runner, blank, AreAlikeEnds, same_beside, le_two, arith, nat_tests, common_steps}
 use Rattle.nc_base.specs.declared.step.StepErr.TheVariants as fault
 use Rattle.serial_spec.specs.RankMachine as machine
 use Rattle.turn_run.specs.RankEnds.EndedAt.{as_left, in_close as in_closing}
@@ -29,8 +29,7 @@ pub stopped_first : (script : Script) (header : Header) (held : Option (List ℕ
     → end.order ≡ [] → end.fault ≡ Some fault.Memory → end.answers ≡ [] → end.pending ≡ [] → IsRun script header (seen held done faults) (seen held done faults) records end
 stopped_first script header held done faults records end lawful count none memory empty none_pending =
     unbegun_run script header held done faults held done records end memory (subst (λ (ms : List Mark). HasBegun script ms) (sym none) (none_begun script)) (λ e is.
-    let wanted = sym (same_cause fault.Memory e (sym memory ∙ is)) in
-    grind (arith, nat_tests, cut_run script header e end.order held held records end.answers (no_rows script e end.answers wanted empty), no_rows script e end.answers wanted empty, no_answers script header e end.order, stood_first script header e end.order held held records records lawful wanted none)) none_pending
+    grind (arith, common_steps, same_cause fault.Memory e (sym memory ∙ is), cut_run script header e end.order held held records end.answers (no_rows script e end.answers (sym (same_cause fault.Memory e (sym memory ∙ is))) empty), no_rows script e end.answers (sym (same_cause fault.Memory e (sym memory ∙ is))) empty, no_answers script header e end.order, stood_first script header e end.order held held records records lawful (sym (same_cause fault.Memory e (sym memory ∙ is))) none)) none_pending
 
 -- what is told of the meetings
 pub record HasMet (script : Script) (header : Header) (len : ℕ) (before : List Mark) (served : ServeEnd) (held : Option (List ℕ)) (calls : Option (List DiskCall)) (faults records : ℕ) (first : List Runner)
@@ -79,10 +78,9 @@ module _ (script : Script) (header : Header) (len : ℕ) (before : List Mark) (s
 
   said_at : (e : StepErr) (now : Option (List ℕ)) (total : ℕ) → EndedAt header ends served.fault e (contents_of left count) (contents_of now total) → Said e
   said_at e now total (in_closing no_fault whole torn k) = (e, (inl refl, all_said e (h.through no_fault)))
-  said_at e now total (as_left (inl some) l k) = (e, (inl refl, h.answered e some))
-  said_at e now total (as_left (inr memory) l k) = elim (some_or_none served.fault) [
+  said_at e now total (as_left which l k) = elim (some_or_none served.fault) [
     | inl f ↦ (e, (inl refl, all_said e (h.through f)))
-    | inr x ↦ (x.0, (inr memory, h.answered x.0 x.1))
+    | inr x ↦ (x.0, (grind (arith, nat_tests, which, x.1), h.answered x.0 x.1))
   ]
 
   stood_of : (e : StepErr) (now : Option (List ℕ)) (total : ℕ) → EndedAt header ends served.fault e (contents_of left count) (contents_of now total) → Stood script header e served.order held now total
@@ -92,11 +90,10 @@ module _ (script : Script) (header : Header) (len : ℕ) (before : List Mark) (s
       (ended_legal script header len served.order last lawful t.runners t.free t.arrived) t.led
       (subst (λ (n : ℕ). BothTold (λ old bytes. IsTorn [] (byte_len (count_width header.version)) old (raised (as_setting header) (counted old count) n).file bytes) left now) known_is torn)
       (subst (λ (n : ℕ). (total ≡ count) ⊎ (total ≡ max count n)) known_is which)
-  stood_of e now total (as_left (inl some) l k) = rw (l, k) (stood_before script header e records first before served.order held lawful same_count all none h.begun (h.cut e some))
-  stood_of e now total (as_left (inr memory) l k) = rw (l, k) (elim (some_or_none served.fault) [
-    | inl f ↦ stood_led script header e records first before served.order held lawful same_count all none h.begun last memory (h.through f).led
-    | inr x ↦
-        IfSome_then held (stood_before script header x.0 records first before served.order held lawful same_count all none h.begun (h.cut x.0 x.1)) (λ file k. (k.0, k.1, stood_as (inr memory) k.2))
+  stood_of e now total (as_left which l k) = rw (l, k) (elim (some_or_none served.fault) [
+    | inl f ↦ stood_led script header e records first before served.order held lawful same_count all none h.begun last (grind (arith, nat_tests, which, f)) (h.through f).led
+    | inr x ↦ IfSome_then held (stood_before script header x.0 records first before served.order held lawful same_count all none h.begun (h.cut x.0 x.1)) (λ file k.
+        (k.0, k.1, stood_as (grind (arith, nat_tests, which, x.1)) k.2))
   ])
 
   cut_in_turn : (e : StepErr) (now : Option (List ℕ)) (total : ℕ) (end : RunEnd) → EndOfCut header ends served e left count now total end
@@ -111,12 +108,8 @@ module _ (script : Script) (header : Header) (len : ℕ) (before : List Mark) (s
       said : Said e
       said = said_at e now total c.at
 
-      by_rows : (end.answers ≡ map (λ x. x.answers) ends) ⊎ (end.answers ≡ []) → (end.answers ≡ map (λ runner. runner.answers) last) ⊎ (end.answers ≡ [])
-      by_rows (inl q) = inl (q ∙ answers_are)
-      by_rows (inr q) = inr q
-
       rows : (end.answers ≡ map (λ runner. runner.answers) last) ⊎ (end.answers ≡ [])
-      rows = by_rows c.rows
+      rows = grind (arith, nat_tests, c.rows, answers_are)
 
   -- ---- the run
 

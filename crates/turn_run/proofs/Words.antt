@@ -1,5 +1,5 @@
 -- The words of this crate's proofs, from where they stand.
-pub use Rattle.list_laws.proofs.Std.{AllByRecursion, Bool, Err, IfSome, IfSome_then, List, None, Ok, OnErr, OnOk, Option, Result, Some, [], and_from, and_parts, ap, append-nil, append_assoc, append_cancel_left, arith, byte_len, cases_eq, cond, drop, drop-append-add, drop-append_seam, enumerate_from, eqb-true, err_from_is_err_and, ext_get_or, false, filter, filter-append, flat_map, flat_map-append, fold, fold-append, get_or, if◌then◌else◌, inl, inr, is_some, length, length-append, length-map, length-replicate, length-set, list_all, list_all-append, list_any, map, map-append, max, nat_lt, nat_tests, not, on_err_weaker, option_to_list, refl, replicate, result_err, rules, same_Some, set, set-set, slice_get, slice_get-get_or, slice_get_within, slice_index, slice_index_or, subst, suc, sum_by-append, sym, take, take-append_seam, true, true≢false, vec_capacity, with_items_is, zero, zip, ℕ, ◌*◌, ◌++◌, ◌+◌, ◌-◌, ◌<◌, ◌==◌, ◌^◌, ◌||◌, ◌∙◌, ◌∷◌, ◌≡◌, ◌≢◌, ◌≤◌, ◌⊎◌}
+pub use Rattle.list_laws.proofs.Std.{AllByRecursion, Bool, Err, IfSome, IfSome_then, List, None, Ok, OnErr, OnOk, Option, Result, Some, [], and_from, and_parts, ap, append-nil, append_assoc, append_cancel_left, arith, byte_len, cases_eq, cond, drop, drop-append-add, drop-append_seam, enumerate_from, eqb-true, err_from_is_err_and, ext_get_or, false, filter, filter-append, flat_map, flat_map-append, fold, fold-append, get_or, if◌then◌else◌, inl, inr, is_some, length, length-append, length-map, length-replicate, length-set, list_all, list_all-append, list_any, map, map-append, max, nat_lt, nat_tests, not, on_err_weaker, option_to_list, refl, replicate, result_err, rules, same_Some, set, set-set, slice_get, slice_get-get_or, slice_get_within, slice_index, slice_index_or, subst, suc, sum_by-append, sym, take, take-append_seam, true, true≢false, vec_capacity, with_items_is, zero, zip, ℕ, ◌*◌, ◌++◌, ◌+◌, ◌-◌, ◌<◌, ◌==◌, ◌^◌, ◌||◌, ◌∙◌, ◌∷◌, ◌≡◌, ◌≢◌, ◌≤◌, ◌⊎◌, common_steps}
 pub use Rattle.std.specs.Prelude.{IsErrAnd, ◌&&◌}
 pub use Rattle.collective_round.proofs.CountedLaws.{put_needed}
 pub use Rattle.collective_round.proofs.PutLaws.{no_calls, none_windows}
