@@ -1,8 +1,5 @@
 -- Capped sums and products, one step at a time.
-use Rattle.var_layout.proofs.Words.{◌≡◌, ℕ, zero, suc, ◌+◌, ◌*◌, ◌^◌, ◌<◌, ◌≤◌, List, [], ◌∷◌, ◌++◌, length, take, get_or, map, Bool, true, false, refl, sym, ap, ◌∙◌, arith, max, sum_by, filter, take_more, map-append, append-nil, sum_by_more, sum_by_push, filter_more, cases_lt, mul_comm, mul_assoc, mul-one, product, greatest, capped, nat_tests}
-
-large : (n : ℕ) → 2 ^ 62 ≤ n → capped n ≡ 2 ^ 62
-large n h = omega arith
+use Rattle.var_layout.proofs.Words.{◌≡◌, ℕ, ◌+◌, ◌*◌, ◌<◌, List, [], ◌∷◌, ◌++◌, length, take, get_or, map, Bool, true, false, refl, sym, ap, ◌∙◌, arith, max, sum_by, filter, take_more, map-append, append-nil, sum_by_more, sum_by_push, filter_more, cases_lt, mul_comm, mul_assoc, mul-one, product, greatest, capped, nat_tests}
 
 pub capped_sum : (a b : ℕ) → capped (capped a + b) ≡ capped (a + b)
 capped_sum a b = omega arith
@@ -10,12 +7,8 @@ capped_sum a b = omega arith
 pub capped_both : (a b : ℕ) → capped (capped a + capped b) ≡ capped (a + b)
 capped_both a b = omega arith
 
-large_product : (b : ℕ) (a : ℕ) → 2 ^ 62 ≤ a → capped (2 ^ 62 * b) ≡ capped (a * b)
-large_product zero a h = omega arith
-large_product (suc b) a h = omega arith
-
-pub capped_product : (a b : ℕ) → capped (capped a * b) ≡ capped (a * b)
-capped_product a b = grind (arith, nat_tests, cases_lt, large, large_product)
+capped_product : (a b : ℕ) → capped (capped a * b) ≡ capped (a * b)
+capped_product a b = grind (arith, nat_tests, cases_lt)
 
 pub capped_times : (a b s : ℕ) → s ≡ capped b → capped (a * s) ≡ capped (a * b)
 capped_times a b s e = grind (arith, nat_tests, mul_comm, capped_product)
@@ -38,7 +31,7 @@ product-append (x ∷ xs) ys = ap (λ (n : ℕ). x * n) (product-append xs ys) �
 pub product_more : (xs : List ℕ) (i d : ℕ) → i < length xs → product (take (i + 1) xs) ≡ product (take i xs) * get_or xs i d
 product_more xs i d h = grind (arith, nat_tests, take_more xs i d h, product-append (take i xs) (get_or xs i d ∷ []), mul-one (get_or xs i d))
 
-pub product-map_more : {A : Type 0} (f : A → ℕ) (xs : List A) (i : ℕ) (d : A) → i < length xs
+product-map_more : {A : Type 0} (f : A → ℕ) (xs : List A) (i : ℕ) (d : A) → i < length xs
     → product (map f (take (i + 1) xs)) ≡ product (map f (take i xs)) * f (get_or xs i d)
 product-map_more f xs i d h =
     rw (take_more xs i d h, map-append f (take i xs) (get_or xs i d ∷ []), product-append (map f (take i xs)) (f (get_or xs i d) ∷ []), mul-one (f (get_or xs i d))) refl

@@ -1,5 +1,5 @@
 -- Where the variables of a created file lie, one variable after another.
-use Rattle.var_layout.proofs.Words.{◌≡◌, ℕ, zero, suc, ◌+◌, ◌^◌, ◌<◌, ◌≤◌, List, [], ◌∷◌, ◌++◌, length, take, drop, get_or, Bool, true, false, Option, Some, None, refl, sym, ap, ◌∙◌, arith, filter, find, no_both, sum_by, not, option_map, option_or, enumerate_from, take_all, drop_all, append-nil, set, get_or-enumerate_from, length-enumerate_from, fold_push, and_second, Header, Var, Align, round_up, vsize, is_record, fixed_variables, record_variables, end_of_fixed, begin_of, placed, begins, header_len, Numbered, fixed_of, records_in, size_fault, layout_fault, find-append, not_from_false, not_from_true, fixed_end, first_record, lies_too_far, far_fixed, far_record, capped, nat_tests, ltb-true}
+use Rattle.var_layout.proofs.Words.{◌≡◌, ℕ, suc, ◌+◌, ◌^◌, ◌<◌, ◌≤◌, List, [], ◌∷◌, ◌++◌, length, take, drop, get_or, Bool, true, false, Option, Some, None, refl, sym, ap, ◌∙◌, arith, filter, find, no_both, sum_by, not, option_map, option_or, enumerate_from, take_all, drop_all, append-nil, set, get_or-enumerate_from, length-enumerate_from, fold_push, and_second, Header, Var, Align, round_up, vsize, is_record, fixed_variables, record_variables, begin_of, placed, begins, header_len, Numbered, fixed_of, records_in, size_fault, layout_fault, find-append, not_from_false, not_from_true, fixed_end, first_record, lies_too_far, far_fixed, far_record, capped, nat_tests, ltb-true}
 use Rattle.nc_base.specs.declared.errors.LayoutErr.TheVariants as fault
 use Rattle.var_layout.proofs.Capping.{filter_yes, filter_no, sum_filter_yes}
 use Rattle.var_layout.proofs.Searches.{Lies, find_stops, find_goes_on, fails_at}
@@ -12,11 +12,10 @@ at_begin v begin = record v { begin = begin }
 abbrev pub in_place : Header → Align → ℕ → ℕ → Var → Var
 in_place header align first k v = at_begin v (begin_of header align first k v)
 
-pub get_or-placed : (header : Header) (align : Align) (first n : ℕ) (vs : List Var) (k : ℕ) (d : Var) → k < length vs
+get_or-placed : (header : Header) (align : Align) (first n : ℕ) (vs : List Var) (k : ℕ) (d : Var) → k < length vs
     → get_or (placed header align first n vs) k d ≡ in_place header align first (n + k) (get_or vs k d)
 get_or-placed header align first n [] k d h = absurd (omega arith)
-get_or-placed header align first n (v ∷ vs) zero d h = ap (λ (m : ℕ). in_place header align first m v) (let e : n ≡ n + 0 = omega arith in e)
-get_or-placed header align first n (v ∷ vs) (suc k) d h = grind (arith, nat_tests, get_or-placed header align first (suc n) vs k d (omega arith))
+get_or-placed header align first n (v ∷ vs) k d h = grind (arith, nat_tests, get_or-placed header align first (suc n) vs)
 
 pub length-placed : (header : Header) (align : Align) (first n : ℕ) (vs : List Var) → length (placed header align first n vs) ≡ length vs
 length-placed header align first n [] = refl
@@ -55,9 +54,6 @@ module _ (header : Header) (align : Align) (first : ℕ) where
   numbered_at : (k : ℕ) (v : Var) → Lies header k v → get_or (numbered header align first) k (0, v) ≡ (k, in_place header align first k v)
   numbered_at k v lies = grind (arith, nat_tests, get_or-enumerate_from, length-placed, get_or-placed, lies.within, lies.there)
 
-  numbered_long : (k : ℕ) → k < length header.vars → k < length (numbered header align first)
-  numbered_long k h = grind (arith, nat_tests, length-placed, length-enumerate_from)
-
   pub begin_fixed : (k : ℕ) (v : Var) → is_record header v ≡ false → begin_of header align first k v ≡ round_up align.var (fixed_end header align first k)
   begin_fixed k v e = grind (arith, nat_tests)
 
@@ -69,10 +65,9 @@ module _ (header : Header) (align : Align) (first : ℕ) where
   pub fixed_end_more : (k : ℕ) (v : Var) → Lies header k v → is_record header v ≡ false
       → fixed_end header align first (k + 1) ≡ round_up align.var (fixed_end header align first k) + vsize header v
   fixed_end_more k v lies f =
-      ap (λ vs. end_of_fixed header align.var (round_up align.header first) vs)
-      (filter_yes (λ w. not (is_record header w)) header.vars k v lies.within (not_from_false _ (ap (λ (w : Var). is_record header w) (sym lies.there) ∙ f)))
-      ∙ fold_push (λ end w. round_up align.var end + vsize header w) (round_up align.header first) (fixed_variables header (take k header.vars)) (get_or header.vars k v)
-      ∙ ap (λ (w : Var). round_up align.var (fixed_end header align first k) + vsize header w) (sym lies.there)
+      let is : filter (λ w. not (is_record header w)) (take (k + 1) header.vars) ≡ fixed_variables header (take k header.vars) ++ get_or header.vars k v ∷ [] =
+      grind (arith, nat_tests, filter_yes (λ w. not (is_record header w)) header.vars k v lies.within, not_from_false, lies.there) in
+      rw (is, ← lies.there) (fold_push (λ end w. round_up align.var end + vsize header w) (round_up align.header first) (fixed_variables header (take k header.vars)) v)
 
   pub fixed_end_same : (k : ℕ) (v : Var) → Lies header k v → is_record header v ≡ true → fixed_end header align first (k + 1) ≡ fixed_end header align first k
   fixed_end_same k v lies f = let e = lies.there in let h = lies.within in grind (arith, nat_tests, filter_no, not_from_true)
@@ -82,16 +77,16 @@ module _ (header : Header) (align : Align) (first : ℕ) where
   pub none_more : (p : Numbered → Bool) (k : ℕ) (v : Var) → Lies header k v
       → (p (k, in_place header align first k v) ≡ true → lies_too_far header (in_place header align first k v) ≡ false)
       → NoneFar header align first p k → NoneFar header align first p (k + 1)
-  none_more p k v lies near none = grind (arith, nat_tests, find_goes_on p, numbered_long k lies.within, numbered_at k v lies)
+  none_more p k v lies near none = grind (arith, nat_tests, find_goes_on p, numbered_at k v lies, length-placed, length-enumerate_from)
 
-  pub far_here : (p : Numbered → Bool) (k : ℕ) (v : Var) → Lies header k v → p (k, in_place header align first k v) ≡ true
+  far_here : (p : Numbered → Bool) (k : ℕ) (v : Var) → Lies header k v → p (k, in_place header align first k v) ≡ true
       → lies_too_far header (in_place header align first k v) ≡ true
       → NoneFar header align first p k → find (λ w. lies_too_far header w.1) (filter p (numbered header align first)) ≡ Some (k, in_place header align first k v)
-  far_here p k v lies passes far none = grind (arith, nat_tests, find_stops p, numbered_long k lies.within, numbered_at k v lies)
+  far_here p k v lies passes far none = grind (arith, nat_tests, find_stops p, numbered_at k v lies, length-placed, length-enumerate_from)
 
   fits_at : (p : Numbered → Bool) (k : ℕ) (v : Var) → Lies header k v → find (λ w. lies_too_far header w.1) (filter p (numbered header align first)) ≡ None
       → p (k, in_place header align first k v) ≡ true → lies_too_far header (in_place header align first k v) ≡ false
-  fits_at p k v lies none passes = grind (arith, nat_tests, fails_at p, numbered_long k lies.within, numbered_at k v lies)
+  fits_at p k v lies none passes = grind (arith, nat_tests, fails_at p, numbered_at k v lies, length-placed, length-enumerate_from)
 
   -- all have been looked at
   pub none_whole : (p : Numbered → Bool) (n : ℕ) → length header.vars ≤ n → NoneFar header align first p n
@@ -167,13 +162,11 @@ pub record WrittenSoFar (header : Header) (align : Align) (first : ℕ) (old now
 -- one item further, of two lists of one length
 set_seam : {A : Type 0} (new old : List A) (k : ℕ) (x d : A) → length new ≡ length old → k < length old → get_or new k d ≡ x
     → set (take k new ++ drop k old) k x ≡ take (suc k) new ++ drop (suc k) old
-set_seam (n ∷ new) (o ∷ old) zero x d l h e = ap (λ y. y ∷ old) (sym e)
-set_seam (n ∷ new) (o ∷ old) (suc k) x d l h e = ap (λ ys. n ∷ ys) (set_seam new old k x d (omega arith) (omega arith) e)
+set_seam {A} (n ∷ new) (o ∷ old) k x d l h e = grind (arith, nat_tests, set_seam new old)
 set_seam _ _ k x d l h e = absurd (omega arith)
 
 seam_at : {A : Type 0} (new old : List A) (k : ℕ) (d : A) → length new ≡ length old → k < length old → get_or (take k new ++ drop k old) k d ≡ get_or old k d
-seam_at (n ∷ new) (o ∷ old) zero d l h = refl
-seam_at (n ∷ new) (o ∷ old) (suc k) d l h = seam_at new old k d (omega arith) (omega arith)
+seam_at {A} (n ∷ new) (o ∷ old) k d l h = grind (arith, nat_tests, seam_at new old)
 seam_at _ _ k d l h = absurd (omega arith)
 
 suc_is : (n : ℕ) → suc n ≡ n + 1
@@ -229,8 +222,7 @@ fault_is header align len e =
   where
     mapped : (a b : Option Numbered) → option_map (λ v. fault.BeginRange v.0) (option_or a b)
         ≡ option_or (option_map (λ v. fault.BeginRange v.0) a) (option_map (λ v. fault.BeginRange v.0) b)
-    mapped None b = refl
-    mapped (Some x) b = refl
+    mapped a b = grind (arith, nat_tests)
 
 pub is_second : {E : Type 0} (s x y : Option E) (e : E) → None ≡ s → Some e ≡ x → Some e ≡ option_or s (option_or x y)
 is_second s x y e f g = ap (λ o. option_or o y) g ∙ ap (λ o. option_or o (option_or x y)) f
@@ -242,8 +234,7 @@ pub is_none_of : {E : Type 0} (s x y : Option E) → None ≡ s → None ≡ x �
 is_none_of s x y f g h = h ∙ ap (λ o. option_or o y) g ∙ ap (λ o. option_or o (option_or x y)) f
 
 pub no_far : {A B : Type 0} (f : A → B) (o : Option A) → None ≡ option_map f o → o ≡ None
-no_far f None e = refl
-no_far f (Some x) e = cc
+no_far f o e = grind (arith, nat_tests)
 
 pub first_record_is : (header : Header) (align : Align) (first end begin : ℕ) → end ≡ fixed_end header align first (length header.vars)
     → begin ≡ round_up align.var end → begin ≡ first_record header align first

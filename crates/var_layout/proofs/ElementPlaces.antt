@@ -1,5 +1,5 @@
 -- Rows of elements, one dimension at a time, and where elements end.
-use Rattle.var_layout.proofs.Words.{◌≡◌, ℕ, zero, suc, ◌+◌, ◌-◌, ◌*◌, ◌^◌, ◌<◌, ◌≤◌, List, [], ◌∷◌, inl, inr, holds_or_not, length, drop, get_or, map, Bool, true, false, cond, Some, refl, ap, arith, slice_get, drop_more, row_fits, mul-le, mul-le-mul_left, nat_tests, size_pos, slab_shared, end_fixed, slab_below, index_fixed, index_record, Header, Var, NcType, size_of, product, greatest, is_record, inner_lengths, slab, recsize, last_share, end_of, end_of_var, row, place, record_of, within_record, IsIndex, IsElement, row_below, records_for, header_len, is_sound}
+use Rattle.var_layout.proofs.Words.{◌≡◌, ℕ, suc, ◌+◌, ◌-◌, ◌*◌, ◌^◌, ◌<◌, ◌≤◌, List, [], ◌∷◌, inl, inr, holds_or_not, length, drop, get_or, map, Bool, true, false, cond, Some, refl, ap, arith, slice_get, drop_more, row_fits, mul-le, mul-le-mul_left, nat_tests, size_pos, slab_shared, end_fixed, slab_below, index_fixed, index_record, Header, Var, NcType, size_of, product, greatest, is_record, inner_lengths, slab, recsize, last_share, end_of, end_of_var, row, place, record_of, within_record, IsIndex, IsElement, row_below, records_for, header_len, is_sound}
 use Rattle.var_layout.proofs.Soundness.{var_kept, header_short}
 
 -- ---- a row, one dimension at a time
@@ -17,13 +17,9 @@ pub record RowSoFar (lengths index : List ℕ) (k so_far : ℕ) : Type 0 where
   pub whole : so_far * product (drop k lengths) + row (drop k lengths) (drop k index) ≡ row lengths index
   pub valid : IsIndex (drop k lengths) (drop k index)
 
-next_row : (lengths index ns is : List ℕ) (n i so_far : ℕ) (k : ℕ) → drop k lengths ≡ n ∷ ns → drop k index ≡ i ∷ is → RowSoFar lengths index k so_far
-    → ((so_far * n + i) * product ns + row ns is ≡ row lengths index) × IsIndex ns is
-next_row lengths index ns is n i so_far k e f h = grind (arith, nat_tests)
-
 pub one_more : (lengths index : List ℕ) (k d n i so_far : ℕ) → k < length lengths → k < length index → n ≡ get_or lengths k d → i ≡ get_or index k 0
     → RowSoFar lengths index k so_far → RowSoFar lengths index (k + 1) (so_far * n + i)
-one_more lengths index k d n i so_far h g e f so = grind (arith, nat_tests, drop_more, next_row)
+one_more lengths index k d n i so_far h g e f so = grind (arith, nat_tests, drop_more)
 
 -- it never passes the whole row
 pub so_far_below : (lengths index : List ℕ) (k so_far : ℕ) → RowSoFar lengths index k so_far → so_far ≤ row lengths index
@@ -51,8 +47,7 @@ row_below_bytes n kind = omega (arith, mul-le-mul_left n (size_pos kind))
 
 greatest_holds : {A : Type 0} (f : A → ℕ) (xs : List A) (k : ℕ) (x : A) → slice_get xs k ≡ Some x → f x ≤ greatest (map f xs)
 greatest_holds f [] k x h = cc
-greatest_holds f (y ∷ xs) zero x h = let e : f y ≡ f x = cc in omega arith
-greatest_holds f (y ∷ xs) (suc k) x h = let l = greatest_holds f xs k x h in omega arith
+greatest_holds {A} f (y ∷ xs) k x h = grind (arith, nat_tests, greatest_holds f xs)
 
 end_record : (header : Header) (n : ℕ) (v : Var) → is_record header v ≡ true → 0 < n → end_of_var header n v ≡ v.begin + (n - 1) * recsize header + last_share header v
 end_record header n v e h = grind (arith, nat_tests)
@@ -78,16 +73,11 @@ before_end header first k v index n h e l = grind (arith, nat_tests, before_end_
 
 greatest_below : {A : Type 0} (f : A → ℕ) (xs : List A) (n : ℕ) → 0 < n → ((k : ℕ) (x : A) → slice_get xs k ≡ Some x → f x < n) → greatest (map f xs) < n
 greatest_below f [] n pos h = pos
-greatest_below f (x ∷ xs) n pos h =
-    let here = h 0 x refl in
-    let rest = greatest_below f xs n pos (λ k y g. h (suc k) y g) in
-    omega arith
+greatest_below f (x ∷ xs) n pos h = grind (arith, nat_tests, h 0 x refl, greatest_below f xs n pos (λ k y g. h (suc k) y g))
 
 var_end : (header : Header) (k : ℕ) (v : Var) (n : ℕ) → is_sound header ≡ true → slice_get header.vars k ≡ Some v → n ≤ header.records → end_of_var header n v < 2 ^ 62
 var_end header k v n h g l =
     grind (arith, nat_tests, var_kept header k v h g, holds_or_not (is_record header v), end_record header n v, end_fixed header n v)
 
 pub sound_end : (header : Header) (n : ℕ) → is_sound header ≡ true → n ≤ header.records → end_of header (header_len header) n < 2 ^ 62
-sound_end header n h l =
-    let all = greatest_below (λ v. end_of_var header n v) header.vars (2 ^ 62) (omega arith) (λ k v g. var_end header k v n h g l) in
-    grind (arith, nat_tests, header_short)
+sound_end header n h l = grind (arith, nat_tests, greatest_below (λ v. end_of_var header n v) header.vars (2 ^ 62), var_end header, header_short)

@@ -1,5 +1,5 @@
 -- The end of a file by the measures of its header.
-use Rattle.var_layout.proofs.Words.{◌≡◌, ℕ, zero, suc, ◌+◌, ◌-◌, ◌*◌, ◌<◌, ◌≤◌, List, [], ◌∷◌, map, cond, refl, arith, inr, ◌⊎◌, max, Header, Var, header_len, greatest, is_record, vsize, last_share, recsize, record_variables, end_of, end_of_var, capped, first_end, record_end, equal_suc, nat_tests}
+use Rattle.var_layout.proofs.Words.{◌≡◌, ℕ, suc, ◌+◌, ◌-◌, ◌*◌, ◌<◌, ◌≤◌, List, [], ◌∷◌, map, cond, refl, arith, inr, ◌⊎◌, max, Header, Var, header_len, greatest, is_record, vsize, last_share, recsize, record_variables, end_of, end_of_var, capped, first_end, record_end, equal_suc, nat_tests}
 use Rattle.var_layout.proofs.Capping.{capped_times}
 
 -- ---- later records move the ends of the record variables alone
@@ -28,8 +28,7 @@ end_later : (header : Header) (first n : ℕ) → end_of header first (suc n) �
 end_later header first n = grind (arith, nat_tests, some_record header n header.vars, moved header n header.vars)
 
 end_after : (header : Header) (first n : ℕ) → 0 < n → end_of header first n ≡ max (end_of header first 0) (record_end header + (n - 1) * recsize header)
-end_after header first zero h = absurd (omega arith)
-end_after header first (suc n) h = grind (arith, nat_tests, end_later)
+end_after header first n h = grind (arith, nat_tests, end_later header first (n - 1))
 
 -- the end by capped measures: the size of a record, the end of the fixed variables and that of the record variables
 pub capped_end_after : (header : Header) (n size fixed first later whole : ℕ) → 0 < n

@@ -1,5 +1,5 @@
 -- No two variables of a laid out header share a byte.
-use Rattle.var_layout.proofs.Words.{◌≡◌, ℕ, zero, suc, ◌+◌, ◌-◌, ◌<◌, ◌≤◌, List, [], ◌∷◌, inl, inr, holds_or_not, length, map, Bool, true, false, cond, ◌||◌, Some, None, refl, sym, ap, ◌∙◌, arith, filter, sum_by, nat_lt, nat_le, slice_get, nat_tests, length-map, slice_get_read, slab_below, Header, Var, Align, slab, vsize, is_record, recsize, record_size, record_variables, sharing, sharing_with, sharing_from, share, meet, placed, begins, begin_of, HasPlace}
+use Rattle.var_layout.proofs.Words.{◌≡◌, ℕ, suc, ◌+◌, ◌-◌, ◌<◌, ◌≤◌, List, [], ◌∷◌, inl, inr, holds_or_not, length, map, Bool, true, false, cond, ◌||◌, Some, None, refl, ap, arith, filter, sum_by, nat_lt, nat_le, slice_get, nat_tests, length-map, slice_get_read, slab_below, Header, Var, Align, slab, vsize, is_record, recsize, record_size, record_variables, sharing, sharing_with, sharing_from, share, meet, placed, begins, begin_of, HasPlace}
 use Rattle.var_layout.proofs.Soundness.{recsize_shared}
 use Rattle.var_layout.proofs.Searches.{Lies}
 use Rattle.var_layout.proofs.CreatedFiles.{in_place}
@@ -30,17 +30,14 @@ placed_slabs header align first n (v ∷ vs) = grind (arith, nat_tests, placed_s
 laid_recsize : (header : Header) (align : Align) (first : ℕ) → recsize (begins header align first) ≡ recsize header
 laid_recsize header align first = ap (λ ns. record_size ns) (placed_slabs header align first 0 header.vars)
 
-pub count_one : {A : Type 0} (p : A → Bool) (xs : List A) (k : ℕ) (x : A) → slice_get xs k ≡ Some x → p x ≡ true → 1 ≤ length (filter p xs)
+count_one : {A : Type 0} (p : A → Bool) (xs : List A) (k : ℕ) (x : A) → slice_get xs k ≡ Some x → p x ≡ true → 1 ≤ length (filter p xs)
 count_one p [] k x h e = cc
-count_one p (y ∷ xs) zero x h e = grind (arith, nat_tests)
-count_one p (y ∷ xs) (suc k) x h e = grind (arith, nat_tests, count_one p xs k x h e)
+count_one {A} p (y ∷ xs) k x h e = grind (arith, nat_tests, count_one p xs)
 
 pub count_two : {A : Type 0} (p : A → Bool) (xs : List A) (i j : ℕ) (x y : A) → i < j → slice_get xs i ≡ Some x → slice_get xs j ≡ Some y → p x ≡ true → p y ≡ true
     → 2 ≤ length (filter p xs)
 count_two p [] i j x y l h g e f = cc
-count_two p (z ∷ xs) i zero x y l h g e f = absurd (omega arith)
-count_two p (z ∷ xs) zero (suc j) x y l h g e f = grind (arith, nat_tests, count_one)
-count_two p (z ∷ xs) (suc i) (suc j) x y l h g e f = grind (arith, nat_tests, count_two p xs i j x y (omega arith) h g e f)
+count_two {A} p (z ∷ xs) i j x y l h g e f = grind (arith, nat_tests, count_one p xs, count_two p xs)
 
 -- with two record variables at least, a record has the sum of their vsizes
 recsize_of_two : (header : Header) → 2 ≤ length (record_variables header header.vars) → recsize header ≡ sum_by (λ v. vsize header v) (record_variables header header.vars)
@@ -54,25 +51,13 @@ laid_apart : (header : Header) (align : Align) (len first : ℕ) → 0 < align.v
     → shares_by t u (begin_of header align len i v) (slab header v) (begin_of header align len j w) (slab header w) (recsize header) ≡ false
 laid_apart header align len first pos place i j v w l lies lies' false false e f = grind (arith, nat_tests, fixed_at, fixed_grows, slab_below)
 laid_apart header align len first pos place i j v w l lies lies' false true e f =
-    fixed_then_record (begin_of header align len i v) (slab header v) (begin_of header align len j w) (slab header w) (recsize header)
-    (omega (
-      arith,
-      (fixed_at header align len i v pos lies e).high,
-      (record_at header align len j w lies' f).low,
-      first_low header align len pos,
-      slab_below header v,
-      fixed_grows header align len (i + 1) (length header.vars) v pos (omega (arith, lies.within)) (omega arith),
-    ))
+    let a = fixed_at header align len i v pos lies e in
+    let b = record_at header align len j w lies' f in
+    grind (arith, nat_tests, a.high, b.low, first_low header align len pos, slab_below header v, fixed_grows header align len (i + 1) (length header.vars) v pos, lies.within)
 laid_apart header align len first pos place i j v w l lies lies' true false e f =
-    record_then_fixed (begin_of header align len i v) (slab header v) (begin_of header align len j w) (slab header w) (recsize header)
-    (omega (
-      arith,
-      (fixed_at header align len j w pos lies' f).high,
-      (record_at header align len i v lies e).low,
-      first_low header align len pos,
-      slab_below header w,
-      fixed_grows header align len (j + 1) (length header.vars) v pos (omega (arith, lies'.within)) (omega arith),
-    ))
+    let a = record_at header align len i v lies e in
+    let b = fixed_at header align len j w pos lies' f in
+    grind (arith, nat_tests, a.low, b.high, first_low header align len pos, slab_below header w, fixed_grows header align len (j + 1) (length header.vars) v pos, lies'.within)
 laid_apart header align len first pos place i j v w l lies lies' true true e f =
     let a = record_at header align len i v lies e in
     let b = record_at header align len j w lies' f in
@@ -82,7 +67,7 @@ laid_apart header align len first pos place i j v w l lies lies' true true e f =
     (omega (arith, a.high, b.low, slab_below header v, records_grow header (i + 1) j v (omega arith) (omega (arith, lies'.within))))
     (omega (arith, a.low, b.high, all, size, all_records header, slab_below header w))
 
-pub no_sharing_with : (header : Header) (v : Var) (k m : ℕ) (ws : List Var) → ((j : ℕ) (w : Var) → slice_get ws j ≡ Some w → share header v w ≡ false) → sharing_with header v k m ws ≡ None
+no_sharing_with : (header : Header) (v : Var) (k m : ℕ) (ws : List Var) → ((j : ℕ) (w : Var) → slice_get ws j ≡ Some w → share header v w ≡ false) → sharing_with header v k m ws ≡ None
 no_sharing_with header v k m [] h = refl
 no_sharing_with header v k m (w ∷ ws) h = rw (h 0 w refl) (no_sharing_with header v k (suc m) ws (λ j x g. h (suc j) x g))
 
@@ -115,7 +100,4 @@ laid_sharing header align len first pos pos' place =
     apart : (i j : ℕ) (x y : Var) → i < j → ((v : Var) × Lies header i v × (in_place header align len i v ≡ x)) → ((w : Var) × Lies header j w × (in_place header align len j w ≡ y))
         → share (begins header align len) x y ≡ false
     apart i j x y l a b =
-        sym (ap (λ (z : Var). share (begins header align len) z y) a.2)
-        ∙ sym (ap (λ (z : Var). share (begins header align len) (in_place header align len i a.0) z) b.2)
-        ∙ ap (λ (n : ℕ). shares_by (is_record header a.0) (is_record header b.0) (begin_of header align len i a.0) (slab header a.0) (begin_of header align len j b.0) (slab header b.0) n) (laid_recsize header align len)
-        ∙ laid_apart header align len first pos' place i j a.0 b.0 l a.1 b.1 (is_record header a.0) (is_record header b.0) refl refl
+        rw (← a.2, ← b.2, laid_recsize header align len) (laid_apart header align len first pos' place i j a.0 b.0 l a.1 b.1 (is_record header a.0) (is_record header b.0) refl refl)

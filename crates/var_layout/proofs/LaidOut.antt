@@ -1,5 +1,5 @@
 -- A laid out header is sound.
-use Rattle.var_layout.proofs.Words.{◌≡◌, ℕ, ◌-◌, ◌<◌, List, [], ◌∷◌, length, Bool, true, false, None, refl, arith, not, nat_le, ◌==◌, is_none, list_any, prefix_len, nat_tests, or_parts, not-true, and_first, and_second, neither_some, Header, Align, record_limit, begins, is_version, all_ones, first_check, two_record_dims, record_later, bad_id, is_sound, counts_are_small, HasPlace, is_unplaced}
+use Rattle.var_layout.proofs.Words.{◌≡◌, ℕ, ◌-◌, ◌<◌, List, [], ◌∷◌, length, Bool, true, false, None, refl, arith, not, nat_le, is_none, list_any, prefix_len, nat_tests, or_parts, not-true, and_first, and_second, neither_some, Header, Align, record_limit, begins, is_version, first_check, two_record_dims, record_later, bad_id, is_sound, counts_are_small, HasPlace, is_unplaced}
 use Rattle.nc_base.specs.declared.errors.HeaderErr.TheVariants as fault
 use Rattle.var_layout.proofs.LaidKept.{placed_any, laid_len, counts_kept}
 use Rattle.var_layout.proofs.LaidPlaces.{laid_measure}
@@ -22,9 +22,6 @@ pub record Unplaced (header : Header) : Type 0 where
 pub unplaced : (header : Header) → is_unplaced header ≡ true → Unplaced header
 unplaced header h = grind (arith, nat_tests, and_first, and_second, not-true)
 
-no_stream : (version : ℕ) → (0 == all_ones version) ≡ false
-no_stream version = grind (arith, nat_tests)
-
 no_records : (version : ℕ) → nat_le (record_limit version) 0 ≡ false
 no_records version = grind (arith, nat_tests)
 
@@ -33,7 +30,7 @@ no_records version = grind (arith, nat_tests)
 laid_checks : (header : Header) (align : Align) (len first : ℕ) → 0 < align.header → 0 < align.var → Unplaced header → HasPlace header align len first
     → first_check (begins header align len) ≡ None
 laid_checks header align len first pos pos' u place =
-    grind (arith, nat_tests, neither_some, none_len, placed_any, no_stream, laid_measure, no_records, laid_len, laid_sharing)
+    grind (arith, nat_tests, neither_some, none_len, placed_any, laid_measure, no_records, laid_len, laid_sharing)
 
 pub laid_sound : (header : Header) (align : Align) (len first : ℕ) → 0 < align.header → 0 < align.var → is_unplaced header ≡ true → HasPlace header align len first
     → is_sound (begins header align len) ≡ true

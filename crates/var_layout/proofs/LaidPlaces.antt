@@ -1,5 +1,5 @@
 -- Each variable of a laid out header lies where it is placed, before the next of its kind, and keeps its bound.
-use Rattle.var_layout.proofs.Words.{◌≡◌, ℕ, zero, suc, ◌+◌, ◌-◌, ◌^◌, ◌<◌, ◌≤◌, List, [], ◌∷◌, inl, inr, holds_or_not, no_both, length, take, get_or, true, false, Some, None, refl, ap, ◌∙◌, arith, sum_by, nat_lt, slice_get, nat_tests, take_all, get_or_default, sum_by-cons, slice_get_within, get_or_from_slice_get, and_from, Header, Var, Align, vsize, is_record, record_variables, record_share, round_up, placed, begins, begin_of, measure, past_bound, keeps_bound, fixed_end, first_record, HasPlace}
+use Rattle.var_layout.proofs.Words.{◌≡◌, ℕ, zero, suc, ◌+◌, ◌-◌, ◌^◌, ◌<◌, ◌≤◌, List, [], ◌∷◌, inl, inr, holds_or_not, no_both, length, take, get_or, true, false, Some, None, refl, ap, ◌∙◌, arith, sum_by, slice_get, nat_tests, take_all, get_or_default, sum_by-cons, slice_get_within, get_or_from_slice_get, and_from, Header, Var, Align, vsize, is_record, record_variables, record_share, round_up, placed, begins, begin_of, measure, past_bound, keeps_bound, fixed_end, first_record, HasPlace}
 use Rattle.var_layout.proofs.Soundness.{shares_are}
 use Rattle.var_layout.proofs.Searches.{Lies}
 use Rattle.var_layout.proofs.CreatedFiles.{in_place, records_before, fixed_end_more, fixed_end_same, records_more, records_same, begin_fixed, begin_record, fixed_near, record_near}
@@ -33,10 +33,8 @@ pub fixed_grows : (header : Header) (align : Align) (first k m : ℕ) (d : Var) 
 fixed_grows header align first k m d pos l h = grows (λ n. fixed_end header align first n) (length header.vars) step k m l h
   where
     step : (n : ℕ) → n < length header.vars → fixed_end header align first n ≤ fixed_end header align first (n + 1)
-    step n g = elim (holds_or_not (is_record header (get_or header.vars n d))) [
-      | inl e ↦ omega (arith, fixed_end_same header align first n _ (lies_get header n d g) e)
-      | inr e ↦ omega (arith, fixed_end_more header align first n _ (lies_get header n d g) e, up align.var (fixed_end header align first n) pos)
-    ]
+    step n g =
+        grind (arith, nat_tests, holds_or_not (is_record header (get_or header.vars n d)), fixed_end_same header align first n, fixed_end_more header align first n, lies_get header n d g, up align.var (fixed_end header align first n) pos)
 
 pub records_grow : (header : Header) (k m : ℕ) (d : Var) → k ≤ m → m ≤ length header.vars → records_before header k ≤ records_before header m
 records_grow header k m d l h = grows (λ n. records_before header n) (length header.vars) step k m l h
@@ -76,24 +74,15 @@ pub past_none : (header : Header) (vs : List Var) (before n : ℕ)
     → past_bound header before n vs ≡ None
 past_none header [] before n h = refl
 past_none header (v ∷ vs) before n h =
-    let here : keeps_bound header before v ≡ true =
-    ap (λ (m : ℕ). keeps_bound header m v) (let e : before ≡ before + 0 = omega arith in e) ∙ h 0 v refl in
-    let rest = past_none header vs (before + record_share header v) (suc n)
-    (λ k w g. ap (λ (m : ℕ). keeps_bound header m w) (shifted before (record_share header v) (sum_by (λ x. record_share header x) (take k vs)) _ (sum_by-cons (λ x. record_share header x) v (take k vs))) ∙ h (suc k) w g) in
-    rw here rest
-  where
-    shifted : (b s r t : ℕ) → t ≡ s + r → b + s + r ≡ b + t
-    shifted b s r t e = omega arith
-
-fits : (n : ℕ) → n < 2 ^ 62 → nat_lt n (2 ^ 62) ≡ true
-fits n h = grind (arith, nat_tests)
+    rw (ap (λ (m : ℕ). keeps_bound header m v) {x = before} {y = before + 0} (omega arith) ∙ h 0 v refl) (past_none header vs (before + record_share header v) (suc n)
+    (λ k w g. ap (λ (m : ℕ). keeps_bound header m w) (omega (arith, sum_by-cons (λ x. record_share header x) v (take k vs))) ∙ h (suc k) w g))
 
 pub record Fits (header : Header) (before : ℕ) (v : Var) : Type 0 where
   pub end : v.begin + vsize header v < 2 ^ 62
   pub records : is_record header v ≡ true → before + vsize header v < 2 ^ 62
 
 keeps : (header : Header) (before : ℕ) (v : Var) → header.records ≡ 0 → Fits header before v → keeps_bound header before v ≡ true
-keeps header before v none h = grind (arith, nat_tests, and_from, fits)
+keeps header before v none h = grind (arith, nat_tests, and_from)
 
 pub laid_measure : (header : Header) (align : Align) (len first : ℕ) → header.records ≡ 0 → HasPlace header align len first → measure (begins header align len) ≡ None
 laid_measure header align len first none place =

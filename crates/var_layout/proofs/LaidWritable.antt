@@ -1,7 +1,7 @@
 -- A laid out header can be written where its names, types and attributes can.
-use Rattle.var_layout.proofs.Words.{◌≡◌, ℕ, suc, ◌-◌, ◌*◌, ◌^◌, ◌<◌, ◌≤◌, List, [], ◌∷◌, inl, inr, holds_or_not, length, Bool, true, false, ◌&&◌, Option, Some, None, refl, sym, ap, ◌∙◌, arith, nat_lt, nat_le, option_map, slice_get, position, list_any, list_all, Width, byte_len, nat_tests, prefix_len_passes, slice_get_within, get_or_from_slice_get, and_from, or_parts, leb-true, both_none, and_first, and_second, passes_at, fails_at, Header, Var, Align, most_dims, most_vars, most_dims_of_var, vsize, is_record, placed, begins, begin_width, bad_id, is_writable, is_writable_list, is_writable_var, fits_field, fits_count, is_large_var, size_fault, lies_too_far, HasPlace, is_unplaced, has_writable_names, has_writable_parts, ltb-false}
+use Rattle.var_layout.proofs.Words.{◌≡◌, ℕ, suc, ◌-◌, ◌*◌, ◌^◌, ◌<◌, ◌≤◌, List, [], ◌∷◌, inl, inr, holds_or_not, length, Bool, true, false, ◌&&◌, Some, None, refl, sym, ap, ◌∙◌, arith, nat_lt, nat_le, slice_get, position, list_any, list_all, Width, byte_len, nat_tests, prefix_len_passes, slice_get_within, get_or_from_slice_get, and_from, or_parts, leb-true, both_none, and_first, and_second, passes_at, fails_at, Header, Var, Align, most_dims, most_vars, most_dims_of_var, vsize, is_record, placed, begins, begin_width, bad_id, is_writable, is_writable_list, is_writable_var, fits_field, fits_count, is_large_var, size_fault, lies_too_far, HasPlace, is_unplaced, has_writable_names, has_writable_parts, ltb-false}
 use Rattle.nc_base.specs.declared.errors.LayoutErr.TheVariants as fault
-use Rattle.var_layout.proofs.CreatedFiles.{in_place, near_end, fixed_fits, record_fits, length-placed}
+use Rattle.var_layout.proofs.CreatedFiles.{in_place, near_end, fixed_fits, record_fits, length-placed, no_far}
 use Rattle.var_layout.proofs.Searches.{Lies}
 use Rattle.var_layout.proofs.LaidPlaces.{lies_at}
 use Rattle.var_layout.proofs.LaidApart.{get_there}
@@ -74,7 +74,7 @@ pub laid_writable : (header : Header) (align : Align) (len first : ℕ) → 0 < 
     → size_fault header ≡ None → has_writable_parts header ≡ true → is_writable (begins header align len) ≡ true
 laid_writable header align len first pos pos' h place sizes parts =
     let u = unplaced header h in
-    let large = no_map (position (is_large_var header) header.vars) (both_none _ _ sizes).0 in
+    let large = no_far (λ k. fault.VarSize k) (position (is_large_var header) header.vars) (sym (both_none _ _ sizes).0) in
     let few : length header.vars ≤ 8192 =
     leb-true (length header.vars) 8192 (and_second (nat_le (length header.dims) most_dims) (nat_le (length header.vars) most_vars)
     (and_first _ (list_all (λ v. nat_le (length v.dims) most_dims_of_var) header.vars) u.counts)) in
@@ -84,12 +84,6 @@ laid_writable header align len first pos pos' h place sizes parts =
     (and_from _ _ (ap (λ (n : ℕ). fits_count header.version n) (length-placed header align len 0 header.vars) ∙ small_count header.version (length header.vars) (omega arith))
     (all_at (is_writable_var (begins header align len)) (placed header align len 0 header.vars) (λ k w g. at k w (lies_at header align len k w g) u large (and_second _ _ parts))))
   where
-    no_map : (o : Option ℕ) → option_map (λ k. fault.VarSize k) o ≡ None → o ≡ None
-    no_map None e = refl
-    no_map (Some k) e = cc
-
     at : (k : ℕ) (w : Var) → ((v : Var) × Lies header k v × (in_place header align len k v ≡ w)) → Unplaced header → position (is_large_var header) header.vars ≡ None
         → list_all (has_writable_names header) header.vars ≡ true → is_writable_var (begins header align len) w ≡ true
-    at k w found u large names =
-        sym (ap (λ (x : Var). is_writable_var (begins header align len) x) found.2)
-        ∙ laid_var header align len first k found.0 u place large names found.1
+    at k w found u large names = rw (← found.2) (laid_var header align len first k found.0 u place large names found.1)

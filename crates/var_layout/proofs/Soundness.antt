@@ -1,5 +1,5 @@
 -- What a sound header bounds.
-use Rattle.var_layout.proofs.Words.{◌≡◌, ℕ, zero, suc, ◌+◌, ◌-◌, ◌*◌, ◌^◌, ◌<◌, ◌≤◌, List, [], ◌∷◌, length, take, drop, get_or, map, Bool, true, false, cond, either, Option, Some, None, refl, sym, ap, subst, ◌∙◌, arith, count_by, sum_by, ◌==◌, slice_get, IfSome, nat_tests, take_all, drop_more, length-map, length-filter, sum_by-cons, sum_by_more, not-false, slab_below, none_of_test, both_none, untold, told_unless, and_first, and_second, or_first_false, Header, Var, slab, vsize, is_record, recsize, record_size, record_slabs, record_variables, record_share, last_share, round_up, header_len, measure, past_bound, keeps_bound, is_sound, capped, ltb-true}
+use Rattle.var_layout.proofs.Words.{◌≡◌, ℕ, zero, suc, ◌+◌, ◌-◌, ◌*◌, ◌^◌, ◌<◌, ◌≤◌, List, [], ◌∷◌, length, take, drop, get_or, map, true, false, cond, Option, Some, None, refl, sym, subst, arith, count_by, sum_by, ◌==◌, slice_get, IfSome, nat_tests, take_all, drop_more, length-map, length-filter, sum_by-cons, sum_by_more, not-false, slab_below, none_of_test, both_none, untold, told_unless, and_first, and_second, or_first_false, Header, Var, slab, vsize, is_record, recsize, record_size, record_slabs, record_variables, record_share, last_share, round_up, header_len, measure, past_bound, keeps_bound, is_sound, capped, ltb-true}
 use Rattle.nc_base.specs.declared.errors.HeaderErr.TheVariants as fault
 
 -- ---- each variable keeps its bound
@@ -61,27 +61,12 @@ pub shares_small : (header : Header) (before n : ℕ) (vs : List Var) → past_b
 shares_small header before n [] h l = omega arith
 shares_small header before n (v ∷ vs) h l =
     let both = told_unless (keeps_bound header before v) _ _ h in
-    let here : before + record_share header v < 2 ^ 62 =
-    either (λ (n : ℕ). before + n < 2 ^ 62) (is_record header v) (vsize header v) 0 (keeps header before v both.0).records (λ e. omega arith) in
-    let rest = shares_small header (before + record_share header v) (suc n) vs both.1 here in
-    let e = sum_by-cons (λ w. record_share header w) v vs in
-    omega arith
-
-pub records_small : (header : Header) → is_sound header ≡ true → sum_by (λ v. record_share header v) header.vars < 2 ^ 62
-records_small header h = let l = shares_small header 0 0 header.vars (measured header h) (omega arith) in omega arith
+    grind (arith, nat_tests, keeps header before v both.0, shares_small header (before + record_share header v) (suc n) vs both.1, sum_by-cons (λ w. record_share header w) v vs)
 
 -- the shares of all variables are the vsizes of the record variables
 pub shares_are : (header : Header) (vs : List Var) → sum_by (λ v. record_share header v) vs ≡ sum_by (λ v. vsize header v) (record_variables header vs)
 shares_are header [] = refl
-shares_are header (v ∷ vs) =
-    sum_by-cons (λ w. record_share header w) v vs
-    ∙ ap (λ (n : ℕ). record_share header v + n) (shares_are header vs)
-    ∙ by_test (is_record header v)
-  where
-    by_test : (t : Bool) → cond t (vsize header v) 0 + sum_by (λ w. vsize header w) (record_variables header vs)
-        ≡ sum_by (λ w. vsize header w) (cond t (v ∷ record_variables header vs) (record_variables header vs))
-    by_test true = sym (sum_by-cons (λ w. vsize header w) v (record_variables header vs))
-    by_test false = omega arith
+shares_are header (v ∷ vs) = grind (arith, nat_tests, sum_by-cons (λ w. record_share header w) v vs, shares_are header vs, sum_by-cons (λ w. vsize header w) v (record_variables header vs))
 
 padded_slabs : (header : Header) (vs : List Var) → sum_by (λ s. round_up 4 s) (map (λ v. slab header v) vs) ≡ sum_by (λ v. vsize header v) vs
 padded_slabs header [] = refl
@@ -92,7 +77,7 @@ pub recsize_below : (header : Header) → recsize header ≤ sum_by (λ v. recor
 recsize_below header = grind (arith, nat_tests, slab_below, padded_slabs, shares_are)
 
 pub recsize_small : (header : Header) → is_sound header ≡ true → recsize header < 2 ^ 62
-recsize_small header h = let l = records_small header h in let m = recsize_below header in omega arith
+recsize_small header h = grind (arith, nat_tests, recsize_below, shares_small, measured)
 
 -- the size of a record is the sum of the shares
 sizes_shared : (header : Header) (vs : List Var)

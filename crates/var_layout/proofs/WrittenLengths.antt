@@ -1,13 +1,12 @@
 -- How long the parts of a written header are.
-use Rattle.var_layout.proofs.Words.{◌≡◌, ℕ, ◌+◌, ◌*◌, ◌≤◌, List, [], ◌∷◌, ◌++◌, length, take, ap, ◌∙◌, arith, sum_by, flat_map, byte_len, length-append, take_all, length-flat_map, count_long, Header, Var, vsize, count, count_width, begin_width, tag, list_of, name, dimension, attribute, variable, canon, header_len, capped, nat_tests}
+use Rattle.var_layout.proofs.Words.{refl, ◌≡◌, ℕ, ◌+◌, ◌*◌, ◌≤◌, List, [], ◌∷◌, ◌++◌, length, take, arith, sum_by, flat_map, byte_len, length-append, take_all, length-flat_map, count_long, Header, Var, vsize, count, count_width, begin_width, tag, list_of, name, dimension, attribute, variable, canon, header_len, capped, nat_tests}
 
 pub list_len : {A : Type 0} (version t : ℕ) (entry : A → List ℕ) (xs : List A)
     → length (list_of version t entry xs) ≡ 4 + byte_len (count_width version) + sum_by (λ x. length (entry x)) xs
-list_len version t entry [] = length-append (tag 0) (count version 0) ∙ ap (λ (n : ℕ). 4 + n) (count_long version 0) ∙ omega arith
+list_len version t entry [] = grind (arith, nat_tests, length-append, count_long)
 list_len version t entry (x ∷ xs) =
-    length-append (tag t ++ count version (length (x ∷ xs))) (flat_map entry (x ∷ xs))
-    ∙ ap (λ (n : ℕ). n + length (flat_map entry (x ∷ xs))) (length-append (tag t) (count version (length (x ∷ xs))) ∙ ap (λ (n : ℕ). 4 + n) (count_long version (length (x ∷ xs))))
-    ∙ ap (λ (n : ℕ). 4 + byte_len (count_width version) + n) (length-flat_map entry (x ∷ xs))
+    let head = tag t ++ count version (length (x ∷ xs)) in
+    rw (length-append head (flat_map entry (x ∷ xs)), length-append (tag t) (count version (length (x ∷ xs))), count_long version (length (x ∷ xs)), length-flat_map entry (x ∷ xs)) refl
 
 -- a list of entries, at the end of a loop
 pub list_whole : {A : Type 0} (version t : ℕ) (entry : A → List ℕ) (xs : List A) (n : ℕ) → length xs ≤ n
@@ -18,18 +17,15 @@ ids_len : (version : ℕ) (ids : List ℕ) → length (flat_map (λ id. count ve
 ids_len version [] = omega arith
 ids_len version (id ∷ ids) = grind (arith, nat_tests, ids_len version ids, length-append, count_long)
 
-joined : (a b : List ℕ) (m n : ℕ) → length a ≡ m → length b ≡ n → length (a ++ b) ≡ m + n
-joined a b m n e f = length-append a b ∙ omega arith
-
 -- of a variable: its name, its shape, its attributes, its type, vsize and begin
 pub variable_len : (header : Header) (v : Var)
     → length (variable header v) ≡ length (name header.version v.name) + byte_len (count_width header.version) + byte_len (count_width header.version) * length v.dims
     + length (list_of header.version 12 (λ a. attribute header.version a) v.attrs) + 4 + byte_len (count_width header.version) + byte_len (begin_width header.version)
 variable_len header v =
-    grind (arith, nat_tests, count_long header.version (length v.dims), ids_len header.version v.dims, count_long header.version (vsize header v), joined)
+    grind (arith, nat_tests, count_long header.version (length v.dims), ids_len header.version v.dims, count_long header.version (vsize header v), length-append)
 
 pub canon_len : (header : Header)
     → header_len header ≡ 4 + byte_len (count_width header.version) + length (list_of header.version 10 (λ d. dimension header.version d) header.dims)
     + length (list_of header.version 12 (λ a. attribute header.version a) header.attrs) + length (list_of header.version 11 (λ v. variable header v) header.vars)
 unfolding canon
-canon_len header = grind (arith, nat_tests, joined, count_long)
+canon_len header = grind (arith, nat_tests, count_long, length-append)
