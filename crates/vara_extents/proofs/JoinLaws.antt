@@ -1,5 +1,5 @@
 -- Joined extents.
-use Rattle.vara_extents.proofs.Words.{◌≡◌, ℕ, zero, suc, ◌+◌, ◌*◌, ◌<◌, ◌≤◌, inl, inr, refl, ap, ◌∙◌, List, [], ◌∷◌, drop, Bool, cond, Some, arith, slice_get, AllByRecursion, eq-eqb, ne_eqb, cases_eq, append_assoc, range_append, Extent, joined_to, joined, IsJoined, spans, drop_at, nat_tests}
+use Rattle.vara_extents.proofs.Words.{◌≡◌, ℕ, zero, suc, ◌+◌, ◌*◌, ◌<◌, ◌≤◌, inl, inr, refl, ap, List, [], ◌∷◌, drop, Bool, cond, Some, arith, slice_get, AllByRecursion, eq-eqb, ne_eqb, cases_eq, append_assoc, range_append, Extent, joined_to, joined, IsJoined, spans, drop_at, nat_tests}
 
 -- ---- one extent before joined ones
 
@@ -24,12 +24,9 @@ join_first e (c ∷ es) = elim (cases_eq c.at (e.at + e.len)) [
   | inr h ↦ (e, c ∷ es, join_apart e c es h, refl, omega arith)
 ]
 
-same_extent : (a b m n : ℕ) → a ≡ b → m ≡ n → extent a m ≡ extent b n
-same_extent a b m n h k = λ i. extent (h i) (k i)
-
 -- an extent before one that begins at its end, which is joined to others
 pub join_two : (e d : Extent) (es : List Extent) → d.at ≡ e.at + e.len → joined_to e (joined_to d es) ≡ joined_to (lengthened e d.len) es
-join_two e d es h = grind (arith, nat_tests, join_next, cases_eq, same_extent, join_apart)
+join_two e d es h = grind (arith, nat_tests, join_next, cases_eq, join_apart)
 
 -- ---- elements one after another
 
@@ -37,19 +34,12 @@ join_two e d es h = grind (arith, nat_tests, join_next, cases_eq, same_extent, j
 pub run_joined : (es : List Extent) (len k n at : ℕ) → ((i : ℕ) → i < suc n → slice_get es (k + i) ≡ Some (extent (at + i * len) len))
     → joined (drop k es) ≡ joined_to (extent at (suc n * len)) (joined (drop (k + suc n) es))
 run_joined es len k zero at h =
-    let one : len ≡ suc zero * len = omega arith in
-    let next : suc k ≡ k + suc zero = omega arith in
-    ap joined (drop_at es k (extent at len) (ap (λ (m : ℕ). slice_get es m) (omega arith) ∙ h 0 (omega arith) ∙ ap Some (same_extent (at + 0 * len) at len len (omega arith) refl)))
-    ∙ (λ i. joined_to (extent at (one i)) (joined (drop (next i) es)))
+    let here : slice_get es k ≡ Some (extent at len) = grind (arith, nat_tests, h 0) in
+    grind (arith, nat_tests, drop_at es k (extent at len) here)
 run_joined es len k (suc n) at h =
-    let more : len + suc n * len ≡ suc (suc n) * len = omega arith in
-    let next : suc k + suc n ≡ k + suc (suc n) = omega arith in
-    ap joined (drop_at es k (extent at len) (ap (λ (m : ℕ). slice_get es m) (omega arith) ∙ h 0 (omega arith) ∙ ap Some (same_extent (at + 0 * len) at len len (omega arith) refl)))
-    ∙ ap (λ (es : List Extent). joined_to (extent at len) es)
-    (run_joined es len (suc k) n (at + len) (λ i l.
-    ap (λ (m : ℕ). slice_get es m) (omega arith) ∙ h (suc i) (omega arith) ∙ ap Some (same_extent (at + suc i * len) (at + len + i * len) len len (omega arith) refl)))
-    ∙ join_two (extent at len) (extent (at + len) (suc n * len)) (joined (drop (suc k + suc n) es)) refl
-    ∙ (λ i. joined_to (extent at (more i)) (joined (drop (next i) es)))
+    let here : slice_get es k ≡ Some (extent at len) = grind (arith, nat_tests, h 0) in
+    let later : (i : ℕ) → i < suc n → slice_get es (suc k + i) ≡ Some (extent (at + len + i * len) len) = λ i l. grind (arith, nat_tests, h (suc i)) in
+    grind (arith, nat_tests, drop_at es k (extent at len) here, run_joined es len (suc k) n (at + len) later, join_two (extent at len) (extent (at + len) (suc n * len)) (joined (drop (suc k + suc n) es)))
 
 -- ---- what joining keeps
 
@@ -60,17 +50,15 @@ joined_is (e ∷ es) = grind (arith, nat_tests, joined_is es, cases_eq, join_nex
 abbrev pub AreSome : List Extent → Type 0
 AreSome es = AllByRecursion (λ (e : Extent). 1 ≤ e.len) es
 
-pub joined_some : (es : List Extent) → AreSome es → AreSome (joined es)
-joined_some [] h = tt
-joined_some (e ∷ es) h = grind (arith, nat_tests, joined_some es h.1, cases_eq, join_next, join_apart)
+-- what each extent is, and two together
+pub joined_all : (P : Extent → Type 0) → ((e d : Extent) → d.at ≡ e.at + e.len → P e → P d → P (lengthened e d.len)) → (es : List Extent)
+    → AllByRecursion P es → AllByRecursion P (joined es)
+joined_all P f [] h = tt
+joined_all P f (e ∷ es) h = grind (arith, nat_tests, joined_all P f es h.1, cases_eq, join_next, join_apart, f)
 
 -- every extent ends by n
 abbrev pub EndBy : ℕ → List Extent → Type 0
 EndBy n es = AllByRecursion (λ (e : Extent). e.at + e.len ≤ n) es
-
-pub joined_end : (n : ℕ) (es : List Extent) → EndBy n es → EndBy n (joined es)
-joined_end n [] h = tt
-joined_end n (e ∷ es) h = grind (arith, nat_tests, joined_end n es h.1, cases_eq, join_next, join_apart)
 
 pub joined_spans : (es : List Extent) → spans (joined es) ≡ spans es
 joined_spans [] = refl

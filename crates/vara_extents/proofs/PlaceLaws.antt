@@ -2,7 +2,7 @@
 use Rattle.vara_extents.proofs.Words.{◌≡◌, ℕ, ◌+◌, ◌^◌, ◌<◌, ◌≤◌, sym, ap, ◌∙◌, List, [], ◌∷◌, map, true, false, Option, Some, arith, slice_get, or_parts, leb-false, ltb-false, size_pos, each_map, each_weaker, each_at, Header, Var, Extent, Region, size_of, header_len, is_sound, product, end_of, inner_lengths, is_record, recsize, place, within_record, IsElement, IsElementBelow, records_of, check_some, check_var, asks_too_much, elements, places, accepted_elements, slab_fits, index_record, element_inside, product_pos, IsAccepted, element_extents, extents_of, index_of, nat_tests}
 use Rattle.nc_base.specs.declared.answer.Code.TheVariants as code
 use Rattle.vara_extents.proofs.AcceptedLaws.{passed}
-use Rattle.vara_extents.proofs.JoinLaws.{AreSome, EndBy, joined_some, joined_end}
+use Rattle.vara_extents.proofs.JoinLaws.{AreSome, EndBy, joined_all}
 use Rattle.vara_extents.proofs.NumberLaws.{element_at}
 
 pub accepted_var : (header : Header) (k : ℕ) (v : Var) (g : Region) → slice_get header.vars k ≡ Some v → (h : IsAccepted header k g) → check_var header v g h.0 h.1 ≡ code.Ok
@@ -40,7 +40,7 @@ pub extents_inside : (header : Header) (first k : ℕ) (v : Var) (g : Region) �
     → EndBy (end_of header first (records_of header v g)) (extents_of header v g)
 extents_inside header first k v g sound is h =
     let n = end_of header first (records_of header v g) in
-    joined_end n (element_extents header v g)
+    joined_all (λ (e : Extent). e.at + e.len ≤ n) (λ e d s a b. omega (arith, s, a, b)) (element_extents header v g)
     (each_map (λ (e : Extent). e.at + e.len ≤ n) (λ x. record { at = x; len = size_of v.kind }) (places header v g)
     (each_map (λ x. x + size_of v.kind ≤ n) (λ i. place header v i) (elements g)
     (each_weaker (IsElementBelow header v (records_of header v g)) (λ i. place header v i + size_of v.kind ≤ n)
@@ -48,7 +48,7 @@ extents_inside header first k v g sound is h =
     (accepted_elements header k v g h.0 h.1 sound is (accepted_var header k v g is h)))))
 
 pub extents_some : (header : Header) (v : Var) (g : Region) → AreSome (extents_of header v g)
-extents_some header v g = joined_some (element_extents header v g) (each (places header v g))
+extents_some header v g = joined_all (λ (e : Extent). 1 ≤ e.len) (λ e d s a b. omega (arith, a)) (element_extents header v g) (each (places header v g))
   where
     each : (xs : List ℕ) → AreSome (map (λ x. record { at = x; len = size_of v.kind }) xs)
     each [] = tt

@@ -1,9 +1,9 @@
 -- The extents that are left, one run after another.
-use Rattle.vara_extents.proofs.Words.{◌≡◌, ℕ, zero, suc, ◌+◌, ◌*◌, ◌/◌, ◌^◌, ◌<◌, ◌≤◌, refl, sym, ap, ◌∙◌, List, [], length, drop, true, ◌-◌, ◌%◌, inl, inr, subst, arith, drop_all, div-add-mod', mul-le, mul-div_cancel, Header, Var, Region, size_of, product, recsize, is_record, place, Run, Runs, element_extents, extents_of, joined, joined_to, extents_from, run_place, AreReady, IsRunOf, accepted, coordinates_of, index_of, weighted, AreRuns, HaveRows, nat_tests}
+use Rattle.vara_extents.proofs.Words.{◌≡◌, ℕ, ◌+◌, ◌*◌, ◌/◌, ◌^◌, ◌<◌, ◌≤◌, refl, ap, List, [], length, true, ◌-◌, ◌%◌, inl, inr, subst, arith, drop_all, div-add-mod', mul-le, mul-div_cancel, Header, Var, Region, size_of, product, recsize, is_record, place, Run, Runs, element_extents, extents_of, joined, joined_to, extents_from, run_place, AreReady, IsRunOf, accepted, coordinates_of, index_of, weighted, AreRuns, HaveRows, nat_tests}
 use Rattle.vara_extents.proofs.RowLaws.{rows_of}
-use Rattle.vara_extents.proofs.AcceptedLaws.{passed}
 use Rattle.vara_extents.proofs.NumberLaws.{length-element_extents, run_is}
-use Rattle.vara_extents.proofs.PlaceLaws.{IsPlaced, accepted_place, accepted_small, accepted_var, wide_records}
+use Rattle.vara_extents.proofs.PlaceLaws.{IsPlaced, accepted_place, accepted_var, wide_records, small_of}
+use Rattle.vara_extents.proofs.RunLaws.{some_block}
 
 -- ---- one run
 
@@ -14,20 +14,21 @@ pub record IsInside (header : Header) (v : Var) (g : Region) (run k : ℕ) : Typ
   pub low : place header v (index_of g (k * run)) + run * size_of v.kind ≤ 2 ^ 62
   pub wide : is_record header v ≡ true → 1 ≤ recsize header
 
-inside_of : (r : Runs) (k run total : ℕ) → AreReady r → AreRuns (λ k. place r.header.now r.var.now (index_of r.region.now k)) (size_of r.var.now.kind) run total
-    → total ≡ product r.region.now.count → total ≡ r.count * run → k < r.count → IsInside r.header.now r.var.now r.region.now run k
-inside_of r k zero total h runs same is l = let some = runs.some in absurd (omega arith)
-inside_of r k (suc m) total h runs same is l =
-    let rows = mul-le (k + 1) (suc m) r.count (suc m) (omega arith) (omega arith) in
-    grind (arith, nat_tests, accepted_small r.header.now r.var.now r.region.now, passed r.header.now r.var.now r.region.now h.accepted.2.0 h.accepted.2.1, accepted_var r.header.now h.accepted.0 r.var.now r.region.now h.accepted.1 h.accepted.2, accepted_place r.header.now h.accepted.0 r.var.now r.region.now (k * suc m + m) h.sound h.accepted.1, accepted_place r.header.now h.accepted.0 r.var.now r.region.now (k * suc m) h.sound h.accepted.1 h.accepted.2, wide_records r.header.now h.accepted.0 r.var.now (index_of r.region.now (k * suc m)) h.accepted.1, runs.follow, index_of)
-
 pub inside : (r : Runs) (k : ℕ) → AreReady r → k < r.count → IsInside r.header.now r.var.now r.region.now r.elements k
-inside r k h l = inside_of r k r.elements (product r.region.now.count) h h.follow refl h.total l
-
--- the run and the extents after it
-pub first_run : (r : Runs) (k at len : ℕ) → AreReady r → k < r.count → at ≡ run_place r k → len ≡ r.elements * size_of r.var.now.kind
-    → extents_from r k ≡ joined_to (record { at = at; len = len }) (extents_from r (k + 1))
-first_run r k at len h l is long = grind (arith, nat_tests, run_is, inside, extents_from, joined_to, joined, drop, element_extents)
+inside r k h l =
+    let rows = mul-le (k + 1) r.elements r.count r.elements (omega arith) (omega arith) in
+    let last : k * r.elements + (r.elements - 1) < product r.region.now.count = omega (arith, rows, h.total, h.follow.some) in
+    let place_of : (n : ℕ) → n < product r.region.now.count → IsPlaced r.header.now r.var.now r.region.now n =
+    λ n. accepted_place r.header.now h.accepted.0 r.var.now r.region.now n h.sound h.accepted.1 h.accepted.2 in
+    let size : r.elements * size_of r.var.now.kind ≡ (r.elements - 1 + 1) * size_of r.var.now.kind = ap (λ (x : ℕ). x * size_of r.var.now.kind) (omega (arith, h.follow.some)) in
+    let first = place_of (k * r.elements) (omega (arith, last)) in
+    record {
+      number = omega (arith, last);
+      small = (small_of r.header.now h.accepted.0 r.var.now r.region.now h.accepted.1 h.accepted.2).elements;
+      placed = first;
+      low = omega (arith, size, h.follow.follow k (r.elements - 1) (omega (arith, h.follow.some)) last, (place_of (k * r.elements + (r.elements - 1)) last).low);
+      wide = λ e. wide_records r.header.now h.accepted.0 r.var.now (index_of r.region.now (k * r.elements)) h.accepted.1 e first.element;
+    }
 
 -- ---- rows
 
@@ -37,7 +38,6 @@ pub in_row : (r : Runs) (number at : ℕ) → AreReady r → (number < r.count �
 in_row r number at h is i l below =
     let n = r.row.runs in
     let whole = div-add-mod' number n in
-    let here : number / n * n + number % n ≡ number = whole in
     let there : number / n * n + (number % n + i) ≡ number + i = omega (arith, whole) in
     grind (arith, nat_tests, h.rows.follow, run_place)
 
@@ -46,12 +46,7 @@ run_here r run placed l = grind (arith, nat_tests)
 
 pub next_in_row : (r : Runs) (run : Run) → IsRunOf r run → run.number < r.count → (run.left ≡ 0 → ⊥)
     → IsRunOf r (record { number = run.number + 1; at = run.at + r.row.step; left = run.left - 1 })
-next_in_row r run placed l some = record {
-  within = omega arith;
-  at = λ i m below.
-      let same : run.number + (i + 1) ≡ run.number + 1 + i = omega arith in
-      grind (arith, nat_tests, placed.at, run_place);
-}
+next_in_row r run placed l some = record { within = omega arith; at = λ i m below. grind (arith, nat_tests, placed.at (i + 1), run_place) }
 
 -- a row's step is from its first run to its second one
 pub record GoUp (r : Runs) (row : ℕ) : Type 0 where
@@ -63,26 +58,19 @@ pub steps_up : (r : Runs) (row : ℕ) → AreReady r → 2 ≤ r.count → 2 ≤
     → GoUp r row
 steps_up r row h some long rows =
     let shape = accepted r.header.now r.var.now r.region.now h.accepted.2.0 h.accepted.2.1 (accepted_var r.header.now h.accepted.0 r.var.now r.region.now h.accepted.1 h.accepted.2) in
-    by_rows (rows_of r.header.now r.var.now r.region.now r.elements row shape.starts shape.counts shape.strides rows)
+    by_rows (rows_of r.header.now r.var.now r.region.now h.accepted.2.0 h.accepted.2.1 shape r.elements row rows)
   where
     stepped : (step : ℕ) → AreRuns (run_place r) step row r.count → GoUp r row
     stepped step a =
-        let most = rows_low a.parts.0 a.parts.1 in
-        let own = a.follow 0 1 (omega (arith, long)) (omega (arith, most, long)) in
-        let one : 0 * row + 1 ≡ 1 = omega arith in
-        let none : 0 * row ≡ 0 = omega arith in
-        let second = ap (λ (k : ℕ). run_place r k) one in
-        let first = ap (λ (k : ℕ). run_place r k) none in
-        let is : step ≡ run_place r 1 - run_place r 0 = omega (arith, own, second, first) in
-        record { up = omega (arith, own, second, first); rows = subst (λ (n : ℕ). AreRuns (run_place r) n row r.count) is a }
-      where
-        rows_low : (m : ℕ) → r.count ≡ m * row → row ≤ r.count
-        rows_low zero e = absurd (omega (arith, some, e))
-        rows_low (suc m) e = omega arith
+        let most : row ≤ r.count = omega (arith, a.parts.1, mul-le 1 row a.parts.0 row (some_block a.parts.0 row 0 (omega (arith, some, a.parts.1))).0 (omega arith)) in
+        let own : run_place r 1 ≡ run_place r 0 + step = grind (arith, nat_tests, a.follow 0 1) in
+        record { up = omega (arith, own); rows = subst (λ (n : ℕ). AreRuns (run_place r) n row r.count) (omega (arith, own)) a }
 
     by_rows : HaveRows (λ k. place r.header.now r.var.now (index_of r.region.now k)) r.elements row (product r.region.now.count) → GoUp r row
     by_rows (inl e) = absurd (omega (arith, e, long))
-    by_rows (inr a) = stepped a.2 (subst (λ (m : ℕ). AreRuns (run_place r) a.2 row m) (sym (mul-div_cancel a.0 h.follow.some) ∙ ap (λ (n : ℕ). n / r.elements) (sym a.1 ∙ h.total) ∙ mul-div_cancel r.count h.follow.some) a.3)
+    by_rows (inr a) =
+        let same : a.0 ≡ r.count = grind (arith, nat_tests, mul-div_cancel a.0 h.follow.some, mul-div_cancel r.count h.follow.some, a.1, h.total) in
+        stepped a.2 (subst (λ (m : ℕ). AreRuns (run_place r) a.2 row m) same a.3)
 
 -- ---- a run on the way
 
@@ -90,7 +78,7 @@ steps_up r row h some long rows =
 pub placed_run : (r : Runs) (run next : Run) (len : ℕ) → AreReady r → IsRunOf r run → run.number < r.count → len ≡ r.elements * size_of r.var.now.kind → next.number ≡ run.number + 1
     → (extents_from r run.number ≡ joined_to (record { at = run.at; len = len }) (extents_from r next.number)) × (run.at + len ≤ 2 ^ 62)
 placed_run r run next len h placed l long after =
-    grind (arith, nat_tests, run_here r run placed l, first_run r run.number run.at len h l (run_here r run placed l) long, inside r run.number h l)
+    grind (arith, nat_tests, run_here r run placed l, inside r run.number h l, run_is, extents_from, joined_to, joined, element_extents)
 
 -- nothing is left after the last run
 pub none_left : (r : Runs) (k : ℕ) → AreReady r → r.count ≤ k → extents_from r k ≡ []
