@@ -1,21 +1,18 @@
 -- Whose the bytes of a hull are, by the entries that may have some.
-use Rattle.window_plan.proofs.Words.{◌≡◌, ℕ, ◌+◌, ◌-◌, ◌≤◌, inl, inr, refl, sym, ap, List, [], ◌∷◌, ◌++◌, false, max, min, arith, nat_tests, flat_map-append, append-nil, nat_lt, Extent, Owned, IsPast, In, owner_between, owner_in, owners_in}
+use Rattle.window_plan.proofs.Words.{◌≡◌, ℕ, ◌+◌, ◌≤◌, refl, List, [], ◌∷◌, ◌++◌, false, arith, nat_tests, flat_map-append, append-nil, nat_lt, Extent, Owned, IsPast, In, owner_between, owner_in, owners_in}
 
 no_owner : (rank at stop : ℕ) → stop ≤ at → owner_between rank at stop ≡ []
 no_owner rank at stop h = let past : nat_lt at stop ≡ false = grind (arith, nat_tests) in rw past
 
 -- what ends before a hull has none of its bytes
 past_owners : (hull : Extent) (place : ℕ) (whole left : List Owned) → place ≤ hull.at → IsPast place whole left → owners_in hull whole ≡ owners_in hull left
-past_owners hull place [] left l h = ap (λ (os : List Owned). owners_in hull os) (sym h)
-past_owners hull place (o ∷ whole) left l (inl h) = grind (arith, nat_tests, no_owner, past_owners hull place whole left l h.1, owners_in)
-past_owners hull place (o ∷ whole) left l (inr h) = grind (arith, nat_tests, past_owners hull place whole h.0 l h.2)
+past_owners hull place [] left l h = grind (arith, nat_tests)
+past_owners hull place (o ∷ whole) left l h = grind (arith, nat_tests, no_owner, past_owners hull place whole, owners_in)
 
 -- what begins behind a hull has none of its bytes
 later_owners : (hull : Extent) (rest : List Owned) → ((o : Owned) → In rest o → hull.at + hull.len ≤ o.extent.at) → owners_in hull rest ≡ []
 later_owners hull [] h = refl
-later_owners hull (o ∷ rest) h =
-    let begin = h o (inl refl) in
-    rw (no_owner o.rank (max o.extent.at hull.at) (min (o.extent.at + o.extent.len) (hull.at + hull.len)) (omega arith)) (later_owners hull rest (λ p m. h p (inr m)))
+later_owners hull (o ∷ rest) h = grind (arith, nat_tests, h o, no_owner, later_owners hull rest, h)
 
 -- the owners of a hull's bytes are those by the entries that may have bytes of it
 pub served_owners : (hull : Extent) (place stop : ℕ) (list left served rest : List Owned) → IsPast place list left → left ≡ served ++ rest

@@ -1,5 +1,5 @@
 -- One window more is planned.
-use Rattle.window_plan.proofs.Words.{◌≡◌, ℕ, ◌+◌, inl, refl, sym, ◌∙◌, ap, subst, List, [], ◌∷◌, ◌++◌, append_assoc, map, arith, append-nil, map-append, Owned, Window, WindowWalk, IsWalk, IsPast, told_window, AreLeft, IsNext, windows_from, next_told, no_window, windows_next, In, told_of, in_either, AreInFront, IsAt, Told, turns_ahead, at_next, owners_in, plan_of, told_plan, AreShared, WindowPlan, nat_tests}
+use Rattle.window_plan.proofs.Words.{◌≡◌, ℕ, ◌+◌, sym, ◌∙◌, ap, List, [], ◌∷◌, ◌++◌, append_assoc, map, arith, append-nil, map-append, Owned, Window, WindowWalk, IsWalk, IsPast, told_window, AreLeft, IsNext, windows_from, next_told, no_window, windows_next, told_of, in_either, AreInFront, IsAt, Told, turns_ahead, at_next, owners_in, plan_of, told_plan, AreShared, WindowPlan, nat_tests}
 use Rattle.window_plan.proofs.OwnerLaws.{served_owners}
 
 -- ---- what is told
@@ -40,10 +40,7 @@ planned_next list room whole windows next left later served plans w plan h walk 
   walk = walk;
   here = at_next list left later room (turns_ahead windows) (turns_ahead next) (told_window w) h.here ahead past;
   told = told_more plans plan (told_window w) (turns_ahead windows) (turns_ahead next) whole (ap told_plan is) ahead h.told;
-  shared = shared_more list plans plan h.shared
-      (plan_shared list served w plan is
-      (served_owners w.hull w.hull.at (w.hull.at + w.hull.len) list left served front.rest
-      (h.here.past (told_window w) (subst (λ (ts : List Told). In ts (told_window w)) (sym ahead) (inl refl))) front.joined front.later (omega arith) (omega arith)));
+  shared = grind (arith, nat_tests, shared_more list plans plan h.shared, plan_shared list served w plan is, served_owners w.hull w.hull.at (w.hull.at + w.hull.len) list left served front.rest, h.here.past (told_window w), front.joined, front.later);
 }
 
 -- ---- the windows of sieving
