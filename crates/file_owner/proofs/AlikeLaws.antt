@@ -1,5 +1,5 @@
 -- Items that are alike, one list after another; and lines on which items are put one after another.
-use Rattle.file_owner.proofs.Words.{◌≡◌, ℕ, suc, ◌<◌, sym, ◌∙◌, ap, subst, List, [], ◌∷◌, ◌++◌, length, take, Some, append_assoc, arith, append-nil, slice_get, OwnerItem, End, AreAlike, Grows, nat_tests}
+use Rattle.file_owner.proofs.Words.{◌≡◌, ℕ, suc, ◌<◌, sym, ◌∙◌, ap, subst, List, [], ◌∷◌, ◌++◌, length, take, Some, append_assoc, arith, append-nil, OwnerItem, End, AreAlike, Grows, nat_tests, slice_get_within}
 
 -- ---- alike
 
@@ -22,9 +22,7 @@ Lines = List (End OwnerItem)
 pub lines_twice : (old mid now : Lines) (more last : ℕ → List OwnerItem) → Grows old more mid → Grows mid last now → Grows old (λ q. more q ++ last q) now
 lines_twice old mid now more last g h = record {
   long = h.long ∙ g.long;
-  each = λ q end e.
-      h.each q (record { of = end.of; items = end.items ++ more q }) (g.each q end e)
-      ∙ ap (λ (items : List OwnerItem). Some (record { of = end.of; items = items })) (append_assoc end.items (more q) (last q));
+  each = λ q end e. grind (arith, nat_tests, h.each q (record { of = end.of; items = end.items ++ more q }) (g.each q end e), append_assoc end.items (more q) (last q));
 }
 
 pub lines_none : (old now : Lines) → now ≡ old → Grows old (λ q. []) now
@@ -34,9 +32,5 @@ lines_none old now e = grind (arith, nat_tests, append-nil)
 pub lines_as : (old now : Lines) (more last : ℕ → List OwnerItem) → ((q : ℕ) → q < length old → last q ≡ more q) → Grows old more now → Grows old last now
 lines_as old now more last same g = record {
   long = g.long;
-  each = λ q end e. g.each q end e ∙ ap (λ (items : List OwnerItem). Some (record { of = end.of; items = end.items ++ items })) (sym (same q (long old q end e)));
+  each = λ q end e. g.each q end e ∙ ap (λ (items : List OwnerItem). Some (record { of = end.of; items = end.items ++ items })) (sym (same q (slice_get_within old q end e)));
 }
-  where
-    long : (xs : Lines) (q : ℕ) (end : End OwnerItem) → slice_get xs q ≡ Some end → q < length xs
-    long (x ∷ xs) (suc q) end e = let h = long xs q end e in omega arith
-    long xs q end e = grind (arith, nat_tests)

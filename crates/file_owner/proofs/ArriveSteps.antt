@@ -1,19 +1,16 @@
 -- An arrival that is not strange, as the clients, the disk, the order and the lines show it.
-use Rattle.file_owner.proofs.Words.{◌≡◌, ℕ, zero, suc, ◌<◌, ◌≤◌, refl, sym, ◌∙◌, ap, subst, inl, inr, ◌⊎◌, List, [], ◌∷◌, ◌++◌, length, set, get_or, Bool, true, false, Option, Some, None, Result, arith, cases_eq, append-nil, length-set, slice_get, is_some, OnOk, list_all, list_any, same_Some, get_or_from_slice_get, and_first, and_second, Header, Hints, DiskCall, MeetKind, Offer, OfferKind, OwnerItem, Stop, RankItem, End, Owner, Event, Client, at_offer, differs, does_meeting, does_solo, event, holds, is_strange, keeps, kind_held, meets_if, offers_held, stop_held, stops, meeting_calls, solo_calls, Setting, is_sound, Arrival, kind_of_meeting, counted, HasOwnElements, HasOwnPuts, IsCount, IsFit, event_is, calls_at, calls_at_offer, calls_if, owner_at, event_calls, Grows, HasDone, HasMovedOnce, HoldSingle, IsAlone, IsHeld, IsSingle, IsSteady, IsTogether, Standing, IsSingleOffer, held_stops, put_one, stop_each, stops_for, count_less, count_longer, entry_below, entry_set, entry_set_other, with_end-nil, client_ended, client_held, nat_tests}
+use Rattle.file_owner.proofs.Words.{◌≡◌, ℕ, ◌<◌, ◌≤◌, refl, sym, ◌∙◌, ap, subst, inl, inr, ◌⊎◌, List, [], ◌∷◌, ◌++◌, length, set, get_or, Bool, true, false, Option, Some, None, Result, arith, cases_eq, append-nil, length-set, slice_get, is_some, OnOk, list_all, list_any, same_Some, get_or_from_slice_get, Header, Hints, DiskCall, MeetKind, Offer, OfferKind, OwnerItem, Stop, RankItem, End, Owner, Event, Client, at_offer, differs, does_meeting, does_solo, event, holds, is_strange, keeps, kind_held, meets_if, offers_held, stop_held, stops, meeting_calls, solo_calls, Setting, is_sound, Arrival, kind_of_meeting, counted, HasOwnElements, HasOwnPuts, IsCount, IsFit, event_is, calls_at, calls_at_offer, calls_if, owner_at, event_calls, Grows, HasDone, HasMovedOnce, HoldSingle, IsAlone, IsHeld, IsSingle, IsSteady, IsTogether, Standing, IsSingleOffer, held_stops, put_one, stop_each, stops_for, count_less, count_longer, entry_below, entry_set, entry_set_other, with_end-nil, client_ended, client_held, nat_tests, or_parts, not_some, passes_at}
 use Rattle.nc_base.specs.declared.step.OfferKind.TheVariants as offer
 use Rattle.nc_base.specs.declared.step.RankItem.TheVariants as item
 use Rattle.file_owner.proofs.AlikeLaws.{lines_as, lines_none, lines_twice}
 use Rattle.file_owner.proofs.PutLaws.{put_here, put_other, stop_for_offer}
-use Rattle.file_owner.proofs.StrangeLaws.{fits, kind_is, passes}
+use Rattle.file_owner.proofs.StrangeLaws.{fits, kind_is, strange_is}
 
 abbrev pub with_clients : Standing → List Client → Standing
 with_clients b clients =
     record { clients = clients; met = b.met; reached = b.reached; records = b.records; told = b.told; calls = b.calls; order = b.order; heard = b.heard; lines = b.lines }
 
 -- ---- the event, by what arrives
-
-calls_are : (hints : Hints) (s : Setting) (d : Owner) (r : ℕ) (i : RankItem) (x : Client) → slice_get d.clients r ≡ Some x → event_calls hints s d (r, i) ≡ calls_at hints s d r i (Some x)
-calls_are hints s d r i x e = ap (λ (m : Option Client). calls_at hints s d r i m) e
 
 -- only clients change
 done_kept : (hints : Hints) (s : Setting) (b : Standing) (a : Arrival) (clients : List Client) → ((file : List ℕ) → event s (owner_at b file) a ≡ keeps (owner_at b file) clients)
@@ -28,7 +25,7 @@ pub done_ended : (hints : Hints) (s : Setting) (b : Standing) (r : ℕ) (x y : C
 done_ended hints s b r x y memory e f =
     subst (λ (z : Client). HasDone hints s (r, item.Ended memory) b (with_clients b (set b.clients r z))) (sym f)
     (done_kept hints s b (r, item.Ended memory) (set b.clients r (client_ended x memory)) (λ file. event_is s (owner_at b file) r (item.Ended memory) x e)
-    (λ file. calls_are hints s (owner_at b file) r (item.Ended memory) x e) (λ h. single_set b.clients r x (client_ended x memory) e h.0 (λ o g. h.0 r x o e g)))
+    (λ file. ap (λ (m : Option Client). calls_at hints s (owner_at b file) r (item.Ended memory) m) e) (λ h. single_set b.clients r x (client_ended x memory) e h.0 (λ o g. h.0 r x o e g)))
 
 -- ---- an offer
 
@@ -37,19 +34,17 @@ offer_event s d r c o x k e f = event_is s d r (item.Offer c o) x e ∙ ap (at_o
 
 offer_calls : (hints : Hints) (s : Setting) (d : Owner) (r c : ℕ) (o : Offer) (x : Client) (k : OfferKind) → slice_get d.clients r ≡ Some x → o.kind ≡ k
     → event_calls hints s d (r, item.Offer c o) ≡ calls_at_offer hints s d (r, o) x k
-offer_calls hints s d r c o x k e f = calls_are hints s d r (item.Offer c o) x e ∙ ap (calls_at_offer hints s d (r, o) x) f
+offer_calls hints s d r c o x k e f = ap (λ (m : Option Client). calls_at hints s d r (item.Offer c o) m) e ∙ ap (calls_at_offer hints s d (r, o) x) f
 
 pub done_held : (hints : Hints) (s : Setting) (b : Standing) (r c : ℕ) (o : Offer) (x y : Client) (kind : MeetKind) → slice_get b.clients r ≡ Some x → y ≡ client_held x o → o.kind ≡ offer.Meet kind
     → list_all holds (set b.clients r y) ≡ false → HasDone hints s (r, item.Offer c o) b (with_clients b (set b.clients r y))
 done_held hints s b r c o x y kind e f k some =
+    let not_all = ap (λ (z : Client). list_all holds (set b.clients r z)) (sym f) ∙ some in
     subst (λ (z : Client). HasDone hints s (r, item.Offer c o) b (with_clients b (set b.clients r z))) (sym f)
     (done_kept hints s b (r, item.Offer c o) (set b.clients r (client_held x o))
     (λ file. offer_event s (owner_at b file) r c o x (offer.Meet kind) e k ∙ ap (meets_if s (owner_at b file) (set b.clients r (client_held x o))) not_all)
     (λ file. offer_calls hints s (owner_at b file) r c o x (offer.Meet kind) e k ∙ ap (calls_if hints s (owner_at b file) (set b.clients r (client_held x o))) not_all)
     (λ h. single_set b.clients r x (client_held x o) e h.0 (λ p g. subst IsSingleOffer (same_Some o p g) h.1)))
-  where
-    not_all : list_all holds (set b.clients r (client_held x o)) ≡ false
-    not_all = ap (λ (z : Client). list_all holds (set b.clients r z)) (sym f) ∙ some
 
 -- a step that was done is the arrival's
 as_event : (hints : Hints) (s : Setting) (b m n : Standing) (a : Arrival) (once : Type 0) (to : List ℕ → Event) (made : List ℕ → List DiskCall) → m.told ≡ b.told → m.calls ≡ b.calls → m.order ≡ b.order
@@ -64,9 +59,6 @@ as_event hints s b m n a once to made told calls order heard lines e c alone h =
   exact = grind (arith, nat_tests);
   single = λ o. h.single (alone o);
 }
-  where
-    low : (q : ℕ) → q < length b.lines → q < length m.lines
-    low q l = subst (λ (ls : List (End OwnerItem)). q < length ls) (sym lines) l
 
 pub done_alone : (hints : Hints) (s : Setting) (b n : Standing) (r c : ℕ) (o : Offer) (x : Client) → slice_get b.clients r ≡ Some x → o.kind ≡ offer.Solo → IsAlone hints s c (r, o) b n
     → HasDone hints s (r, item.Offer c o) b n
@@ -77,15 +69,13 @@ done_alone hints s b n r c o x e k h =
 pub done_together : (hints : Hints) (s : Setting) (b n : Standing) (r c : ℕ) (o : Offer) (x y : Client) (kind : MeetKind) → slice_get b.clients r ≡ Some x → y ≡ client_held x o → o.kind ≡ offer.Meet kind
     → list_all holds (set b.clients r y) ≡ true → IsTogether hints s (with_clients b (set b.clients r y)) n → HasDone hints s (r, item.Offer c o) b n
 done_together hints s b n r c o x y kind e f k all h =
+    let every = ap (λ (z : Client). list_all holds (set b.clients r z)) (sym f) ∙ all in
     as_event hints s b (with_clients b (set b.clients r (client_held x o))) n (r, item.Offer c o) (HoldSingle (set b.clients r (client_held x o)))
     (λ file. does_meeting s (owner_at b file) (set b.clients r (client_held x o))) (λ file. meeting_calls hints s (offers_held (set b.clients r (client_held x o))) (counted file b.records)) refl refl refl refl refl
     (λ file. offer_event s (owner_at b file) r c o x (offer.Meet kind) e k ∙ ap (meets_if s (owner_at b file) (set b.clients r (client_held x o))) every)
     (λ file. offer_calls hints s (owner_at b file) r c o x (offer.Meet kind) e k ∙ ap (calls_if hints s (owner_at b file) (set b.clients r (client_held x o))) every)
     (λ g. single_set b.clients r x (client_held x o) e g.0 (λ p w. subst IsSingleOffer (same_Some o p w) g.1))
     (subst (λ (z : Client). IsTogether hints s (with_clients b (set b.clients r z)) n) f h)
-  where
-    every : list_all holds (set b.clients r (client_held x o)) ≡ true
-    every = ap (λ (z : Client). list_all holds (set b.clients r z)) (sym f) ∙ all
 
 -- ---- what is held stays fit
 
@@ -104,20 +94,10 @@ steady_set header len b r x y h e own kinds =
       count = h.count;
       reached = h.reached;
       below = h.below;
-      held = λ q z o f g. held q z o (set_cases b.clients r q x y z e f) g;
-      same = λ q t z w o p f g i j. same q t z w o p (set_cases b.clients r q x y z e f) (set_cases b.clients r t x y w e g) i j;
+      held = λ q z o f g. grind (arith, nat_tests, set_cases b.clients r q x y z e f, own o, h.held q z o);
+      same = λ q t z w o p f g i j.
+          grind (arith, nat_tests, set_cases b.clients r q x y z e f, set_cases b.clients r t x y w e g, kinds o p t w, kinds p o q z, h.same q t z w o p, same_Some);
     }
-  where
-    held : (q : ℕ) (z : Client) (o : Offer) → ((q ≡ r) × (y ≡ z)) ⊎ ((q ≡ r → ⊥) × (slice_get b.clients q ≡ Some z)) → z.held ≡ Some o → IsHeld header len b.reached o
-    held q z o (inl u) g = own o (ap (λ (w : Client). w.held) u.1 ∙ g)
-    held q z o (inr u) g = h.held q z o u.1 g
-
-    same : (q t : ℕ) (z w : Client) (o p : Offer) → ((q ≡ r) × (y ≡ z)) ⊎ ((q ≡ r → ⊥) × (slice_get b.clients q ≡ Some z)) → ((t ≡ r) × (y ≡ w)) ⊎ ((t ≡ r → ⊥) × (slice_get b.clients t ≡ Some w))
-        → z.held ≡ Some o → w.held ≡ Some p → o.kind ≡ p.kind
-    same q t z w o p (inl u) (inl v) i j = grind (arith, nat_tests, same_Some)
-    same q t z w o p (inl u) (inr v) i j = kinds o p t w (ap (λ (k : Client). k.held) u.1 ∙ i) v.1 j
-    same q t z w o p (inr u) (inl v) i j = sym (kinds p o q z (ap (λ (k : Client). k.held) v.1 ∙ j) u.1 i)
-    same q t z w o p (inr u) (inr v) i j = h.same q t z w o p u.1 v.1 i j
 
 pub steady_ended : (header : Header) (len : ℕ) (b : Standing) (r : ℕ) (x y : Client) (memory : Bool) → IsSteady header len b → slice_get b.clients r ≡ Some x → y ≡ client_ended x memory
     → IsSteady header len (with_clients b (set b.clients r y))
@@ -141,7 +121,10 @@ is_good s len b r c o sound h low own fit =
       arith,
       nat_tests,
       entry_below b.clients r low,
-      passes s (owner_at b []) r c o (entry_below b.clients r low).0 (entry_below b.clients r low).1 (fit []),
+      strange_is s (owner_at b []) r (item.Offer c o) (entry_below b.clients r low).0 (entry_below b.clients r low).1,
+      or_parts,
+      not_some,
+      fit [],
       fits s.header len b.reached o sound,
       count_less s.header len b.reached o.known sound h.reached,
     )
@@ -149,17 +132,12 @@ is_good s len b r c o sound h low own fit =
 pub steady_held : (header : Header) (len : ℕ) (b : Standing) (r c : ℕ) (o : Offer) (y : Client) (kind : MeetKind) → IsSteady header len b → (good : IsGood header len b r c o) → y ≡ client_held good.client o
     → o.kind ≡ offer.Meet kind → IsSteady header len (with_clients b (set b.clients r y))
 steady_held header len b r c o y kind h good f k =
+    let own : (p : Offer) → y.held ≡ Some p → o ≡ p = λ p g. same_Some o p (ap (λ (w : Client). w.held) (sym f) ∙ g) in
     steady_set header len b r good.client y h good.there (λ p g. subst (IsHeld header len b.reached) (own p g) (record { fit = good.fit; known = good.known; meets = (kind, k) }))
-    (λ p q t z g i j. ap (λ (w : Offer). w.kind) (sym (own p g)) ∙ k ∙ others q t z i j)
-  where
-    own : (p : Offer) → y.held ≡ Some p → o ≡ p
-    own p g = same_Some o p (ap (λ (w : Client). w.held) (sym f) ∙ g)
-
-    others : (q : Offer) (t : ℕ) (z : Client) → slice_get b.clients t ≡ Some z → z.held ≡ Some q → offer.Meet kind ≡ q.kind
-    others q t z i j =
-        let m = (h.held t z q i j).meets in
-        let same = kind_is b.clients kind t z q m.0 (ap (λ (w : OfferKind). list_any (λ y. differs (kind_held y) (kind_of_meeting w)) b.clients) (sym k) ∙ good.kinds) i j m.1 in
-        ap offer.Meet (sym same) ∙ sym m.1
+    (λ p q t z g i j.
+    let m = (h.held t z q i j).meets in
+    let same = kind_is b.clients kind t z q m.0 (ap (λ (w : OfferKind). list_any (λ y. differs (kind_held y) (kind_of_meeting w)) b.clients) (sym k) ∙ good.kinds) i j m.1 in
+    ap (λ (w : Offer). w.kind) (sym (own p g)) ∙ k ∙ ap offer.Meet (sym same) ∙ sym m.1)
 
 pub steady_alone : (header : Header) (len more : ℕ) (b n : Standing) → IsSteady header len b → n.clients ≡ b.clients → length n.lines ≡ length b.lines → n.records ≡ b.records → len ≤ more → b.reached ≤ n.reached
     → IsCount header more n.reached → IsSteady header more n
@@ -186,11 +164,6 @@ pub all_stopped : (d : Owner) (r c : ℕ) (o : Offer) (x y : Client) (old now : 
     → length old ≡ length d.clients → Grows old stop_each now → Grows old (stops d ((r, item.Offer c o) ∷ [])) now
 all_stopped d r c o x y old now e free all long g = lines_as old now stop_each (stops d ((r, item.Offer c o) ∷ [])) (λ q l. same q (omega arith)) g
   where
-    at : (q : ℕ) (z : Client) (clients : List Client) → slice_get clients q ≡ Some z → list_all holds clients ≡ true → holds z ≡ true
-    at q z [] f h = absurd cc
-    at zero z (w ∷ clients) f h = ap holds (sym (same_Some w z f)) ∙ and_first (holds w) (list_all holds clients) h
-    at (suc q) z (w ∷ clients) f h = at q z clients f (and_second (holds w) (list_all holds clients) h)
-
     one : (m : Option Offer) (t : Option Bool) → is_some m ≡ true → stop_held (Some (record { held = m; ended = t })) ≡ Stop ∷ []
     one m t f = grind (arith, nat_tests)
 
@@ -198,15 +171,13 @@ all_stopped d r c o x y old now e free all long g = lines_as old now stop_each (
     none m t f = grind (arith, nat_tests)
 
     same : (q : ℕ) → q < length d.clients → stops d ((r, item.Offer c o) ∷ []) q ≡ Stop ∷ []
-    same q l = by (cases_eq q r)
-      where
-        by : (q ≡ r) ⊎ (q ≡ r → ⊥) → stops d ((r, item.Offer c o) ∷ []) q ≡ Stop ∷ []
-        by (inl s) =
-            (λ i. ((ap (λ (k : ℕ). stop_held (slice_get d.clients k)) s ∙ ap stop_held e ∙ none x.held x.ended free) i) ++ ((stop_for_offer r c o q ∙ ap (λ (k : ℕ). put_one r Stop k) s ∙ put_here r Stop) i))
-        by (inr n) =
-            let z = entry_below d.clients q l in
-            let held = at q z.0 (set d.clients r y) (entry_set_other d.clients r q y n ∙ z.1) all in
-            (λ i. ((ap stop_held z.1 ∙ one z.0.held z.0.ended held) i) ++ ((stop_for_offer r c o q ∙ put_other q r Stop n) i))
+    same q l = elim (cases_eq q r) [
+      | inl s ↦ (λ i. ((ap (λ (k : ℕ). stop_held (slice_get d.clients k)) s ∙ ap stop_held e ∙ none x.held x.ended free) i) ++ ((stop_for_offer r c o q ∙ ap (λ (k : ℕ). put_one r Stop k) s ∙ put_here r Stop) i))
+      | inr n ↦
+          let z = entry_below d.clients q l in
+          let held = passes_at holds (set d.clients r y) all q z.0 (entry_set_other d.clients r q y n ∙ z.1) in
+          (λ i. ((ap stop_held z.1 ∙ one z.0.held z.0.ended held) i) ++ ((stop_for_offer r c o q ∙ put_other q r Stop n) i))
+    ]
 
 -- an offer alone that was not done, and the offers that are held
 pub alone_stopped : (r c : ℕ) (o : Offer) (clients same : List Client) (old mid last now : List (End OwnerItem)) → mid ≡ old → same ≡ clients → Grows mid (held_stops same) last → Grows last (put_one r Stop) now

@@ -1,14 +1,10 @@
 -- The offers that are held, one after another.
-use Rattle.file_owner.proofs.Words.{◌≡◌, ℕ, zero, suc, ◌+◌, ◌≤◌, refl, sym, ◌∙◌, ap, subst, inl, inr, ◌⊎◌, List, [], ◌∷◌, ◌++◌, length, map, max, take, drop, set, replicate, true, false, Option, Some, None, arith, length-map, map-append, slice_get, is_some, list_all, AllByRecursion, option_to_list, same_Some, and_first, Header, Batch, Offer, Client, freed, holds, offers_held, IsCount, IsFit, IsRise, some_or_none, AreOfOneKind, HoldAll, HoldSingle, IsSteady, Standing, IsSingleOffer, batches_of, known_of, IsJob, IsOneRise, count_longer, count_max, offers_job, one_rise, rise_brought, known_less, greatest_joined, take_next, nat_tests}
+use Rattle.file_owner.proofs.Words.{◌≡◌, ℕ, suc, ◌+◌, ◌≤◌, refl, sym, ◌∙◌, ap, subst, inr, List, [], ◌∷◌, ◌++◌, length, map, max, take, drop, set, replicate, true, Some, None, arith, length-map, map-append, slice_get, list_all, AllByRecursion, option_to_list, same_Some, and_first, Header, Batch, Offer, Client, freed, holds, offers_held, IsCount, IsFit, IsRise, some_or_none, AreOfOneKind, HoldAll, HoldSingle, IsSteady, Standing, IsSingleOffer, batches_of, known_of, IsJob, IsOneRise, count_longer, count_max, offers_job, one_rise, rise_brought, known_less, greatest_joined, take_next, nat_tests, value_of_some, replicate-append-replicate, filter_map-append, zero}
 use Rattle.nc_base.specs.declared.step.OfferKind.TheVariants as offer
 
 pub all_held : (P : Offer → Type 0) (clients : List Client) → HoldAll P clients → AllByRecursion P (offers_held clients)
 all_held P [] h = tt
-all_held P (x ∷ clients) h = by x.held refl (all_held P clients (λ r y o e f. h (suc r) y o e f))
-  where
-    by : (m : Option Offer) → x.held ≡ m → AllByRecursion P (offers_held clients) → AllByRecursion P (offers_held (record { held = m; ended = x.ended } ∷ clients))
-    by None e rest = rest
-    by (Some o) e rest = (h 0 x o refl e, rest)
+all_held P (x ∷ clients) h = grind (arith, nat_tests, some_or_none x.held, h 0 x, all_held P clients (λ r y o e f. h (suc r) y o e f))
 
 held_few : (clients : List Client) → length (offers_held clients) ≤ length clients
 held_few [] = omega arith
@@ -16,12 +12,8 @@ held_few (x ∷ clients) = grind (arith, nat_tests, held_few clients)
 
 -- ---- clients from which the offers are taken, one after another
 
-offers_joined : (xs ys : List Client) → offers_held (xs ++ ys) ≡ offers_held xs ++ offers_held ys
-offers_joined [] ys = refl
-offers_joined (x ∷ xs) ys = grind (arith, nat_tests, offers_joined xs ys)
-
 offers_next : (clients : List Client) (i : ℕ) (x : Client) → slice_get clients i ≡ Some x → offers_held (take (i + 1) clients) ≡ offers_held (take i clients) ++ option_to_list x.held
-offers_next clients i x e = grind (arith, nat_tests, take_next clients i x e, offers_joined (take i clients) (x ∷ []))
+offers_next clients i x e = grind (arith, nat_tests, take_next clients i x e, filter_map-append (λ (y : Client). y.held) (take i clients) (x ∷ []))
 
 pub batches_on : (clients : List Client) (i : ℕ) (x : Client) (batches more : List Batch) → slice_get clients i ≡ Some x → batches ≡ batches_of (offers_held (take i clients))
     → more ≡ batches ++ batches_of (option_to_list x.held) → more ≡ batches_of (offers_held (take (i + 1) clients))
@@ -47,8 +39,7 @@ freed_on xs now i x y e f g = ap (λ (ss : List Client). set ss i y) f ∙ ap (s
     step xs i h = grind (arith, nat_tests, same_Some)
 
 pub replicate_more : (n : ℕ) (x : Client) → replicate n x ++ x ∷ [] ≡ replicate (n + 1) x
-replicate_more zero x = refl
-replicate_more (suc n) x = let k : suc (n + 1) ≡ suc n + 1 = omega arith in ap (λ (ss : List Client). x ∷ ss) (replicate_more n x) ∙ ap (λ (m : ℕ). replicate m x) k
+replicate_more n x = replicate-append-replicate n 1 x
 
 pub freed_none : (clients : List Client) (r : ℕ) (x : Client) → slice_get (map freed clients) r ≡ Some x → x.held ≡ None
 freed_none (y ∷ clients) (suc r) x e = freed_none clients r x e
@@ -79,16 +70,10 @@ held_once header len x h all single = by_list x.clients h.same all single
   where
     by_list : (clients : List Client) → AreOfOneKind clients → list_all holds clients ≡ true → HoldSingle clients → IsOneRise (known_of (offers_held clients)) (batches_of (offers_held clients))
     by_list [] same a alone = one_rise offer.Solo [] tt tt
-    by_list (y ∷ clients) same a alone = by_held (some_or_none y.held)
-      where
-        none_held : y.held ≡ None → IsOneRise (known_of (offers_held (y ∷ clients))) (batches_of (offers_held (y ∷ clients)))
-        none_held e = let no : holds y ≡ false = ap (λ (m : Option Offer). is_some m) e in let yes = and_first (holds y) (list_all holds clients) a in absurd cc
-
-        by_held : (y.held ≡ None) ⊎ ((o : Offer) × (y.held ≡ Some o)) → IsOneRise (known_of (offers_held (y ∷ clients))) (batches_of (offers_held (y ∷ clients)))
-        by_held (inl e) = none_held e
-        by_held (inr (o, e)) =
-            one_rise o.kind (offers_held (y ∷ clients)) (all_held IsSingleOffer (y ∷ clients) alone)
-            (all_held (λ p. p.kind ≡ o.kind) (y ∷ clients) (λ r z p f g. same r 0 z y p o f refl g e))
+    by_list (y ∷ clients) same a alone =
+        let o = value_of_some y.held (and_first (holds y) (list_all holds clients) a) in
+        one_rise o.0.kind (offers_held (y ∷ clients)) (all_held IsSingleOffer (y ∷ clients) alone)
+        (all_held (λ p. p.kind ≡ o.0.kind) (y ∷ clients) (λ r z p f g. same r 0 z y p o.0 f refl g o.1))
 
 -- ---- when nothing is held any more
 
@@ -96,6 +81,7 @@ pub steady_freed : (header : Header) (len more : ℕ) (x y : Standing) → IsSte
     → IsCount header more y.records → y.reached ≡ max x.reached y.records → IsSteady header more y
 steady_freed header len more x y h clients lines l count reached =
     let long : length y.clients ≡ length x.clients = ap (λ (ss : List Client). length ss) clients ∙ length-map x.clients freed in
+    let none : (r : ℕ) (z : Client) (o : Offer) → slice_get y.clients r ≡ Some z → z.held ≡ Some o → ⊥ = λ r z o e f. grind (arith, nat_tests, freed_none x.clients r z) in
     let few = h.few in
     let each = h.one_each in
     record {
@@ -104,9 +90,6 @@ steady_freed header len more x y h clients lines l count reached =
       count = count;
       reached = subst (λ (n : ℕ). IsCount header more n) (sym reached) (count_max header more x.reached y.records (count_longer header len more x.reached l h.reached) (inr count));
       below = omega arith;
-      held = λ r z o e f. none r z o e f;
-      same = λ r q z w o p e f g k. none r z o e g;
+      held = λ r z o e f. absurd (none r z o e f);
+      same = λ r q z w o p e f g k. absurd (none r z o e g);
     }
-  where
-    none : {A : Type 0} (r : ℕ) (z : Client) (o : Offer) → slice_get y.clients r ≡ Some z → z.held ≡ Some o → A
-    none r z o e f = let no = freed_none x.clients r z (ap (λ (ss : List Client). slice_get ss r) (sym clients) ∙ e) in let never : None ≡ Some o = sym no ∙ f in absurd cc

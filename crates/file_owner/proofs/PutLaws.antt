@@ -1,5 +1,5 @@
 -- Items that are put on lines, one line after another.
-use Rattle.file_owner.proofs.Words.{◌≡◌, ℕ, ◌+◌, ◌<◌, ◌≤◌, refl, sym, ◌∙◌, ap, inl, inr, ◌⊎◌, List, [], ◌∷◌, ◌++◌, length, Bool, true, false, Some, arith, cases_eq, nat_tests, append-nil, slice_get, option_map, nat_lt, ◌==◌, ◌≢◌, Offer, OwnerItem, Stop, with_item, End, own_here, own_other, equal_itself, Grows, put_one, stops_for}
+use Rattle.file_owner.proofs.Words.{◌≡◌, ℕ, ◌+◌, ◌<◌, ◌≤◌, refl, sym, ◌∙◌, List, [], ◌∷◌, ◌++◌, length, true, false, arith, cases_eq, nat_tests, append-nil, slice_get, option_map, nat_lt, ◌==◌, ◌≢◌, Offer, OwnerItem, Stop, with_item, own_here, own_other, equal_itself, Grows, put_one, stops_for}
 use Rattle.nc_base.specs.declared.step.RankItem.TheVariants as item
 use Rattle.file_owner.proofs.AlikeLaws.{lines_as, lines_twice, Lines}
 use Rattle.file_owner.proofs.OwnerRuns.{other_number}
@@ -29,39 +29,16 @@ below n f q = elim (nat_lt q n) [ true ↦ f q | false ↦ [] ]
 below_is : (n q : ℕ) (f : ℕ → List OwnerItem) → q < n → below n f q ≡ f q
 below_is n q f l = grind (arith, nat_tests)
 
-below_not : (n q : ℕ) (f : ℕ → List OwnerItem) → n ≤ q → below n f q ≡ []
-below_not n q f l = grind (arith, nat_tests)
-
-below_next : (n : ℕ) (f : ℕ → List OwnerItem) (q : ℕ) → (q ≡ n → ⊥) → below (n + 1) f q ≡ below n f q
-below_next n f q h = grind (arith, nat_tests)
-
 pub put_below : (old mid now : Lines) (n : ℕ) (f : ℕ → List OwnerItem) (x : OwnerItem) → Grows old (below n f) mid → f n ≡ x ∷ []
     → slice_get now n ≡ option_map (λ end. with_item end x) (slice_get mid n) → ((k : ℕ) → k ≢ n → slice_get now k ≡ slice_get mid k) → length now ≡ length mid → Grows old (below (n + 1) f) now
-put_below old mid now n f x g own here others long = record { long = long ∙ g.long; each = each }
-  where
-    each : (q : ℕ) (end : End OwnerItem) → slice_get old q ≡ Some end → slice_get now q ≡ Some (record { of = end.of; items = end.items ++ below (n + 1) f q })
-    each q end e = by (cases_eq q n)
-      where
-        by : (q ≡ n) ⊎ (q ≡ n → ⊥) → slice_get now q ≡ Some (record { of = end.of; items = end.items ++ below (n + 1) f q })
-        by (inl s) =
-            let first : below n f q ≡ [] = below_not n q f (omega arith) in
-            let next : below (n + 1) f q ≡ x ∷ [] = below_is (n + 1) q f (omega arith) ∙ ap f s ∙ own in
-            let at : slice_get mid n ≡ Some (record { of = end.of; items = end.items }) =
-            ap (slice_get mid) (sym s) ∙ g.each q end e ∙ ap (λ (items : List OwnerItem). Some (record { of = end.of; items = items })) (ap (λ (items : List OwnerItem). end.items ++ items) first ∙ append-nil end.items) in
-            ap (slice_get now) s ∙ here ∙ ap (option_map (λ (l : End OwnerItem). with_item l x)) at
-            ∙ ap (λ (items : List OwnerItem). Some (record { of = end.of; items = end.items ++ items })) (sym next)
-        by (inr m) = others q m ∙ g.each q end e ∙ ap (λ (items : List OwnerItem). Some (record { of = end.of; items = end.items ++ items })) (sym (below_next n f q m))
+put_below old mid now n f x g own here others long = record { long = long ∙ g.long; each = λ q end e. grind (arith, nat_tests, cases_eq q n, g.each q end e, append-nil end.items, others q) }
 
 -- what is put for one number more
 pub one_more : (old mid now : Lines) (n : ℕ) (f : ℕ → List OwnerItem) (own : List OwnerItem) → Grows old (below n f) mid → f n ≡ own
     → Grows mid (λ q. elim (q == n) [ true ↦ own | false ↦ [] ]) now → Grows old (below (n + 1) f) now
-one_more old mid now n f own g same h = lines_as old now (λ q. below n f q ++ elim (q == n) [ true ↦ own | false ↦ [] ]) (below (n + 1) f) (λ q l. joined q) (lines_twice old mid now (below n f) (λ q. elim (q == n) [ true ↦ own | false ↦ [] ]) g h)
-  where
-    at : (t : Bool) (q : ℕ) → (q == n) ≡ t → below n f q ++ elim (q == n) [ true ↦ own | false ↦ [] ] ≡ below n f q ++ elim t [ true ↦ own | false ↦ [] ]
-    at t q e = ap (λ (b : Bool). below n f q ++ elim b [ true ↦ own | false ↦ [] ]) e
-
-    joined : (q : ℕ) → below (n + 1) f q ≡ below n f q ++ elim (q == n) [ true ↦ own | false ↦ [] ]
-    joined q = grind (arith, nat_tests, cases_eq, below_is, at, equal_itself, below_not, below_next, other_number, append-nil)
+one_more old mid now n f own g same h =
+    let joined : (q : ℕ) → below (n + 1) f q ≡ below n f q ++ elim (q == n) [ true ↦ own | false ↦ [] ] = λ q. grind (arith, nat_tests, cases_eq q n, append-nil) in
+    lines_as old now (λ q. below n f q ++ elim (q == n) [ true ↦ own | false ↦ [] ]) (below (n + 1) f) (λ q l. joined q) (lines_twice old mid now (below n f) (λ q. elim (q == n) [ true ↦ own | false ↦ [] ]) g h)
 
 pub all_below : (old now : Lines) (n : ℕ) (f : ℕ → List OwnerItem) → Grows old (below n f) now → length old ≤ n → Grows old f now
 all_below old now n f g l = lines_as old now (below n f) f (λ q low. sym (below_is n q f (omega arith))) g

@@ -1,8 +1,7 @@
 -- What a refused step leaves, as the owner's event has it.
-use Rattle.file_owner.proofs.Words.{◌≡◌, ℕ, ◌<◌, length, refl, sym, ◌∙◌, ap, subst, inl, inr, ◌⊎◌, List, [], ◌∷◌, ◌++◌, max, set, Bool, true, false, Option, Some, None, arith, append-nil, same_Some, slice_get, flat_map, enumerate_from, list_all, byte_len, Batch, MeetKind, Offer, RankItem, StepErr, Memory, after, BothTold, Owner, Event, Client, does_meeting, event, holds, is_strange, meets_if, needed_now, offers_at, offers_held, step_offers, Setting, puts_of, solo, count_width, Arrival, Puts, covered, IsTorn, OwnerStoodAt, at_arrival, between_arrivals, counted, puts_in, torn_by, torn_wider, batches_of, known_of, met, IsOneRise, met_count, met_done, met_torn, event_is, met_is, puts_same, owner_at, HoldSingle, IsSingle, IsSingleOffer, Standing, IsFaultAt, IsRefusedAlone, IsRefusedArrival, IsRefusedTogether, entry_below, client_held, nat_tests, IfSome_then, some_each}
+use Rattle.file_owner.proofs.Words.{◌≡◌, ℕ, ◌<◌, length, refl, sym, ◌∙◌, ap, subst, inl, inr, ◌⊎◌, List, [], ◌∷◌, ◌++◌, max, set, Bool, true, false, Option, Some, None, arith, append-nil, same_Some, slice_get, flat_map, enumerate_from, list_all, byte_len, Batch, MeetKind, Offer, RankItem, StepErr, Memory, after, BothTold, Owner, Client, holds, is_strange, meets_if, needed_now, offers_at, offers_held, step_offers, Setting, puts_of, solo, count_width, Arrival, Puts, covered, IsTorn, OwnerStoodAt, at_arrival, between_arrivals, counted, puts_in, torn_by, torn_wider, batches_of, known_of, met, IsOneRise, met_count, met_done, met_torn, event_is, met_is, puts_same, owner_at, HoldSingle, IsSingle, IsSingleOffer, Standing, IsFaultAt, IsRefusedAlone, IsRefusedArrival, IsRefusedTogether, entry_below, client_held, nat_tests, IfSome_then, some_each}
 use Rattle.nc_base.specs.declared.step.OfferKind.TheVariants as offer
 use Rattle.nc_base.specs.declared.step.RankItem.TheVariants as item
-use Rattle.serial_spec.specs.Torn.{IsLeft}
 use Rattle.file_owner.proofs.ArriveSteps.{offer_event, single_set, with_clients}
 
 -- ---- a number's own step
@@ -19,20 +18,16 @@ pub refused_together : (s : Setting) (b : Standing) (batches : List Batch) (know
 refused_together s b batches known n left e f torn count = grind (arith, nat_tests, puts_same, met_is, met_count)
 
 -- nothing was begun
-pub none_together : (s : Setting) (b : Standing) (n : ℕ) (left : Option (List ℕ)) → left ≡ b.told → n ≡ b.records → IsRefusedTogether s b left n
-none_together s b n left same count =
-    refused_together s b (batches_of (offers_held b.clients)) (known_of (offers_held b.clients)) n left refl refl (by_told b.told same) (inl count)
+pub none_once : (s : Setting) (b : Standing) (n : ℕ) (left : Option (List ℕ)) → left ≡ b.told → n ≡ b.records → HoldSingle b.clients → IsRefusedTogether s b left n
+none_once s b n left same count single =
+    let batches = batches_of (offers_held b.clients) in
+    let known = known_of (offers_held b.clients) in
+    refused_together s b batches known n left refl refl (by_told batches known b.told same) (inl count)
   where
-    batches : List Batch
-    batches = batches_of (offers_held b.clients)
-
-    known : ℕ
-    known = known_of (offers_held b.clients)
-
-    by_told : (m : Option (List ℕ)) → left ≡ m
+    by_told : (batches : List Batch) (known : ℕ) (m : Option (List ℕ)) → left ≡ m
         → BothTold (λ old left. IsTorn (covered s.header (puts_in batches)) (byte_len (count_width s.header.version)) old (met s batches known (counted old b.records)).file left) m left
-    by_told None e = e
-    by_told (Some file) e =
+    by_told batches known None e = e
+    by_told batches known (Some file) e =
         let t = met_torn s batches b.records known file in
         let long = t.long in (
           file,
@@ -42,9 +37,6 @@ none_together s b n left same count =
         )
 
 -- by the steps of the call
-pub none_once : (s : Setting) (b : Standing) (n : ℕ) (left : Option (List ℕ)) → left ≡ b.told → n ≡ b.records → HoldSingle b.clients → IsRefusedTogether s b left n
-none_once s b n left same count single = none_together s b n left same count
-
 pub refused_once : (s : Setting) (b : Standing) (batches : List Batch) (known n : ℕ) (left : Option (List ℕ)) → batches ≡ batches_of (offers_held b.clients) → known ≡ known_of (offers_held b.clients)
     → (HoldSingle b.clients → IsOneRise (known_of (offers_held b.clients)) (batches_of (offers_held b.clients)))
     → (IsOneRise known batches → BothTold (λ old left. IsTorn (covered s.header (puts_in batches)) (byte_len (count_width s.header.version)) old (met s batches known (counted old b.records)).file left) b.told left)
@@ -63,50 +55,31 @@ pub arrival_ended : (s : Setting) (b : Standing) (r n : ℕ) (i : RankItem) (mem
 arrival_ended s b r n i memory left is low same count =
     subst (λ (j : RankItem). IsRefusedArrival s (r, j) b left n) (sym is) (some_each b.told (λ file there.
     let x = entry_below b.clients r low in grind (arith, nat_tests, event_is s (owner_at b file) r (item.Ended memory) x.0 x.1)))
-  where
-    held : List ℕ → List ℕ
-    held file = covered s.header (flat_map puts_of (step_offers (owner_at b file) (r, item.Ended memory)))
 
 -- that brings its number's own step
 pub arrival_alone : (s : Setting) (b : Standing) (r c n : ℕ) (i : RankItem) (o : Offer) (x : Client) (left : Option (List ℕ)) → i ≡ item.Offer c o → slice_get b.clients r ≡ Some x → o.kind ≡ offer.Solo
     → IsRefusedAlone s c (r, o) b left n → IsRefusedArrival s (r, i) b left n
 arrival_alone s b r c n i o x left is e k h =
+    let offers : (file : List ℕ) → step_offers (owner_at b file) (r, item.Offer c o) ≡ (r, o) ∷ [] =
+    λ file. ap (λ (m : Option Client). elim m [ None ↦ [] | Some y ↦ offers_at (owner_at b file) r o y o.kind ]) e ∙ ap (offers_at (owner_at b file) r o x) k in
+    let bytes : (file : List ℕ) → covered s.header (puts_of (r, o)) ≡ covered s.header (flat_map puts_of (step_offers (owner_at b file) (r, item.Offer c o))) =
+    λ file. sym (ap (λ (os : List (ℕ × Offer)). covered s.header (flat_map puts_of os)) (offers file) ∙ ap (λ (ps : Puts). covered s.header ps) (append-nil (puts_of (r, o)))) in
     subst (λ (j : RankItem). IsRefusedArrival s (r, j) b left n) (sym is)
     (IfSome_then b.told h (λ file t. grind (arith, nat_tests, bytes file, offer_event s (owner_at b file) r c o x offer.Solo e k)))
-  where
-    offers : (file : List ℕ) → step_offers (owner_at b file) (r, item.Offer c o) ≡ (r, o) ∷ []
-    offers file = ap (λ (m : Option Client). elim m [ None ↦ [] | Some y ↦ offers_at (owner_at b file) r o y o.kind ]) e ∙ ap (offers_at (owner_at b file) r o x) k
-
-    bytes : (file : List ℕ) → covered s.header (puts_of (r, o)) ≡ covered s.header (flat_map puts_of (step_offers (owner_at b file) (r, item.Offer c o)))
-    bytes file = sym (ap (λ (os : List (ℕ × Offer)). covered s.header (flat_map puts_of os)) (offers file) ∙ ap (λ (ps : Puts). covered s.header ps) (append-nil (puts_of (r, o))))
 
 -- that brings a meeting
 pub arrival_together : (s : Setting) (b : Standing) (r c n : ℕ) (i : RankItem) (o : Offer) (x y : Client) (kind : MeetKind) (left : Option (List ℕ)) → i ≡ item.Offer c o → slice_get b.clients r ≡ Some x
     → y ≡ client_held x o → o.kind ≡ offer.Meet kind → list_all holds (set b.clients r y) ≡ true
     → (HoldSingle (set b.clients r y) → IsRefusedTogether s (with_clients b (set b.clients r y)) left n) → HoldSingle b.clients → IsSingle i → IsRefusedArrival s (r, i) b left n
 arrival_together s b r c n i o x y kind left is e f k all h held single =
+    let own : IsSingleOffer o = subst (λ (j : RankItem). IsSingle j) is single in
+    let alone = single_set b.clients r x y e held (λ p g. subst IsSingleOffer (same_Some o p (sym (ap (λ (z : Client). z.held) f) ∙ g)) own) in
+    let every : list_all holds (set b.clients r (client_held x o)) ≡ true = ap (λ (z : Client). list_all holds (set b.clients r z)) (sym f) ∙ all in
+    let offers : (file : List ℕ) → step_offers (owner_at b file) (r, item.Offer c o) ≡ enumerate_from 0 (offers_held (set b.clients r (client_held x o))) = λ file. grind (arith, nat_tests, set, every) in
     subst (λ (j : RankItem). IsRefusedArrival s (r, j) b left n) (sym is)
-    (IfSome_then b.told (subst (λ (z : Client). IsRefusedTogether s (with_clients b (set b.clients r z)) left n) f (h alone)) (λ file t. (
-      t.0,
-      t.1,
-      subst (λ (os : List (ℕ × Offer)). IsLeft s.header (covered s.header (flat_map puts_of os)) (counted file b.records) (event s (owner_at b file) (r, item.Offer c o)).owner.state t.0 n) (sym (offers file))
-          (subst (λ (ev : Event). IsLeft s.header (covered s.header (flat_map puts_of (enumerate_from 0 (offers_held (set b.clients r (client_held x o)))))) (counted file b.records) ev.owner.state t.0 n) (sym (to file)) t.2),
-    )))
-  where
-    own : IsSingleOffer o
-    own = subst (λ (j : RankItem). IsSingle j) is single
-
-    alone : HoldSingle (set b.clients r y)
-    alone = single_set b.clients r x y e held (λ p g. subst IsSingleOffer (same_Some o p (sym (ap (λ (z : Client). z.held) f) ∙ g)) own)
-
-    every : list_all holds (set b.clients r (client_held x o)) ≡ true
-    every = ap (λ (z : Client). list_all holds (set b.clients r z)) (sym f) ∙ all
-
-    offers : (file : List ℕ) → step_offers (owner_at b file) (r, item.Offer c o) ≡ enumerate_from 0 (offers_held (set b.clients r (client_held x o)))
-    offers file = grind (arith, nat_tests, set, every)
-
-    to : (file : List ℕ) → event s (owner_at b file) (r, item.Offer c o) ≡ does_meeting s (owner_at b file) (set b.clients r (client_held x o))
-    to file = offer_event s (owner_at b file) r c o x (offer.Meet kind) e k ∙ ap (meets_if s (owner_at b file) (set b.clients r (client_held x o))) every
+    (IfSome_then b.told (subst (λ (z : Client). IsRefusedTogether s (with_clients b (set b.clients r z)) left n) f (h alone)) (λ file t.
+    let to = offer_event s (owner_at b file) r c o x (offer.Meet kind) e k ∙ ap (meets_if s (owner_at b file) (set b.clients r (client_held x o))) every in
+    grind (arith, nat_tests, offers file, to)))
 
 -- ---- where the owner stood
 

@@ -1,21 +1,12 @@
 -- What was taken, and the stops for it, one item after another.
-use Rattle.file_owner.proofs.Words.{◌≡◌, ℕ, ◌<◌, refl, sym, ◌∙◌, ap, subst, List, [], ◌∷◌, ◌++◌, map, set, Bool, true, append_assoc, arith, nat_tests, append-nil, filter, nat_lt, list_all, OwnerItem, Stop, RankItem, End, Receiver, own_items, Arrival, is_offer, HasEnd, own_here, Grows, stops_for, HaveEnded, HaveMet, IsMore, own_two, entry_set_other, common_steps, Client, Option, Some, None, length, replicate, stop_held, Offer, suc}
+use Rattle.file_owner.proofs.Words.{◌≡◌, ℕ, ◌<◌, refl, sym, ◌∙◌, ap, subst, List, [], ◌∷◌, ◌++◌, map, set, Bool, true, append_assoc, arith, nat_tests, append-nil, nat_lt, list_all, OwnerItem, Stop, RankItem, End, Receiver, own_items, Arrival, is_offer, HasEnd, own_here, Grows, stops_for, HaveEnded, HaveMet, IsMore, own_two, entry_set_other, Client, Option, length, replicate, stop_held, all_joined, filter-append, map-append, ◌+◌}
 use Rattle.nc_base.specs.declared.step.RankItem.TheVariants as item
 use Rattle.file_owner.proofs.AlikeLaws.{lines_as, lines_twice}
 
 -- ---- items of one number
 
-pub filter_joined : (xs ys : List RankItem) → filter is_offer (xs ++ ys) ≡ filter is_offer xs ++ filter is_offer ys
-filter_joined [] ys = refl
-filter_joined (item.Offer c o ∷ xs) ys = ap (λ (items : List RankItem). item.Offer c o ∷ items) (filter_joined xs ys)
-filter_joined (item.Ended m ∷ xs) ys = filter_joined xs ys
-
-stops_of_joined : (xs ys : List RankItem) → map (λ (i : RankItem). Stop) (xs ++ ys) ≡ map (λ (i : RankItem). Stop) xs ++ map (λ (i : RankItem). Stop) ys
-stops_of_joined [] ys = refl
-stops_of_joined (x ∷ xs) ys = ap (λ (items : List OwnerItem). Stop ∷ items) (stops_of_joined xs ys)
-
 pub stops_joined : (q : ℕ) (xs ys : List Arrival) → stops_for (xs ++ ys) q ≡ stops_for xs q ++ stops_for ys q
-stops_joined q xs ys = grind (arith, nat_tests, own_two, filter_joined, stops_of_joined)
+stops_joined q xs ys = grind (arith, nat_tests, own_two q xs ys, filter-append is_offer, map-append)
 
 -- ---- ends
 
@@ -38,21 +29,20 @@ noted flags arrivals r i j e h = subst (λ (k : RankItem). HaveEnded flags (arri
 
 -- ---- what was taken
 
-all_joined : (n : ℕ) (xs : List Arrival) (a : Arrival) → list_all (λ (b : Arrival). nat_lt b.0 n) xs ≡ true → a.0 < n → list_all (λ (b : Arrival). nat_lt b.0 n) (xs ++ a ∷ []) ≡ true
-all_joined n [] a h l = grind (arith, nat_tests)
-all_joined n (x ∷ xs) a h l = grind (arith, nat_tests, common_steps)
-
 pub more_none : (old : Receiver RankItem) → IsMore old [] old
 more_none old = record { items = sym (append-nil old.items); senders = refl; of = refl; numbers = refl }
 
+pub more_twice : (old mid now : Receiver RankItem) (first more : List Arrival) → IsMore old first mid → IsMore mid more now → IsMore old (first ++ more) now
+more_twice old mid now first more h g = record {
+  items = g.items ∙ ap (λ (xs : List Arrival). xs ++ more) h.items ∙ append_assoc old.items first more;
+  senders = g.senders ∙ h.senders;
+  of = g.of ∙ h.of;
+  numbers = all_joined (λ (a : Arrival). nat_lt a.0 old.senders) first more h.numbers (subst (λ (n : ℕ). list_all (λ (a : Arrival). nat_lt a.0 n) more ≡ true) h.senders g.numbers);
+}
+
 pub more_one : (old mid now : Receiver RankItem) (more : List Arrival) (a : Arrival) → IsMore old more mid → now.items ≡ mid.items ++ a ∷ [] → now.senders ≡ mid.senders → now.of ≡ mid.of → a.0 < mid.senders
     → IsMore old (more ++ a ∷ []) now
-more_one old mid now more a h items senders of low = record {
-  items = items ∙ ap (λ (xs : List Arrival). xs ++ a ∷ []) h.items ∙ append_assoc old.items more (a ∷ []);
-  senders = senders ∙ h.senders;
-  of = of ∙ h.of;
-  numbers = all_joined old.senders more a h.numbers (subst (λ (n : ℕ). a.0 < n) h.senders low);
-}
+more_one old mid now more a h items senders of low = more_twice old mid now more (a ∷ []) h (record { items = items; senders = senders; of = of; numbers = grind (arith, nat_tests) })
 
 pub met_one : (old mid now : Receiver RankItem) (before after last : List (End OwnerItem)) (flags left end : List Bool) (a : Arrival) → HaveMet old mid before after flags left
     → now.items ≡ mid.items ++ a ∷ [] → now.senders ≡ mid.senders → now.of ≡ mid.of → a.0 < mid.senders → Grows after (stops_for (a ∷ [])) last
@@ -70,9 +60,4 @@ stops_are [] = refl
 stops_are (x ∷ xs) = ap (λ (items : List OwnerItem). Stop ∷ items) (stops_are xs)
 
 pub only_stops : (m : Option Client) (xs : List RankItem) → (k : ℕ) × (stop_held m ++ map (λ (i : RankItem). Stop) xs ≡ replicate k Stop)
-only_stops None xs = (length xs, stops_are xs)
-only_stops (Some x) xs = by_held x.held x.ended
-  where
-    by_held : (held : Option Offer) (ended : Option Bool) → (k : ℕ) × (stop_held (Some (record { held = held; ended = ended })) ++ map (λ (i : RankItem). Stop) xs ≡ replicate k Stop)
-    by_held None ended = (length xs, stops_are xs)
-    by_held (Some p) ended = (suc (length xs), ap (λ (items : List OwnerItem). Stop ∷ items) (stops_are xs))
+only_stops m xs = (length (stop_held m) + length xs, grind (arith, nat_tests, stops_are xs))

@@ -1,8 +1,7 @@
 -- What is told of an arrival by the tests on it.
-use Rattle.file_owner.proofs.Words.{◌≡◌, ℕ, zero, suc, ◌+◌, ◌*◌, ◌^◌, ◌<◌, ◌≤◌, refl, sym, ◌∙◌, ap, inl, inr, List, [], ◌∷◌, length, map, set, Bool, true, false, not, ◌&&◌, ◌||◌, Option, Some, None, arith, slice_get, is_some, IfSome, list_all, list_any, or_parts, and_right, not-false, nat_tests, same_Some, and_second, or_false, Header, Post, Direction, MeetKind, Offer, RankItem, In, size_of, Setting, is_sound, is_offer, kind_of_meeting, meeting_kind, offer_of, product, check, is_ok_code, Owner, Event, Client, at_item, bad_batch, differs, event, freed, has_ended, has_held, has_left, holds, is_strange, kind_held, left_behind, meets_if, refused, same_kind, some_true, strange_offer, wrong_length, IsPut, IsSoundOffer, HasOwnElements, own_bytes, ok_is, IsCount, IsFit, fails_at, entry_set, at_in, fails_as_offer, fails_test, leaves_behind, any_passes_from_place, client_held, not_some}
+use Rattle.file_owner.proofs.Words.{◌≡◌, ℕ, zero, suc, ◌*◌, refl, sym, ◌∙◌, ap, List, [], ◌∷◌, length, map, set, Bool, true, false, not, ◌&&◌, ◌||◌, Option, Some, None, arith, slice_get, is_some, IfSome, list_all, list_any, or_parts, and_right, not-false, nat_tests, same_Some, and_second, or_false, Header, Post, Direction, MeetKind, Offer, RankItem, In, size_of, Setting, is_sound, is_offer, meeting_kind, offer_of, product, check, is_ok_code, Owner, Event, Client, at_item, bad_batch, differs, event, freed, has_ended, has_held, has_left, holds, is_strange, kind_held, left_behind, meets_if, refused, same_kind, some_true, strange_offer, wrong_length, IsPut, IsSoundOffer, HasOwnElements, own_bytes, ok_is, IsCount, IsFit, fails_at, entry_set, at_in, fails_as_offer, fails_test, leaves_behind, any_passes_from_place, client_held, not_some, any_member}
 use Rattle.nc_base.specs.declared.answer.Code.TheVariants as code
 use Rattle.nc_base.specs.declared.request.Direction.TheVariants as way
-use Rattle.nc_base.specs.declared.step.MeetKind.TheVariants as meets
 use Rattle.nc_base.specs.declared.step.OfferKind.TheVariants as offer
 use Rattle.nc_base.specs.declared.step.RankItem.TheVariants as item
 use Rattle.join_laws.proofs.StrangeLaws.{event_is, freed_none as none_held}
@@ -27,15 +26,12 @@ none_left (x ∷ clients) h = grind (arith, nat_tests, none_left clients (and_se
 stays : (x : Client) → x.ended ≡ None → has_left x ≡ false
 stays x e = grind (arith, nat_tests)
 
-and_true : (a b : Bool) → b ≡ true → (a && b) ≡ a
-and_true a b e = grind (arith, nat_tests)
-
 meeting_leaves : (s : Setting) (d : Owner) (r : ℕ) (x : Client) (o : Offer) → slice_get d.clients r ≡ Some x → x.ended ≡ None → (there : slice_get (set d.clients r (client_held x o)) r ≡ Some (client_held x o))
     → (t : Bool) → list_all holds (set d.clients r (client_held x o)) ≡ t → left_behind (meets_if s d (set d.clients r (client_held x o)) t).owner.clients ≡ list_any has_left d.clients
 meeting_leaves s d r x o e f there true h =
     and_right (list_any has_left (map freed (set d.clients r (client_held x o)))) (list_any holds (map freed (set d.clients r (client_held x o)))) (none_held (set d.clients r (client_held x o)))
     ∙ sym (none_left (set d.clients r (client_held x o)) h) ∙ any_set has_left d.clients r x (client_held x o) e (stays x f) ∙ or_false (list_any has_left d.clients)
-meeting_leaves s d r x o e f there false h = grind (arith, nat_tests, and_true, set, any_passes_from_place, any_set, stays, or_false)
+meeting_leaves s d r x o e f there false h = grind (arith, nat_tests, set, any_passes_from_place, any_set, stays, or_false)
 
 leaves : (s : Setting) (d : Owner) (r : ℕ) (i : RankItem) (x : Client) → slice_get d.clients r ≡ Some x → x.ended ≡ None → left_behind (at_item s d r x i).owner.clients ≡ leaves_behind d.clients x i
 leaves s d r (item.Ended memory) x e f = grind (arith, nat_tests, any_same, not, set, any_set, stays)
@@ -66,28 +62,13 @@ strange_is s d r i x e =
     four (has_ended (slice_get d.clients r)) (is_offer i && has_held (slice_get d.clients r)) (list_any (λ y. differs (kind_held y) (meeting_kind i)) d.clients)
     (left_behind (event s d (r, i)).owner.clients) (strange_offer s.header d.reached (offer_of i))
     ∙ ap (λ (m : Option Client). has_ended m || (left_behind (event s d (r, i)).owner.clients || ((is_offer i && has_held m) || (list_any (λ y. differs (kind_held y) (meeting_kind i)) d.clients || strange_offer s.header d.reached (offer_of i))))) e
-    ∙ ended_or (is_some x.ended) _ _ (λ f. (λ j. behind f j || offer_tests s.header d.clients d.reached x i j))
-  where
-    behind : is_some x.ended ≡ false → left_behind (event s d (r, i)).owner.clients ≡ leaves_behind d.clients x i
-    behind f = ap (λ (ev : Event). left_behind ev.owner.clients) (event_is s d r i x e) ∙ leaves s d r i x e (not_some x.ended f)
-
--- ---- an arrival that is not strange
-
-pub record Passes (header : Header) (clients : List Client) (reached : ℕ) (x : Client) (o : Offer) : Type 0 where
-  pub free : x.held ≡ None
-  pub kinds : list_any (λ y. differs (kind_held y) (kind_of_meeting o.kind)) clients ≡ false
-  pub known : o.known ≤ reached
-  pub good : bad_batch header o ≡ false
-
-pub passes : (s : Setting) (d : Owner) (r c : ℕ) (o : Offer) (x : Client) → slice_get d.clients r ≡ Some x → is_strange s d (r, item.Offer c o) ≡ false → Passes s.header d.clients d.reached x o
-passes s d r c o x e f = grind (arith, nat_tests, strange_is s d r (item.Offer c o) x e, or_parts, not_some)
+    ∙ ended_or (is_some x.ended) _ _ (λ f.
+    let behind = ap (λ (ev : Event). left_behind ev.owner.clients) (event_is s d r i x e) ∙ leaves s d r i x e (not_some x.ended f) in (λ j. behind j || offer_tests s.header d.clients d.reached x i j))
 
 -- ---- its posts
 
 none_in : {X : Type 0} (p : X → Bool) (xs : List X) (x : X) → list_any p xs ≡ false → In xs x → p x ≡ false
-none_in p [] x h i = absurd i
-none_in p (z ∷ xs) x h (inl e) = ap p (sym e) ∙ (or_parts (p z) (list_any p xs) h).0
-none_in p (z ∷ xs) x h (inr i) = none_in p xs x (or_parts (p z) (list_any p xs) h).1 i
+none_in p xs x h i = grind (arith, nat_tests, any_member p xs x i)
 
 not_refused : (header : Header) (known : ℕ) (way : Direction) (p : Post) → refused header known way p ≡ false → check header p.var p.region known way ≡ code.Ok
 not_refused header known way p e = ok_is (check header p.var p.region known way) (not-false (is_ok_code (check header p.var p.region known way)) e)
@@ -99,21 +80,17 @@ sound_offer : (header : Header) (o : Offer) → is_sound header ≡ true → bad
 sound_offer header o sound e own =
     let a = or_parts (list_any (λ p. refused header o.known way.Put p || wrong_length header p) o.batch.puts || list_any (λ p. refused header o.known way.Get p) o.batch.gets) _ e in
     let b = or_parts (list_any (λ p. refused header o.known way.Put p || wrong_length header p) o.batch.puts) (list_any (λ p. refused header o.known way.Get p) o.batch.gets) a.0 in
+    let put : (p : Post) → In o.batch.puts p → IsPut header o.known p =
+    λ p i. let f = none_in (λ p. refused header o.known way.Put p || wrong_length header p) o.batch.puts p b.0 i in grind (arith, nat_tests, or_parts, not_refused, whole_length, f) in
     record {
-      puts = λ p i. put p (none_in (λ p. refused header o.known way.Put p || wrong_length header p) o.batch.puts p b.0 i);
+      puts = put;
       gets = λ p i. not_refused header o.known way.Get p (none_in (λ p. refused header o.known way.Get p) o.batch.gets p b.1 i);
       own = own_bytes header o.batch.puts sound
-          (λ i p f. (o.known, way.Put, (put p (none_in (λ p. refused header o.known way.Put p || wrong_length header p) o.batch.puts p b.0 (at_in o.batch.puts i p f))).accepted)) own;
+          (λ i p f. (o.known, way.Put, (put p (at_in o.batch.puts i p f)).accepted)) own;
     }
-  where
-    put : (p : Post) → (refused header o.known way.Put p || wrong_length header p) ≡ false → IsPut header o.known p
-    put p f = grind (arith, nat_tests, or_parts, not_refused, whole_length)
-
-few_posts : (header : Header) (o : Offer) → bad_batch header o ≡ false → length o.batch.puts + length o.batch.gets < 2 ^ 32
-few_posts header o e = grind (arith, nat_tests, or_parts)
 
 pub fits : (header : Header) (len reached : ℕ) (o : Offer) → is_sound header ≡ true → bad_batch header o ≡ false → HasOwnElements o.batch.puts → IsCount header len o.known → IsFit header len o
-fits header len reached o sound e own known = record { sound = sound_offer header o sound e own; known = known; few = few_posts header o e }
+fits header len reached o sound e own known = record { sound = sound_offer header o sound e own; known = known; few = grind (arith, nat_tests, or_parts) }
 
 -- ---- its kind
 

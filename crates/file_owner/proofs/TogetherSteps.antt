@@ -49,53 +49,38 @@ pub record Came (s : Setting) (hints : Hints) (b n : Standing) (batches : List B
 pub together : (s : Setting) (hints : Hints) (b n : Standing) (batches : List Batch) (known : ℕ) (pair : Option Pair) (table : List (List (List ℕ)))
     → Came s hints b n batches known pair table → IsTogether hints s b n
 unfolding reply_made
-together s hints b n batches known pair table h = record {
-  more = replies pair n.records table;
-  lines = h.lines;
-  alike = λ file. record {
-    owner = λ i. record { clients = sym h.clients i; met = met_is_more i; state = counted (meeting s offers (counted file b.records)).0.file (count file i); reached = reached_is i };
-    marks = h.order;
-    heard = h.heard ∙ ap (λ (k : ℕ). with_end b.heard ((Meet b.met, k) ∷ [])) (sym (count file));
-    given = λ q l. each_alike s pair (told s (flat_map puts_of (enumerate_from 0 offers))) n.records (meeting s offers (counted file b.records)).0 table offers q same_pair (sym (count file)) fits;
-  };
-  exact = some_each b.told (λ file e.
-      let c = counted file b.records in
-      let left = h.bytes ∙ ap (after (λ file. (met s batches known (counted file b.records)).file)) e in
-      let got = if_some_at (λ x. table ≡ map (λ b. map (get_post s x) b.gets) batches) n.told (met s batches known c).file left h.got in
-      let all = replies_are s (offers_held b.clients) batches known n.records c pair table h.batches_are h.known_is h.pair_is (count_of file) got in
-      record {
-        told = left ∙ ap (λ (d : Counted). Some d.file) (sym (met_is s (offers_held b.clients) batches known c h.batches_are h.known_is));
-        given = λ q l. replies_each pair n.records table q ∙ ap (λ (ys : List reply.Reply). to_each ys q) (sym all);
-        calls = λ alone.
-            if_some_at (λ x. n.calls ≡ with_end b.calls (met_calls hints s batches known (counted x b.records))) b.told file e (h.calls (once alone))
-            ∙ ap (with_end b.calls) (sym (met_calls_are hints s (offers_held b.clients) batches known c h.batches_are h.known_is));
-      });
-  single = grind (arith, nat_tests, freed_none);
-}
-  where
-    offers : List Offer
-    offers = offers_held b.clients
-
-    puts_are : flat_map puts_of (enumerate_from 0 (offers_held b.clients)) ≡ puts_in batches
-    puts_are = puts_same 0 (offers_held b.clients) ∙ ap puts_in (sym h.batches_are)
-
-    same_pair : pair ≡ told s (flat_map puts_of (enumerate_from 0 (offers_held b.clients)))
-    same_pair = h.pair_is ∙ ap (told s) (sym puts_are)
-
-    met_is_more : suc b.met ≡ n.met
-    met_is_more = let e = h.met_more in omega arith
-
-    count_of : (file : List ℕ) → n.records ≡ (met s batches known (counted file b.records)).records
-    count_of file = h.records ∙ sym (raised_records s (counted (after_puts s (puts_in batches) (told s (puts_in batches)) file) b.records) (max (needed_now s (puts_in batches)) known))
-
-    count : (file : List ℕ) → (meeting s (offers_held b.clients) (counted file b.records)).0.records ≡ n.records
-    count file = ap (λ (c : Counted). c.records) (met_is s (offers_held b.clients) batches known (counted file b.records) h.batches_are h.known_is) ∙ sym (count_of file)
-
-    reached_is : max b.reached (needed_now s (flat_map puts_of (enumerate_from 0 (offers_held b.clients)))) ≡ n.reached
-    reached_is = grind (arith, nat_tests, puts_are)
-
-    fits : map lens table ≡ map (λ (o : Offer). map (wanted s.header) o.batch.gets) (offers_held b.clients)
-    fits = grind (arith, nat_tests, map_map)
-
-    once : HoldSingle b.clients → IsOneRise known batches
-    once alone = subst (λ (k : ℕ). IsOneRise k batches) (sym h.known_is) (subst (λ (bs : List Batch). IsOneRise (known_of (offers_held b.clients)) bs) (sym h.batches_are) (h.once alone))
+together s hints b n batches known pair table h =
+    let offers = offers_held b.clients in
+    let fits : map lens table ≡ map (λ (o : Offer). map (wanted s.header) o.batch.gets) (offers_held b.clients) = grind (arith, nat_tests, map_map) in
+    let puts_are : flat_map puts_of (enumerate_from 0 (offers_held b.clients)) ≡ puts_in batches = puts_same 0 (offers_held b.clients) ∙ ap puts_in (sym h.batches_are) in
+    let reached_is : max b.reached (needed_now s (flat_map puts_of (enumerate_from 0 (offers_held b.clients)))) ≡ n.reached = grind (arith, nat_tests, puts_are) in
+    let met_more = h.met_more in
+    let met_is_more : suc b.met ≡ n.met = omega arith in
+    let met_at = λ (file : List ℕ). met_is s (offers_held b.clients) batches known (counted file b.records) h.batches_are h.known_is in
+    let count_of : (file : List ℕ) → n.records ≡ (met s batches known (counted file b.records)).records =
+    λ file. h.records ∙ sym (raised_records s (counted (after_puts s (puts_in batches) (told s (puts_in batches)) file) b.records) (max (needed_now s (puts_in batches)) known)) in
+    let count : (file : List ℕ) → (meeting s (offers_held b.clients) (counted file b.records)).0.records ≡ n.records = λ file. ap (λ (c : Counted). c.records) (met_at file) ∙ sym (count_of file) in
+    record {
+      more = replies pair n.records table;
+      lines = h.lines;
+      alike = λ file. record {
+        owner = λ i. record { clients = sym h.clients i; met = met_is_more i; state = counted (meeting s offers (counted file b.records)).0.file (count file i); reached = reached_is i };
+        marks = h.order;
+        heard = h.heard ∙ ap (λ (k : ℕ). with_end b.heard ((Meet b.met, k) ∷ [])) (sym (count file));
+        given = λ q l.
+            each_alike s pair (told s (flat_map puts_of (enumerate_from 0 offers))) n.records (meeting s offers (counted file b.records)).0 table offers q (h.pair_is ∙ ap (told s) (sym puts_are)) (sym (count file)) fits;
+      };
+      exact = some_each b.told (λ file e.
+          let left = h.bytes ∙ ap (after (λ file. (met s batches known (counted file b.records)).file)) e in
+          let got = if_some_at (λ x. table ≡ map (λ b. map (get_post s x) b.gets) batches) n.told (met s batches known (counted file b.records)).file left h.got in
+          let all = replies_are s (offers_held b.clients) batches known n.records (counted file b.records) pair table h.batches_are h.known_is h.pair_is (count_of file) got in
+          record {
+            told = left ∙ ap (λ (d : Counted). Some d.file) (sym (met_at file));
+            given = λ q l. replies_each pair n.records table q ∙ ap (λ (ys : List reply.Reply). to_each ys q) (sym all);
+            calls = λ alone.
+                if_some_at (λ x. n.calls ≡ with_end b.calls (met_calls hints s batches known (counted x b.records))) b.told file e (h.calls
+                (subst (λ (k : ℕ). IsOneRise k batches) (sym h.known_is) (subst (λ (bs : List Batch). IsOneRise (known_of (offers_held b.clients)) bs) (sym h.batches_are) (h.once alone))))
+                ∙ ap (with_end b.calls) (sym (met_calls_are hints s (offers_held b.clients) batches known (counted file b.records) h.batches_are h.known_is));
+          });
+      single = grind (arith, nat_tests, freed_none);
+    }
