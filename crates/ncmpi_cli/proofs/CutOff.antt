@@ -1,5 +1,5 @@
 -- A run that a fault cut off.
-use Rattle.ncmpi_cli.proofs.Words.{◌≡◌, ℕ, ◌==◌, true, List, [], length, Option, Some, None, inl, inr, sym, ap, subst, ◌∙◌, IfSome, Header, RunEnd, Script, DiskCall, Mark, StepErr, after, BothTold, IsCutRun, HasBegun, HasCut, IsCutFile, IsMadeUnready, MadeCutOff, WasCutOff, script_made, file_at_start, Output, Seen, Asks, IsNotReady, IsReady, IsUnready, not_laid, header-kept, arith, nat_tests}
+use Rattle.ncmpi_cli.proofs.Words.{◌≡◌, ℕ, ◌==◌, true, List, [], length, Option, Some, inl, inr, sym, ap, subst, ◌∙◌, IfSome, IfSome_then, Header, RunEnd, Script, DiskCall, Mark, StepErr, after, BothTold, IsCutRun, HasBegun, HasCut, IsCutFile, IsMadeUnready, MadeCutOff, WasCutOff, script_made, file_at_start, Output, Seen, Asks, IsNotReady, IsReady, IsUnready, not_laid, header-kept, arith, nat_tests}
 use Rattle.ncmpi_cli.proofs.Made.{made_alone, made_fresh}
 use Rattle.ncmpi_cli.proofs.Ran.{at_start, have_begun}
 
@@ -9,19 +9,14 @@ pub cut_file : (fault : StepErr) (script : Script) (header : Header) (held held_
     → order ≡ end.order → end.fault ≡ Some fault → HasCut script header held_mid held_now count end
     → IfSome held (λ file. IsCutFile script header fault (file_at_start script ready.old header file) held_now order)
 cut_file fault script header held held_mid held_now calls calls_mid order count end ready same failed cut =
-    at_start (λ file. IsCutFile script header fault file held_now order) script header held held_mid calls calls_mid ready (of_cut held_mid (cut fault failed))
-  where
-    of_cut : (told : Option (List ℕ))
-        → IfSome told (λ file. (bytes : List ℕ) × (held_now ≡ Some bytes) × IsCutRun script header file fault end.order bytes count end.answers)
-        → IfSome told (λ file. IsCutFile script header fault file held_now order)
-    of_cut None own = tt
-    of_cut (Some file) own = record {
+    at_start (λ file. IsCutFile script header fault file held_now order) script header held held_mid calls calls_mid ready
+    (IfSome_then held_mid (cut fault failed) (λ file own. record {
       left = own.0;
       records = count;
       answers = end.answers;
       held = own.1;
       cut = subst (λ (o : List Mark). IsCutRun script header file fault o own.0 count end.answers) (sym same) own.2;
-    }
+    }))
 
 pub cut_off : (fault : StepErr) (script : Script) (header : Header) (before now : Seen) (held_mid : Option (List ℕ)) (calls_mid : Option (List DiskCall))
     (order : List Mark) (count : ℕ) (end : RunEnd) → Asks before.left script → IsReady script header before.output.held held_mid before.output.calls calls_mid

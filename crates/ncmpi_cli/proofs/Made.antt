@@ -1,8 +1,8 @@
 -- A run of a made script.
-use Rattle.ncmpi_cli.proofs.Words.{◌≡◌, ℕ, ◌≤◌, true, List, [], length, Option, Some, None, ◌⊎◌, refl, sym, ap, ap₂, subst, ◌∙◌, arith, nat_tests, IfSome_then, IfSome, some_not_none, Header, RunEnd, Script, DiskCall, Mark, after, with_end, all_calls, run_calls, IsLegal, layout_fault, End, serial_from, HasBegun, IsRun, seen, has_counts, made_script, summary_text, header_line, layout_line, redef_line, made_counted, made_lawful, made_laid, new_end, RanMade, script_made, summed, end_of_run, file_at_start, Output, align_of, created_header, IsKept, TellsDataset, IsReady, IsOfDataset, line_of, status_of, Stop, file-kept, header-kept, ◌==◌}
+use Rattle.ncmpi_cli.proofs.Words.{◌≡◌, ℕ, ◌≤◌, true, List, [], length, Option, None, ◌⊎◌, refl, sym, ap, ap₂, subst, ◌∙◌, arith, nat_tests, IfSome_then, IfSome, some_not_none, Header, RunEnd, Script, DiskCall, Mark, after, with_end, all_calls, run_calls, IsLegal, End, serial_from, HasBegun, IsRun, seen, has_counts, made_script, summary_text, header_line, layout_line, redef_line, made_counted, made_lawful, made_laid, new_end, RanMade, script_made, summed, end_of_run, file_at_start, Output, created_header, IsKept, TellsDataset, IsReady, IsOfDataset, line_of, status_of, Stop, file-kept, header-kept, ◌==◌}
 use Rattle.dataset_start.specs.declared.stop.Stop.TheVariants as stops
 use Rattle.ncmpi_cli.proofs.Statuses.{by_cause, IsTold}
-use Rattle.ncmpi_cli.proofs.Ran.{all_told, any_end, at_start, if_any, told_end}
+use Rattle.ncmpi_cli.proofs.Ran.{all_told, any_end, at_start, told_end}
 
 -- ---- what is so of the script
 
@@ -27,13 +27,10 @@ module _ (seed size : ℕ) where
   unfolding script_made
   made_alone = refl
 
-  made_fits : layout_fault (script_made seed size).header (align_of (script_made seed size).hints) ≡ None
-  unfolding script_made
-  made_fits = made_laid
-
   -- nothing is told of its layout
   no_line : (held : Option (List ℕ)) (line : List ℕ) → TellsDataset (script_made seed size) held line → ⊥
-  no_line held line t = let told = t.created made_fresh in some_not_none told.0 _ told.1.0 made_fits
+  unfolding script_made
+  no_line held line t = let told = t.created made_fresh in some_not_none told.0 _ told.1.0 made_laid
 
   pub never_told : (script : Script) (held : Option (List ℕ)) (stop : Stop) → script ≡ script_made seed size
       → (status_of stop ≡ 4 → IfSome (line_of stop) (TellsDataset script held)) → status_of stop ≡ 4 → ⊥
@@ -47,14 +44,6 @@ module _ (seed size : ℕ) where
 -- what a run with this header comes to, summed up
 abbrev sums : ℕ → ℕ → Script → Header → List Mark → End → List ℕ
 sums seed size script header order end = summary_text seed size script (record header { records = end.records }) order end.answers
-
--- the text of a run that had no fault
-told_sums : (seed size : ℕ) (script : Script) (header : Header) (held : Option (List ℕ)) (records : ℕ) (end : RunEnd)
-    → IfSome held (λ file. records ≡ (serial_from script header file end.order).records)
-    → IfSome held (λ file. end.answers ≡ (serial_from script header file end.order).answers)
-    → IfSome held (λ file. summary_text seed size script (record header { records = records }) end.order end.answers ≡ sums seed size script header end.order (serial_from script header file end.order))
-told_sums seed size script header None records end r a = tt
-told_sums seed size script header (Some file) records end r a = grind (arith, nat_tests)
 
 -- the headers of a created dataset to which nothing is added are its first one
 one_end : (script : Script) (old header : Header) (order : List Mark) → (length script.extra == 0) ≡ true → old ≡ created_header script → header ≡ created_header script
@@ -91,7 +80,7 @@ made_ran seed size script header before now held_mid calls_mid faults failed rec
       lines = subst (λ (s : Script). IfSome before.held (λ file. text ≡ summed seed size s end.order (new_end s file end.order))) is
           (IfSome_then before.held
           (at_start (λ file. text ≡ sums seed size script header end.order (serial_from script header file end.order)) script header before.held held_mid before.calls calls_mid ready
-          (told_sums seed size script header held_mid records end (if_any held_mid (run.records whole)) (run.answers whole)))
+          (IfSome_then held_mid (run.answers whole) (λ file a i. summary_text seed size script (record header { records = run.records whole file i }) end.order (a i))))
           (λ file t. t ∙ ap₂ (λ (h : Header) (e : End). sums seed size script h end.order e) header_is (one file)));
     })
 

@@ -1,5 +1,5 @@
 -- What is done of a script is a run that ended well.
-use Rattle.ncmpi_cli.proofs.Words.{◌≡◌, ℕ, List, [], ◌++◌, map, Option, Some, None, refl, sym, ap, subst, ◌∙◌, IfSome, Answer, Header, RunEnd, Script, DiskCall, Mark, after, with_end, all_calls, run_calls, End, serial_from, run_text, watch_text, HasBegun, IsRun, AreAlikeEnds, seen, DiskSeen, file_at_start, HaveBegun, Ran, text_of, watched_text, with_counts, Seen, Asks, first_calls, IsReady, arith, nat_tests}
+use Rattle.ncmpi_cli.proofs.Words.{◌≡◌, ℕ, List, [], ◌++◌, map, Option, Some, None, refl, sym, ap, subst, IfSome, Header, RunEnd, Script, DiskCall, Mark, after, with_end, all_calls, run_calls, End, serial_from, run_text, watch_text, HasBegun, IsRun, AreAlikeEnds, seen, DiskSeen, file_at_start, HaveBegun, Ran, text_of, watched_text, with_counts, Seen, Asks, first_calls, IsReady, arith, nat_tests}
 
 -- ---- a file that is told
 
@@ -43,11 +43,7 @@ told_lines : (script : Script) (header : Header) (held : Option (List ℕ)) (rec
     ≡ text_of script header end.order (serial_from script header file end.order) ++ watched_text script header file end.order readings)
 told_lines script header None records end readings pairs r a p w = tt
 told_lines script header (Some file) records end readings pairs r a p w =
-    let last : End = serial_from script header file end.order in
-    ap (λ (n : ℕ). run_text script (record header { records = n }) end.order end.answers end.pending ++ watch_text pairs) r
-    ∙ ap (λ (x : List (List Answer)). run_text script (record header { records = last.records }) end.order x end.pending ++ watch_text pairs) a
-    ∙ ap (λ (x : List ℕ). run_text script (record header { records = last.records }) end.order last.answers x ++ watch_text pairs) p
-    ∙ ap (λ (x : List (List (ℕ × ℕ))). run_text script (record header { records = last.records }) end.order last.answers last.pending ++ watch_text x) w
+    λ i. run_text script (record header { records = r i }) end.order (a i) (p i) ++ watch_text (w i)
 
 -- for any file, and so for one that is told
 pub if_any : {P : List ℕ → Type 0} (held : Option (List ℕ)) → ((file : List ℕ) → P file) → IfSome held P
@@ -92,8 +88,7 @@ pub ran : (script : Script) (header : Header) (before now : Seen) (held_mid : Op
     → Ran before now order readings (run_text script (record header { records = records }) end.order end.answers end.pending ++ watch_text pairs)
 ran script header before now held_mid calls_mid faults failed records end order readings end_readings pairs asks ready taken run whole same same_readings watched =
     let text : List ℕ = run_text script (record header { records = records }) end.order end.answers end.pending ++ watch_text pairs in
-    subst (λ (o : List Mark). Ran before now o readings text) (sym same)
-    (subst (λ (x : List (List ℕ)). Ran before now end.order x text) (sym same_readings)
+    rw (same, same_readings)
     (record {
       script = script;
       old = ready.old;
@@ -115,4 +110,4 @@ ran script header before now held_mid calls_mid faults failed records end order 
       lines = at_start (λ file. text ≡ text_of script header end.order (serial_from script header file end.order) ++ watched_text script header file end.order end_readings)
           script header before.output.held held_mid before.output.calls calls_mid ready
           (told_lines script header held_mid records end end_readings pairs (if_any held_mid (run.records whole)) (run.answers whole) (if_any held_mid (run.pending whole)) watched);
-    }))
+    })
