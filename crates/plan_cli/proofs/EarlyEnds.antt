@@ -1,13 +1,12 @@
 -- What the status of a plan that ends early leaves.
-use Rattle.plan_cli.proofs.Words.{◌≡◌, ℕ, true, false, List, Option, Some, None, inl, inr, ◌⊎◌, refl, subst, arith, IfSome, IsSomeAnd, both_ways, some_not_none, HeaderErr, RedefErr, HasFault, Reads, header_line, layout_line, redef_line, script_line, creation_fault, front, Asks, AsksFor, AsksForBadLayout, HasRedefinitionFault, IsBadDataset, IsBeforeStart, IsFaultyFile, IsFaultyText, IsRight, IsSoundFile, IsWrong, TellsDataset, TellsScript, status_of, Stop, laid-mislaid, of_bad_layout, read-faulty, same_script, LacksDataset, line_of, renamed, IsStoppedBy, IsUnprepared, nat_tests}
+use Rattle.plan_cli.proofs.Words.{◌≡◌, ℕ, true, false, List, Option, Some, None, inl, inr, ◌⊎◌, refl, subst, arith, IfSome, IsSomeAnd, both_ways, some_not_none, header_line, layout_line, redef_line, script_line, creation_fault, Asks, AsksFor, AsksForBadLayout, IsBadDataset, IsBeforeStart, IsFaultyFile, IsFaultyText, IsRight, IsSoundFile, IsWrong, TellsDataset, TellsScript, status_of, Stop, laid-mislaid, of_bad_layout, read-faulty, same_script, LacksDataset, line_of, renamed, IsStoppedBy, IsUnprepared, nat_tests}
 use Rattle.nc_base.specs.declared.script.Script as script_type
 use Rattle.dataset_start.specs.declared.stop.Stop.TheVariants as stops
 
 -- ---- a plan that was given
 
 pub whole : (status : ℕ) → (status ≡ 0) ⊎ (status ≡ 6) → (status ≡ 6 → ⊥) → (status ≡ 0) ⊎ (status ≡ 8)
-whole status (inl s) still = inl s
-whole status (inr s) still = absurd (still s)
+whole status given still = grind (arith, nat_tests)
 
 -- ---- a plan that was not
 
@@ -15,10 +14,6 @@ whole status (inr s) still = absurd (still s)
 pub not_given : (stop : Stop) → (status_of stop ≡ 0 → ⊥) × (status_of stop ≡ 6 → ⊥)
 not_given stops.Usage = (λ s. omega (arith, s), λ s. omega (arith, s))
 not_given stop = (λ s. omega (arith, s), λ s. omega (arith, s))
-
--- two scripts of one text open their dataset both
-opens : (text : List ℕ) (a b : script_type.Script) → Reads text a → Reads text b → a.fresh ≡ false → b.fresh ≡ false
-opens text a b r q f = subst (λ (s : script_type.Script). s.fresh ≡ false) (same_script text a b r q) f
 
 module _ (held named : Option (List ℕ)) (Untouched SourceFailed DatasetFailed : Type 0) where
   abbrev Stopped : Option (List ℕ) → Stop → Type 0
@@ -59,9 +54,7 @@ module _ (held named : Option (List ℕ)) (Untouched SourceFailed DatasetFailed 
   untouched left stops.Usage w b = absurd w
   untouched left (stops.Script e) w b = w.0
   untouched left stops.Source w b = w.0
-  untouched left stop w (inl s) = absurd (omega (arith, s))
-  untouched left stop w (inr (inl s)) = absurd (omega (arith, s))
-  untouched left stop w (inr (inr s)) = absurd (omega (arith, s))
+  untouched left stop w b = absurd (grind (arith, nat_tests))
 
   -- a text with a fault is refused
   pub refused : (left : Option (List ℕ)) (stop : Stop) → Stopped left stop → IsSomeAnd left IsFaultyText → (SourceFailed → ⊥) → (status_of stop ≡ 3) ⊎ (status_of stop ≡ 8)
@@ -82,14 +75,10 @@ module _ (held named : Option (List ℕ)) (Untouched SourceFailed DatasetFailed 
   mislaid (Some text) stops.Memory w a s = inr refl
   mislaid (Some text) stop w a s = inl refl
 
-  -- a dataset of which something is known is named, where it is opened
-  lacking : (P : List ℕ → Type 0) → (named ≡ None → held ≡ None) → named ≡ None → IsSomeAnd held P → ⊥
-  lacking P h n k = subst (λ (o : Option (List ℕ)). IsSomeAnd o P) (h n) k
-
-  -- the fault of a dataset that is opened
+  -- the fault of a dataset that is opened: one of which something is known is named
   not_read : (P : List ℕ → Type 0) → (named ≡ None → held ≡ None) → (DatasetFailed → ⊥) → DatasetFailed ⊎ (named ≡ None) → IsSomeAnd held P → ⊥
   not_read P h d (inl f) k = d f
-  not_read P h d (inr n) k = lacking P h n k
+  not_read P h d (inr n) k = subst (λ (o : Option (List ℕ)). IsSomeAnd o P) (h n) k
 
   -- a dataset with a fault is refused
   pub faulty : (left : Option (List ℕ)) (stop : Stop) → Stopped left stop → (named ≡ None → held ≡ None) → IsSomeAnd left (λ text. AsksFor IsWrong text held) → (SourceFailed → ⊥)
@@ -98,26 +87,23 @@ module _ (held named : Option (List ℕ)) (Untouched SourceFailed DatasetFailed 
   faulty (Some text) stops.Usage w h a s d = absurd w
   faulty (Some text) (stops.Script e) w h a s d = read-faulty text a.0 e a.1 w.1
   faulty (Some text) stops.Source w h a s d = absurd (s w.1)
-  faulty (Some text) stops.Disk w h a s d = absurd (not_read (IsFaultyFile a.0) h d w.1.1.1 (a.2.opened (opens text w.0 a.0 w.1.0 a.1 w.1.1.0)))
+  faulty (Some text) stops.Disk w h a s d =
+      let opens : a.0.fresh ≡ false = subst (λ (s : script_type.Script). s.fresh ≡ false) (same_script text w.0 a.0 w.1.0 a.1) w.1.1.0 in
+      absurd (not_read (IsFaultyFile a.0) h d w.1.1.1 (a.2.opened opens))
   faulty (Some text) stops.Memory w h a s d = inr refl
   faulty (Some text) stop w h a s d = inl refl
 
   -- nothing is wrong with the file, and something is
-  sound-header : (script : script_type.Script) (e : HeaderErr) (h : Option (List ℕ)) → IfSome h (λ file. HasFault (front file) e) → IsSomeAnd h (IsSoundFile script) → ⊥
-  sound-header script e None t n = n
-  sound-header script e (Some file) t n = n.header e t
-
-  sound-redefinition : (script : script_type.Script) (e : RedefErr) (h : Option (List ℕ)) → IfSome h (λ file. HasRedefinitionFault script file e)
-      → IsSomeAnd h (IsSoundFile script) → ⊥
-  sound-redefinition script e None t n = n
-  sound-redefinition script e (Some file) t n = n.redefinition e t
+  sound-and-faulty : (script : script_type.Script) {P : List ℕ → Type 0} (h : Option (List ℕ)) → IfSome h P → IsSomeAnd h (IsSoundFile script) → ((file : List ℕ) → IsSoundFile script file → P file → ⊥) → ⊥
+  sound-and-faulty script None t n never = n
+  sound-and-faulty script (Some file) t n never = never file n t
 
   -- what is wrong with the dataset of a script is not right
   not_right : (script : script_type.Script) (stop : Stop) → IsUnprepared script held named DatasetFailed stop → (named ≡ None → held ≡ None) → (DatasetFailed → ⊥)
       → IsRight script held → status_of stop ≡ 8
   not_right script (stops.Layout e) w h d r = absurd (some_not_none e (creation_fault script) w.1 (r.created w.0))
-  not_right script (stops.Header e) w h d r = absurd (sound-header script e held w.1 (r.opened w.0))
-  not_right script (stops.Redefinition e) w h d r = absurd (sound-redefinition script e held w.1 (r.opened w.0))
+  not_right script (stops.Header e) w h d r = absurd (sound-and-faulty script held w.1 (r.opened w.0) (λ file n t. n.header e t))
+  not_right script (stops.Redefinition e) w h d r = absurd (sound-and-faulty script held w.1 (r.opened w.0) (λ file n t. n.redefinition e t))
   not_right script stops.Disk w h d r = absurd (not_read (IsSoundFile script) h d w.1 (r.opened w.0))
   not_right script stops.Memory w h d r = refl
   not_right script stop w h d r = absurd w

@@ -1,12 +1,10 @@
 -- The end of a plan that is asked for.
-use Rattle.plan_cli.proofs.Words.{◌≡◌, ◌<◌, ℕ, List, None, inl, inr, ◌⊎◌, sym, ◌∙◌, take, arith, IfSome, with_end, Script, Asks, most_taken, TakesAtMost, IsFaultless, status_of, Stop, HasEnded, line_of, Planned, DatasetFailed, GivesLine, Seen, SinkFailed, SourceFailed, IsStoppedBy, Wanted, not_mislaid, not_unread, not_wrong}
+use Rattle.plan_cli.proofs.Words.{nat_tests, ◌≡◌, ◌<◌, ℕ, List, None, inl, inr, ◌⊎◌, sym, ◌∙◌, take, arith, IfSome, with_end, Script, Asks, most_taken, TakesAtMost, IsFaultless, status_of, Stop, HasEnded, line_of, Planned, DatasetFailed, GivesLine, Seen, SinkFailed, SourceFailed, IsStoppedBy, Wanted, not_mislaid, not_unread, not_wrong}
 use Rattle.plan_cli.proofs.EarlyEnds as early
 
 -- what is so of the stop's status, or of want of memory
 by_status : (stop : Stop) (status n : ℕ) → (status ≡ status_of stop) ⊎ (status ≡ 8) → (status_of stop ≡ n) ⊎ (status_of stop ≡ 8) → (status ≡ n) ⊎ (status ≡ 8)
-by_status stop status n (inr e) h = inr e
-by_status stop status n (inl e) (inl h) = inl (e ∙ h)
-by_status stop status n (inl e) (inr h) = inr (e ∙ h)
+by_status stop status n told h = grind (arith, nat_tests)
 
 -- at a status that is not 8 the stop is the cause
 at_status : {Q : Type 0} (stop : Stop) (status n : ℕ) → n < 8 → (status ≡ status_of stop) ⊎ (status ≡ 8) → status ≡ n → (status ≡ status_of stop → status_of stop ≡ n → Q) → Q
@@ -39,8 +37,7 @@ stopped wanted before now Untouched stop status w unheld few told gives =
 
 -- no other status
 no_other : {Q : Type 0} (status n : ℕ) → (status ≡ 0) ⊎ (status ≡ 6) → status ≡ n → (n ≡ 0 → ⊥) → (n ≡ 6 → ⊥) → Q
-no_other status n (inl e) s a b = absurd (a (sym s ∙ e))
-no_other status n (inr e) s a b = absurd (b (sym s ∙ e))
+no_other status n ended s a b = absurd (grind (arith, nat_tests))
 
 -- the text was given, whole or in front, of a script with whose dataset nothing is wrong
 pub given : (wanted : Wanted) (before now : Seen) (Untouched : Type 0) (status : ℕ) (text : List ℕ) (script : Script) → Asks before.left script
