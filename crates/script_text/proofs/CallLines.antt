@@ -1,5 +1,5 @@
 -- The calls of all ranks, printed rank by rank, are read as the same calls.
-use Rattle.script_text.proofs.Words.{filter_map-append, all_joined, is_expressible_call, ◌≡◌, ◌∙◌, ℕ, zero, suc, ◌+◌, ◌≤◌, ◌<◌, List, [], ◌∷◌, ◌++◌, map, length, Bool, true, false, not, nat_lt, refl, ap, append-nil, arith, decimal, list_all, enumerate_from, and_parts, and_from, ne_eqb, Call, call_word, shown_call, Word, Plain, Line, is_comment, is_digit, flat_map-append, nat_tests, AllZip, None, Some, SpellsCall, SpellsCallLine, calls_in, cond, cons_option, is_lawful_call, range_with_len, sym, ◌==◌, lt-ltb, common_steps}
+use Rattle.script_text.proofs.Words.{filter_map-append, all_joined, is_expressible_call, ◌≡◌, ℕ, zero, suc, ◌+◌, ◌≤◌, ◌<◌, List, [], ◌∷◌, ◌++◌, map, length, Bool, true, false, not, nat_lt, refl, ap, append-nil, arith, decimal, list_all, enumerate_from, and_parts, and_from, ne_eqb, Call, call_word, shown_call, Word, Plain, Line, is_comment, is_digit, flat_map-append, nat_tests, AllZip, None, Some, SpellsCall, SpellsCallLine, calls_in, cond, cons_option, is_lawful_call, range_with_len, sym, ◌==◌, lt-ltb, common_steps}
 use Rattle.std.proofs.Common.{flat_map}
 use Rattle.script_text.proofs.Lines.{is_line, spelled, numbered}
 use Rattle.script_text.proofs.Numerals.{decimal_numeral, decimal_plain}
@@ -19,10 +19,9 @@ abbrev pub are_read : List Line → Bool
 are_read lines = list_all (λ (l : Line). list_all is_read (words_of l)) lines
 
 all_said : (wss : List (List Word)) (called : List (ℕ × Call)) → AllZip SpellsCallLine wss called → list_all (list_all is_read) wss ≡ true → list_all (λ (c : ℕ × Call). is_expressible_call c.1) called ≡ true
-all_said [] called h read = grind (arith, nat_tests)
-all_said (ws ∷ wss) [] h read = absurd h
 all_said (ws ∷ wss) ((r, c) ∷ called) ((w, more, are, digits, same, spells), h) read =
     grind (arith, nat_tests, call_named, all_said wss called h, list_all, is_expressible_call)
+all_said wss called h read = grind (arith, nat_tests)
 
 in_rank_said : (r : ℕ) (called : List (ℕ × Call)) → list_all (λ (c : ℕ × Call). is_expressible_call c.1) called ≡ true → list_all is_expressible_call (calls_in r called) ≡ true
 in_rank_said r [] h = refl
@@ -77,9 +76,8 @@ own_shown ranks r (c ∷ cs) low lawful h =
     grind (arith, nat_tests, call_shown, own_shown ranks r cs low a.1 (and_parts (is_expressible_call c) (list_all is_expressible_call cs) h).1, decimal_numeral, digits_no_comment, decimal_plain, call_plain, and_from, not, decimal, line_spells)
 
 pub zip_joined : {A B : Type 0} (R : A → B → Type 0) (xs : List A) (ys : List B) (more : List A) (last : List B) → AllZip R xs ys → AllZip R more last → AllZip R (xs ++ more) (ys ++ last)
-zip_joined R [] ys more last h k = grind (arith, nat_tests)
-zip_joined R (x ∷ xs) [] more last h k = absurd h
 zip_joined R (x ∷ xs) (y ∷ ys) more last h k = (h.0, zip_joined R xs ys more last h.1 k)
+zip_joined R xs ys more last h k = grind (arith, nat_tests)
 
 pub calls_shown : (ranks r : ℕ) (calls : List (List Call)) → r + length calls ≤ 64 → list_all (λ own. list_all (is_lawful_call ranks own.0) own.1) (enumerate_from r calls) ≡ true → are_named calls ≡ true
     → LinesShown (call_lines r calls) (called_from r calls)
@@ -102,8 +100,7 @@ own_in r k (c ∷ cs) = grind (arith, nat_tests, own_in r k cs)
 
 rank_in : (r k : ℕ) (own : List Call) (more : List (List Call)) → calls_in k (called_from r (own ∷ more)) ≡ cond (r == k) own [] ++ calls_in k (called_from (r + 1) more)
 rank_in r k own more =
-    filter_map-append (λ (c : ℕ × Call). cond (c.0 == k) (Some c.1) None) (map (λ (c : Call). (r, c)) own) (called_from (r + 1) more)
-    ∙ ap (λ (cs : List Call). cs ++ calls_in k (called_from (r + 1) more)) (own_in r k own)
+    grind (arith, nat_tests, filter_map-append (λ (c : ℕ × Call). cond (c.0 == k) (Some c.1) None) (map (λ (c : Call). (r, c)) own) (called_from (r + 1) more), own_in r k own)
 
 none_in : (r k : ℕ) (calls : List (List Call)) → k < r → calls_in k (called_from r calls) ≡ []
 none_in r k [] low = refl

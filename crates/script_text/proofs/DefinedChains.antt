@@ -150,17 +150,8 @@ pub record Parts : Type 0 where
 abbrev pub parts : ℕ → List ℕ → List Statement → Parts
 parts i n ss = record { ranks = ranks_in ss; hint = hint_values i ss; fills = fills_in ss; dims = dims_in ss; vars = vars_in ss; own = own_attrs ss; attrs = attrs_of n ss }
 
-abbrev dims_on : List Dim → Parts → Parts
-dims_on ds p = record p { dims = ds ++ p.dims }
-
-abbrev vars_on : List VarLine → Parts → Parts
-vars_on ls p = record p { vars = ls ++ p.vars }
-
-abbrev own_on : List Attr → Parts → Parts
-own_on list p = record p { own = list ++ p.own }
-
-abbrev attrs_on : List Attr → Parts → Parts
-attrs_on list p = record p { attrs = list ++ p.attrs }
+abbrev parts_on : List Dim → List VarLine → List Attr → List Attr → Parts → Parts
+parts_on ds ls own list p = record p { dims = ds ++ p.dims; vars = ls ++ p.vars; own = own ++ p.own; attrs = list ++ p.attrs }
 
 -- the attributes of the variables of a name
 abbrev own_of : List ℕ → List Var → List Attr
@@ -168,25 +159,25 @@ own_of n [] = []
 own_of n (v ∷ vs) = cond (bytes_eq v.name n) v.attrs [] ++ own_of n vs
 
 module _ (i : ℕ) (n : List ℕ) where
-  dims_parts : (ds : List Dim) (more : List Statement) → parts i n (map (λ (d : Dim). DimIs d) ds ++ more) ≡ dims_on ds (parts i n more)
+  dims_parts : (ds : List Dim) (more : List Statement) → parts i n (map (λ (d : Dim). DimIs d) ds ++ more) ≡ parts_on ds [] [] [] (parts i n more)
   dims_parts [] more = refl
-  dims_parts (d ∷ ds) more = ap (dims_on (d ∷ [])) (dims_parts ds more)
+  dims_parts (d ∷ ds) more = ap (parts_on (d ∷ []) [] [] []) (dims_parts ds more)
 
-  vars_parts : (dims : List Dim) (vs : List Var) (more : List Statement) → parts i n (map (λ (v : Var). VarIs (line_for dims v)) vs ++ more) ≡ vars_on (map (line_for dims) vs) (parts i n more)
+  vars_parts : (dims : List Dim) (vs : List Var) (more : List Statement) → parts i n (map (λ (v : Var). VarIs (line_for dims v)) vs ++ more) ≡ parts_on [] (map (line_for dims) vs) [] [] (parts i n more)
   vars_parts dims [] more = refl
-  vars_parts dims (v ∷ vs) more = ap (vars_on (line_for dims v ∷ [])) (vars_parts dims vs more)
+  vars_parts dims (v ∷ vs) more = ap (parts_on [] (line_for dims v ∷ []) [] []) (vars_parts dims vs more)
 
-  own_parts : (list : List Attr) (more : List Statement) → parts i n (map (λ (a : Attr). AttIs None a) list ++ more) ≡ own_on list (parts i n more)
+  own_parts : (list : List Attr) (more : List Statement) → parts i n (map (λ (a : Attr). AttIs None a) list ++ more) ≡ parts_on [] [] list [] (parts i n more)
   own_parts [] more = refl
-  own_parts (a ∷ list) more = ap (own_on (a ∷ [])) (own_parts list more)
+  own_parts (a ∷ list) more = ap (parts_on [] [] (a ∷ []) []) (own_parts list more)
 
-  attrs_parts : (m : List ℕ) (list : List Attr) (more : List Statement) → parts i n (map (λ (a : Attr). AttIs (Some m) a) list ++ more) ≡ attrs_on (cond (bytes_eq m n) list []) (parts i n more)
+  attrs_parts : (m : List ℕ) (list : List Attr) (more : List Statement) → parts i n (map (λ (a : Attr). AttIs (Some m) a) list ++ more) ≡ parts_on [] [] [] (cond (bytes_eq m n) list []) (parts i n more)
   attrs_parts m [] more = grind (arith, nat_tests)
-  attrs_parts m (a ∷ list) more = grind (arith, nat_tests, attrs_parts m list more, parts, attrs_on)
+  attrs_parts m (a ∷ list) more = grind (arith, nat_tests, attrs_parts m list more, parts, parts_on)
 
   all_attrs_parts : (vs : List Var) → parts i n (own_statements vs) ≡ record { ranks = []; hint = []; fills = 0; dims = []; vars = []; own = []; attrs = own_of n vs }
   all_attrs_parts [] = refl
-  all_attrs_parts (v ∷ vs) = attrs_parts v.name v.attrs (own_statements vs) ∙ ap (attrs_on (cond (bytes_eq v.name n) v.attrs [])) (all_attrs_parts vs)
+  all_attrs_parts (v ∷ vs) = attrs_parts v.name v.attrs (own_statements vs) ∙ ap (parts_on [] [] [] (cond (bytes_eq v.name n) v.attrs [])) (all_attrs_parts vs)
 
   pub defined_parts : (h : Header) → parts i n (definition_statements h) ≡ record { ranks = []; hint = []; fills = 0; dims = h.dims ++ []; vars = map (line_for h.dims) h.vars ++ []; own = h.attrs ++ []; attrs = own_of n h.vars }
   defined_parts h = grind (arith, nat_tests, dims_parts h.dims, vars_parts h.dims h.vars, own_parts h.attrs, all_attrs_parts h.vars)

@@ -1,5 +1,5 @@
 -- The hints, as they are printed, and as they are said again.
-use Rattle.script_text.proofs.Words.{eq-eqb, ne_eqb, cond-false, cond-true, ◌+◌, eqb-true, is_within, is_alignment, are_lawful_hints, ◌≡◌, ◌∙◌, ℕ, ◌^◌, ◌≤◌, ◌<◌, List, [], ◌∷◌, ◌++◌, map, Bool, true, false, Option, Some, refl, ap, arith, codes, and_parts, and_from, Hints, OverlapRule, Refuse, Serial, shown_hint, shown_hints, Word, Plain, Within, HintForm, HintRow, flag, rule_number, rule_of, off_or_on, refuse_or_serial, hint_table, hint_of_text, hint_form, shown_value, hint_in, hints_of, nat_tests, suc, zero, drop}
+use Rattle.script_text.proofs.Words.{eq-eqb, ne_eqb, cond-false, cond-true, ◌+◌, eqb-true, is_within, is_alignment, are_lawful_hints, ◌≡◌, ◌∙◌, ℕ, ◌^◌, ◌≤◌, ◌<◌, List, [], ◌∷◌, ◌++◌, map, Bool, true, Option, Some, refl, ap, arith, codes, and_parts, and_from, Hints, OverlapRule, shown_hint, shown_hints, Word, Plain, Within, HintForm, HintRow, flag, rule_number, rule_of, off_or_on, refuse_or_serial, hint_table, hint_of_text, hint_form, shown_value, hint_in, hints_of, nat_tests, suc, zero, drop}
 use Rattle.std.proofs.Common.{flat_map}
 use Rattle.script_spelling.specs.Statements.{Statement, HintIs, hint_value_of}
 use Rattle.script_spelling.specs.Described.{at_most_one, hint_values}
@@ -33,8 +33,7 @@ abbrev pub all_given : Hints → List (Option ℕ)
 all_given h = map (λ v. Some v) (hint_numbers h)
 
 rule_again : (o : OverlapRule) → rule_of (rule_number o) ≡ o
-rule_again Refuse = refl
-rule_again Serial = refl
+rule_again o = grind (arith, nat_tests)
 
 pub hints_again : (ranks : ℕ) (h : Hints) → hints_of ranks (all_given h) ≡ h
 hints_again ranks h = grind (arith, nat_tests, rule_again h.overlap)
@@ -68,12 +67,10 @@ record HintAgain (f : HintForm) (n : ℕ) : Type 0 where
   again : hint_value_of f (shown_value f n) ≡ Some n
 
 flag_told : (b : Bool) → HintAgain off_or_on (flag b)
-flag_told true = record { plain = refl; again = refl }
-flag_told false = record { plain = refl; again = refl }
+flag_told b = grind (arith, nat_tests)
 
 rule_told : (o : OverlapRule) → HintAgain refuse_or_serial (rule_number o)
-rule_told Refuse = record { plain = refl; again = refl }
-rule_told Serial = record { plain = refl; again = refl }
+rule_told o = grind (arith, nat_tests)
 
 abbrev hints_from : ℕ → List ℕ → List Statement
 hints_from i [] = []

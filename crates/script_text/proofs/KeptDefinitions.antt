@@ -1,6 +1,6 @@
 -- The definitions of a script that is read, in their canonical order: each is said again, and may stand behind those before it.
 use Rattle.script_text.proofs.Words.{◌≡◌, ◌∙◌, ℕ, List, [], ◌∷◌, ◌++◌, map, true, false, Some, None, refl, sym, ap, append_assoc, codes, list_any, and_from, or_parts, or_from, list_any-append, AllZip, Attr, Dim, Var, Script, Extra, is_among, Title, same_title, arith, nat_tests, common_steps}
-use Rattle.script_spelling.specs.Statements.{Statement, RanksAre, HintIs, IsFilled, DimIs, VarIs, AttIs, VarLine, VarStands, Stand}
+use Rattle.script_spelling.specs.Statements.{Statement, DimIs, VarIs, AttIs, VarLine, VarStands, Stand}
 use Rattle.script_spelling.specs.Described.{Defines, IsVarOf, dims_in, vars_in, own_attrs, attrs_of, extras_in}
 use Rattle.script_spelling.proofs.Places.{names_shown, more_ids, more_records, bytes_same, bytes_own}
 use Rattle.script_text.proofs.StatementLines.{line_of_var, extra_line, of_extra, Shown, Shows, AllAgain, att_shown}
@@ -16,15 +16,13 @@ var_kept version all dims later names l v attrs e shown stands told =
 vars_kept : (version : ℕ) (all dims : List Dim) (names : List (List ℕ)) (titles : List Title) (f : List ℕ → List Attr) (ss : List Statement) (vs : List Var) → all ≡ dims ++ dims_in ss → AllAgain version ss → Stand false dims names titles ss
     → AllZip (λ (l : VarLine) v. IsVarOf all (f l.name) l v) (vars_in ss) vs → VarChain version all names vs
 vars_kept version all dims names titles f [] vs e again stand told = grind (arith, nat_tests)
-vars_kept version all dims names titles f (RanksAre n ∷ ss) vs e again stand told = vars_kept version all dims names titles f ss vs e again.1 stand told
-vars_kept version all dims names titles f (HintIs i x ∷ ss) vs e again stand told = vars_kept version all dims names titles f ss vs e again.1 stand told
-vars_kept version all dims names titles f (IsFilled ∷ ss) vs e again stand told = vars_kept version all dims names titles f ss vs e again.1 stand.1 told
 vars_kept version all dims names titles f (DimIs d ∷ ss) vs e again stand told = vars_kept version all (dims ++ d ∷ []) names titles f ss vs (e ∙ sym (append_assoc dims (d ∷ []) (dims_in ss))) again.1 stand.1 told
 vars_kept version all dims names titles f (VarIs l ∷ ss) [] e again stand told = absurd told
 vars_kept version all dims names titles f (VarIs l ∷ ss) (v ∷ vs) e again stand told =
     let name : l.name ≡ v.name = sym (ap (λ (w : Var). w.name) told.0.1) in
     grind (arith, nat_tests, vars_kept version all dims (names ++ l.name ∷ []) titles f ss vs e again.1 stand.1 told.1, var_kept version all dims (dims_in ss) names l v (f l.name) e again.0 stand.0 told.0)
 vars_kept version all dims names titles f (AttIs o a ∷ ss) vs e again stand told = vars_kept version all dims names _ f ss vs e again.1 stand.2 told
+vars_kept version all dims names titles f (s ∷ ss) vs e again stand told = vars_kept version all dims names titles f ss vs e again.1 (grind (arith, nat_tests)) told
 
 -- ---- attributes
 
@@ -46,9 +44,6 @@ Kept version front titles ss =
 
 all_kept : (version : ℕ) (front : List Dim) (names : List (List ℕ)) (titles : List Title) (ss : List Statement) → AllAgain version ss → Stand false front names titles ss → Kept version front titles ss
 all_kept version front names titles [] again stand = (tt, λ done h. tt, λ n done h. tt)
-all_kept version front names titles (RanksAre n ∷ ss) again stand = all_kept version front names titles ss again.1 stand
-all_kept version front names titles (HintIs i v ∷ ss) again stand = all_kept version front names titles ss again.1 stand
-all_kept version front names titles (IsFilled ∷ ss) again stand = all_kept version front names titles ss again.1 stand.1
 all_kept version front names titles (DimIs d ∷ ss) again stand = let more = all_kept version (front ++ d ∷ []) names titles ss again.1 stand.1 in ((again.0, stand.0, more.0), more.1, more.2)
 all_kept version front names titles (VarIs l ∷ ss) again stand = all_kept version front _ titles ss again.1 stand.1
 all_kept version front names titles (AttIs None a ∷ ss) again stand =
@@ -56,11 +51,11 @@ all_kept version front names titles (AttIs None a ∷ ss) again stand =
     (more.0, λ done h. (again.0.1, h a.name stand.1, more.1 (done ++ a.name ∷ []) (titled_pushed titles (codes ":") done a.name h)), λ n done h. more.2 n done (titled_more titles (codes ":", a.name) n done h))
 all_kept version front names titles (AttIs (Some m) a ∷ ss) again stand =
     let more = all_kept version front names (titles ++ (m, a.name) ∷ []) ss again.1 stand.2 in grind (arith, common_steps, titled_more titles (m, a.name) (codes ":"), bytes_same m, titled_pushed, more.0, more.1, again.0.1, stand.1, more.2, attrs_of)
+all_kept version front names titles (s ∷ ss) again stand = all_kept version front names titles ss again.1 (grind (arith, nat_tests))
 
 all_attrs_kept : (version : ℕ) (all : List Dim) (f : List ℕ → List Attr) (ls : List VarLine) (vs : List Var) → AllZip (λ (l : VarLine) v. IsVarOf all (f l.name) l v) ls vs → ((n : List ℕ) → AttrChain version [] (f n)) → OwnChains version vs
-all_attrs_kept version all f [] vs told each = grind (arith, nat_tests)
-all_attrs_kept version all f (l ∷ ls) [] told each = absurd told
 all_attrs_kept version all f (l ∷ ls) (v ∷ vs) told each = grind (arith, nat_tests, all_attrs_kept version all f ls vs told.1 each)
+all_attrs_kept version all f ls vs told each = grind (arith, nat_tests)
 
 -- ---- all definitions of a new dataset
 
@@ -76,9 +71,6 @@ ExtrasOk dims names titles es = Shows 5 (map extra_line es) (map of_extra es) ×
 
 pub extras_kept : (dims : List Dim) (names : List (List ℕ)) (titles : List Title) (ss : List Statement) → AllAgain 5 ss → Stand true dims names titles ss → ExtrasOk dims names titles (extras_in ss)
 extras_kept dims names titles [] again stand = ((refl, tt), tt)
-extras_kept dims names titles (RanksAre n ∷ ss) again stand = extras_kept dims names titles ss again.1 stand
-extras_kept dims names titles (HintIs i v ∷ ss) again stand = extras_kept dims names titles ss again.1 stand
-extras_kept dims names titles (IsFilled ∷ ss) again stand = let no : true ≡ false = stand.0 in absurd (cc)
 extras_kept dims names titles (DimIs d ∷ ss) again stand =
     let more = extras_kept (dims ++ d ∷ []) names titles ss again.1 stand.1 in
     ((and_from _ _ again.0.0 more.0.0, (again.0.1, more.0.1)), (stand.0, more.1))
@@ -89,3 +81,4 @@ extras_kept dims names titles (AttIs o a ∷ ss) again stand =
     let more = extras_kept dims names _ ss again.1 stand.2 in
     let first = att_shown 5 o a again.0.0 again.0.1 in
     ((and_from _ _ first.0 more.0.0, (first.1, more.0.1)), (stand.0, stand.1, more.1))
+extras_kept dims names titles (s ∷ ss) again stand = extras_kept dims names titles ss again.1 (grind (arith, nat_tests))

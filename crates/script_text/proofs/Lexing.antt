@@ -61,9 +61,6 @@ pub record IsCut (w : Word) : Type 0 where
   pub seen : is_blank head ≡ false
   pub cut : (tail : List ℕ) → begins_blank tail ≡ true → first_word head (behind ++ tail) ≡ (w, tail)
 
-quoted_again : (text tail : List ℕ) → list_all is_byte text ≡ true → begins_blank tail ≡ true → quoted_word (text_from Between ((flat_map text_char text ++ 34 ∷ []) ++ tail)) ≡ (Quoted text, tail)
-quoted_again text tail h blank = ap quoted_word (text_again text tail h) ∙ cond-true _ _ _ blank
-
 up_to_blank : (cs tail : List ℕ) → list_all is_graphic cs ≡ true → begins_blank tail ≡ true → position_or_len is_blank (cs ++ tail) ≡ length cs
 up_to_blank [] tail h blank = grind (arith, nat_tests)
 up_to_blank (c ∷ cs) tail h blank =
@@ -73,7 +70,7 @@ pub cut : (w : Word) → is_good w ≡ true → IsCut w
 cut (Plain []) h = absurd (cc)
 cut (Plain (c ∷ cs)) h = grind (arith, nat_tests, and_parts, not_blank, up_to_blank, drop_at, take_at, not-true, common_steps)
 cut (Quoted text) h =
-    record { head = 34; behind = flat_map text_char text ++ 34 ∷ []; spelled = refl; seen = refl; cut = λ tail blank. quoted_again text tail h blank }
+    record { head = 34; behind = flat_map text_char text ++ 34 ∷ []; spelled = refl; seen = refl; cut = λ tail blank. ap quoted_word (text_again text tail h) ∙ cond-true _ _ _ blank }
 cut Broken h = absurd (cc)
 
 -- ---- the words of a line

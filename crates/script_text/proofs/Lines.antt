@@ -64,9 +64,6 @@ significant_lines wss h = ap (λ (ls : List (List ℕ)). significant_of (enumera
 abbrev is_ascii : ℕ → Bool
 is_ascii c = nat_lt c 128
 
-ascii_bound : (c : ℕ) → is_ascii c ≡ true → c < 128
-ascii_bound c h = grind (arith, common_steps)
-
 printable_ascii : (c : ℕ) → is_printable c ≡ true → is_ascii c ≡ true
 printable_ascii c h = grind (arith, nat_tests, common_steps)
 
@@ -78,7 +75,7 @@ ascii_lines (ws ∷ wss) h =
 pub valid_lines : (wss : List (List Word)) → list_all is_line wss ≡ true → (utf8_valid_len (flat_map spelled wss) == length (flat_map spelled wss)) ≡ true
 valid_lines wss h =
     let text = flat_map spelled wss in
-    let all : IsAscii text = IsAscii-from_all text (λ k d low. ascii_bound (get_or text k d) (AllPass-from_list_all is_ascii text (ascii_lines wss h) k d low)) in
+    let all : IsAscii text = IsAscii-from_all text (λ k d low. ltb-true (get_or text k d) 128 (AllPass-from_list_all is_ascii text (ascii_lines wss h) k d low)) in
     eq-eqb _ _ (utf8_valid_len-IsUtf8 text (IsUtf8-from_ascii text all))
 
 -- ---- a text that is UTF-8 has bytes

@@ -31,20 +31,16 @@ temps_fit seed r t =
 abbrev is_depth : ℤ → Bool
 is_depth z = nat_lt (unsigned_abs z) (10 ^ 5)
 
-one_depth : (seed t y x : ℕ) → is_depth (precip_at seed t y x) ≡ true
-one_depth seed t y x = grind (arith, nat_tests)
-
 depths_fit : (seed r t : ℕ) → list_all is_depth (precip_band seed r t) ≡ true
 unfolding precip_band
 depths_fit seed r t =
     pieces_pass is_depth (λ y. map (λ x. precip_at seed t y x) (range_with_len 0 360)) (first_row r) (first_row (r + 1) - first_row r)
-    (λ y b. range_passes is_depth (λ x. precip_at seed t y x) 0 360 (λ x c. one_depth seed t y x))
+    (λ y b. range_passes is_depth (λ x. precip_at seed t y x) 0 360 (λ x c. grind (arith, nat_tests)))
 
 -- ---- words can express the calls
 
 some_values : {A : Type 0} (xs : List A) → 1 ≤ length xs → not (is_empty xs) ≡ true
-some_values [] h = absurd (omega arith)
-some_values (x ∷ xs) h = refl
+some_values xs h = grind (arith, nat_tests)
 
 abbrev temp_post : ℕ → ℕ → ℕ → Call
 temp_post seed r t = call.Post (2 * t) Bput (codes "temp") (region_of_band r t) (Bits (temp_band seed r t))
@@ -104,9 +100,6 @@ precip_line seed r t h l = post_line r (2 * t + 1) 15840 57960 (codes "precip") 
 few_words : (r : ℕ) (c : Call) → r < 8 → words_size (call_word c ∷ call_words c) ≤ 60 → Between 0 64 (length (shown_call r c))
 few_words r c h few = grind (arith, nat_tests, small_long r, line_long (decimal r) (call_word c ∷ call_words c), call_words c)
 
-wait_words : words_size (call_word (call.Wait true Every) ∷ call_words (call.Wait true Every)) ≤ 60
-wait_words = omega arith
-
 abbrev shown_calls : ℕ → List Call → List ℕ
 shown_calls r cs = flat_map (shown_call r) cs
 
@@ -114,7 +107,7 @@ record_long : (seed r t : ℕ) → r < 8 → t < 64 → Between 158400 207200 (l
 record_long seed r t h l =
     let precip = shown_call r (precip_post seed r t) in
     let wait = shown_call r (call.Wait true Every) in
-    let three = both_long 0 64 0 64 0 0 wait [] (few_words r (call.Wait true Every) h wait_words) (record { least = omega arith; most = omega arith }) (omega arith) (omega arith) in
+    let three = both_long 0 64 0 64 0 0 wait [] (few_words r (call.Wait true Every) h (omega arith)) (record { least = omega arith; most = omega arith }) (omega arith) (omega arith) in
     let two = both_long 15840 58084 _ _ _ _ precip (wait ++ []) (precip_line seed r t h l) three (omega arith) (omega arith) in
     subst (λ (cs : List Call). Between 158400 207200 (length (shown_calls r cs))) (record_is seed r t (temp_post seed r t) (precip_post seed r t) refl refl)
     (both_long _ _ _ _ _ _ (shown_call r (temp_post seed r t)) (precip ++ (wait ++ [])) (temp_line seed r t h l) two (omega arith) (omega arith))

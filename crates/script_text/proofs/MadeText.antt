@@ -25,20 +25,7 @@ abbrev opening : List ℕ
 opening = line (codes "create" ∷ decimal 1 ∷ []) ++ line (codes "ranks" ∷ decimal 8 ∷ []) ++ shown_hints default_hints ++ shown_definitions made_header ++ line (codes "data" ∷ [])
 
 parts_long : (a b c d e x f : List ℕ) → length (a ++ b ++ c ++ [] ++ [] ++ d ++ e ++ x ++ f) ≡ length (a ++ b ++ c ++ d ++ e) + length x + length f
-parts_long a b c d e x f =
-    let p = a ++ b ++ c in
-    let q = p ++ [] ++ [] ++ d in
-    omega (
-      arith,
-      length-append (q ++ e ++ x) f,
-      length-append (q ++ e) x,
-      length-append q e,
-      length-append (p ++ [] ++ []) d,
-      length-append (p ++ []) [],
-      length-append p [],
-      length-append (p ++ d) e,
-      length-append p d,
-    )
+parts_long a b c d e x f = grind (arith, length-append)
 
 opening_short : nat_le (length opening + length (line (codes "end" ∷ []))) 1000 ≡ true
 unfolding digits

@@ -51,20 +51,8 @@ unsigned_number ds some h = grind (arith, nat_tests, digit_bounds, and_parts, co
 pub number_again : (z : ℤ) → unsigned_abs z < 10 ^ 20 → number_of_text (signed_decimal z) ≡ Some z
 number_again z h = grind (arith, nat_tests, decimal_numeral, unsigned_number, decimal, option_map, natural_again, neg_ℤ)
 
--- what begins a number begins no word of letters
-pub record IsNumberWord (w : List ℕ) : Type 0 where
-  pub head : ℕ
-  pub behind : List ℕ
-  pub spelled : w ≡ head ∷ behind
-  pub low : head ≤ 57
-  pub plain : is_plain w ≡ true
-
-digits_word : (ds : List ℕ) → 0 < length ds → list_all is_digit ds ≡ true → IsNumberWord ds
-digits_word [] some h = absurd (omega arith)
-digits_word (d ∷ ds) some h = record { head = d; behind = ds; spelled = refl; low = (digit_bounds d (and_parts _ _ h).0).1; plain = digits_plain (d ∷ ds) some h }
-
-pub number_word : (z : ℤ) → unsigned_abs z < 10 ^ 20 → IsNumberWord (signed_decimal z)
-number_word z h = grind (arith, nat_tests, decimal_numeral, digits_word, decimal, all_more, digit_bounds, graphic)
+pub number_plain : (z : ℤ) → unsigned_abs z < 10 ^ 20 → is_plain (signed_decimal z) ≡ true
+number_plain z h = grind (arith, nat_tests, decimal_numeral, digits_plain, decimal, all_more, digit_bounds, graphic)
 
 -- ---- bits
 
@@ -113,8 +101,7 @@ is_item [] = false
 is_item (c ∷ cs) = list_all is_item_byte (c ∷ cs)
 
 item_bytes : (w : List ℕ) → is_item w ≡ true → list_all is_item_byte w ≡ true
-item_bytes [] h = refl
-item_bytes (c ∷ cs) h = h
+item_bytes w h = grind (arith, nat_tests)
 
 item_graphic : (w : List ℕ) → is_item w ≡ true → list_all is_graphic w ≡ true
 item_graphic w h = all_more is_item_byte is_graphic (λ c b. (and_parts _ _ b).0) w (item_bytes w h)
@@ -135,10 +122,9 @@ parts_again [] h = refl
 parts_again (w ∷ ws) h = grind (arith, nat_tests, joined 44 (w ∷ ws), some_joined w ws, cut_parts w ws h)
 
 joined_bytes : (ws : List (List ℕ)) → list_all is_item ws ≡ true → list_all is_graphic (joined 44 ws) ≡ true
-joined_bytes [] h = refl
-joined_bytes (w ∷ []) h = item_graphic w (and_parts _ _ h).0
 joined_bytes (w ∷ x ∷ ws) h =
     grind (arith, nat_tests, joined_bytes (x ∷ ws) (and_parts (is_item w) (list_all is_item (x ∷ ws)) h).1, and_parts, all_joined, item_graphic)
+joined_bytes ws h = grind (arith, nat_tests, and_parts, item_graphic)
 
 pub bracketed_plain : (ws : List (List ℕ)) → list_all is_item ws ≡ true → is_plain (bracketed ws) ≡ true
 bracketed_plain ws h = all_joined is_graphic (joined 44 ws) (93 ∷ []) (joined_bytes ws h) refl

@@ -47,27 +47,17 @@ pub record AttrShown (n : List ℕ) (t : NcType) (vs : Values) : Type 0 where
 as_they_are : (n : List ℕ) (t : NcType) (vs : Values) → attr_values (attr_of n t vs) ≡ vs → AreFit (Some t) vs → AttrShown n t vs
 as_they_are n t vs same fit = grind (arith, nat_tests, is_good, values_good, values_spell, list_all)
 
-gathered_numbers : (c : Class) (os : List (Option Value)) → are_numbers c ≡ true → gathered c os ≡ Numbers (map number_in os)
-gathered_numbers c os h = grind (arith, nat_tests)
-
-gathered_text : (c : Class) (os : List (Option Value)) → are_text c ≡ true → gathered c os ≡ Text (map code_in os)
-gathered_text c os h = grind (arith, nat_tests)
-
-gathered_bits : (c : Class) (os : List (Option Value)) → are_patterns c ≡ true → gathered c os ≡ Bits (map code_in os)
-gathered_bits c os h = grind (arith, nat_tests)
-
-no_numbers : (n : List ℕ) (t : NcType) (c : Class) → class_of t ≡ c → value_tokens (gathered c []) ≡ [] → AttrShown n t (Numbers [])
-no_numbers n t c e none =
-    let words = ap (λ (x : Class). value_tokens (gathered x [])) e ∙ none in
-    record { good = ap (list_all is_good) words; told = Numbers []; spells = OfNothing words refl; same = refl }
+gathered_as : (c : Class) (os : List (Option Value))
+    → (are_numbers c ≡ true → gathered c os ≡ Numbers (map number_in os)) × (are_text c ≡ true → gathered c os ≡ Text (map code_in os)) × (are_patterns c ≡ true → gathered c os ≡ Bits (map code_in os))
+gathered_as c os = (λ h. grind (arith, nat_tests), λ h. grind (arith, nat_tests), λ h. grind (arith, nat_tests))
 
 nothing_shown : (n : List ℕ) (t : NcType) (c : Class) → class_of t ≡ c → AttrShown n t (Numbers [])
-nothing_shown n t class.Signed e = no_numbers n t class.Signed e refl
-nothing_shown n t class.Unsigned e = no_numbers n t class.Unsigned e refl
-nothing_shown n t class.Pattern e = no_numbers n t class.Pattern e refl
 nothing_shown n t class.Text e =
     let words = ap (λ (x : Class). value_tokens (gathered x [])) e in
     record { good = ap (list_all is_good) words; told = Text []; spells = OfText [] words (ap are_text e) refl; same = refl }
+nothing_shown n t c e =
+    let words : value_tokens (gathered (class_of t) []) ≡ [] = ap (λ (x : Class). value_tokens (gathered x [])) e in
+    record { good = ap (list_all is_good) words; told = Numbers []; spells = OfNothing words refl; same = refl }
 
 class_numbers : (c : Class) (size : ℕ) (z : ℤ) → fits_in c size (value.Number z) ≡ true → are_numbers c ≡ true
 class_numbers c size z h = grind (arith, nat_tests)
@@ -81,7 +71,7 @@ numbers_shown n t (z ∷ zs) fit =
     let os = seen t (length (z ∷ zs)) (external_bytes t (Numbers (z ∷ zs))) in
     let same : os ≡ map (λ y. Some (value.Number y)) (z ∷ zs) = seen_again t (λ y. value.Number y) (is_fit_number (Some t)) (λ y h. (and_parts _ _ h).1) (z ∷ zs) fit in
     let numbers = class_numbers (class_of t) (size_of t) z (and_parts _ _ (and_parts (is_fit_number (Some t) z) _ fit).0).1 in
-    grind (arith, nat_tests, as_they_are n t (Numbers (z ∷ zs)), gathered_numbers (class_of t) os numbers, number_in, each_back number_in, value.Number)
+    grind (arith, nat_tests, as_they_are n t (Numbers (z ∷ zs)), (gathered_as (class_of t) os).0 numbers, number_in, each_back number_in, value.Number)
 
 bits_shown : (n : List ℕ) (t : NcType) (ns : List ℕ) → AreFit (Some t) (Bits ns) → AttrShown n t (Bits ns)
 bits_shown n t [] fit = absurd (omega (arith, fit.1))
@@ -90,16 +80,13 @@ bits_shown n t (x ∷ xs) fit =
     let os = seen t (length ns) (external_bytes t (Bits ns)) in
     let same : os ≡ map (λ y. Some (value.Bits y)) ns = seen_again t (λ y. value.Bits y) (is_fit_pattern (Some t)) (λ y h. (and_parts _ _ h).1) ns fit.0 in
     let patterns = class_patterns (class_of t) (size_of t) x (and_parts _ _ (and_parts (is_fit_pattern (Some t) x) _ fit.0).0).1 in
-    as_they_are n t (Bits ns) (gathered_bits (class_of t) os patterns ∙ ap (λ (ys : List ℕ). Bits ys) (ap (map code_in) same ∙ each_back code_in (λ y. Some (value.Bits y)) (λ y. refl) ns)) fit
-
-char_fits : (t : NcType) → are_text (class_of t) ≡ true → (c : ℕ) → is_byte c ≡ true → fits t (value.Char c) ≡ true
-char_fits t h c b = grind (arith, nat_tests)
+    as_they_are n t (Bits ns) ((gathered_as (class_of t) os).2 patterns ∙ ap (λ (ys : List ℕ). Bits ys) (ap (map code_in) same ∙ each_back code_in (λ y. Some (value.Bits y)) (λ y. refl) ns)) fit
 
 text_shown : (n : List ℕ) (t : NcType) (cs : List ℕ) → AreFit (Some t) (Text cs) → AttrShown n t (Text cs)
 text_shown n t cs fit =
     let os = seen t (length cs) (external_bytes t (Text cs)) in
-    let same : os ≡ map (λ y. Some (value.Char y)) cs = seen_again t (λ y. value.Char y) is_byte (char_fits t fit.1) cs fit.0 in
-    as_they_are n t (Text cs) (gathered_text (class_of t) os fit.1 ∙ ap (λ (ys : List ℕ). Text ys) (ap (map code_in) same ∙ each_back code_in (λ y. Some (value.Char y)) (λ y. refl) cs)) fit
+    let same : os ≡ map (λ y. Some (value.Char y)) cs = seen_again t (λ y. value.Char y) is_byte (λ c b. grind (arith, nat_tests, fit.1)) cs fit.0 in
+    as_they_are n t (Text cs) ((gathered_as (class_of t) os).1 fit.1 ∙ ap (λ (ys : List ℕ). Text ys) (ap (map code_in) same ∙ each_back code_in (λ y. Some (value.Char y)) (λ y. refl) cs)) fit
 
 values_shown : (n : List ℕ) (t : NcType) (vs : Values) → AreFit (Some t) vs → AttrShown n t vs
 values_shown n t (Numbers zs) fit = numbers_shown n t zs fit

@@ -1,5 +1,5 @@
 -- A call that is printed is read as the same call.
-use Rattle.script_text.proofs.Words.{◌∙◌, nat_lt, and_parts, are_expressible_values, is_expressible_call, HasNoRegion, of_behind, made_behind, ◌≡◌, ℕ, ◌^◌, List, [], ◌∷◌, ◌++◌, Bool, true, None, refl, sym, subst, arith, decimal, list_all, and_from, ltb-true, Values, Numbers, PostKind, Iput, Iget, Bput, Call, Word, Plain, is_name, Family, Requests, Size, Name, Record, Nothing, Behind, CallRow, is_sized, is_expressible_behind, all_joined, Option, Some, SpellsBehind, SpellsCall, SpellsInRow, SpellsPlain, SpellsPosted, ap, are_values, in_row, is_given, is_id, is_lawful_call, is_post_of, length, list_all-append, most_elements, nat_le, of_row, ◌&&◌, nat_tests}
+use Rattle.script_text.proofs.Words.{◌∙◌, nat_lt, and_parts, are_expressible_values, is_expressible_call, HasNoRegion, of_behind, made_behind, ◌≡◌, ℕ, ◌^◌, List, ◌∷◌, ◌++◌, true, None, refl, sym, subst, arith, decimal, list_all, and_from, ltb-true, Values, Numbers, PostKind, Iget, Call, Word, Plain, is_name, Family, Requests, Behind, is_sized, is_expressible_behind, all_joined, SpellsBehind, SpellsCall, SpellsPlain, SpellsPosted, ap, are_values, is_given, is_id, is_lawful_call, is_post_of, length, list_all-append, most_elements, nat_le, of_row, ◌&&◌, nat_tests}
 use Rattle.script_spelling.proofs.Steps.{all_more}
 use Rattle.serial_spec.proofs.MemberLaws.{empty_list}
 use Rattle.script_laws.proofs.Sequences.{is_fit_number}
@@ -11,7 +11,6 @@ use Rattle.script_text.proofs.CallTokens.{tokens_behind, call_tokens, made_token
 use Rattle.nc_base.specs.declared.request.Call.TheVariants as call
 use Rattle.script_spelling.proofs.CallsRead.{apart_spelled, made_spelled}
 use Rattle.serial_spec.proofs.Common.{is_number}
-use Rattle.script_spec.specs.CallTable.{row_of}
 
 -- ---- values of a call that words can express
 
@@ -25,8 +24,7 @@ values_named vs h = grind (arith, nat_tests, all_more, nat_lt)
 
 posted_shown : (k : PostKind) (vs : Values) → is_post_of k vs ≡ true → are_expressible_values vs ≡ true → (list_all is_good (value_tokens vs) ≡ true) × SpellsPosted k (value_tokens vs) vs
 posted_shown Iget vs lawful h = grind (arith, nat_tests, is_good, empty_list)
-posted_shown Iput vs lawful h = let are = values_are vs lawful h in (values_good None vs are, values_spell None vs are)
-posted_shown Bput vs lawful h = let are = values_are vs lawful h in (values_good None vs are, values_spell None vs are)
+posted_shown k vs lawful h = let are = values_are vs lawful h in (values_good None vs are, values_spell None vs are)
 
 posted_named : (k : PostKind) (vs : Values) (ws : List Word) → SpellsPosted k ws vs → list_all is_read ws ≡ true → are_expressible_values vs ≡ true
 posted_named Iget vs ws h read = ap are_expressible_values h.1
@@ -41,18 +39,11 @@ pub record CallShown (c : Call) : Type 0 where
 
 behind_good : (f : Family) (b : Behind f) → is_expressible_behind f b ≡ true → is_sized f b ≡ true → list_all is_good (tokens_behind f b) ≡ true
 behind_good Requests c h sized = choice_good c h
-behind_good Size n h sized = and_from _ _ (size_plain n (ltb-true n (2 ^ 63) sized)) refl
-behind_good Name n h sized = and_from _ _ (name_plain n h) refl
-behind_good Record v h sized = and_from _ _ (name_plain v.0 h) (and_from _ _ (size_plain v.1 (ltb-true v.1 (2 ^ 63) sized)) refl)
-behind_good Nothing u h sized = refl
+behind_good f b h sized = grind (arith, nat_tests, size_plain, name_plain, ltb-true, is_expressible_behind)
 
 behind_spells : (f : Family) (b : Behind f) → is_expressible_behind f b ≡ true → is_sized f b ≡ true → SpellsBehind (tokens_behind f b) f b
 behind_spells Requests c h sized = choice_spells c h
 behind_spells f b h sized = grind (arith, nat_tests, size_again, is_expressible_behind)
-
-behind_named : (f : Family) (b : Behind f) (ws : List Word) → SpellsBehind ws f b → is_expressible_behind f b ≡ true
-behind_named Requests b ws h = grind (arith, nat_tests, each_passed, id_named)
-behind_named f b ws h = grind (arith, nat_tests)
 
 plain_shown : (ranks r : ℕ) (c : Call) → HasNoRegion c → is_lawful_call ranks r c ≡ true → of_behind true is_expressible_behind c ≡ true → CallShown c
 plain_shown ranks r c apart lawful h =
@@ -89,16 +80,7 @@ call_shown ranks r c lawful h = plain_shown ranks r c tt lawful h
 -- ---- a call that words spell is one that words can express
 
 plain_named : (ws : List Word) (c : Call) → SpellsPlain ws c → of_behind true is_expressible_behind c ≡ true
-plain_named ws c h = by_row (row_of c) h
-  where
-    by_seen : (row : CallRow) (o : Option (Behind row.family)) → elim o as (λ _. Type 0) [ None ↦ ws ≡ [] | Some b ↦ SpellsBehind ws row.family b ]
-        → elim o as (λ _. Bool) [ None ↦ true | Some b ↦ is_expressible_behind row.family b ] ≡ true
-    by_seen row None k = refl
-    by_seen row (Some b) k = behind_named row.family b ws k
-
-    by_row : (o : Option CallRow) → elim o as (λ _. Type 0) [ None ↦ ws ≡ [] | Some row ↦ SpellsInRow ws row c ] → elim o as (λ _. Bool) [ None ↦ true | Some row ↦ in_row true is_expressible_behind row c ] ≡ true
-    by_row None k = refl
-    by_row (Some row) k = by_seen row (row.seen c) k
+plain_named ws c h = grind (arith, nat_tests, each_passed, id_named)
 
 rest_read : (front rest ws : List Word) → ws ≡ front ++ rest → list_all is_read ws ≡ true → list_all is_read rest ≡ true
 rest_read front rest ws are read = (and_parts (list_all is_read front) _ (sym (list_all-append is_read front rest) ∙ subst (λ (xs : List Word). list_all is_read xs ≡ true) are read)).1

@@ -21,9 +21,6 @@ abbrev pub length_word : ℕ → List ℕ
 length_word n = cond (n == 0) (codes "unlimited") (decimal n)
 
 -- a length that is read: unlimited, or a number within the limit
-length_is : (version : ℕ) (w : List ℕ) (n : ℕ) → length_of_text version w ≡ Some n → (n ≡ 0) ⊎ (((n == 0) ≡ false) × (n < record_limit version) × (n < 2 ^ 63))
-length_is version w n h = grind (arith, nat_tests, bytes_eq, codes, size_read, nat_lt, common_steps)
-
 pub record LengthAgain (version n : ℕ) : Type 0 where
   pub plain : is_plain (length_word n) ≡ true
   pub again : length_of_text version (length_word n) ≡ Some n
@@ -34,4 +31,4 @@ length_told version n (inr k) =
     grind (arith, nat_tests, size_again n k.2, size_plain n k.2, k.0, below)
 
 pub length_again : (version : ℕ) (w : List ℕ) (n : ℕ) → length_of_text version w ≡ Some n → LengthAgain version n
-length_again version w n h = length_told version n (length_is version w n h)
+length_again version w n h = length_told version n (grind (arith, nat_tests, bytes_eq, codes, size_read, nat_lt, common_steps))

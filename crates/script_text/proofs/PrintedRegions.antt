@@ -1,15 +1,10 @@
 -- Names, regions, ids and choices that are printed are read again.
-use Rattle.script_text.proofs.Words.{◌≡◌, ℕ, ◌^◌, ◌≤◌, ◌<◌, List, [], ◌∷◌, map, length, Bool, true, nat_le, ◌&&◌, Option, Some, Ok, refl, ap, arith, codes, decimal, list_all, and_parts, and_from, ScriptKind, Form, Given, Part, Choice, Every, Listed, most_parts, is_given, size_list, part_words, form_words, choice_words, Word, Plain, list_of_text, reads_as, id_of_text, is_id, is_expressible_choice, nat_tests, Each, SpellsChoice, SpellsForm, SpellsOne, ltb-true, lt-ltb, below, nat_lt, common_steps}
+use Rattle.script_text.proofs.Words.{◌≡◌, ℕ, ◌^◌, ◌≤◌, ◌<◌, List, [], ◌∷◌, map, length, Bool, true, nat_le, ◌&&◌, Some, refl, ap, arith, codes, decimal, list_all, and_parts, and_from, Form, Given, Part, Choice, Every, Listed, most_parts, is_given, size_list, part_words, form_words, choice_words, Word, Plain, list_of_text, id_of_text, is_id, is_expressible_choice, nat_tests, Each, SpellsChoice, SpellsForm, SpellsOne, ltb-true, lt-ltb, below, nat_lt, common_steps}
 use Rattle.std.proofs.Common.{flat_map}
-use Rattle.script_spelling.proofs.Steps.{word_before}
 use Rattle.script_text.proofs.Lexing.{spelling, is_plain, is_good}
 use Rattle.script_text.proofs.Numerals.{size_again, size_plain, is_size, list_again, list_plain}
-use Rattle.script_text.proofs.PrintedValues.{is_read, plain_spelled, each_spells}
+use Rattle.script_text.proofs.PrintedValues.{plain_spelled, each_spells, mapped_good}
 use Rattle.nc_base.specs.declared.request.Form.TheVariants as form
-
--- what was read of the words was read of those that are left
-pub kept : {A : Type 0} (f : List ℕ → Option A) (e : ScriptKind) (ws : List Word) (r : A × List Word) → reads_as f e ws ≡ Ok r → list_all is_read ws ≡ true → list_all is_read r.1 ≡ true
-kept f e ws r h all = grind (arith, nat_tests, word_before, and_parts)
 
 -- ---- lists and parts
 
@@ -63,21 +58,14 @@ pub has_sizes : (g : Given) → is_given g ≡ true → HasSizes g
 has_sizes g h = grind (arith, nat_tests, nat_le, g.imap, g.stride, g.count, g.start)
 
 pub region_good : (f : Form) (g : Given) → HasSizes g → list_all is_good (region_tokens f g) ≡ true
-region_good form.Var g s = refl
-region_good form.Var1 g s = and_from _ _ (list_plain g.start s.start) refl
-region_good form.Vara g s = and_from _ _ (list_plain g.start s.start) (and_from _ _ (list_plain g.count s.count) refl)
-region_good form.Vars g s = and_from _ _ (list_plain g.start s.start) (and_from _ _ (list_plain g.count s.count) (and_from _ _ (list_plain g.stride s.stride) refl))
-region_good form.Varm g s = grind (arith, nat_tests, list_plain, list_all, region_tokens)
 region_good form.Varn g s = and_from _ _ (size_plain (length g.parts) (let few = s.few in omega arith)) (parts_good g.parts s.parts)
+region_good f g s = grind (arith, nat_tests, list_plain, list_all, region_tokens)
 
 pub region_spells : (f : Form) (g : Given) → HasSizes g → SpellsForm f (region_tokens f g) g
 region_spells form.Var g s = tt
 region_spells f g s = grind (arith, nat_tests, list_spells, flat_map, size_again, parts_spell, region_tokens)
 
 -- ---- ids
-
-id_bound : (w : List ℕ) (n : ℕ) → id_of_text w ≡ Some n → n < 2 ^ 32
-id_bound w n h = grind (arith, nat_tests, nat_lt, common_steps)
 
 pub id_again : (n : ℕ) → n < 2 ^ 32 → id_of_text (decimal n) ≡ Some n
 id_again n h = grind (arith, nat_tests, size_again, below)
@@ -86,14 +74,7 @@ pub id_plain : (n : ℕ) → n < 2 ^ 32 → is_plain (decimal n) ≡ true
 id_plain n h = size_plain n (omega arith)
 
 pub id_named : (w : List ℕ) (n : ℕ) → id_of_text w ≡ Some n → is_id n ≡ true
-id_named w n h = lt-ltb n (2 ^ 32) (id_bound w n h)
-
-ids_spell : (ns : List ℕ) → list_all is_id ns ≡ true → Each id_of_text (map (λ n. Plain (decimal n)) ns) ns
-ids_spell ns h = each_spells id_of_text is_id decimal (λ n low. id_again n (ltb-true n (2 ^ 32) low)) ns h
-
-ids_good : (ns : List ℕ) → list_all is_id ns ≡ true → list_all is_good (map (λ n. Plain (decimal n)) ns) ≡ true
-ids_good [] h = refl
-ids_good (n ∷ ns) h = grind (arith, nat_tests, ids_good ns (and_parts (is_id n) (list_all is_id ns) h).1, and_parts, and_from, id_plain, ltb-true)
+id_named w n h = lt-ltb n (2 ^ 32) (grind (arith, nat_tests, nat_lt, common_steps))
 
 -- ---- choices
 
@@ -107,8 +88,8 @@ choice_spelled (Listed ns) = plain_spelled decimal ns
 
 pub choice_good : (c : Choice) → is_expressible_choice c ≡ true → list_all is_good (choice_tokens c) ≡ true
 choice_good Every h = refl
-choice_good (Listed ns) h = ids_good ns h
+choice_good (Listed ns) h = mapped_good is_id decimal (λ n low. id_plain n (ltb-true n (2 ^ 32) low)) ns h
 
 pub choice_spells : (c : Choice) → is_expressible_choice c ≡ true → SpellsChoice (choice_tokens c) c
 choice_spells Every h = refl
-choice_spells (Listed ns) h = ids_spell ns h
+choice_spells (Listed ns) h = each_spells id_of_text is_id decimal (λ n low. id_again n (ltb-true n (2 ^ 32) low)) ns h

@@ -1,11 +1,12 @@
 -- Values that are printed are read as the same values.
-use Rattle.script_text.proofs.Words.{◌≡◌, ℕ, ◌^◌, ◌<◌, List, [], ◌∷◌, map, length, Bool, true, nat_lt, Option, Some, ℤ, unsigned_abs, refl, sym, ap, subst, arith, signed_decimal, list_all, and_parts, and_from, cond-true, sixteens, NcType, Values, Numbers, Text, Bits, hex, shown_values, Word, Plain, Quoted, number_of_text, bits_of_text, are_text, may_be, may_have, number_for, pattern_for, nat_tests, Each, OfBits, OfNothing, OfNumbers, OfText, SpellsValues, ltb-true, lt-ltb}
-use Rattle.script_text.proofs.Lexing.{spelling, is_byte, is_good}
-use Rattle.script_text.proofs.Numerals.{number_word, number_again, bits_again, bits_bound, hex_graphic}
+use Rattle.script_text.proofs.Words.{◌≡◌, ℕ, ◌^◌, ◌<◌, List, [], ◌∷◌, map, length, Bool, true, nat_lt, Option, Some, ℤ, unsigned_abs, refl, sym, ap, subst, arith, signed_decimal, list_all, list_all-map, ◌∙◌, and_parts, and_from, cond-true, sixteens, NcType, Values, Numbers, Text, Bits, hex, shown_values, Word, Plain, Quoted, number_of_text, bits_of_text, are_text, may_be, may_have, number_for, pattern_for, nat_tests, Each, OfBits, OfNothing, OfNumbers, OfText, SpellsValues, ltb-true, lt-ltb}
+use Rattle.script_text.proofs.Lexing.{spelling, is_byte, is_good, is_plain}
+use Rattle.script_text.proofs.Numerals.{number_plain, number_again, bits_again, bits_bound, hex_graphic}
 use Rattle.script_laws.proofs.ValueLaws.{number_small}
 use Rattle.script_laws.proofs.Sequences.{is_fit_number, is_fit_pattern, numbers_fit, patterns_fit}
 use Rattle.nc_base.specs.declared.request.Value.TheVariants as value
 use Rattle.script_spelling.proofs.Rooms.{fit_from}
+use Rattle.script_spelling.proofs.Steps.{all_more}
 
 -- ---- values as they are printed
 
@@ -37,9 +38,8 @@ AreFit t (Bits ns) = (list_all (is_fit_pattern t) ns ≡ true) × (0 < length ns
 
 -- what words that are read spell holds of each that passes it
 pub each_passed : {A : Type 0} (f : List ℕ → Option A) (test : A → Bool) → ((w : List ℕ) (x : A) → f w ≡ Some x → test x ≡ true) → (ws : List Word) (xs : List A) → Each f ws xs → list_all test xs ≡ true
-each_passed f test passes [] xs h = grind (arith, nat_tests)
-each_passed f test passes (w ∷ ws) [] h = absurd h
 each_passed f test passes (w ∷ ws) (x ∷ xs) h = and_from _ _ (passes h.0.0 x h.0.2) (each_passed f test passes ws xs h.1)
+each_passed f test passes ws xs h = grind (arith, nat_tests)
 
 number_fit : (t : Option NcType) (w : List ℕ) (z : ℤ) → number_for t w ≡ Some z → is_fit_number t z ≡ true
 number_fit t w z h = fit_from (number_of_text w) (λ y. may_have t (value.Number y)) (λ y. nat_lt (unsigned_abs y) (10 ^ 20)) z (λ y e. lt-ltb (unsigned_abs y) (10 ^ 20) (number_small w y e)) h
@@ -73,14 +73,10 @@ values_spell t (Bits ns) h = OfBits ns h.1 (each_spells (pattern_for t) (is_fit_
 
 -- ---- they are cut again
 
-numbers_good : (t : Option NcType) (zs : List ℤ) → list_all (is_fit_number t) zs ≡ true → list_all is_good (map (λ z. Plain (signed_decimal z)) zs) ≡ true
-numbers_good t [] h = refl
-numbers_good t (z ∷ zs) h = grind (arith, nat_tests, and_parts, and_from, number_word z, ltb-true, numbers_good t zs)
-
-bits_good : (ns : List ℕ) → list_all is_good (map (λ n. Plain (120 ∷ hex 16 n)) ns) ≡ true
-bits_good [] = refl
-bits_good (n ∷ ns) = and_from _ _ (hex_graphic 16 n) (bits_good ns)
+pub mapped_good : {A : Type 0} (test : A → Bool) (p : A → List ℕ) → ((x : A) → test x ≡ true → is_plain (p x) ≡ true) → (xs : List A) → list_all test xs ≡ true → list_all is_good (map (λ x. Plain (p x)) xs) ≡ true
+mapped_good test p good xs h = list_all-map is_good (λ x. Plain (p x)) xs ∙ all_more test (λ x. is_plain (p x)) good xs h
 
 pub values_good : (t : Option NcType) (vs : Values) → AreFit t vs → list_all is_good (value_tokens vs) ≡ true
-values_good t (Numbers zs) h = numbers_good t zs h
-values_good t vs h = grind (arith, nat_tests, bits_good)
+values_good t (Numbers zs) h = mapped_good (is_fit_number t) signed_decimal (λ z fit. number_plain z (ltb-true (unsigned_abs z) (10 ^ 20) (and_parts _ _ fit).0)) zs h
+values_good t (Bits ns) h = mapped_good (is_fit_pattern t) (λ n. 120 ∷ hex 16 n) (λ n fit. hex_graphic 16 n) ns h.0
+values_good t (Text text) h = and_from _ _ h.0 refl

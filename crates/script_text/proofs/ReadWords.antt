@@ -38,9 +38,8 @@ abbrev WordOk : Word × List ℕ → Type 0
 WordOk w = (is_read w.0 ≡ true) × (are_bytes w.1 ≡ true)
 
 all_dropped : (n : ℕ) (cs : List ℕ) → are_bytes cs ≡ true → are_bytes (drop n cs) ≡ true
-all_dropped zero cs h = h
-all_dropped (suc n) [] h = refl
 all_dropped (suc n) (c ∷ cs) h = all_dropped n cs (and_parts (is_byte c) (are_bytes cs) h).1
+all_dropped n cs h = grind (arith, nat_tests)
 
 first_ok : (c : ℕ) (cs : List ℕ) → are_bytes cs ≡ true → WordOk (first_word c cs)
 first_ok c cs h = grind (arith, nat_tests, text_bytes, all_dropped)

@@ -1,5 +1,5 @@
 -- A script as its lines, which spell what is shown of it.
-use Rattle.script_text.proofs.Words.{◌≡◌, ◌∙◌, ℕ, List, [], ◌∷◌, ◌++◌, map, Bool, true, false, cond, Some, None, refl, ap, append_assoc, append-nil, codes, decimal, enumerate_from, Header, Var, Extra, Script, Call, line, shown, shown_hints, shown_extra, shown_dim, shown_var, shown_attr, shown_call, Word, Plain, flat_map-append, arith, common_steps}
+use Rattle.script_text.proofs.Words.{nat_tests, ◌≡◌, ◌∙◌, ℕ, List, [], ◌∷◌, ◌++◌, map, Bool, true, false, cond, Some, None, refl, ap, append_assoc, append-nil, codes, decimal, enumerate_from, Header, Var, Extra, Script, Call, line, shown, shown_hints, shown_extra, shown_dim, shown_var, shown_attr, shown_call, Word, Plain, flat_map-append, arith, common_steps}
 use Rattle.std.proofs.Common.{flat_map}
 use Rattle.script_text.proofs.Lines.{spelled}
 use Rattle.script_text.proofs.CallLines.{call_lines, calls_spelled}
@@ -60,8 +60,7 @@ abbrev head_text : Bool → ℕ → List ℕ
 head_text fresh version = cond fresh (line (codes "create" ∷ decimal version ∷ [])) (line (codes "open" ∷ []))
 
 head_spelled : (fresh : Bool) (version : ℕ) → spelled (head_words fresh version) ≡ head_text fresh version
-head_spelled true version = refl
-head_spelled false version = refl
+head_spelled fresh version = grind (arith, nat_tests)
 
 regrouped : (a b c d e f g h i j k l : List ℕ) → a ++ ((b ++ (c ++ (d ++ (e ++ (f ++ (g ++ (h ++ i))))))) ++ (j ++ (k ++ l))) ≡ a ++ b ++ c ++ d ++ e ++ (f ++ g ++ h ++ i) ++ j ++ k ++ l
 regrouped a b c d e f g h i j k l = simp append_assoc

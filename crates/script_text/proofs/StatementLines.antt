@@ -1,7 +1,7 @@
 -- Statements that are printed: their words are cut again, and say what they said.
-use Rattle.script_text.proofs.Words.{◌≡◌, ◌∙◌, ℕ, List, [], ◌∷◌, ◌++◌, map, true, Option, Some, refl, ap, codes, list_all, and_parts, and_from, AllZip, all_joined, Attr, Dim, Extra, type_word, line, bracketed, joined, shown_extra, shown_attr, Word, Plain, is_name, type_of, arith, nat_tests, nat_lt, length-append, eq-eqb, get_or_at, lt-ltb, cond-true, take_at}
+use Rattle.script_text.proofs.Words.{◌≡◌, ◌∙◌, ℕ, List, [], ◌∷◌, ◌++◌, map, true, Option, Some, refl, ap, codes, list_all, and_parts, and_from, AllZip, all_joined, Attr, Dim, Extra, type_word, bracketed, joined, shown_extra, shown_attr, Word, Plain, is_name, type_of, arith, nat_tests, nat_lt, length-append, eq-eqb, get_or_at, lt-ltb, cond-true, take_at}
 use Rattle.std.proofs.Common.{flat_map}
-use Rattle.script_spelling.specs.Statements.{Statement, RanksAre, HintIs, IsFilled, DimIs, VarIs, AttIs, VarLine, owner_word, IsOwner, Says}
+use Rattle.script_spelling.specs.Statements.{Statement, DimIs, VarIs, AttIs, VarLine, owner_word, IsOwner, Says}
 use Rattle.script_spelling.proofs.Steps.{all_more}
 use Rattle.script_text.proofs.Lines.{is_line, spelled}
 use Rattle.script_text.proofs.Numerals.{name_plain, name_item, parts_again, bracketed_plain}
@@ -36,16 +36,12 @@ extra_line (extra.Att o a) = line_of_att o a
 pub att_spelled : (o : Option (List ℕ)) (a : Attr) → spelled (line_of_att o a) ≡ shown_attr (owner_word o) a
 att_spelled o a = grind (arith, nat_tests, values_spelled)
 
-extra_spelled : (e : Extra) → spelled (extra_line e) ≡ shown_extra e
-extra_spelled (extra.Dim d) = refl
-extra_spelled e = grind (arith, nat_tests, att_spelled)
-
 pub mapped_spelled : {A : Type 0} (f : A → List ℕ) (g : A → List Word) → ((x : A) → spelled (g x) ≡ f x) → (xs : List A) → flat_map spelled (map g xs) ≡ flat_map f xs
 mapped_spelled f g same [] = refl
 mapped_spelled f g same (x ∷ xs) = ap (λ (text : List ℕ). text ++ flat_map spelled (map g xs)) (same x) ∙ ap (λ (text : List ℕ). f x ++ text) (mapped_spelled f g same xs)
 
 pub extras_spelled : (es : List Extra) → flat_map spelled (map extra_line es) ≡ flat_map shown_extra es
-extras_spelled es = mapped_spelled shown_extra extra_line extra_spelled es
+extras_spelled es = mapped_spelled shown_extra extra_line (λ e. grind (arith, nat_tests, att_spelled)) es
 
 -- ---- they are cut again, and say these
 
@@ -78,14 +74,11 @@ AllAgain version [] = Unit {0}
 AllAgain version (s ∷ ss) = Again version s × AllAgain version ss
 
 one_again : (version : ℕ) (ws : List Word) (s : Statement) → Says version ws s → list_all is_read ws ≡ true → Again version s
-one_again version ws (RanksAre n) says read = tt
-one_again version ws (HintIs i v) says read = tt
-one_again version ws IsFilled says read = tt
 one_again version ws (DimIs d) (w, are, named, told) read = grind (arith, nat_tests, length_again version w d.len told, name_plain)
 one_again version ws (VarIs l) (w, shape, inside, are, kind, named, between, parts_are, dims) read = var_shown version l (type_again version w l.kind kind) named dims
 one_again version ws (AttIs o a) says read = (says.4, attr_again version ws o a says read)
+one_again version ws s says read = tt
 
 pub all_again : (version : ℕ) (wss : List (List Word)) (ss : List Statement) → AllZip (Says version) wss ss → list_all (list_all is_read) wss ≡ true → AllAgain version ss
-all_again version [] ss say read = grind (arith, nat_tests)
-all_again version (ws ∷ wss) [] say read = absurd say
 all_again version (ws ∷ wss) (s ∷ ss) say read = let both = and_parts (list_all is_read ws) _ read in (one_again version ws s say.0 both.0, all_again version wss ss say.1 both.1)
+all_again version wss ss say read = grind (arith, nat_tests)

@@ -1,5 +1,5 @@
 -- A whole script: what is printed of it spells it, and is so read as it.
-use Rattle.script_text.proofs.Words.{◌≡◌, ◌∙◌, ℕ, zero, suc, ◌≤◌, List, [], ◌∷◌, ◌++◌, map, length, Bool, true, false, not, cond, ◌==◌, refl, sym, ap, subst, append_assoc, append-nil, arith, nat_tests, codes, decimal, list_all, list_all-append, list_all-map, AllZip, and_parts, and_from, or_cases, cond-false, ne_eqb, eq-eqb, eqb-true, all_joined, length-map, range_with_len, Dim, Header, Extra, Script, is_version, is_lawful, shown, Word, Plain, text_lines, significant, no_definition, header_of, most_bytes, most_lines, Reads}
+use Rattle.script_text.proofs.Words.{◌≡◌, ◌∙◌, ℕ, zero, suc, ◌≤◌, List, [], ◌∷◌, ◌++◌, map, length, Bool, true, false, not, cond, ◌==◌, refl, sym, ap, subst, append_assoc, append-nil, arith, nat_tests, codes, decimal, list_all, list_all-append, list_all-map, AllZip, and_parts, and_from, or_cases, cond-false, ne_eqb, eq-eqb, eqb-true, all_joined, length-map, range_with_len, Header, Extra, Script, is_version, is_lawful, shown, Word, Plain, text_lines, significant, no_definition, header_of, most_bytes, most_lines, Reads}
 use Rattle.serial_spec.proofs.Common.{lawful_parts}
 use Rattle.script_spelling.specs.Statements.{Statement, RanksAre, IsFilled, VarLine, Stand}
 use Rattle.script_spelling.specs.Described.{IsVarOf, calls_in, ToDataset, ranks_in, hint_values, fills_in, extras_in, attrs_of}
@@ -18,7 +18,6 @@ use Rattle.script_text.proofs.KeptDefinitions.{defined_kept, ExtrasOk, extras_ke
 use Rattle.script_text.proofs.ReadWords.{significant_read}
 use Rattle.script_text.proofs.HintLines.{hint_tokens, hint_statements, all_given, hints_again, hints_once, ranks_told, hints_told, hints_shown}
 use Rattle.script_text.proofs.ScriptLines.{fill_lines, content_lines, before_data, from_data, head_words, all_lines, all_spelled}
-use Rattle.nc_base.specs.declared.script.Extra.TheVariants as extra
 
 -- ---- what is printed says these statements
 
@@ -48,12 +47,10 @@ filled_shown version true wss ss h = (and_from _ _ refl h.0, (refl, h.1))
 filled_shown version false wss ss h = h
 
 filled_stand : (filled : Bool) (ss : List Statement) → Stand false [] [] [] ss → Stand false [] [] [] (fill_statements filled ++ ss)
-filled_stand true ss h = (refl, h)
-filled_stand false ss h = h
+filled_stand filled ss h = grind (arith, nat_tests)
 
 filled_parts : (filled : Bool) (i : ℕ) (n : List ℕ) (ss : List Statement) → fills_in ss ≡ 0 → parts i n (fill_statements filled ++ ss) ≡ record (parts i n ss) { fills = cond filled 1 0 }
-filled_parts true i n ss none = ap (λ (k : ℕ). record (parts i n ss) { fills = suc k }) none
-filled_parts false i n ss none = ap (λ (k : ℕ). record (parts i n ss) { fills = k }) none
+filled_parts filled i n ss none = grind (arith, nat_tests)
 
 new_version : (version : ℕ) → is_version version ≡ true → (version == 0) ≡ false
 new_version zero h = absurd (cc)
@@ -94,9 +91,7 @@ added i ss = (ranks_in ss, hint_values i ss, fills_in ss, extras_in ss)
 
 extras_told : (i : ℕ) (es : List Extra) → added i (map of_extra es ++ []) ≡ ([], [], 0, es)
 extras_told i [] = refl
-extras_told i (extra.Dim d ∷ es) = ap (λ (t : Added). (t.0, t.1, t.2, extra.Dim d ∷ t.3)) (extras_told i es)
-extras_told i (extra.Var t n dims ∷ es) = ap (λ (x : Added). (x.0, x.1, x.2, extra.Var t n dims ∷ x.3)) (extras_told i es)
-extras_told i (extra.Att o a ∷ es) = ap (λ (t : Added). (t.0, t.1, t.2, extra.Att o a ∷ t.3)) (extras_told i es)
+extras_told i (e ∷ es) = grind (arith, nat_tests, extras_told i es)
 
 opened_content : (s : Script) → s.header ≡ header_of 0 no_definition → s.filled ≡ false → ExtrasOk [] [] [] s.extra → Content false s
 opened_content s empty none ok =
