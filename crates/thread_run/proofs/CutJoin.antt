@@ -1,6 +1,6 @@
 -- The owner's run along arrivals of which none was strange, wherever it was cut off: it is the serial run of its order, and each rank
 -- ended where that run's rank goes up to.
-use Rattle.thread_run.proofs.Words.{◌≡◌, ℕ, ◌<◌, ◌≤◌, sym, ◌∙◌, ap, subst, List, [], ◌∷◌, ◌++◌, length, map, replicate, true, Option, Some, None, append_assoc, arith, length-map, length-replicate, list_all-append, slice_get_within, slice_get, fold, nat_lt, list_all, entry_below, entry_replicate, entry_beside, and_first, and_second, Header, Call, Script, Mark, OwnerItem, Stop, Owner, Client, event, free_client, given_along, is_strange, offers_in, own_items, served, Setting, Counted, Arrival, is_sound, opening_owner, run_of, rank_end, Going, after_mark, first_going, setting_of, Begins, HasOffered, sound_small, calls_of, stranger_on, served_on, fold_two, counts_along, owner_told, given_on, mapped_entry, nat_tests, inl, inr, ltb-true}
+use Rattle.thread_run.proofs.Words.{◌≡◌, ℕ, ◌<◌, ◌≤◌, sym, ◌∙◌, ap, subst, List, [], ◌∷◌, ◌++◌, length, map, replicate, true, Option, Some, None, append_assoc, arith, length-map, length-replicate, list_all-append, slice_get_within, fold, nat_lt, list_all, entry_below, entry_replicate, entry_beside, and_first, and_second, Header, Call, Script, Mark, OwnerItem, Stop, Owner, Client, event, free_client, given_along, is_strange, offers_in, own_items, served, Setting, Counted, Arrival, is_sound, opening_owner, run_of, rank_end, Going, after_mark, first_going, setting_of, Begins, HasOffered, sound_small, calls_of, stranger_on, served_on, fold_two, counts_along, owner_told, given_on, mapped_entry, nat_tests, inl, inr, ltb-true}
 use Rattle.list_laws.proofs.Truth.{holds_or_not}
 use Rattle.thread_run.proofs.TellLaws.{count_of, tells_more}
 use Rattle.thread_run.proofs.CutRank.{IsPaired}
@@ -63,32 +63,24 @@ pub cut_run : (script : Script) (header : Header) (file : List ℕ) (first later
     → Ran (setting_of script header) (opening_owner script header file) (map (first_going header) script.calls) first later n (end_of_rank script header taken)
 cut_run script header file first later taken n sound long none offered enough came =
     ran (setting_of script header) first later (opening_owner script header file) (map (first_going header) script.calls) n (end_of_rank script header taken) none
-    (ap (λ (k : ℕ). list_all (λ (a : Arrival). nat_lt a.0 k) first) (length-replicate (length script.calls) free_client ∙ long) ∙ front)
+    (ap (λ (k : ℕ). list_all (λ (a : Arrival). nat_lt a.0 k) first) (length-replicate (length script.calls) free_client ∙ long)
+    ∙ and_first (list_all (λ (a : Arrival). nat_lt a.0 script.ranks) first) _ (sym (list_all-append (λ (a : Arrival). nat_lt a.0 script.ranks) first later) ∙ offered.numbers))
     (record {
       long = length-replicate (length script.calls) free_client ∙ sym (length-map script.calls (first_going header));
-      paired_at = λ q x g a b. paired_at q x g a b;
+      paired_at = λ q x g a b.
+          let own = mapped_entry (first_going header) script.calls q g b in
+          let low : q < script.ranks = (let l = slice_get_within script.calls q own.0 own.1.0 in omega arith) in
+          let its : calls_of script q ≡ own.0 = ap (λ (m : Option (List Call)). elim m [ None ↦ [] | Some cs ↦ cs ]) own.1.0 in
+          subst (λ (p : Client × Going). IsPaired header p.0 p.1 (own_items q (first ++ later)) (given_along (setting_of script header) (opening_owner script header file) first q ++ replicate (n q) Stop) (end_of_rank script header taken q))
+          (λ i. (sym (entry_replicate (length script.calls) q free_client x a) i, own.1.1 i)) (record {
+            back = taken q;
+            begins = came q low;
+            stream = offered.each q own.0 own.1.0;
+            waits = λ o f. let never : None ≡ Some o = f in absurd cc;
+            enough = let k = enough q low in omega arith;
+            ends = ap (λ (cs : List Call). rank_end header (first_going header cs) (taken q)) (sym its);
+          });
       held = λ q x o a h. let free = entry_replicate (length script.calls) q free_client x a in let none : x.held ≡ None = ap (λ (y : Client). y.held) free in absurd cc;
       counted = omega arith;
       small = sound_small header sound;
     })
-  where
-    front : list_all (λ (a : Arrival). nat_lt a.0 script.ranks) first ≡ true
-    front = and_first (list_all (λ (a : Arrival). nat_lt a.0 script.ranks) first) _ (sym (list_all-append (λ (a : Arrival). nat_lt a.0 script.ranks) first later) ∙ offered.numbers)
-
-    paired_at : (q : ℕ) (x : Client) (g : Going) → slice_get (replicate (length script.calls) free_client) q ≡ Some x → slice_get (map (first_going header) script.calls) q ≡ Some g
-        → IsPaired header x g (own_items q (first ++ later)) (given_along (setting_of script header) (opening_owner script header file) first q ++ replicate (n q) Stop) (end_of_rank script header taken q)
-    paired_at q x g a b =
-        let own = mapped_entry (first_going header) script.calls q g b in
-        let low : q < script.ranks = (let l = slice_get_within script.calls q own.0 own.1.0 in omega arith) in
-        let its : calls_of script q ≡ own.0 = ap (λ (m : Option (List Call)). elim m [ None ↦ [] | Some cs ↦ cs ]) own.1.0 in
-        subst (λ (z : Client). IsPaired header z g (own_items q (first ++ later)) (given_along (setting_of script header) (opening_owner script header file) first q ++ replicate (n q) Stop) (end_of_rank script header taken q))
-        (sym (entry_replicate (length script.calls) q free_client x a))
-        (subst (λ (z : Going). IsPaired header free_client z (own_items q (first ++ later)) (given_along (setting_of script header) (opening_owner script header file) first q ++ replicate (n q) Stop) (end_of_rank script header taken q))
-        own.1.1 (record {
-          back = taken q;
-          begins = came q low;
-          stream = offered.each q own.0 own.1.0;
-          waits = λ o f. let never : None ≡ Some o = f in absurd cc;
-          enough = let k = enough q low in omega arith;
-          ends = ap (λ (cs : List Call). rank_end header (first_going header cs) (taken q)) (sym its);
-        }))

@@ -1,6 +1,7 @@
 -- One rank, of whose items the owner saw a beginning.
-use Rattle.thread_run.proofs.Words.{◌≡◌, ℕ, zero, suc, ◌+◌, ◌≤◌, refl, sym, ◌∙◌, ap, inl, inr, List, [], ◌∷◌, ◌++◌, length, replicate, Bool, true, false, Option, Some, None, arith, Header, Offer, OwnerItem, Reply, Stop, RankItem, Client, offers_in, is_offer, end_by, fits_offer, offered_by, waiting, waiting_end, Going, advance, hears, Begins, IsBeginning, ends_once, client_end, to_come, waiting_end_reply, waiting_reply, one_if, nat_tests}
+use Rattle.thread_run.proofs.Words.{length-append, ◌≡◌, ℕ, zero, suc, ◌+◌, ◌≤◌, refl, sym, ◌∙◌, ap, inl, inr, List, [], ◌∷◌, ◌++◌, length, replicate, Bool, true, false, Option, Some, None, arith, Header, Offer, OwnerItem, Reply, Stop, RankItem, Client, offers_in, is_offer, end_by, fits_offer, offered_by, waiting, waiting_end, Going, advance, hears, Begins, IsBeginning, ends_once, client_end, to_come, waiting_end_reply, waiting_reply, one_if, nat_tests}
 use Rattle.nc_base.specs.declared.step.RankItem.TheVariants as item
+use Rattle.std.proofs.lemmas.Grind.{common_steps}
 use Rattle.nc_base.specs.declared.step.Reply as reply
 
 -- ---- a beginning of what a rank puts
@@ -8,8 +9,7 @@ use Rattle.nc_base.specs.declared.step.Reply as reply
 begin_first : (i j : RankItem) (items whole : List RankItem) → is_offer i ≡ true → IsBeginning (i ∷ items) (j ∷ whole) → (i ≡ j) × IsBeginning items whole
 begin_first i j items whole h ([], m, inl e) = absurd cc
 begin_first i j items whole h ([], m, inr e) = grind (arith, nat_tests)
-begin_first i j items whole h (f ∷ front, (more, m), inl e) = grind (arith, nat_tests)
-begin_first i j items whole h (f ∷ front, (more, m), inr e) = grind (arith, nat_tests)
+begin_first i j items whole h (f ∷ front, (more, m), e) = grind (arith, nat_tests)
 
 begin_offer : (header : Header) (p : Going × Option Offer) (back : List OwnerItem) (c : ℕ) (o : Offer) (items : List RankItem) → IsBeginning (item.Offer c o ∷ items) (offered_by header p back)
     → (p.1 ≡ Some o) × IsBeginning items (waiting header p.0 o back)
@@ -18,16 +18,14 @@ begin_offer header (g, Some p) back c o items b =
     grind (arith, nat_tests, begin_first (item.Offer c o) (item.Offer (length g.answers) p) items (waiting header g p back) refl b)
 
 nothing_left : (front more : List RankItem) → front ++ more ≡ [] → front ≡ []
-nothing_left [] more e = refl
-nothing_left (x ∷ front) more e = cc
+nothing_left front more e = grind (arith, common_steps, length-append front more)
 
 -- its end is the last that it puts
 pub begin_ended : (header : Header) (held : Option Offer) (g : Going) (back : List OwnerItem) (m : Bool) (items : List RankItem) → IsBeginning (item.Ended m ∷ items) (to_come header held g back)
     → IsBeginning items (to_come header held g back)
 begin_ended header held g back m items ([], b, inl e) = absurd cc
 begin_ended header held g back m items ([], b, inr e) = let a : items ≡ [] = cc in ([], (to_come header held g back, refl), inl a)
-begin_ended header held g back m items (f ∷ front, (more, b), inl e) = grind (arith, nat_tests, nothing_left, ends_once)
-begin_ended header held g back m items (f ∷ front, (more, b), inr e) = grind (arith, nat_tests, nothing_left, ends_once)
+begin_ended header held g back m items (f ∷ front, (more, b), e) = grind (arith, nat_tests, nothing_left, ends_once)
 
 -- ---- one rank
 

@@ -1,5 +1,5 @@
 -- All ranks, of whose items the owner saw a beginning each, at one arrival more that is not strange.
-use Rattle.thread_run.proofs.Words.{◌≡◌, ℕ, zero, suc, ◌<◌, ◌≤◌, refl, sym, ◌∙◌, ap, subst, inl, inr, ◌⊎◌, List, [], ◌∷◌, ◌++◌, length, map, max, set, Bool, true, false, Option, Some, None, arith, ltb-false, or_from, eqb_tells, nat_tests, length-map, length-set, slice_get-map, same_Some, slice_get, flat_map, fold, is_some, enumerate_from, list_all, passes_at, some_or_none, entry_set, entry_set_other, entry_beside, or_first_false, or_second_false, solo_goes, Header, Offer, OwnerItem, Reply, RankItem, Owner, Event, Client, does_meeting, does_solo, event, freed, holds, is_strange, keeps, needed_now, offers_held, own_items, strange_offer, to_each, Setting, Counted, meeting, puts_of, solo, Arrival, record_limit, Going, advance, after_mark, hears, offers_of, less_max, meeting_small, solo_small, to_one_here, to_one_other, own_here, own_other, fit_passes, meeting_fits, solo_fits, going_after, goings_after, goings_long, meeting_is, meeting_within, offer_at, offers_long, replied, same_offers, solo_of_is, solo_within, Replied, by_event, strange_alone, client_ended, client_held}
+use Rattle.thread_run.proofs.Words.{lt_of_le_of_lt, mapped_entry, one_held, same_le, ◌≡◌, ℕ, ◌<◌, ◌≤◌, refl, sym, ◌∙◌, ap, subst, List, [], ◌∷◌, ◌++◌, length, map, max, set, Bool, true, false, Option, Some, None, arith, ltb-false, or_from, eqb_tells, nat_tests, length-map, length-set, same_Some, slice_get, flat_map, fold, enumerate_from, list_all, passes_at, some_or_none, entry_set, entry_set_other, entry_beside, or_first_false, or_second_false, solo_goes, Header, Offer, OwnerItem, Reply, RankItem, Owner, Event, Client, does_meeting, does_solo, event, freed, holds, is_strange, keeps, needed_now, offers_held, own_items, strange_offer, to_each, Setting, Counted, meeting, puts_of, solo, Arrival, record_limit, Going, advance, after_mark, hears, offers_of, less_max, meeting_small, solo_small, to_one_here, to_one_other, own_here, own_other, fit_passes, meeting_fits, solo_fits, going_after, goings_after, goings_long, meeting_is, meeting_within, offer_at, offers_long, replied, same_offers, solo_of_is, solo_within, by_event, strange_alone, client_ended, client_held}
 use Rattle.nc_base.specs.declared.step.RankItem.TheVariants as item
 use Rattle.nc_base.specs.declared.step.Reply as reply
 use Rattle.thread_run.proofs.CutRank.{begin_ended, IsPaired, Waits, offered_now, held_now, hold_it, heard_now, sits_as}
@@ -54,7 +54,7 @@ meeting_stands s d goings coming clients given end all same t = record {
   stands = record {
     long = length-map clients freed ∙ t.long ∙ sym (goings_long s (offers_held clients) d.state goings (offers_long clients all ∙ t.long));
     paired_at = λ q z h e f. paired_at q z h e f;
-    held = λ q z o e f. absurd (none_freed clients q z o e f);
+    held = λ q z o e f. let never : None ≡ Some o = ap (λ (w : Client). w.held) (mapped_entry freed clients q z e).1.1 ∙ f in absurd cc;
     counted = within;
     small = below;
   };
@@ -71,40 +71,21 @@ meeting_stands s d goings coming clients given end all same t = record {
         less_max d.reached (needed_now s (flat_map puts_of (enumerate_from 0 (offers_held clients)))) (record_limit s.header.version) t.small
         (meeting_small s d.reached (offers_held clients) (held_each clients (λ o. strange_offer s.header d.reached (Some o) ≡ false) all t.held))
 
-    none_freed : (xs : List Client) (q : ℕ) (z : Client) (o : Offer) → slice_get (map freed xs) q ≡ Some z → z.held ≡ Some o → ⊥
-    none_freed [] q z o e f = cc
-    none_freed (x ∷ xs) zero z o e f = grind (arith, nat_tests, same_Some (freed x) z e)
-    none_freed (x ∷ xs) (suc q) z o e f = none_freed xs q z o e f
-
-    one : (q : ℕ) (x : Client) (g : Going) (o : Offer) → slice_get clients q ≡ Some x → slice_get goings q ≡ Some g → x.held ≡ Some o → (y : Replied s (offers_held clients) d.state q)
-        → IsPaired s.header (freed x) (hears s.header (advance s.header g).0 y.reply) (coming q) (given q) (end q)
-    one q x g o a b h y =
-        heard_now s.header (freed x) (advance s.header g).0 o y.reply (coming q) (given q) (end q) refl
-        (fit_passes s o y.reply (meeting_fits s (offers_held clients) d.state q o y.reply (offer_at clients q x o all a h) y.is) (few y.reply y.records))
-        (held_now s.header x g o (coming q) (Reply y.reply ∷ given q) (end q) h
-        (sits_as s.header x x g (coming q) (coming q) (to_each (meeting s (offers_held clients) d.state).1 q ++ given q) (Reply y.reply ∷ given q) (end q) refl refl
-        (ap (λ (m : Option reply.Reply). elim m [ None ↦ [] | Some z ↦ Reply z ∷ [] ] ++ given q) y.is) (t.paired_at q x g a b)))
-      where
-        few : (z : reply.Reply) → z.records ≡ (meeting s (offers_held clients) d.state).0.records → z.records < record_limit s.header.version
-        few z w = least z.records _ _ _ w within below
-          where
-            least : (n k m l : ℕ) → n ≡ k → k ≤ m → m < l → n < l
-            least n k m l e f g = omega arith
-
     paired_at : (q : ℕ) (z : Client) (h : Going) → slice_get (map freed clients) q ≡ Some z → slice_get (goings_after s (offers_held clients) d.state goings) q ≡ Some h → IsPaired s.header z h (coming q) (given q) (end q)
     paired_at q z h e f =
-        let x = entry_beside (map freed clients) clients q z (length-map clients freed) e in
-        let g = entry_beside clients goings q x.0 t.long x.1 in
-        by_held x.0 x.1 g.0 g.1 (some_or_none x.0.held)
-      where
-        by_held : (x : Client) → slice_get clients q ≡ Some x → (g : Going) → slice_get goings q ≡ Some g → (x.held ≡ None) ⊎ ((o : Offer) × (x.held ≡ Some o)) → IsPaired s.header z h (coming q) (given q) (end q)
-        by_held x a g b (inl none) = let never : false ≡ true = sym (ap (λ (m : Option Offer). is_some m) none) ∙ passes_at holds clients all q x a in absurd cc
-        by_held x a g b (inr (o, k)) =
-            let y = replied s (offers_held clients) d.state q o (offer_at clients q x o all a k) in
-            let at_client : slice_get (map freed clients) q ≡ Some (freed x) = slice_get-map freed clients q ∙ ap (λ (m : Option Client). elim m [ None ↦ None | Some w ↦ Some (freed w) ]) a in
-            let at_going = going_after s (offers_held clients) d.state goings q g y.reply b y.is in
-            subst (λ (w : Client). IsPaired s.header w h (coming q) (given q) (end q)) (same_Some (freed x) z (sym at_client ∙ e))
-            (subst (λ (w : Going). IsPaired s.header (freed x) w (coming q) (given q) (end q)) (same_Some _ h (sym at_going ∙ f)) (one q x g o a b k y))
+        let x = mapped_entry freed clients q z e in
+        let g = entry_beside clients goings q x.0 t.long x.1.0 in
+        let o = one_held clients q x.0 all x.1.0 in
+        let told = offer_at clients q x.0 o.0 all x.1.0 o.1 in
+        let y = replied s (offers_held clients) d.state q o.0 told in
+        let few : y.reply.records < record_limit s.header.version = lt_of_le_of_lt (same_le _ _ _ y.records within) below in
+        let at_going = going_after s (offers_held clients) d.state goings q g.0 y.reply g.1 y.is in
+        subst (λ (p : Client × Going). IsPaired s.header p.0 p.1 (coming q) (given q) (end q)) (λ i. (x.1.1 i, same_Some _ h (sym at_going ∙ f) i))
+        (heard_now s.header (freed x.0) (advance s.header g.0).0 o.0 y.reply (coming q) (given q) (end q) refl
+        (fit_passes s o.0 y.reply (meeting_fits s (offers_held clients) d.state q o.0 y.reply told y.is) few)
+        (held_now s.header x.0 g.0 o.0 (coming q) (Reply y.reply ∷ given q) (end q) o.1
+        (sits_as s.header x.0 x.0 g.0 (coming q) (coming q) (to_each (meeting s (offers_held clients) d.state).1 q ++ given q) (Reply y.reply ∷ given q) (end q) refl refl
+        (ap (λ (m : Option reply.Reply). elim m [ None ↦ [] | Some z ↦ Reply z ∷ [] ] ++ given q) y.is) (t.paired_at q x.0 g.0 x.1.0 g.1))))
 
 -- ---- one rank's arrival
 

@@ -1,5 +1,5 @@
 -- Where a run on threads stood that a fault cut off, and which answers its ranks have.
-use Rattle.thread_run.proofs.Words.{◌≡◌, ℕ, ◌≤◌, refl, sym, ◌∙◌, ap, subst, inl, inr, ◌⊎◌, List, [], ◌∷◌, ◌++◌, length, map, set, Bool, true, false, Option, Some, None, arith, eqb_tells, append-nil, slice_get, flat_map, nat_lt, list_all, byte_len, entry_below, entry_beside, and_first, and_second, Header, Call, Script, Mark, Meet, Solo, Offer, OfferKind, OwnerItem, Reply, Stop, RankItem, StepErr, In, Owner, Event, Client, event, holds, is_strange, offers_at, offers_held, own_items, step_offers, Setting, Counted, puts_of, count_width, Arrival, IsLegal, fits_offer, offered, offered_by, waiting, Going, advance, after_mark, first_going, hears, offers_of, covered, IsLeft, IsTorn, OwnerStoodAt, StoodAt, bytes_of_mark, at_arrival, between_arrivals, in_step, torn_still, solo_goes, HasOffered, IsBeginning, waiting_misfit, waiting_reply, meeting_is, same_offers, solo_of_is, AreSingle, IsSingleOffer, strange_alone, own_here, own_other, raised_grows, mark_grows, in_left, client_held, nat_tests, torn_same, by_event, does_meeting, does_solo, ltb-true}
+use Rattle.thread_run.proofs.Words.{each_in, holds_or_not, in_either, passes_each, ◌≡◌, ℕ, ◌≤◌, refl, sym, ◌∙◌, ap, subst, inl, inr, ◌⊎◌, List, [], ◌∷◌, ◌++◌, length, map, set, true, false, Option, Some, None, arith, eqb_tells, append-nil, slice_get, flat_map, nat_lt, list_all, byte_len, entry_below, entry_beside, and_first, Header, Call, Script, Mark, Solo, Offer, OfferKind, OwnerItem, Reply, Stop, RankItem, StepErr, In, Owner, Event, Client, event, holds, is_strange, offers_at, offers_held, own_items, step_offers, Setting, Counted, puts_of, count_width, Arrival, IsLegal, fits_offer, offered, offered_by, waiting, Going, advance, after_mark, first_going, hears, offers_of, covered, IsLeft, IsTorn, OwnerStoodAt, StoodAt, bytes_of_mark, at_arrival, between_arrivals, in_step, torn_still, solo_goes, HasOffered, IsBeginning, waiting_misfit, waiting_reply, meeting_is, same_offers, solo_of_is, AreSingle, IsSingleOffer, strange_alone, own_here, own_other, raised_grows, mark_grows, in_left, client_held, nat_tests, torn_same, by_event, does_meeting, does_solo, ltb-true}
 use Rattle.nc_base.specs.declared.step.OfferKind.TheVariants as offer
 use Rattle.nc_base.specs.declared.step.RankItem.TheVariants as item
 use Rattle.nc_base.specs.declared.step.Reply as reply
@@ -83,9 +83,6 @@ stood_run script s e d goings order later left records given end t low begun nex
         (brings s d goings r i others client.0 going.0 given end client.1 going.1 (ap (λ (b : Arrival). is_strange s d b) e ∙ fit)
         (subst (λ (b : Arrival). Stands s d goings (λ q. own_items q (b ∷ others)) given end) (sym e) here))
 
-    by_records : (n m : ℕ) → m ≡ n → (records ≡ n) ⊎ (records ≡ m) → records ≡ n
-    by_records n m e xs = grind (arith, nat_tests)
-
     own : List ℕ
     own = covered s.header (flat_map puts_of (step_offers d a))
 
@@ -94,7 +91,7 @@ stood_run script s e d goings order later left records given end t low begun nex
         stood_still script s e (d.state, goings) order left records begun
         (torn_same own (byte_len (count_width s.header.version)) d.state.file left
         (subst (λ (c : Counted). IsTorn own (byte_len (count_width s.header.version)) d.state.file c.file left) same l.0))
-        (by_records d.state.records (event s d a).owner.state.records (ap (λ (c : Counted). c.records) same) l.1)
+        (elim l.1 [ inl k ↦ k | inr k ↦ k ∙ ap (λ (c : Counted). c.records) same ])
     by_step (inr b) =
         let n = next a others is fit b.mark b.marks in
         in_step b.mark n.0 n.1
@@ -103,55 +100,35 @@ stood_run script s e d goings order later left records given end t low begun nex
 
 -- ---- no rank's offer both raises the count and brings puts
 
-no_end : {A : Type 0} (c : ℕ) (o : Offer) → item.Ended false ≡ item.Offer c o → A
-no_end c o e = cc
-
 waiting_single : (header : Header) (t : Going) (p : Offer) (y : reply.Reply) (back : List OwnerItem) (c : ℕ) (o : Offer) → ((u : Going) → In (offered header u back) (item.Offer c o) → IsSingleOffer o)
     → In (waiting header t p (Reply y ∷ back)) (item.Offer c o) → IsSingleOffer o
-waiting_single header t p y back c o again i = by_fits (fits_offer header p y) refl
-  where
-    by_one : In (item.Ended false ∷ []) (item.Offer c o) → IsSingleOffer o
-    by_one xs = grind (arith, nat_tests, no_end)
-
-    by_fits : (f : Bool) → fits_offer header p y ≡ f → IsSingleOffer o
-    by_fits true f = again (hears header t y) (subst (λ (is : List RankItem). In is (item.Offer c o)) (waiting_reply header t p y back f) i)
-    by_fits false f = by_one (subst (λ (is : List RankItem). In is (item.Offer c o)) (waiting_misfit header t p y back f) i)
+waiting_single header t p y back c o again i = elim (holds_or_not (fits_offer header p y)) [
+  | inl f ↦ again (hears header t y) (subst (λ (is : List RankItem). In is (item.Offer c o)) (waiting_reply header t p y back f) i)
+  | inr f ↦
+      (let k : In (item.Ended false ∷ []) (item.Offer c o) = subst (λ (is : List RankItem). In is (item.Offer c o)) (waiting_misfit header t p y back f) i in grind (arith, nat_tests))
+]
 
 next_single : (header : Header) (back : List OwnerItem) (g : Going) (c : ℕ) (o : Offer) → ((t : Going) (p : Offer) → In (waiting header t p back) (item.Offer c o) → IsSingleOffer o)
     → (p : Going × Option Offer) → advance header g ≡ p → In (offered_by header p back) (item.Offer c o) → IsSingleOffer o
-next_single header back g c o again p e xs = grind (arith, nat_tests, no_end, single_go)
+next_single header back g c o again p e xs = grind (arith, nat_tests, single_go)
 
 single_offered : (header : Header) (back : List OwnerItem) (g : Going) (c : ℕ) (o : Offer) → In (offered header g back) (item.Offer c o) → IsSingleOffer o
 single_offered header [] g c o i = next_single header [] g c o (λ t p j. absurd j) (advance header g) refl i
-single_offered header (Stop ∷ back) g c o i = grind (arith, nat_tests, next_single, no_end)
+single_offered header (Stop ∷ back) g c o i = grind (arith, nat_tests, next_single)
 single_offered header (Reply y ∷ back) g c o i = grind (arith, nat_tests, next_single, waiting_single, single_offered header back)
-
-in_either_part : (xs : List RankItem) (c : ℕ) (o : Offer) → In (xs ++ item.Ended true ∷ []) (item.Offer c o) → In xs (item.Offer c o)
-in_either_part [] c o (inl e) = grind (arith, nat_tests)
-in_either_part [] c o (inr k) = absurd k
-in_either_part (x ∷ xs) c o (inl e) = inl e
-in_either_part (x ∷ xs) c o (inr k) = inr (in_either_part xs c o k)
 
 -- under its number
 in_own : (arrivals : List Arrival) (r : ℕ) (i : RankItem) → In arrivals (r, i) → In (own_items r arrivals) i
 in_own [] r i k = absurd k
-in_own ((q, j) ∷ arrivals) r i (inl e) = grind (arith, nat_tests, own_here)
-in_own ((q, j) ∷ arrivals) r i (inr k) = grind (arith, nat_tests, in_own arrivals r i k, eqb_tells, own_here, own_other)
+in_own ((q, j) ∷ arrivals) r i k = grind (arith, nat_tests, in_own arrivals r i, eqb_tells, own_here, own_other)
 
 pub single_begun : (script : Script) (header : Header) (arrivals : List Arrival) (taken : ℕ → List OwnerItem) → length script.calls ≡ script.ranks → HasOffered script header arrivals taken → AreSingle arrivals
 single_begun script header arrivals taken long h (r, item.Ended m) i = tt
 single_begun script header arrivals taken long h (r, item.Offer c o) i =
-    let low = ltb-true r script.ranks (passes_in (λ (a : Arrival). nat_lt a.0 script.ranks) arrivals h.numbers (r, item.Offer c o) i) in
+    let low = ltb-true r script.ranks (each_in (λ (a : Arrival). nat_lt a.0 script.ranks ≡ true) arrivals (r, item.Offer c o) (passes_each (λ (a : Arrival). nat_lt a.0 script.ranks) arrivals h.numbers) i) in
     let own = entry_below script.calls r (omega arith) in
     by_begin own.0 (h.each r own.0 own.1) (in_own arrivals r (item.Offer c o) i)
   where
-    passes_in : (test : Arrival → Bool) (xs : List Arrival) → list_all test xs ≡ true → (a : Arrival) → In xs a → test a ≡ true
-    passes_in test [] e a k = absurd k
-    passes_in test (x ∷ xs) e a (inl f) = ap test (sym f) ∙ and_first (test x) (list_all test xs) e
-    passes_in test (x ∷ xs) e a (inr k) = passes_in test xs (and_second (test x) (list_all test xs) e) a k
-
     by_begin : (own : List Call) → IsBeginning (own_items r arrivals) (offered header (first_going header own) (taken r)) → In (own_items r arrivals) (item.Offer c o) → IsSingleOffer o
-    by_begin own (front, (more, b), inl e) k =
-        grind (arith, nat_tests, single_offered header (taken r) (first_going header own) c o, in_left front more (item.Offer c o))
-    by_begin own (front, (more, b), inr e) k =
-        grind (arith, nat_tests, single_offered header (taken r) (first_going header own) c o, in_left front more (item.Offer c o), in_either_part front c o)
+    by_begin own (front, (more, b), e) k =
+        grind (arith, nat_tests, single_offered header (taken r) (first_going header own) c o, in_left front more (item.Offer c o), in_either front (item.Ended true ∷ []) (item.Offer c o))

@@ -1,34 +1,28 @@
 -- What the owner tells along arrivals: the marks of its steps, each with the count that the serial run has after it.
-use Rattle.thread_run.proofs.Words.{◌≡◌, ℕ, refl, sym, ◌∙◌, ap, ◌⊎◌, List, [], ◌∷◌, ◌++◌, map, set, Bool, true, false, None, append_cancel_left, map-append, fold, Mark, Owner, event, is_strange, served, Counted, Setting, Arrival, Going, after_mark, served_on, stranger_on, counts_along, owner_told, each_told, stops_at, told_on, told_stop, arith, nat_tests}
+use Rattle.thread_run.proofs.Words.{holds_or_not, inl, inr, length, length-map, map-id, map_map, nil_from_length, ◌≡◌, ℕ, refl, sym, ◌∙◌, ap, ◌⊎◌, List, [], ◌∷◌, ◌++◌, map, set, false, None, append_cancel_left, map-append, fold, Mark, Owner, event, is_strange, served, Counted, Setting, Arrival, Going, after_mark, served_on, stranger_on, counts_along, owner_told, each_told, stops_at, told_on, told_stop, arith, nat_tests}
 use Rattle.nc_base.specs.declared.step.OfferKind.TheVariants as offer
 use Rattle.nc_base.specs.declared.step.RankItem.TheVariants as item
 
 -- ---- the marks alone
 
 first_each : (n : ℕ) (marks : List Mark) → map (λ (t : Mark × ℕ). t.0) (map (λ (m : Mark). (m, n)) marks) ≡ marks
-first_each n [] = refl
-first_each n (m ∷ marks) = ap (λ (ms : List Mark). m ∷ ms) (first_each n marks)
+first_each n marks = map_map (λ (t : Mark × ℕ). t.0) (λ (m : Mark). (m, n)) marks ∙ map-id marks
 
 pub marks_along : (s : Setting) (arrivals : List Arrival) (d : Owner) → map (λ (t : Mark × ℕ). t.0) (owner_told s d arrivals) ≡ (served s d arrivals).marks
 marks_along s [] d = refl
-marks_along s (a ∷ rest) d = by (is_strange s d a) refl (marks_along s rest (event s d a).owner)
-  where
-    by : (v : Bool) → is_strange s d a ≡ v → map (λ (t : Mark × ℕ). t.0) (owner_told s (event s d a).owner rest) ≡ (served s (event s d a).owner rest).marks
-        → map (λ (t : Mark × ℕ). t.0) (owner_told s d (a ∷ rest)) ≡ (served s d (a ∷ rest)).marks
-    by true e again = ap (λ (told : List (Mark × ℕ)). map (λ (t : Mark × ℕ). t.0) told) (told_stop s d a rest e) ∙ sym (stops_at s d a rest e).marks
-    by false e again =
-        ap (λ (told : List (Mark × ℕ)). map (λ (t : Mark × ℕ). t.0) told) (told_on s d a rest e)
-        ∙ map-append (λ (t : Mark × ℕ). t.0) (each_told (event s d a)) (owner_told s (event s d a).owner rest)
-        ∙ (λ i. first_each (event s d a).owner.state.records (event s d a).marks i ++ again i) ∙ sym (served_on s d a rest e).marks
+marks_along s (a ∷ rest) d = elim (holds_or_not (is_strange s d a)) [
+  | inl e ↦ ap (λ (told : List (Mark × ℕ)). map (λ (t : Mark × ℕ). t.0) told) (told_stop s d a rest e) ∙ sym (stops_at s d a rest e).marks
+  | inr e ↦
+      ap (λ (told : List (Mark × ℕ)). map (λ (t : Mark × ℕ). t.0) told) (told_on s d a rest e)
+      ∙ map-append (λ (t : Mark × ℕ). t.0) (each_told (event s d a)) (owner_told s (event s d a).owner rest)
+      ∙ (λ i. first_each (event s d a).owner.state.records (event s d a).marks i ++ marks_along s rest (event s d a).owner i) ∙ sym (served_on s d a rest e).marks
+]
 
 -- ---- wherever among the arrivals the steps of an order were done, they are told alike
 
 none_told : (s : Setting) (d : Owner) (arrivals : List Arrival) → (served s d arrivals).marks ≡ [] → owner_told s d arrivals ≡ []
-none_told s d arrivals e = none (owner_told s d arrivals) (marks_along s arrivals d ∙ e)
-  where
-    none : (told : List (Mark × ℕ)) → map (λ (t : Mark × ℕ). t.0) told ≡ [] → told ≡ []
-    none [] f = refl
-    none (t ∷ told) f = absurd cc
+none_told s d arrivals e =
+    nil_from_length (owner_told s d arrivals) (sym (length-map (owner_told s d arrivals) (λ (t : Mark × ℕ). t.0)) ∙ ap (λ (ms : List Mark). length ms) (marks_along s arrivals d ∙ e))
 
 pub same_told : (s : Setting) (first later more rest : List Arrival) (d : Owner) → first ++ later ≡ more ++ rest → (served s d first).stranger ≡ None → (served s d more).stranger ≡ None
     → (served s d first).marks ≡ (served s d more).marks → owner_told s d first ≡ owner_told s d more

@@ -1,5 +1,5 @@
 -- A run on threads, from what the owner tells and what the close tells.
-use Rattle.thread_run.proofs.Words.{◌≡◌, ℕ, sym, ◌∙◌, ap, subst, inl, inr, ◌⊎◌, List, [], ◌++◌, map, max, true, Option, Some, None, nat_lt, IfSome, Header, RankEnd, RunEnd, ServeEnd, Script, DiskCall, Mark, OwnerItem, StepErr, Rose, after, with_end, Ending, served, run_calls, store_records, raised, is_sound, Arrival, IsLegal, opening_owner, run_of, is_lawful, serial_from, setting_of, as_setting, counted, seen, HasBegun, HasCut, IsRun, owner_calls, IsDone, IsDoneSo, passed, NoneBroke, most_known_of, Closing, rose_later, blank, with_end-with_end, rose_before, some_or_none, le_two, arith, nat_tests, append-nil, length}
+use Rattle.thread_run.proofs.Words.{◌≡◌, ℕ, sym, ◌∙◌, ap, subst, inl, inr, List, [], ◌++◌, map, max, true, Option, Some, None, nat_lt, IfSome, Header, RankEnd, RunEnd, ServeEnd, Script, DiskCall, Mark, OwnerItem, StepErr, after, with_end, run_calls, store_records, raised, is_sound, Arrival, IsLegal, opening_owner, run_of, is_lawful, serial_from, setting_of, as_setting, counted, seen, HasBegun, HasCut, IsRun, owner_calls, IsDone, IsDoneSo, passed, NoneBroke, most_known_of, Closing, rose_later, blank, with_end-with_end, rose_before, some_or_none, le_two, arith, nat_tests, append-nil, length}
 use Rattle.nc_base.specs.declared.step.StepErr.TheVariants as fault
 use Rattle.thread_run.proofs.ThreadRuns.{Finished, FinishedAlike, FinishedSo, finished, finished_alike, finished_so}
 use Rattle.thread_run.proofs.ThreadTies.{Told, begun, OwnerSide}
@@ -12,14 +12,10 @@ module _ {script : Script} {header : Header} {arrivals : List Arrival} {given : 
   -- the owner's order begins one of the script's
   pub order_begun : {held : Option (List ℕ)} {calls : Option (List DiskCall)} {faults : ℕ} {told : Option (List (Mark × ℕ))} {left : Option (List ℕ)} {made : Option (List DiskCall)} {failed records : ℕ}
       {heard : Option (List (Mark × ℕ))} {end : ServeEnd} → OwnerSide script header arrivals given script.ranks (length script.calls) held calls faults told left made failed records heard end → HasBegun script end.order
-  order_begun {end} o = by (some_or_none end.fault)
-    where
-      by : (end.fault ≡ None) ⊎ ((e : StepErr) × (end.fault ≡ Some e)) → HasBegun script end.order
-      by (inl none) = grind (arith, nat_tests, begun t [] arrivals [] (sym (append-nil arrivals)) lawful)
-      by (inr (x, some)) =
-          let h = o.cut_off x some in
-          let e : end.order ≡ (run_of script header [] h.first).marks = (h.cut_off []).order in
-          subst (λ (ms : List Mark). HasBegun script ms) (sym e) (begun t [] h.first h.later h.all lawful)
+  order_begun {end} o = elim (some_or_none end.fault) [
+    | inl none ↦ subst (λ (ms : List Mark). HasBegun script ms) (sym (o.done none []).order) (begun t [] arrivals [] (sym (append-nil arrivals)) lawful)
+    | inr w ↦ (let h = o.cut_off w.0 w.1 in subst (λ (ms : List Mark). HasBegun script ms) (sym (h.cut_off []).order) (begun t [] h.first h.later h.all lawful))
+  ]
 
   pub known_sound : (end : ServeEnd) → ((file : List ℕ) → IsDone (setting_of script header) (opening_owner script header file) (passed arrivals script.ranks given) end.order end.stranger)
       → NoneBroke ends → is_sound (record header { records = most_known_of ends }) ≡ true
@@ -33,7 +29,7 @@ module _ {script : Script} {header : Header} {arrivals : List Arrival} {given : 
     legal = λ none. subst (λ (ms : List Mark). IsLegal script ms) (sym c.order) (fin none).legal;
     bytes = λ none. if_both held (o.bytes (c.went none).0) (o.bytes (c.went none).0) (λ file so more.
         (c.closed none).bytes ∙ ap (λ (m : Option (List ℕ)). after (λ f. (raised (as_setting header) (counted f count) (most_known_of ends)).file) m) so.told
-        ∙ (λ i. Some (raised (as_setting header) (counted (state file).owner.state.file (so.records i)) (most_known_of ends)).file)
+        ∙ (λ i. Some (raised (as_setting header) (counted (run_of script header file arrivals).owner.state.file (so.records i)) (most_known_of ends)).file)
         ∙ ap (λ (f : List ℕ). Some f) (fin_so none file so).bytes ∙ ap (λ (ms : List Mark). Some (serial_from script header file ms).bytes) (sym c.order));
     records = λ none file.
         (c.closed none).count ∙ ap (λ (n : ℕ). max n (most_known_of ends)) (o.counts (c.went none).0 file)
@@ -51,15 +47,15 @@ module _ {script : Script} {header : Header} {arrivals : List Arrival} {given : 
         ∙ ap (λ (cs : List DiskCall). with_end calls cs) (sym (fin_so none file so).calls) ∙ ap (λ (ms : List Mark). with_end calls (run_calls script header file ms)) (sym c.order));
     sound = c.sound;
     begun = subst (λ (ms : List Mark). HasBegun script ms) (sym c.order) (order_begun o);
-    fault = λ disk. cause disk (some_or_none before.fault);
+    fault = λ disk. elim (some_or_none before.fault) [
+      | inl none ↦ rose_before faults faults' failed o.later (c.cause none disk)
+      | inr w ↦ rose_later faults faults' failed (o.cause (w.1 ∙ ap (λ (x : StepErr). Some x) (c.first w.0 w.1 disk))) c.later
+    ];
     later = le_two faults faults' failed o.later c.later;
     cut = cut_off;
     none_pending = c.none_pending;
   }
     where
-      state : List ℕ → Ending
-      state file = served (setting_of script header) (opening_owner script header file) arrivals
-
       fin : end.fault ≡ None → Finished script header arrivals ends before.order
       fin none = finished t sound lawful before.order before.stranger (c.went none).1 (o.done (c.went none).0)
 
@@ -73,7 +69,3 @@ module _ {script : Script} {header : Header} {arrivals : List Arrival} {given : 
       counts : end.fault ≡ None → (file : List ℕ) → IsDoneSo (setting_of script header) (opening_owner script header file) (passed arrivals script.ranks given) held' count
           → records ≡ (serial_from script header file before.order).records
       counts none file so = (c.closed none).count ∙ ap (λ (n : ℕ). max n (most_known_of ends)) so.records ∙ (fin_alike none file).records
-
-      cause : end.fault ≡ Some fault.Disk → (before.fault ≡ None) ⊎ ((e : StepErr) × (before.fault ≡ Some e)) → Rose faults failed
-      cause disk (inl none) = rose_before faults faults' failed o.later (c.cause none disk)
-      cause disk (inr (e, some)) = grind (arith, nat_tests, rose_later faults faults' failed)

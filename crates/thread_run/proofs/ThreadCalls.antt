@@ -1,5 +1,5 @@
 -- The owner's run beside the serial run, one arrival after another: its device calls, its offers, and what its ranks know.
-use Rattle.thread_run.proofs.Words.{◌≡◌, ℕ, refl, sym, ◌∙◌, ap, subst, inl, inr, ◌⊎◌, List, [], ◌∷◌, length, map, set, Bool, true, false, Option, Some, append-nil, length-set, slice_get, list_all, same_Some, Header, Answer, Call, Hints, MeetKind, Offer, RankItem, In, Owner, Event, Client, at_item, event, holds, meets_if, served, meeting_calls, Setting, Arrival, Rank, Going, advance, go, offers_of, calls_so_far, calls_more, get_set, Stands, served_on, same_offers, event_is, Lasting, client_held, AreSingle, IsSingle, calls_at, calls_if, owner_calls, event_calls, IsSingleOffer, quiet_step, calls_on, arith, nat_tests, along}
+use Rattle.thread_run.proofs.Words.{◌≡◌, ℕ, refl, sym, ◌∙◌, ap, subst, inl, inr, List, [], ◌∷◌, length, map, set, Bool, true, false, Option, Some, append-nil, length-set, slice_get, list_all, same_Some, Header, Answer, Call, Hints, MeetKind, Offer, RankItem, Owner, Event, Client, at_item, event, holds, meets_if, served, meeting_calls, Setting, Arrival, Rank, Going, advance, go, offers_of, calls_so_far, calls_more, get_set, Stands, served_on, same_offers, event_is, Lasting, client_held, AreSingle, IsSingle, calls_at, calls_if, owner_calls, event_calls, IsSingleOffer, quiet_step, calls_on, arith, nat_tests, along}
 use Rattle.nc_base.specs.declared.step.RankItem.TheVariants as item
 
 -- with one offer more, each that is held is still the next of its rank
@@ -48,8 +48,5 @@ single_item header g i f = grind (arith, nat_tests, single_go)
 
 pub single_along : (s : Setting) (Good : ℕ → Going → Type 0) (lasting : Lasting s.header Good) (ks : List MeetKind) (d : Owner) (goings : List Going) (arrivals : List Arrival)
     → Stands s Good ks d goings arrivals → AreSingle arrivals
-single_along s Good lasting = along s Good lasting (λ d goings arrivals. AreSingle arrivals) (λ ks d goings t a h. absurd h) (λ ks d goings r i rest t o later a h. one_more i rest (single_item s.header o.going i o.offers) later a h)
-  where
-    one_more : {r : ℕ} (i : RankItem) (rest : List Arrival) → IsSingle i → AreSingle rest → (a : Arrival) → ((r, i) ≡ a) ⊎ In rest a → IsSingle a.1
-    one_more i rest one later a (inl e) = subst (λ (b : Arrival). IsSingle b.1) e one
-    one_more i rest one later a (inr k) = later a k
+single_along s Good lasting = along s Good lasting (λ d goings arrivals. AreSingle arrivals) (λ ks d goings t a h. absurd h) (λ ks d goings r i rest t o later a h.
+    elim h [ inl e ↦ subst (λ (b : Arrival). IsSingle b.1) e (single_item s.header o.going i o.offers) | inr k ↦ later a k ])

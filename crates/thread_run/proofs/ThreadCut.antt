@@ -1,5 +1,5 @@
 -- A run on threads that a fault cut off, from what the owner tells and what the close tells.
-use Rattle.thread_run.proofs.Words.{◌≡◌, ℕ, ◌-◌, ◌<◌, ◌≤◌, refl, sym, ◌∙◌, ap, subst, inl, inr, ◌⊎◌, List, [], ◌∷◌, ◌++◌, length, map, max, replicate, Bool, true, false, cond, Option, Some, None, append_assoc, arith, append-nil, length-map, length-replicate, list_all-append, slice_get_within, same_Some, slice_get, nat_lt, filter, byte_len, list_all, entry_below, entry_beside, and_second, Answer, Header, Call, RankEnd, RunEnd, ServeEnd, Script, Mark, OwnerItem, Stop, RankItem, StepErr, BothTold, Owner, event, free_client, given_along, is_strange, offers_in, own_items, served, Counted, raised, count_width, is_sound, Arrival, IsLegal, is_offer, opening_owner, run_of, is_lawful, rank_end, told_of, Going, advance, after_mark, first_going, first_state, serial_from, setting_of, state_after, Begins, HasAnswers, IsCutRun, IsLeft, IsTorn, OwnerStoodAt, StoodAt, in_close, as_setting, counted, HasOffered, completed, completed_by, contents_of, point, HasBegun, HasSaid, calls_of, cut_rows, no_answers, said_here, said_part, said_up, told_along, counts_along, owner_told, AreSingle, HasCutService, IsDone, IsDoneSo, passed, HasCut, EndedAt, NoneBroke, most_known_of, EndOfCut, served_on, goes_on, mapped_entry, nat_tests, stood_as, some_each, if_some_at, DiskCall, length-append}
+use Rattle.thread_run.proofs.Words.{filter-append, some_or_none, ◌≡◌, ℕ, ◌-◌, ◌<◌, ◌≤◌, refl, sym, ◌∙◌, ap, subst, inl, inr, ◌⊎◌, List, [], ◌∷◌, ◌++◌, length, map, max, replicate, true, false, Option, Some, None, append_assoc, arith, append-nil, length-map, length-replicate, list_all-append, slice_get_within, same_Some, slice_get, nat_lt, filter, byte_len, list_all, entry_below, entry_beside, and_second, Answer, Header, Call, RankEnd, RunEnd, ServeEnd, Script, Mark, OwnerItem, Stop, RankItem, StepErr, BothTold, Owner, event, free_client, given_along, is_strange, offers_in, own_items, served, Counted, raised, count_width, is_sound, Arrival, IsLegal, is_offer, opening_owner, run_of, is_lawful, rank_end, told_of, Going, advance, after_mark, first_going, first_state, serial_from, setting_of, state_after, Begins, HasAnswers, IsCutRun, IsLeft, IsTorn, OwnerStoodAt, StoodAt, in_close, as_setting, counted, HasOffered, completed, completed_by, contents_of, point, HasBegun, HasSaid, calls_of, cut_rows, no_answers, said_here, said_part, said_up, told_along, counts_along, owner_told, AreSingle, HasCutService, IsDone, IsDoneSo, passed, HasCut, EndedAt, NoneBroke, most_known_of, EndOfCut, served_on, goes_on, mapped_entry, nat_tests, stood_as, some_each, if_some_at, DiskCall, length-append}
 use Rattle.nc_base.specs.declared.run.RankStop.TheVariants as stop
 use Rattle.nc_base.specs.declared.step.StepErr.TheVariants as fault
 use Rattle.serial_spec.specs.Torn.StoodAt.{between}
@@ -9,7 +9,7 @@ use Rattle.thread_run.proofs.CutJoin.{Ran, cut_run, end_of_rank}
 use Rattle.thread_run.proofs.CutStood.{single_begun, stood_run}
 use Rattle.thread_run.proofs.TellLaws.{count_of}
 use Rattle.thread_run.proofs.ThreadRuns.{finished, finished_so, finished_alike}
-use Rattle.thread_run.proofs.ThreadTies.{Own, Told, begun, broke_or_not, offered_all, own_of, puts, takes, OwnerSide}
+use Rattle.thread_run.proofs.ThreadTies.{Told, begun, broke_or_not, offered_all, own_of, takes, OwnerSide}
 use Rattle.thread_run.proofs.ServiceCut.{Service, service_cut, service_done}
 
 -- ---- the ranks
@@ -37,12 +37,7 @@ module _ {script : Script} {header : Header} {arrivals : List Arrival} {given : 
       (o.came_back.0, o.came_back.1 ∙ g.1 ∙ ap (λ (k : ℕ). given_along (setting_of script header) (opening_owner script header file) h.first r ++ replicate k Stop) count)
 
   offers_front : (xs ys : List RankItem) → offers_in xs ≤ offers_in (xs ++ ys)
-  offers_front [] ys = omega arith
-  offers_front (x ∷ xs) ys = by (is_offer x) (offers_front xs ys)
-    where
-      by : (b : Bool) → offers_in xs ≤ offers_in (xs ++ ys) → length (cond b (x ∷ filter is_offer xs) (filter is_offer xs)) ≤ length (cond b (x ∷ filter is_offer (xs ++ ys)) (filter is_offer (xs ++ ys)))
-      by true l = omega arith
-      by false l = l
+  offers_front xs ys = grind (arith, nat_tests, filter-append is_offer xs ys, length-append (filter is_offer xs) (filter is_offer ys))
 
   enough : (r : ℕ) → r < script.ranks → offers_in (own_items r (h.first ++ h.later)) ≤ length (takes t r)
   enough r l = grind (arith, nat_tests, own_at r l, own_of t r (own_at r l).0 (own_at r l).1, offers_front)
@@ -74,19 +69,16 @@ module _ {script : Script} {header : Header} {arrivals : List Arrival} {given : 
       let its : calls_of script r ≡ own.0 = ap (λ (m : Option (List Call)). elim m [ None ↦ [] | Some cs ↦ cs ]) own.1 in
       let all : (advance header g).0.answers ≡ (rank_end header (first_going header own.0) (takes t r)).answers =
       ap (λ (v : Going). v.answers) ended ∙ ap (λ (cs : List Call). (rank_end header (first_going header cs) (takes t r)).answers) its in
-      said_up header e g end.answers (subst (λ (z : RankEnd). HasSaid e (advance header g) z.answers) same (by_end own.0 o all (broke_or_not o.end.end)))
+      said_up header e g end.answers (subst (λ (z : RankEnd). HasSaid e (advance header g) z.answers) same (elim (broke_or_not o.end.end) [
+        | inl memory ↦
+            (let b = o.attended.broken memory in
+            said_part e (advance header g) o.end.answers (by_cause e (λ disk. whole disk r o.end o.at_end memory)) (b.unanswered, b.answers ∙ sym all))
+        | inr n ↦ said_here e (advance header g) o.end.answers ((o.attended.finished n).answers ∙ sym all)
+      ]))
     where
-      by_cause : (x : StepErr) → x ≡ e → (e ≡ fault.Disk → ⊥) → e ≡ fault.Memory
-      by_cause fault.Memory f n = sym f
-      by_cause fault.Disk f n = absurd (n (sym f))
-
-      by_end : (own : List Call) (o : Own header own (own_items r arrivals) (given r) ends r (puts t r) (takes t r))
-          → (advance header g).0.answers ≡ (rank_end header (first_going header own) (takes t r)).answers
-          → (o.end.end ≡ stop.Memory) ⊎ (o.end.end ≡ stop.Memory → ⊥) → HasSaid e (advance header g) o.end.answers
-      by_end own o all (inl memory) =
-          let b = o.attended.broken memory in
-          said_part e (advance header g) o.end.answers (by_cause e refl (λ disk. whole disk r o.end o.at_end memory)) (b.unanswered, b.answers ∙ sym all)
-      by_end own o all (inr n) = said_here e (advance header g) o.end.answers ((o.attended.finished n).answers ∙ sym all)
+      by_cause : (x : StepErr) → (x ≡ fault.Disk → ⊥) → x ≡ fault.Memory
+      by_cause fault.Memory n = refl
+      by_cause fault.Disk n = absurd (n refl)
 
   all_answers : (e : StepErr) → (e ≡ fault.Disk → NoneBroke ends) → (answers : List (List Answer)) → (answers ≡ map (λ end. end.answers) ends) ⊎ (answers ≡ [])
       → (r : ℕ) (g : Going) (own : List Answer) → slice_get (state_after script header file order).1 r ≡ Some g → slice_get answers r ≡ Some own → HasAnswers header e g own
@@ -121,18 +113,12 @@ module _ {script : Script} {header : Header} {arrivals : List Arrival} {given : 
   stood_served : (e : StepErr) (left : List ℕ) (records : ℕ) → OwnerStoodAt (setting_of script header) e (run_of script header file h.first).owner h.later left records
       → StoodAt script (setting_of script header) e (state_after script header file order) order left records
   stood_served e left records at =
+      let clients = run.stands.long ∙ run.long ∙ length-replicate (length script.calls) free_client ∙ t.calls in
+      let both = sym (list_all-append (λ (a : Arrival). nat_lt a.0 script.ranks) h.first h.later) ∙ offered_of.numbers in
       subst (λ (st : Counted × List Going). StoodAt script (setting_of script header) e st order left records) (sym state_is)
       (stood_run script (setting_of script header) e (run_of script header file h.first).owner run.last order h.later left records (λ q. replicate (stopped q) Stop)
-      (end_of_rank script header (takes t)) run.stands numbers may_follow next_mark at)
-    where
-      numbers : list_all (λ (b : Arrival). nat_lt b.0 (length (run_of script header file h.first).owner.clients)) h.later ≡ true
-      numbers =
-          let clients = run.stands.long ∙ run.long ∙ length-replicate (length script.calls) free_client ∙ t.calls in
-          let both = sym (list_all-append (λ (a : Arrival). nat_lt a.0 script.ranks) h.first h.later) ∙ offered_of.numbers in
-          ap (λ (k : ℕ). list_all (λ (b : Arrival). nat_lt b.0 k) h.later) clients ∙ and_second (list_all (λ (a : Arrival). nat_lt a.0 script.ranks) h.first) _ both
-
-  single : AreSingle (h.first ++ h.later)
-  single = single_begun script header (h.first ++ h.later) (takes t) t.calls offered_of
+      (end_of_rank script header (takes t)) run.stands
+      (ap (λ (k : ℕ). list_all (λ (b : Arrival). nat_lt b.0 k) h.later) clients ∙ and_second (list_all (λ (a : Arrival). nat_lt a.0 script.ranks) h.first) _ both) may_follow next_mark at)
 
 -- ---- the run
 
@@ -157,7 +143,7 @@ module _ {script : Script} {header : Header} {arrivals : List Arrival} {given : 
     unfolding service_cut
     cut_served x which l k service =
         let h = service_cut (setting_of script header) (opening_owner script header file) script.ranks count x arrivals given before.order held ranks_are service in
-        let alone = single t sound lawful file h in
+        let alone = single_begun script header (h.first ++ h.later) (takes t) t.calls (offered_of t sound lawful file h) in
         let told = service.told (subst AreSingle (sym service.all) alone) in
         let at = stood_served t sound lawful file h x service.left count (service.service.stood alone) in (
           service.left,
@@ -210,13 +196,9 @@ module _ {script : Script} {header : Header} {arrivals : List Arrival} {given : 
               (in_close fin.legal
               (subst (λ (old : Counted). IsLeft header [] old (record { file = (serial_from script header file before.order).bytes; records = (serial_from script header file before.order).records }) b.0 records) there (
                 subst (λ (f : List ℕ). IsTorn [] (byte_len (count_width header.version)) st.file f b.0) file_is b.2,
-                by_count st.records (serial_from script header file before.order).records so.records near.records which,
+                elim which [ inl q ↦ inl (q ∙ so.records) | inr q ↦ inr (q ∙ ap (λ (k : ℕ). max k (most_known_of ends)) so.records ∙ near.records) ],
               ))),
         )
-      where
-        by_count : (n m : ℕ) → count ≡ n → max n (most_known_of ends) ≡ m → (records ≡ count) ⊎ (records ≡ max count (most_known_of ends)) → (records ≡ n) ⊎ (records ≡ m)
-        by_count n m e f (inl q) = inl (q ∙ e)
-        by_count n m e f (inr q) = inr (q ∙ ap (λ (k : ℕ). max k (most_known_of ends)) e ∙ f)
 
     cut_at : EndedAt header ends before.fault e (contents_of held count) (contents_of left records)
         → (before.fault ≡ None → (f : List ℕ) → IsDone (setting_of script header) (opening_owner script header f) (passed arrivals script.ranks given) before.order before.stranger)
@@ -225,11 +207,10 @@ module _ {script : Script} {header : Header} {arrivals : List Arrival} {given : 
         → (bytes : List ℕ) × (left ≡ Some bytes) × IsCutRun script header file e end.order bytes records end.answers
     cut_at (in_closing none whole torn which) done so cut = cut_closing whole torn which (done none) (so none)
     cut_at (as_left (inl some) l k) done so cut = cut_served e (inl refl) l k (cut e some)
-    cut_at (as_left (inr memory) l k) done so cut = by_fault before.fault refl
-      where
-        by_fault : (m : Option StepErr) → before.fault ≡ m → (bytes : List ℕ) × (left ≡ Some bytes) × IsCutRun script header file e end.order bytes records end.answers
-        by_fault None f = cut_broken memory l k (done f file) (so f)
-        by_fault (Some x) f = cut_served x (inr memory) l k (cut x f)
+    cut_at (as_left (inr memory) l k) done so cut = elim (some_or_none before.fault) [
+      | inl f ↦ cut_broken memory l k (done f file) (so f)
+      | inr w ↦ cut_served w.0 (inr memory) l k (cut w.0 w.1)
+    ]
 
 pub run_cut : {script : Script} {header : Header} {arrivals : List Arrival} {given : ℕ → List OwnerItem} {ends : List RankEnd} → Told script header arrivals given ends → is_sound header ≡ true → is_lawful script ≡ true
     → {held : Option (List ℕ)} {calls : Option (List DiskCall)} {faults : ℕ} {told : Option (List (Mark × ℕ))} {left : Option (List ℕ)} {made : Option (List DiskCall)}

@@ -1,10 +1,9 @@
 -- Threads as they are joined.
-use Rattle.thread_run.proofs.Words.{◌≡◌, ℕ, refl, sym, ◌∙◌, ap, inl, inr, ◌⊎◌, List, [], ◌∷◌, ◌++◌, length, map, Some, arith, append-nil, length-map, slice_get, RankEnd, OwnerItem, RankItem, End, items_under, IsSettledOf, RankHandle, nat_tests}
+use Rattle.thread_run.proofs.Words.{append_assoc, length-append, map-append, ◌≡◌, ℕ, ◌∙◌, ap, inl, inr, ◌⊎◌, List, [], ◌∷◌, ◌++◌, length, map, Some, arith, length-map, slice_get, RankEnd, OwnerItem, RankItem, End, items_under, IsSettledOf, RankHandle, nat_tests}
 use Rattle.thread_run.proofs.ThreadStarts.{get_push}
 
 pub map_snoc : {P X : Type 0} (f : P → X) (ps : List P) (p : P) (xs : List X) → map f (ps ++ p ∷ []) ++ xs ≡ map f ps ++ f p ∷ xs
-map_snoc f [] p xs = refl
-map_snoc f (q ∷ ps) p xs = ap (λ (v : List _). f q ∷ v) (map_snoc f ps p xs)
+map_snoc f ps p xs = ap (λ (v : List _). v ++ xs) (map-append f ps (p ∷ [])) ∙ append_assoc (map f ps) (f p ∷ []) xs
 
 abbrev pub AreSettledSoFar : List (ℕ × RankItem) → List RankHandle → List (End OwnerItem) → List RankEnd → Type 0
 AreSettledSoFar arrivals ones lines ends = (r : ℕ) (one : RankHandle) (line : End OwnerItem) (end : RankEnd) → slice_get ones r ≡ Some one → slice_get lines r ≡ Some line → slice_get ends r ≡ Some end
@@ -24,5 +23,4 @@ of_either (inr b) f h = h b
 
 -- nothing is left
 pub none_left : {P X : Type 0} (f : P → X) (ps : List P) (rest xs : List X) → map f ps ++ rest ≡ xs → length rest ≡ 0 → length ps ≡ length xs
-none_left f ps [] xs e l = sym (length-map ps f) ∙ ap (λ (v : List _). length v) (sym (append-nil (map f ps)) ∙ e)
-none_left f ps (y ∷ rest) xs e l = absurd (omega arith)
+none_left f ps rest xs e l = grind (arith, nat_tests, length-append (map f ps) rest, length-map ps f)

@@ -1,5 +1,5 @@
 -- The counts that the ranks know at their ends are such that the header can have.
-use Rattle.thread_run.proofs.Words.{◌≡◌, ℕ, ◌^◌, ◌<◌, refl, sym, ◌∙◌, subst, List, length, max, set, true, false, Some, None, arith, nat_tests, length-set, slice_get, flat_map, enumerate_from, list_all, same_Some, or_first_false, or_second_false, Header, Post, MeetKind, Offer, RankItem, Owner, Client, holds, needed_now, offers_held, refused, served, strange_offer, Setting, puts_of, header_len, is_sound, Arrival, end_of, needed, Going, advance, sound_end, put_needed, bad_put, passes_accepted, Stands, served_on, offer_at, offers_long, Lasting, client_held, one_held, entry_beside, along, by_event, does_meeting, does_solo, event, is_offer, strange_alone, IsKept, meeting_kept, solo_kept}
+use Rattle.thread_run.proofs.Words.{◌≤◌, ◌≡◌, ℕ, ◌^◌, ◌<◌, refl, sym, ◌∙◌, subst, List, length, max, set, true, false, Some, None, arith, nat_tests, length-set, slice_get, flat_map, enumerate_from, list_all, same_Some, or_first_false, or_second_false, Header, Post, MeetKind, Offer, RankItem, Owner, Client, holds, needed_now, offers_held, refused, served, strange_offer, Setting, puts_of, header_len, is_sound, Arrival, end_of, needed, Going, advance, sound_end, put_needed, bad_put, passes_accepted, Stands, served_on, offer_at, offers_long, Lasting, client_held, one_held, entry_beside, along, by_event, does_meeting, does_solo, event, is_offer, strange_alone, IsKept, meeting_kept, solo_kept}
 use Rattle.nc_base.specs.declared.request.Direction.TheVariants as way
 use Rattle.nc_base.specs.declared.step.RankItem.TheVariants as item
 use Rattle.file_owner.proofs.StrangeLaws.{whole_length}
@@ -11,13 +11,9 @@ module _ (header : Header) (sound : is_sound header ≡ true) where
   unfoldable pub EndsNear : ℕ → Type 0
   EndsNear n = end_of header (header_len header) n < 2 ^ 62
 
-  pub near_first : EndsNear header.records
+  pub near_first : (n : ℕ) → n ≤ header.records → EndsNear n
   unfolding EndsNear
-  near_first = sound_end header header.records sound (omega arith)
-
-  near_zero : EndsNear 0
-  unfolding EndsNear
-  near_zero = sound_end header 0 sound (omega arith)
+  near_first n l = sound_end header n sound l
 
   near_max : (a b : ℕ) → EndsNear a → EndsNear b → EndsNear (max a b)
   near_max a b h k = grind (arith, nat_tests)
@@ -27,7 +23,7 @@ module _ (header : Header) (sound : is_sound header ≡ true) where
   near_post known post h = grind (arith, nat_tests, put_needed, passes_accepted, or_first_false, whole_length, or_second_false, refused, EndsNear)
 
   near_kept : IsKept header EndsNear
-  near_kept = record { none = near_zero; most = near_max; post = near_post }
+  near_kept = record { none = near_first 0 (omega arith); most = near_max; post = near_post }
 
 -- ---- what an arrival brings
 
@@ -40,15 +36,12 @@ module _ (s : Setting) (sound : is_sound s.header ≡ true) (d : Owner) (goings 
       → EndsNear s.header sound (does_meeting s d (set d.clients r (client_held x o))).owner.reached
   near_meets o e h =
       near_max s.header sound d.reached (needed_now s (flat_map puts_of (enumerate_from 0 (offers_held (set d.clients r (client_held x o)))))) near
-      (meeting_kept s (EndsNear s.header sound) (near_kept s.header sound) d.reached (offers_held (set d.clients r (client_held x o))) each)
-    where
-      each : (q : ℕ) (o' : Offer) → slice_get (offers_held (set d.clients r (client_held x o))) q ≡ Some o' → strange_offer s.header d.reached (Some o') ≡ false
-      each q o' a =
-          let y = entry_beside (offers_held (set d.clients r (client_held x o))) (set d.clients r (client_held x o)) q o' (offers_long (set d.clients r (client_held x o)) h) a in
-          let z = entry_beside (set d.clients r (client_held x o)) goings q y.0 (length-set d.clients r (client_held x o) ∙ long) y.1 in
-          let w = one_held (set d.clients r (client_held x o)) q y.0 h y.1 in
-          let same : w.0 ≡ o' = same_Some w.0 o' (sym (offer_at (set d.clients r (client_held x o)) q y.0 w.0 h y.1 w.1) ∙ a) in
-          subst (λ (p : Offer). strange_offer s.header d.reached (Some p) ≡ false) same (fits q z.0 w.0 z.1 (held_next s d goings r x g o at_going e waits q y.0 z.0 w.0 y.1 z.1 w.1))
+      (meeting_kept s (EndsNear s.header sound) (near_kept s.header sound) d.reached (offers_held (set d.clients r (client_held x o))) (λ q o' a.
+      let y = entry_beside (offers_held (set d.clients r (client_held x o))) (set d.clients r (client_held x o)) q o' (offers_long (set d.clients r (client_held x o)) h) a in
+      let z = entry_beside (set d.clients r (client_held x o)) goings q y.0 (length-set d.clients r (client_held x o) ∙ long) y.1 in
+      let w = one_held (set d.clients r (client_held x o)) q y.0 h y.1 in
+      let same : w.0 ≡ o' = same_Some w.0 o' (sym (offer_at (set d.clients r (client_held x o)) q y.0 w.0 h y.1 w.1) ∙ a) in
+      subst (λ (p : Offer). strange_offer s.header d.reached (Some p) ≡ false) same (fits q z.0 w.0 z.1 (held_next s d goings r x g o at_going e waits q y.0 z.0 w.0 y.1 z.1 w.1))))
 
   near_solo : (c : ℕ) (o : Offer) → (advance s.header g).1 ≡ Some o → EndsNear s.header sound (does_solo s d r c o).owner.reached
   near_solo c o e =

@@ -1,5 +1,5 @@
 -- A run on threads without a fault is the serial run of its order.
-use Rattle.thread_run.proofs.Words.{◌≡◌, ℕ, ◌+◌, ◌<◌, sym, ◌∙◌, ap, subst, List, [], ◌++◌, map, max, true, Option, Some, arith, slice_get, nat_lt, enumerate_from, same_Some, Header, Call, RankEnd, Script, Mark, OwnerItem, Owner, run_calls, store_records, Counted, raised, is_sound, Arrival, IsLegal, IsJoined, back_of, close_by, opening_owner, rank_ends, run_of, is_lawful, greatest, rank_end, Going, first_going, serial_from, setting_of, as_setting, counted, blank, AreAlike, AreNear, end_alike, lawful_agrees, whole_run, HasFinished, AreSingle, owner_calls, IsDone, IsDoneSo, passed, most_known_of, NoneBroke, map_map, rows_same, raised_records, nat_tests}
+use Rattle.thread_run.proofs.Words.{◌≡◌, ℕ, ◌+◌, sym, ◌∙◌, ap, subst, List, [], ◌++◌, map, max, true, Option, Some, arith, slice_get, nat_lt, enumerate_from, same_Some, Header, Call, RankEnd, Script, Mark, OwnerItem, Owner, run_calls, store_records, raised, is_sound, Arrival, IsLegal, IsJoined, back_of, close_by, opening_owner, rank_ends, run_of, is_lawful, greatest, rank_end, Going, first_going, serial_from, setting_of, as_setting, counted, blank, AreNear, end_alike, lawful_agrees, whole_run, HasFinished, AreSingle, owner_calls, IsDone, IsDoneSo, passed, most_known_of, NoneBroke, map_map, rows_same, raised_records, nat_tests}
 use Rattle.serial_spec.specs.RankMachine as machine
 use Rattle.serial_spec.specs.SerialEnd.{End}
 use Rattle.thread_run.proofs.ThreadTies.{Told, finished_of, joined, low_rank, own_of, puts, takes, took_all}
@@ -27,14 +27,8 @@ pub record FinishedAlike (script : Script) (header : Header) (ends : List RankEn
 
 module _ {script : Script} {header : Header} {arrivals : List Arrival} {given : ℕ → List OwnerItem} {ends : List RankEnd} (t : Told script header arrivals given ends) (sound : is_sound header ≡ true) (lawful : is_lawful script ≡ true)
     (order : List Mark) (stranger : Option ℕ) (whole : NoneBroke ends) (done : (file : List ℕ) → IsDone (setting_of script header) (opening_owner script header file) (passed arrivals script.ranks given) order stranger) where
-  alike : (file : List ℕ) (q : ℕ) → q < script.ranks → AreAlike (given q) (back_of script header file arrivals q)
-  alike file q low = (done file).given q low
-
-  order_is : (file : List ℕ) → order ≡ (run_of script header file arrivals).marks
-  order_is file = (done file).order
-
   joined_at : (file : List ℕ) → IsJoined script header file arrivals
-  joined_at file = joined t (lawful_agrees script lawful) whole file (alike file)
+  joined_at file = joined t (lawful_agrees script lawful) whole file (done file).given
 
   -- ---- the ends
 
@@ -51,15 +45,15 @@ module _ {script : Script} {header : Header} {arrivals : List Arrival} {given : 
       ∙ sym (map_map h (λ (p : ℕ × List Call). rank_end header (first_going header p.1) (back p.0)) (enumerate_from 0 script.calls))
 
   fin : (file : List ℕ) (r : ℕ) (own : List Call) (e : slice_get script.calls r ≡ Some own) → HasFinished header own (puts t r) (takes t r) (own_of t r own e).end
-  fin file r own e = finished_of t (lawful_agrees script lawful) whole file (alike file) r own e
+  fin file r own e = finished_of t (lawful_agrees script lawful) whole file (done file).given r own e
 
   -- the end of a rank, but for the values that its gets gave
   end_near : (file : List ℕ) (r : ℕ) (own : List Call) → slice_get script.calls r ≡ Some own
       → AreNear (rank_end header (first_going header own) (takes t r)) (rank_end header (first_going header own) (back_of script header file arrivals r))
   end_near file r own e =
-      let took = took_all t (lawful_agrees script lawful) whole file (alike file) r own e in
+      let took = took_all t (lawful_agrees script lawful) whole file (done file).given r own e in
       subst (λ (v : List OwnerItem). AreNear (rank_end header (first_going header own) v) (rank_end header (first_going header own) (back_of script header file arrivals r))) (sym took)
-      (end_alike header (first_going header own) (given r) (back_of script header file arrivals r) (alike file r (low_rank t r own e)))
+      (end_alike header (first_going header own) (given r) (back_of script header file arrivals r) ((done file).given r (low_rank t r own e)))
 
   known_is : (file : List ℕ) → most_known_of ends ≡ greatest (map (λ g. g.rank.known) (rank_ends script header file arrivals))
   known_is file = ap greatest (each_end (λ end. end.known) (λ g. g.rank.known) (back_of script header file arrivals)
@@ -67,13 +61,13 @@ module _ {script : Script} {header : Header} {arrivals : List Arrival} {given : 
 
   pub finished : Finished script header arrivals ends order
   finished = record {
-    legal = subst (λ (ms : List Mark). IsLegal script ms) (sym (order_is [])) (whole_run script header [] arrivals sound lawful (joined_at [])).legal;
+    legal = subst (λ (ms : List Mark). IsLegal script ms) (sym (done []).order) (whole_run script header [] arrivals sound lawful (joined_at [])).legal;
     sound = subst (λ (n : ℕ). is_sound (record header { records = n }) ≡ true) (sym (known_is [])) (known_sound script header [] arrivals sound lawful (joined_at []));
     single = single_all script header [] arrivals sound lawful (joined_at []);
   }
 
   last : (file : List ℕ) → serial_from script header file order ≡ close_by (setting_of script header) (run_of script header file arrivals).owner.state (rank_ends script header file arrivals)
-  last file = ap (λ (ms : List Mark). serial_from script header file ms) (order_is file) ∙ (whole_run script header file arrivals sound lawful (joined_at file)).ends
+  last file = ap (λ (ms : List Mark). serial_from script header file ms) (done file).order ∙ (whole_run script header file arrivals sound lawful (joined_at file)).ends
 
   pub finished_alike : (file : List ℕ) → FinishedAlike script header ends order file (run_of script header file arrivals).owner
   finished_alike file = record {
@@ -90,20 +84,14 @@ module _ {script : Script} {header : Header} {arrivals : List Arrival} {given : 
   pub finished_so : (file : List ℕ) (told : Option (List ℕ)) (records : ℕ)
       → IsDoneSo (setting_of script header) (opening_owner script header file) (passed arrivals script.ranks given) told records
       → FinishedSo script header arrivals ends order file (run_of script header file arrivals).owner
-  finished_so file told records so = record {
-    bytes = ap (λ (n : ℕ). (raised (as_setting header) (counted state.file state.records) n).file) (known_is file) ∙ sym (ap (λ (e : End). e.bytes) (last file));
-    answers = each_end (λ end. end.answers) (λ g. g.answers) (back_of script header file arrivals)
-        (λ r own e. (fin file r own e).answers ∙ ap (λ (v : List OwnerItem). (rank_end header (first_going header own) v).answers) (back r own e)) ∙ sym (ap (λ (e : End). e.answers) (last file));
-    calls = calls;
-  }
-    where
-      state : Counted
-      state = (run_of script header file arrivals).owner.state
-
-      back : (r : ℕ) (own : List Call) → slice_get script.calls r ≡ Some own → takes t r ≡ back_of script header file arrivals r
-      back r own e = took_all t (lawful_agrees script lawful) whole file (alike file) r own e ∙ so.given r (low_rank t r own e)
-
-      calls : run_calls script header file order
-          ≡ owner_calls script.hints (setting_of script header) (opening_owner script header file) arrivals
-          ++ store_records (setting_of script header) (nat_lt (run_of script header file arrivals).owner.state.records (serial_from script header file order).records)
-      calls = grind (arith, nat_tests, order_is file, calls_all script header file arrivals sound lawful (joined_at file), joined_at file)
+  finished_so file told records so =
+      let state = (run_of script header file arrivals).owner.state in
+      let same : order ≡ (run_of script header file arrivals).marks = (done file).order in
+      let back : (r : ℕ) (own : List Call) → slice_get script.calls r ≡ Some own → takes t r ≡ back_of script header file arrivals r =
+      λ r own e. took_all t (lawful_agrees script lawful) whole file (done file).given r own e ∙ so.given r (low_rank t r own e) in
+      record {
+        bytes = ap (λ (n : ℕ). (raised (as_setting header) (counted state.file state.records) n).file) (known_is file) ∙ sym (ap (λ (e : End). e.bytes) (last file));
+        answers = each_end (λ end. end.answers) (λ g. g.answers) (back_of script header file arrivals)
+            (λ r own e. (fin file r own e).answers ∙ ap (λ (v : List OwnerItem). (rank_end header (first_going header own) v).answers) (back r own e)) ∙ sym (ap (λ (e : End). e.answers) (last file));
+        calls = grind (arith, nat_tests, same, calls_all script header file arrivals sound lawful (joined_at file), joined_at file);
+      }

@@ -1,5 +1,6 @@
 -- What the threads tell when all are joined.
-use Rattle.thread_run.proofs.Words.{◌≡◌, ℕ, ◌<◌, zero, suc, sym, ◌∙◌, ap, subst, List, [], ◌∷◌, ◌++◌, All, length, Some, true, All-head, All-tail, slice_get, nat_lt, IsTrue, list_all, same_Some, Header, RankEnd, Script, OwnerItem, RankItem, End, Receiver, items_under, own_items, Arrival, is_lawful, ranks_lawful, AreRankHandles, AreSettled, IsSettled, IsSettledOf, IsToldToGo, calls_of, HasTaken, HavePut, arrived, gained, RankHandle, Go, entry_beside, arith, nat_tests}
+use Rattle.thread_run.proofs.Words.{◌≡◌, ℕ, ◌<◌, sym, ◌∙◌, ap, subst, List, [], ◌∷◌, ◌++◌, All, length, Some, true, slice_get, nat_lt, IsTrue, list_all, same_Some, Header, RankEnd, Script, OwnerItem, RankItem, End, Receiver, items_under, own_items, Arrival, is_lawful, ranks_lawful, AreRankHandles, AreSettled, IsSettled, IsSettledOf, IsToldToGo, calls_of, HasTaken, HavePut, arrived, gained, RankHandle, Go, entry_beside, arith, nat_tests}
+use Rattle.thread_run.proofs.ThreadStarts.{all_at}
 use Rattle.thread_run.proofs.ThreadTies.{Told}
 use Rattle.thread_run.specs.Threads.{HaveStarted}
 use Rattle.thread_run.specs.declared.rank_threads.StartedRanks.{StartedRanks}
@@ -46,14 +47,6 @@ handles_told {started} {told} {lines} {back} s = record {
       grind (arith, nat_tests, put_on lines back r before.0 after s.put before.1 at_line);
 }
 
-empty_at : (lines : List (End OwnerItem)) (r : ℕ) (line : End OwnerItem) → All (λ l. l.items ≡ []) lines → slice_get lines r ≡ Some line → line.items ≡ []
-empty_at lines r line all e = at lines r all e
-  where
-    at : (ls : List (End OwnerItem)) (q : ℕ) → All (λ l. l.items ≡ []) ls → slice_get ls q ≡ Some line → line.items ≡ []
-    at [] q h f = cc
-    at (x ∷ ls) zero h f = let s : x ≡ line = same_Some x line f in subst (λ (z : End OwnerItem). z.items ≡ []) s (All-head (λ l. l.items ≡ []) x ls h)
-    at (x ∷ ls) (suc q) h f = at ls q (All-tail (λ l. l.items ≡ []) x ls h) f
-
 pub told_all : {script : Script} {header : Header} {started : StartedRanks} {told : List RankHandle} {lines back : List (End OwnerItem)} {now : Receiver RankItem} {ends : List RankEnd} → is_lawful script ≡ true
     → AreServed script header started told lines back now → AreSettled now.items told back ends → Told script header (arrived started.inbox now) (gained lines back) ends
 told_all {script} {header} {started} {told} {lines} {back} {now} {ends} lawful s settled = record {
@@ -76,13 +69,9 @@ told_all {script} {header} {started} {told} {lines} {back} {now} {ends} lawful s
         let mine = s.go r a.0 b.0 a.1 b.1 in
         let own = s.begun.of r a.0 a.1 in
         let line = put_on lines back r before.0 after.0 s.put before.1 after.1 in
-        let items : after.0.items ≡ gained lines back r = ap (λ (z : End OwnerItem). z.items) line ∙ ap (λ (v : List OwnerItem). v ++ gained lines back r) (empty_at lines r before.0 s.empty before.1) in
+        let items : after.0.items ≡ gained lines back r = ap (λ (z : End OwnerItem). z.items) line ∙ ap (λ (v : List OwnerItem). v ++ gained lines back r) (all_at (λ l. l.items ≡ []) lines r before.0 s.empty before.1) in
         let head : b.0.child.promise.header.value.now ≡ header = ap (λ z. z.promise.header.value.now) mine.child ∙ own.of_header in
         let text : b.0.child.promise.script.value.now ≡ script = ap (λ z. z.promise.script.value.now) mine.child ∙ own.of_script in
         let number : b.0.child.promise.ends.value.out.number ≡ r = ap (λ z. z.promise.ends.value.out.number) mine.child ∙ (s.handles.each r a.0 before.0 a.1 before.1).number in
         let got : IsSettledOf b.0 (items_under r now.items) after.0.items end = settled.each r b.0 after.0 end b.1 after.1 e in
-        subst (λ (h : Header). IsSettled h (calls_of script r) (own_items r (arrived started.inbox now)) (gained lines back r) end) head
-        (subst (λ (text : Script). IsSettled b.0.child.promise.header.value.now (calls_of text r) (own_items r (arrived started.inbox now)) (gained lines back r) end) text
-        (subst (λ (n : ℕ). IsSettled b.0.child.promise.header.value.now (calls_of b.0.child.promise.script.value.now n) (own_items r (arrived started.inbox now)) (gained lines back r) end) number
-        (subst (λ (v : List OwnerItem). IsSettled b.0.child.promise.header.value.now (calls_of b.0.child.promise.script.value.now b.0.child.promise.ends.value.out.number) (own_items r (arrived started.inbox now)) v end) items
-        (subst (λ (v : List Arrival). IsSettledOf b.0 (items_under r v) after.0.items end) items_are got))))
+        subst (λ (p : Header × Script × ℕ × List Arrival × List OwnerItem). IsSettled p.0 (calls_of p.1 p.2) (items_under r p.3) p.4 end) (λ i. (head i, text i, number i, items_are i, items i)) got

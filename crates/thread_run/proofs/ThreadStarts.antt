@@ -1,24 +1,19 @@
 -- Lists that grow by one, and what stands in their middle: threads as they are started and joined.
-use Rattle.thread_run.proofs.Words.{◌≡◌, ℕ, zero, suc, ◌+◌, ◌<◌, refl, sym, ◌∙◌, ap, subst, inl, inr, ◌⊎◌, List, [], ◌∷◌, ◌++◌, All, length, map, Some, arith, length-map, All-head, All-tail, slice_get, range_with_len, Header, Script, OwnerItem, RankItem, End, Line, AreOf, AreRankHandles, IsOf, IsRankHandle, RankHandle, Word, slice_get_within, long_push, nat_tests}
+use Rattle.thread_run.proofs.Words.{All-get_or, append_assoc, get_or_from_slice_get, middle_at, ◌≡◌, ℕ, zero, suc, ◌+◌, ◌<◌, sym, ◌∙◌, ap, subst, ◌⊎◌, List, [], ◌∷◌, ◌++◌, All, length, map, Some, arith, length-map, slice_get, range_with_len, Header, Script, OwnerItem, RankItem, End, Line, AreOf, AreRankHandles, IsOf, IsRankHandle, RankHandle, Word, slice_get_within, long_push, nat_tests}
 
 -- ---- the middle of a list
 
 pub get_middle : {X : Type 0} (ys : List X) (z : X) (zs xs : List X) → ys ++ z ∷ zs ≡ xs → slice_get xs (length ys) ≡ Some z
-get_middle ys z zs xs e = subst (λ (v : List _). slice_get v (length ys) ≡ Some z) e (at ys)
-  where
-    at : (ys : List _) → slice_get (ys ++ z ∷ zs) (length ys) ≡ Some z
-    at [] = refl
-    at (y ∷ ys) = at ys
+get_middle ys z zs xs e = middle_at ys zs xs z e
 
 pub get_mapped : {P X : Type 0} (f : P → X) (ps : List P) (z : X) (zs xs : List X) → map f ps ++ z ∷ zs ≡ xs → slice_get xs (length ps) ≡ Some z
 get_mapped f ps z zs xs e = ap (λ (n : ℕ). slice_get xs n) (sym (length-map ps f)) ∙ get_middle (map f ps) z zs xs e
 
+pub all_at : {X : Type 0} (P : X → Type 0) (xs : List X) (k : ℕ) (x : X) → All P xs → slice_get xs k ≡ Some x → P x
+all_at P xs k x h e = subst P (get_or_from_slice_get xs k x x e) (All-get_or P xs k x (slice_get_within xs k x e) h)
+
 pub all_middle : {X : Type 0} (P : X → Type 0) (ys : List X) (z : X) (zs xs : List X) → ys ++ z ∷ zs ≡ xs → All P xs → P z
-all_middle P ys z zs xs e h = at ys (subst (λ (v : List _). All P v) (sym e) h)
-  where
-    at : (ys : List _) → All P (ys ++ z ∷ zs) → P z
-    at [] k = All-head P z zs k
-    at (y ∷ ys) k = at ys (All-tail P y (ys ++ z ∷ zs) k)
+all_middle P ys z zs xs e h = all_at P xs (length ys) z h (get_middle ys z zs xs e)
 
 -- numbers that count from 0
 pub number_middle : {X : Type 0} (f : X → ℕ) (ys : List X) (z : X) (zs xs : List X) (n : ℕ) → ys ++ z ∷ zs ≡ xs → map f xs ≡ range_with_len 0 n → (f z ≡ length ys) × (length ys < n)
@@ -31,17 +26,14 @@ number_middle f ys z zs xs n e h = let a = at ys 0 n (ap (map f) e ∙ h) in let
     at (y ∷ ys) from (suc n) k = let a = at ys (from + 1) n cc in let b = a.0 in let c = a.1 in (omega arith, omega arith)
 
 pub snoc_append : {X : Type 0} (xs : List X) (x : X) (ys : List X) → (xs ++ x ∷ []) ++ ys ≡ xs ++ x ∷ ys
-snoc_append [] x ys = refl
-snoc_append (z ∷ xs) x ys = ap (λ (v : List _). z ∷ v) (snoc_append xs x ys)
+snoc_append xs x ys = append_assoc xs (x ∷ []) ys
 
 pub both_long : {X Y : Type 0} (xs now : List X) (x : X) (ys : List Y) (y : Y) → now ≡ xs ++ x ∷ [] → length xs ≡ length ys → length now ≡ length (ys ++ y ∷ [])
 both_long xs now x ys y e l = ap (λ (v : List _). length v) e ∙ long_push xs x ∙ ap (λ (n : ℕ). suc n) l ∙ sym (long_push ys y)
 
 pub get_push : {X : Type 0} (xs : List X) (x y : X) (q : ℕ) → slice_get (xs ++ x ∷ []) q ≡ Some y → (slice_get xs q ≡ Some y) ⊎ ((q ≡ length xs) × (x ≡ y))
-get_push [] x y zero e = inr (refl, cc)
-get_push [] x y (suc q) e = cc
-get_push (z ∷ xs) x y zero e = inl e
-get_push (z ∷ xs) x y (suc q) e = grind (arith, nat_tests, get_push xs x y q e)
+get_push (z ∷ xs) x y q e = grind (arith, nat_tests, get_push xs x y)
+get_push xs x y q e = grind (arith, nat_tests)
 
 -- ---- threads
 

@@ -1,5 +1,5 @@
 -- What each rank's thread and the owner tell by themselves, and that it ties them.
-use Rattle.thread_run.proofs.Words.{◌≡◌, ℕ, ◌<◌, refl, sym, ◌∙◌, ap, subst, inl, inr, ◌⊎◌, List, [], ◌∷◌, ◌++◌, length, take, drop, true, Option, Some, None, append_assoc, arith, slice_get_within, slice_get, nat_lt, IsTrue, list_all, entry_below, Header, Call, RankEnd, RankStop, Script, OwnerItem, RankItem, own_items, Arrival, HasEnd, IsAgreed, IsJoined, IsTied, back_of, run_of, is_lawful, offered, first_going, AreAlike, HasOffered, IsBeginning, offered_alike, begun_each, begun_known, long_whole, tied_each, tied_joins, HasAttended, HasBroken, HasFinished, HasBegun, IsSettled, calls_of, NoneBroke, alike_take, alike_long, take-append-drop, length-take-le, first_of, prefix_long, front_or_all, nat_tests, ◌≤◌, IfSome, ServeEnd, DiskCall, Mark, StepErr, Rose, with_end, served, counted, setting_of, AreSingle, owner_calls, HasCutService, HasFailed, HasToldAlong, IsDone, IsDoneSo, opening, passed, point}
+use Rattle.thread_run.proofs.Words.{◌≡◌, ℕ, ◌<◌, refl, sym, ◌∙◌, ap, subst, inl, inr, ◌⊎◌, List, [], ◌++◌, length, take, drop, true, Option, Some, None, append_assoc, arith, slice_get_within, slice_get, nat_lt, IsTrue, list_all, entry_below, Header, Call, RankEnd, RankStop, Script, OwnerItem, RankItem, own_items, Arrival, HasEnd, IsAgreed, IsJoined, IsTied, back_of, run_of, is_lawful, first_going, AreAlike, HasOffered, offered_alike, begun_each, begun_known, long_whole, tied_each, tied_joins, HasAttended, HasFinished, HasBegun, IsSettled, calls_of, NoneBroke, alike_take, alike_long, take-append-drop, length-take-le, first_of, prefix_long, front_or_all, nat_tests, ◌≤◌, IfSome, ServeEnd, DiskCall, Mark, StepErr, Rose, with_end, served, counted, setting_of, AreSingle, owner_calls, HasCutService, HasFailed, HasToldAlong, IsDone, IsDoneSo, opening, passed, point}
 use mathlib.Core.List.{IsPrefix}
 use Rattle.nc_base.specs.declared.run.RankStop.TheVariants as stop
 use Rattle.nc_base.specs.declared.step.RankItem.TheVariants as item
@@ -42,54 +42,45 @@ pub record Own (header : Header) (own : List Call) (arrived : List RankItem) (gi
   pub came_back : IsPrefix taken given
 
 module _ {script : Script} {header : Header} {arrivals : List Arrival} {given : ℕ → List OwnerItem} {ends : List RankEnd} (t : Told script header arrivals given ends) where
-  put_in : (r : ℕ) (m : Option RankEnd) → slice_get ends r ≡ m → List RankItem
-  put_in r None e = []
-  put_in r (Some end) e = (t.each r end e).put
-
-  taken_in : (r : ℕ) (m : Option RankEnd) → slice_get ends r ≡ m → List OwnerItem
-  taken_in r None e = []
-  taken_in r (Some end) e = (t.each r end e).taken
+  went : (r : ℕ) (m : Option RankEnd) → slice_get ends r ≡ m → List RankItem × List OwnerItem
+  went r None e = ([], [])
+  went r (Some end) e = ((t.each r end e).put, (t.each r end e).taken)
 
   pub puts : ℕ → List RankItem
-  puts r = put_in r (slice_get ends r) refl
+  puts r = (went r (slice_get ends r) refl).0
 
   pub takes : ℕ → List OwnerItem
-  takes r = taken_in r (slice_get ends r) refl
+  takes r = (went r (slice_get ends r) refl).1
 
   pub low_rank : (r : ℕ) (own : List Call) → slice_get script.calls r ≡ Some own → r < script.ranks
   low_rank r own e = let a = slice_get_within script.calls r own e in let b = t.calls in omega arith
 
   pub own_of : (r : ℕ) (own : List Call) → slice_get script.calls r ≡ Some own → Own header own (own_items r arrivals) (given r) ends r (puts r) (takes r)
-  unfolding put_in taken_in puts takes
+  unfolding went puts takes
   own_of r own e = by (slice_get ends r) refl
     where
       low : r < length ends
       low = let a = low_rank r own e in let b = t.long in omega arith
 
-      by : (m : Option RankEnd) (q : slice_get ends r ≡ m) → Own header own (own_items r arrivals) (given r) ends r (put_in r m q) (taken_in r m q)
+      by : (m : Option RankEnd) (q : slice_get ends r ≡ m) → Own header own (own_items r arrivals) (given r) ends r (went r m q).0 (went r m q).1
       by None q = grind (arith, nat_tests, entry_below ends r low, low)
       by (Some end) q = grind (arith, nat_tests, calls_at script r own e)
 
   -- ---- where the run may have been cut off
 
   pub offered_all : HasOffered script header arrivals takes
-  offered_all = record { numbers = t.numbers; each = λ r own e. begins r own (own_of r own e) }
-    where
-      begins : (r : ℕ) (own : List Call) → Own header own (own_items r arrivals) (given r) ends r (puts r) (takes r)
-          → IsBeginning (own_items r arrivals) (offered header (first_going header own) (takes r))
-      begins r own o = by (broke_or_not o.end.end)
-        where
-          broken : HasBroken header own (puts r) (takes r) o.end.answers → IsBeginning (own_items r arrivals) (offered header (first_going header own) (takes r))
-          broken b = in_two (front_or_all (own_items r arrivals) b.sent (item.Ended true) (o.arrived_of.0, o.arrived_of.1 ∙ b.put_some))
-            where
-              in_two : IsPrefix (own_items r arrivals) b.sent ⊎ (own_items r arrivals ≡ b.sent ++ item.Ended true ∷ [])
-                  → IsBeginning (own_items r arrivals) (offered header (first_going header own) (takes r))
-              in_two (inl (rest, f)) = (own_items r arrivals, (rest ++ b.unsent, sym (append_assoc (own_items r arrivals) rest b.unsent) ∙ ap (λ (v : List RankItem). v ++ b.unsent) f ∙ b.begins), inl refl)
-              in_two (inr f) = (b.sent, (b.unsent, b.begins), inr f)
-
-          by : (o.end.end ≡ stop.Memory) ⊎ (o.end.end ≡ stop.Memory → ⊥) → IsBeginning (own_items r arrivals) (offered header (first_going header own) (takes r))
-          by (inl m) = broken (o.attended.broken m)
-          by (inr n) = (own_items r arrivals, (o.arrived_of.0, o.arrived_of.1 ∙ (o.attended.finished n).put_all), inl refl)
+  offered_all = record {
+    numbers = t.numbers;
+    each = λ r own e.
+        let o = own_of r own e in elim (broke_or_not o.end.end) [
+          | inl m ↦
+              (let b = o.attended.broken m in elim (front_or_all (own_items r arrivals) b.sent (item.Ended true) (o.arrived_of.0, o.arrived_of.1 ∙ b.put_some)) [
+                | inl f ↦ (own_items r arrivals, (f.0 ++ b.unsent, sym (append_assoc (own_items r arrivals) f.0 b.unsent) ∙ ap (λ (v : List RankItem). v ++ b.unsent) f.1 ∙ b.begins), inl refl)
+                | inr f ↦ (b.sent, (b.unsent, b.begins), inr f)
+              ])
+          | inr n ↦ (own_items r arrivals, (o.arrived_of.0, o.arrived_of.1 ∙ (o.attended.finished n).put_all), inl refl)
+        ];
+  }
 
   pub begun : (file : List ℕ) (first later : List Arrival) → arrivals ≡ first ++ later → is_lawful script ≡ true → HasBegun script (run_of script header file first).marks
   begun file first later all lawful =

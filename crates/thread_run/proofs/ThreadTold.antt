@@ -1,5 +1,5 @@
 -- What a run on threads told, from what the owner tells.
-use Rattle.thread_run.proofs.Words.{◌≡◌, ℕ, refl, sym, ◌∙◌, ap, subst, List, [], true, Option, Some, None, Header, RankEnd, ServeEnd, Script, Mark, OwnerItem, StepErr, with_end, is_sound, Arrival, opening_owner, is_lawful, told_of, setting_of, point, told_marks, HasTold, owner_told, HasCutService, IsDoneSo, passed, marks_ended, some_each, if_some_at, DiskCall, length}
+use Rattle.thread_run.proofs.Words.{inl, inr, some_or_none, ◌≡◌, ℕ, sym, ◌∙◌, ap, subst, List, [], true, Option, Some, Header, RankEnd, ServeEnd, Script, Mark, OwnerItem, with_end, is_sound, Arrival, opening_owner, is_lawful, told_of, setting_of, point, told_marks, HasTold, owner_told, HasCutService, IsDoneSo, passed, marks_ended, some_each, if_some_at, DiskCall, length}
 use Rattle.thread_run.proofs.TellLaws.{marks_along, same_told}
 use Rattle.thread_run.proofs.ServiceCut.{service_cut, service_done, Service}
 use Rattle.thread_run.proofs.ThreadCut.{ranks_are, told_is}
@@ -10,23 +10,19 @@ module _ {script : Script} {header : Header} {arrivals : List Arrival} {given : 
     {failed count : ℕ} {heard : Option (List (Mark × ℕ))} {before : ServeEnd} (o : OwnerSide script header arrivals given script.ranks (length script.calls) held calls faults told left made failed count heard before) where
   -- with the counts, where the bytes are told
   run_counts : (file : List ℕ) → held ≡ Some file → heard ≡ with_end told (told_of script header file before.order)
-  run_counts file there = by_service (by_fault before.fault refl)
-    where
-      by_fault : (m : Option StepErr) → before.fault ≡ m → Service (setting_of script header) (opening_owner script header file) script.ranks arrivals given before.order
-      by_fault None none =
-          let so = if_some_at (λ (f : List ℕ). IsDoneSo (setting_of script header) (opening_owner script header f) (passed arrivals script.ranks given) left count) held file there (o.bytes none) in
-          (service_done script.hints (setting_of script header) (opening_owner script header file) script.ranks arrivals given before.order (o.done none file).order so.given).0
-      by_fault (Some x) some =
-          service_cut (setting_of script header) (opening_owner script header file) script.ranks count x arrivals given before.order left (ranks_are t sound lawful file)
-          (if_some_at (λ (f : List ℕ). HasCutService (setting_of script header) x (opening_owner script header f) (passed arrivals script.ranks given) (point before.order left count)) held file there (o.cut x some))
-
-      by_service : Service (setting_of script header) (opening_owner script header file) script.ranks arrivals given before.order → heard ≡ with_end told (told_of script header file before.order)
-      by_service h =
-          let a = o.told_along file in
-          a.heard
-          ∙ ap (λ (more : List (Mark × ℕ)). with_end told more)
-          (same_told (setting_of script header) a.first a.later h.first h.later (opening_owner script header file) (sym a.all ∙ h.all) a.none_strange h.none (sym a.order ∙ h.order_is)
-          ∙ told_is t sound lawful file h)
+  run_counts file there =
+      let s = setting_of script header in let d = opening_owner script header file in let a = o.told_along file in
+      let h : Service s d script.ranks arrivals given before.order = elim (some_or_none before.fault) [
+        | inl none ↦
+            (let so = if_some_at (λ (f : List ℕ). IsDoneSo s (opening_owner script header f) (passed arrivals script.ranks given) left count) held file there (o.bytes none) in
+            (service_done script.hints s d script.ranks arrivals given before.order (o.done none file).order so.given).0)
+        | inr w ↦
+            service_cut s d script.ranks count w.0 arrivals given before.order left (ranks_are t sound lawful file)
+            (if_some_at (λ (f : List ℕ). HasCutService s w.0 (opening_owner script header f) (passed arrivals script.ranks given) (point before.order left count)) held file there (o.cut w.0 w.1))
+      ] in
+      a.heard
+      ∙ ap (λ (more : List (Mark × ℕ)). with_end told more)
+      (same_told s a.first a.later h.first h.later d (sym a.all ∙ h.all) a.none_strange h.none (sym a.order ∙ h.order_is) ∙ told_is t sound lawful file h)
 
   pub run_told : (order : List Mark) → order ≡ before.order → HasTold script header held told heard order
   run_told order same =

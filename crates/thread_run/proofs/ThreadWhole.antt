@@ -1,5 +1,5 @@
 -- The owner's whole run beside the serial run: its device calls, its offers, and the count to which it is closed.
-use Rattle.thread_run.proofs.Words.{◌≡◌, ℕ, suc, ◌+◌, ◌^◌, ◌<◌, ◌≤◌, refl, sym, ◌∙◌, ap, subst, List, [], ◌∷◌, ◌++◌, map, max, true, Option, Some, None, arith, slice_get, fold, nat_lt, enumerate_from, Header, Call, Script, MeetKind, Offer, Owner, free_client, served, run_calls, store_records, Counted, Setting, header_len, is_sound, Arrival, IsJoined, back_of, opening_owner, rank_ends, run_of, is_lawful, end_of, greatest, record_limit, rank_end, Going, advance, after_mark, first_going, first_state, serial_from, setting_of, end_grows, counted_sound, calls_close, sound_small, Good, good_first, lasting, Joins, Stands, join, closes, AreSingle, owner_calls, map_map, entry_beside}
+use Rattle.thread_run.proofs.Words.{lt_of_le_of_lt, max-le, same_le, ◌≡◌, ℕ, suc, ◌+◌, ◌≤◌, refl, sym, ◌∙◌, ap, subst, List, [], ◌∷◌, ◌++◌, map, true, Option, Some, None, arith, slice_get, fold, nat_lt, enumerate_from, Header, Call, Script, MeetKind, Offer, Owner, free_client, served, run_calls, store_records, Counted, Setting, header_len, is_sound, Arrival, IsJoined, back_of, opening_owner, rank_ends, run_of, is_lawful, greatest, rank_end, Going, advance, after_mark, first_going, first_state, serial_from, setting_of, end_grows, counted_sound, calls_close, sound_small, Good, good_first, lasting, Joins, Stands, join, closes, AreSingle, owner_calls, map_map, entry_beside}
 use Rattle.join_laws.proofs.WholeLaws.{client_of, first_stands, going_of, lawful_agrees}
 use Rattle.thread_run.proofs.ThreadCalls.{calls_along, single_along}
 use Rattle.thread_run.proofs.ThreadKnown.{EndsNear, near_along, near_first}
@@ -10,10 +10,7 @@ rows_within h n (b ∷ ys) from f =
     let zero_more : from + 0 ≡ from = omega arith in
     let one : h (from, b) ≤ n = subst (λ (k : ℕ). h (k, b) ≤ n) zero_more (f 0 b refl) in
     let more = rows_within h n ys (from + 1) (λ q b' e. let next : from + suc q ≡ (from + 1) + q = omega arith in subst (λ (k : ℕ). h (k, b') ≤ n) next (f (suc q) b' e)) in
-    both (h (from, b)) (greatest (map h (enumerate_from (from + 1) ys))) one more
-  where
-    both : (a c : ℕ) → a ≤ n → c ≤ n → max a c ≤ n
-    both a c k l = omega arith
+    max-le one more
 
 module _ (script : Script) (header : Header) (file : List ℕ) (arrivals : List Arrival) (sound : is_sound header ≡ true) (lawful : is_lawful script ≡ true)
     (joined : IsJoined script header file arrivals) where
@@ -62,10 +59,7 @@ module _ (script : Script) (header : Header) (file : List ℕ) (arrivals : List 
       let good = (whole.stands.paired.paired_at q y.0 cm.going y.1 cm.at_last).good in
       let kept = (closes header q 0 cm.going (ap (λ (p : Going × Option Offer). p.1) ends)).known in
       let same = ap (λ (p : Going × Option Offer). p.0.rank.known) ends in
-      within _ _ _ _ good.known kept same
-    where
-      within : (a b c n : ℕ) → a ≤ n → b ≡ a → b ≡ c → c ≤ n
-      within a b c n h k l = omega arith
+      same_le _ _ _ (sym same ∙ kept) good.known
 
   -- the header can have the count to which the file is closed
   pub known_sound : is_sound (record header { records = greatest (map (λ g. g.rank.known) (rank_ends script header file arrivals)) }) ≡ true
@@ -76,10 +70,6 @@ module _ (script : Script) (header : Header) (file : List ℕ) (arrivals : List 
       let below : most ≤ reached = subst (λ (ns : List ℕ). greatest ns ≤ reached) (sym (map_map (λ (g : Going). g.rank.known) (λ (p : ℕ × List Call). rank_end header (first_going header p.1) (back_of script header file arrivals p.0)) (enumerate_from 0 script.calls)))
       (rows_within (λ (p : ℕ × List Call). (rank_end header (first_going header p.1) (back_of script header file arrivals p.0)).rank.known) reached script.calls 0
       (λ q own e. let same : q ≡ 0 + q = omega arith in subst (λ (k : ℕ). (rank_end header (first_going header own) (back_of script header file arrivals k)).rank.known ≤ reached) same (known_each q own e))) in
-      let near = near_along s sound (Good header script.ranks) (lasting header sound script.ranks) meetings owner goings arrivals stands (near_first header sound) in
+      let near = near_along s sound (Good header script.ranks) (lasting header sound script.ranks) meetings owner goings arrivals stands (near_first header sound header.records (omega arith)) in
       let grows = end_grows header (header_len header) most reached below in
-      counted_sound header most sound (less most reached (record_limit header.version) below whole.stands.small)
-      (less (end_of header (header_len header) most) (end_of header (header_len header) reached) (2 ^ 62) grows near)
-    where
-      less : (a b n : ℕ) → a ≤ b → b < n → a < n
-      less a b n h k = omega arith
+      counted_sound header most sound (lt_of_le_of_lt below whole.stands.small) (lt_of_le_of_lt grows near)
